@@ -1,0 +1,3 @@
+pub mod KernelImage
+pub mod Bodies
+pub mod WellFormed
