@@ -1,0 +1,4 @@
+pub mod Vectors
+pub mod Apic
+pub mod Send
+pub mod Inbox

@@ -1,0 +1,57 @@
+-- FRED stack frames (FRED specification, "FRED stack frame", in the project's profile).
+use Rattle.std.specs.Prelude.{ℕ, ◌+◌, ◌*◌, ◌/◌, ◌%◌, ◌^◌, Bool, not, ◌||◌, nat_lt, ◌==◌, if◌then◌else◌, List, [], ◌∷◌, length, drop, flat_map, Result, Ok, Err}
+use Rattle.std.specs.Int.{w64, to_le_bytes, from_le_bytes}
+use Rattle.ev_isa.specs.Word.{bit, bit_if}
+use Rattle.ev_frame.specs.declared.frame.Frame64.{Frame64}
+use Rattle.ev_frame.specs.declared.frame.FrameFault.{FrameFault}
+use Rattle.ev_frame.specs.declared.frame.FrameFault.TheVariants.{Short, Reserved}
+
+-- the eight words, from the lowest up
+abbrev pub words_of : Frame64 → List ℕ
+words_of f =
+    f.error ∷ f.rip ∷ (f.cs + 2 ^ 16 * f.old_level + bit_if 18 f.wfe) ∷ f.flags ∷ f.rsp
+    ∷ (f.ss + bit_if 16 f.sti + bit_if 17 f.software + bit_if 18 f.nmi + 2 ^ 32 * f.vector + 2 ^ 48 * f.kind + bit_if 56 f.enclave + bit_if 57 f.long
+    + bit_if 58 f.nested + 2 ^ 60 * f.length)
+    ∷ f.info ∷ 0 ∷ []
+
+abbrev pub frame_bytes : Frame64 → List ℕ
+frame_bytes f = flat_map (to_le_bytes w64) (words_of f)
+
+-- a word of 64 bytes
+abbrev pub word_at : List ℕ → ℕ → ℕ
+word_at bytes n = from_le_bytes w64 (drop (8 * n) bytes)
+
+-- whether a word has a bit outside the fields: of the CS word bits 63:19, of the SS word 31:19, 47:40, 55:52 and 59
+abbrev pub has_stray_cs : ℕ → Bool
+has_stray_cs w = not (w / 2 ^ 19 == 0)
+
+abbrev pub has_stray_ss : ℕ → Bool
+has_stray_ss w = not (w / 2 ^ 19 % 2 ^ 13 == 0) || not (w / 2 ^ 40 % 2 ^ 8 == 0) || not (w / 2 ^ 52 % 2 ^ 4 == 0) || bit 59 w
+
+abbrev pub frame_in : List ℕ → Frame64
+frame_in bytes = let cs : ℕ = word_at bytes 2 in let ss : ℕ = word_at bytes 5 in record {
+  error = word_at bytes 0;
+  rip = word_at bytes 1;
+  cs = cs % 2 ^ 16;
+  old_level = cs / 2 ^ 16 % 4;
+  wfe = bit 18 cs;
+  flags = word_at bytes 3;
+  rsp = word_at bytes 4;
+  ss = ss % 2 ^ 16;
+  sti = bit 16 ss;
+  software = bit 17 ss;
+  nmi = bit 18 ss;
+  vector = ss / 2 ^ 32 % 2 ^ 8;
+  kind = ss / 2 ^ 48 % 2 ^ 4;
+  enclave = bit 56 ss;
+  long = bit 57 ss;
+  nested = bit 58 ss;
+  length = ss / 2 ^ 60;
+  info = word_at bytes 6;
+}
+
+unfoldable pub read_frame : List ℕ → Result Frame64 FrameFault
+read_frame bytes =
+    if nat_lt (length bytes) 64 then Err Short
+    else (if has_stray_cs (word_at bytes 2) || has_stray_ss (word_at bytes 5) || not (word_at bytes 7 == 0) then Err Reserved
+    else Ok (frame_in bytes))
