@@ -32,6 +32,10 @@ flags_word f = 2 + bit_if 0 f.status.carry + bit_if 6 f.status.zero + bit_if 7 f
 unfoldable pub flags_of : ℕ → Flags
 flags_of w = record { status = record { carry = bit 0 w; zero = bit 6 w; sign = bit 7 w; overflow = bit 11 w }; interrupts = bit 9 w; alignment = bit 18 w }
 
+-- a word's modelled bits, with bit 1
+abbrev pub modelled : ℕ → ℕ
+modelled w = flags_word (flags_of w)
+
 -- RFLAGS of a task at its start: 40202H
 abbrev pub start_flags : Flags
 start_flags = record { status = no_status; interrupts = true; alignment = true }

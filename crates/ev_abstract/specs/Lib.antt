@@ -1,0 +1,16 @@
+pub mod Context
+pub mod UserCode
+pub mod Machine
+pub mod Boundary
+pub mod Delivery
+pub mod CrossCall
+pub mod ItemMeaning
+pub mod Run
+pub mod EntryText
+pub mod Chain
+pub mod Rules
+pub mod Accepted
+pub mod CallLaws
+pub mod Generator
+pub mod Script
+pub mod Claims

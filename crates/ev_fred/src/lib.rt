@@ -1,0 +1,2 @@
+//! FRED event delivery, ERETU, ERETS and LKGS.
+#![tactic(auto)]

@@ -1,0 +1,2 @@
+//! IDT event delivery, IRETQ, SYSCALL, SYSRETQ and SWAPGS.
+#![tactic(auto)]

@@ -1,0 +1,6 @@
+//! One step of a processor.
+#![tactic(auto)]
+
+mod stepped;
+
+pub use stepped::Stepped;

@@ -1,0 +1,4 @@
+pub mod Msr
+pub mod Descriptors
+pub mod Processor
+pub mod Outcome
