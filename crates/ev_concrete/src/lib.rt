@@ -1,0 +1,3 @@
+//! The concrete machine as definitions: its opening, visible steps and edges, its run, live words,
+//! and the text of a run.
+#![tactic(auto)]

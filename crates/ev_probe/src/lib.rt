@@ -1,0 +1,2 @@
+//! A delivery or a return on its own, as definitions.
+#![tactic(auto)]
