@@ -23,3 +23,5 @@ mod FlagsOfArithmetic
 mod Spellings
 mod DeliveriesOnTheirOwn
 mod ReturnsOnTheirOwn
+mod FramesOverNoLiveWord
+mod AgreementOfMachines
