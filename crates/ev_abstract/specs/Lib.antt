@@ -14,3 +14,4 @@ pub mod CallLaws
 pub mod Generator
 pub mod Script
 pub mod Claims
+pub mod Laws
