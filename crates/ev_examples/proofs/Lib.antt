@@ -25,3 +25,4 @@ mod DeliveriesOnTheirOwn
 mod ReturnsOnTheirOwn
 mod FramesOverNoLiveWord
 mod AgreementOfMachines
+mod Readings
