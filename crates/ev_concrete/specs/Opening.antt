@@ -1,7 +1,7 @@
 -- The opening of the machine: the words of memory and the processors, for an image and a mode. Own.
 use Rattle.std.specs.Prelude.{ℕ, suc, ◌+◌, ◌-◌, ◌*◌, ◌/◌, ◌%◌, ◌^◌, Bool, true, false, ◌&&◌, nat_lt, nat_le, ◌==◌, if◌then◌else◌, List, [], ◌∷◌, ◌++◌, length, map, flat_map, get_or, drop, Option, Some, None}
 use Rattle.std.specs.Int.{w64, from_le_bytes}
-use Rattle.ev_isa.specs.Word.{no_numbers, members, values, numbers_from}
+use Rattle.ev_isa.specs.Word.{members, values, numbers_from}
 use Rattle.ev_isa.specs.Flags.{flags_word, start_flags}
 use Rattle.ev_body.specs.declared.key.Side.{Side}
 use Rattle.ev_body.specs.declared.key.Side.TheVariants.{User, Kernel}
