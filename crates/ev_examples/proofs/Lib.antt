@@ -23,6 +23,7 @@ mod FlagsOfArithmetic
 mod Spellings
 mod DeliveriesOnTheirOwn
 mod ReturnsOnTheirOwn
+mod WellFormedImages
 mod FramesOverNoLiveWord
 mod AgreementOfMachines
 mod Readings
