@@ -7,7 +7,8 @@ ghost use Rattle.ev_abstract.specs.EntryText.{hex, key_text, side_text, rip_text
 ghost use Rattle.ev_trace.specs.FrameText.{mode_text};
 ghost use Rattle.ev_trace.specs.Spaced.{spaced};
 
-use crate::words::{end_line, hex_digits, push_decimal, push_hex, push_word, start_line};
+use crate::key::{push_key, side_word, type_number};
+use crate::words::{end_line, push_decimal, push_hex, push_word, start_line};
 use arrayvec::ArrayString;
 use ev_abstract::Entry;
 use ev_body::{Key, Side};
@@ -160,57 +161,6 @@ fn push_ran(p: u32, from: u32, site: u8, number: u64, out: &mut ArrayString<256>
     push_decimal(u64::from(from), out);
     push_decimal(u64::from(site), out);
     push_decimal(number, out);
-}
-
-#[tactic(auto, unfolding(ev_abstract::specs::EntryText::key_text))]
-fn push_key(key: Key, out: &mut ArrayString<256>)
-    requires { array_string_len out.old ≤ 100 }
-    ensures bytes { out.new.bytes ≡ out.old.bytes ++ 32 ∷ key_text key }
-    ensures len { array_string_len out.new ≤ array_string_len out.old + 20 }
-{
-    match key {
-        Key::Sys => push_word("sys", out),
-        Key::Db => push_word("db", out),
-        Key::Nmi => push_word("nmi", out),
-        Key::Bp => push_word("bp", out),
-        Key::Ud => push_word("ud", out),
-        Key::Ss => push_word("ss", out),
-        Key::Gp => push_word("gp", out),
-        Key::Pf => push_word("pf", out),
-        Key::Ac => push_word("ac", out),
-        Key::Irq(vector) => {
-            push_word("irq", out);
-            out.push_str(hex_digits(u64::from(vector)).as_str());
-        }
-    }
-}
-
-/// The number of the event's type.
-#[tactic(auto, unfolding(ev_event::specs::Event::type_number))]
-fn type_number(kind: EventType) -> u8
-    ensures { result ≡ type_number kind }
-{
-    match kind {
-        EventType::External => 0,
-        EventType::Nmi => 2,
-        EventType::Hardware => 3,
-        EventType::SoftInt => 4,
-        EventType::Int1 => 5,
-        EventType::Int3 => 6,
-        EventType::Other => 7,
-    }
-}
-
-#[tactic(auto, unfolding(ev_abstract::specs::EntryText::side_text))]
-fn side_word(side: Side) -> &'static str
-    ensures value { result.now ≡ side_text side }
-    ensures short { length result.now ≤ 6 }
-{
-    match side {
-        Side::User => "user",
-        Side::Kernel => "kernel",
-        Side::Both => "both",
-    }
 }
 
 /// The saved RIP, or `-` where there is none.
