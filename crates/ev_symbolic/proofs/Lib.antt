@@ -1,0 +1,3 @@
+pub mod FlagBits
+pub mod Values
+pub mod Words

@@ -1,7 +1,7 @@
 -- What a symbolic state says of a processor and memory, and what it is to stand at an instruction of a block.
 use Rattle.std.specs.Prelude.{◌≡◌, ℕ, ◌+◌, ◌%◌, Bool, true, false, List, [], ◌∷◌, drop, map, length, Option, Some, None}
 use Rattle.ev_isa.specs.Word.{NatMap, is_canonical, is_aligned}
-use Rattle.ev_isa.specs.Flags.{Status, Flags, no_status, computed, sum, difference, shift_left, shift_right, flags_word}
+use Rattle.ev_isa.specs.Flags.{Status, Flags, computed, sum, difference, shift_left, shift_right, flags_word}
 use Rattle.ev_isa.specs.Pages.{KernelWord}
 use Rattle.ev_isa.specs.Spelling.{spelling}
 use Rattle.ev_isa.specs.declared.instruction.Ins.{Ins}
@@ -54,8 +54,8 @@ status OOr a b = (computed (number OOr a b) false false).1
 status OXor a b = (computed (number OXor a b) false false).1
 status OShl a b = (shift_left a b).1
 status OShr a b = (shift_right a b).1
-status OLess a b = no_status
-status OSame a b = no_status
+status OLess a b = (computed (number OLess a b) false false).1
+status OSame a b = (computed (number OSame a b) false false).1
 
 unfoldable pub eval_flags : Env → F → Flags
 eval_flags e FVar = e.flags
