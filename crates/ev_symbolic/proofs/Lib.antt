@@ -1,3 +1,4 @@
 pub mod FlagBits
 pub mod Values
 pub mod Words
+pub mod Sound
