@@ -2,3 +2,4 @@ pub mod FlagBits
 pub mod Values
 pub mod Words
 pub mod Sound
+pub mod Blocks
