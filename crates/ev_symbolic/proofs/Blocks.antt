@@ -7,14 +7,13 @@ use Rattle.ev_isa.specs.Spelling.{spelling}
 use Rattle.ev_isa.specs.declared.instruction.Ins.{Ins}
 use Rattle.ev_event.specs.declared.boundary.Next.{Next}
 use Rattle.ev_state.specs.Processor.{Processor, is_user}
-use Rattle.ev_mem.specs.declared.region.Region.{Region}
 use Rattle.ev_mem.specs.Memory.{Memory, page_fault}
 use Rattle.ev_apic.specs.declared.apic.Apic.{Apic}
 use Rattle.ev_proc.specs.ProcessorStep.{executed, ran, fetched, step_by, next_of, step, instruction_at}
 use Rattle.ev_symbolic.specs.Value.{V, K, P, X, B, FVar, number}
 use Rattle.ev_symbolic.specs.State.{Loc, Word, SS, Win, Line, Ground, Block, in_win, loc_eq, find, is_below, all_above, above, sreg}
 use Rattle.ev_symbolic.specs.Run.{line_at, sstep, tidy, tidy_if, bstep, bnext, brun}
-use Rattle.ev_symbolic.specs.Agrees.{Env, untracked, eval, addr, eval_flags, Known, Open, Code, edge_cell, Spaced, Stands, Grounded, Agrees, with_words, Foreign, ForeignAbove, Steps, StepsIf, At}
+use Rattle.ev_symbolic.specs.Agrees.{Env, untracked, eval, addr, eval_flags, Known, Open, Code, edge_cell, Stands, Agrees, with_words, Foreign, ForeignAbove, StepsIf, At}
 use Rattle.ev_symbolic.specs.Join.{inst, Joins, env_after}
 use Rattle.ev_symbolic.specs.Machine.{Fetches, Inside}
 use Rattle.ev_symbolic.proofs.Words.{loc_same, Found, found_ok, above_ok}

@@ -1,7 +1,7 @@
 -- A word of RFLAGS is read back as the flags that it was made of.
 use Rattle.std.proofs.Common.{◌≡◌, ℕ, ◌+◌, ◌*◌, ◌/◌, ◌%◌, ◌^◌, ◌<◌, Bool, true, false, refl, ap, ◌∙◌, arith}
 use Rattle.std.specs.Prelude.{◌==◌, if◌then◌else◌}
-use Rattle.ev_isa.specs.Word.{bit, bit_if}
+use Rattle.ev_isa.specs.Word.{bit}
 use Rattle.ev_isa.specs.Flags.{Flags, flags_word, flags_of}
 
 abbrev digit : Bool → ℕ

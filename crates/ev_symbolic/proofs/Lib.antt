@@ -3,3 +3,6 @@ pub mod Values
 pub mod Words
 pub mod Sound
 pub mod Blocks
+pub mod Openings
+pub mod FredBlocks
+pub mod IdtBlocks

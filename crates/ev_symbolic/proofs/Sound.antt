@@ -1,6 +1,6 @@
 -- A symbolic step that gives an answer is a step of the processor.
-use Rattle.std.proofs.Common.{◌≡◌, ℕ, ℤ, ◌+◌, ◌-◌, ◌*◌, ◌/◌, ◌%◌, ◌^◌, ◌<◌, Bool, true, false, not, ◌&&◌, List, [], ◌∷◌, get_or, set, drop, map, length, Option, Some, None, Ok, Err, refl, sym, ap, ◌∙◌, subst, arith, length-set}
-use Rattle.std.specs.Prelude.{◌==◌, nat_lt, if◌then◌else◌, Result, bit_and}
+use Rattle.std.proofs.Common.{◌≡◌, ℕ, ◌+◌, ◌-◌, ◌*◌, ◌/◌, ◌%◌, ◌^◌, ◌<◌, Bool, true, false, not, ◌&&◌, List, [], ◌∷◌, get_or, set, drop, map, length, Option, Some, None, Ok, Err, refl, sym, ap, ◌∙◌, subst, arith, length-set}
+use Rattle.std.specs.Prelude.{nat_lt, if◌then◌else◌, bit_and}
 use Rattle.std.proofs.Math.ListN.{get_or-map}
 use Rattle.std.proofs.Math.Nat.{mod-lt}
 use Rattle.std.proofs.lemmas.Bool.{eqb-true, ltb-true}
@@ -10,27 +10,25 @@ use Rattle.ev_isa.specs.Flags.{Flags, Status, flags_word, flags_of, alu, shift_l
 use Rattle.ev_isa.specs.Instruction.{user_may}
 use Rattle.ev_isa.specs.Spelling.{spelling}
 use Rattle.ev_isa.specs.declared.instruction.AluOp.{AluOp}
-use Rattle.ev_isa.specs.declared.instruction.Cond.{Cond}
 use Rattle.ev_isa.specs.declared.instruction.Ins.{Ins}
 use Rattle.ev_isa.specs.declared.instruction.Ins.TheVariants.{MovImm, MovReg, Load, Store, StoreImm, GsLoad, GsStore, GsPush, Alu, AluImm, Shl, Shr, Jmp, Jcc, JmpReg, Push, PushImm, Pop, Lkgs, MovGs, ReadCr2, WriteCr2, Nop, Swapgs, Rdmsr, Wrmsr}
 use Rattle.ev_event.specs.declared.event.Event.{Event}
 use Rattle.ev_event.specs.Event.{ss, gp, ud}
-use Rattle.ev_effect.specs.Task.{Task, reg, with_reg}
-use Rattle.ev_effect.specs.Effect.{◌>>=◌, access_event, unless, Changed, bad_address, pushed, effect, in_flags}
+use Rattle.ev_effect.specs.Task.{Task, with_reg}
+use Rattle.ev_effect.specs.Effect.{◌>>=◌, access_event, unless, bad_address, pushed, effect, in_flags}
 use Rattle.ev_state.specs.Descriptors.{base_of}
-use Rattle.ev_state.specs.Msr.{Msrs, msr, written, given, is_level_rsp}
+use Rattle.ev_state.specs.Msr.{msr, written, given, is_level_rsp}
 use Rattle.ev_state.specs.Processor.{Processor, is_user, task_of, with_effect, register, selector}
-use Rattle.ev_state.specs.Outcome.{Outcome, Went}
 use Rattle.ev_mem.specs.Memory.{Memory, view}
 use Rattle.ev_exec.specs.Exec.{Executed, Done, Special, completed, changed, at_next, by_outcome, with_gs, mov_gs, exec}
 use Rattle.ev_apic.specs.declared.apic.Apic.{Apic}
 use Rattle.ev_idt.specs.IdtDelivery.{swapgs}
 use Rattle.ev_fred.specs.FredDelivery.{lkgs, with_kernel_gs}
-use Rattle.ev_proc.specs.ProcessorStep.{After, has_fred, executed, ran, fault, after_exec, after_outcome, after_read, after_write, write_msr, special, low32}
+use Rattle.ev_proc.specs.ProcessorStep.{has_fred, executed, ran, fault, after_exec, after_outcome, after_read, after_write, write_msr, special, low32}
 use Rattle.ev_symbolic.specs.Value.{M, Op, OAdd, OSub, OAnd, OShl, OShr, V, K, P, X, B, F, FVar, FOp, v_eq, norm, number, sop, op_of, left_by, sholds}
 use Rattle.ev_symbolic.specs.State.{Loc, Word, SS, Descriptor, Ground, in_win, in_text, loc_of, shift, find, write, sreg, is_listed, descriptor}
 use Rattle.ev_symbolic.specs.Run.{moved, sload, sstore, pushed_rsp, spush, spush_at, sat, salu, sjump, sjump_to, sjcc, slkgs, smov_gs, is_msr, srdmsr, is_word, swrmsr, sstep}
-use Rattle.ev_symbolic.specs.Agrees.{Env, untracked, eval, addr, status, eval_flags, Known, Described, AreTops, IsOpen, Grounded, Agrees, with_words, Within, Steps, StepsIf}
+use Rattle.ev_symbolic.specs.Agrees.{Env, untracked, eval, addr, status, eval_flags, Known, Described, AreTops, IsOpen, Grounded, Agrees, Within, Steps, StepsIf}
 use Rattle.ev_symbolic.proofs.FlagBits.{flags_back}
 use Rattle.ev_symbolic.proofs.Values.{and_left, and_right, v_same, sop_ok, nop_ok, left_ok, status_ok, left_shift_value, left_shift_status, right_shift_value, right_shift_status, TellsBool, holds_ok}
 use Rattle.ev_symbolic.proofs.Words.{win_below, text_below, Names, names_ok, shift_ok, Found, found_ok, put_same, without_ok, shared_ok, within_put, within_put_shared, accessible, set_ok}
@@ -177,9 +175,9 @@ module _ (e : Env) (G : Ground) (h : Grounded e G) where
           let same : addr e l ≡ a = n (win_below G.known l f.0) ∙ sym ha in
           let is_open : IsOpen m.regions a = subst (IsOpen m.regions) same (g.known_open l f.0) in
           plain i next s c m g hn (record (task c next) { regs = set regs d (m.words a) }) m.words
-              (hx ∙ ap (loaded c next m.words regs d a) (accessible m (is_user c) (kernel_ok s c m g) false bad a is_open))
-              (set sregs d v) nl s.flags s.words
-              (set_ok e regs sregs d (m.words a) v hr (ap m.words (sym same) ∙ f.1)) (length-set regs d (m.words a) ∙ hlen) hl (flags_ok s c m g) g.words (λ x far far'. refl)
+          (hx ∙ ap (loaded c next m.words regs d a) (accessible m (is_user c) (kernel_ok s c m g) false bad a is_open))
+          (set sregs d v) nl s.flags s.words
+          (set_ok e regs sregs d (m.words a) v hr (ap m.words (sym same) ∙ f.1)) (length-set regs d (m.words a) ∙ hlen) hl (flags_ok s c m g) g.words (λ x far far'. refl)
 
       outer : (o : Option Loc) → Names e va o → StepsIf e G i (sload nl s sregs d o) c m
       outer None n = tt
@@ -191,9 +189,9 @@ module _ (e : Env) (G : Ground) (h : Grounded e G) where
       finish : (l : Loc) → addr e l ≡ a → IsOpen m.regions (addr e l) → (ws : List Word) → Known e G.known (put_at m.words (addr e l) x) ws → Within e G.own G.shared m.words (put_at m.words (addr e l) x) → Steps e G i (after s sregs nl s.flags ws) c m
       finish l same is_open ws hw hi =
           plain i next s c m g hn (record (task c next) { regs = regs }) (put_at m.words a x)
-              (hx ∙ ap (stored c next m.words regs a x) (accessible m (is_user c) (kernel_ok s c m g) true bad a (subst (IsOpen m.regions) same is_open)))
-              sregs nl s.flags ws hr hlen hl (flags_ok s c m g)
-              (subst (λ y. Known e G.known (put_at m.words y x) ws) same hw) (subst (λ y. Within e G.own G.shared m.words (put_at m.words y x)) same hi)
+          (hx ∙ ap (stored c next m.words regs a x) (accessible m (is_user c) (kernel_ok s c m g) true bad a (subst (IsOpen m.regions) same is_open)))
+          sregs nl s.flags ws hr hlen hl (flags_ok s c m g)
+          (subst (λ y. Known e G.known (put_at m.words y x) ws) same hw) (subst (λ y. Within e G.own G.shared m.words (put_at m.words y x)) same hi)
 
       go_shared : (l : Loc) → (nat_lt l.off M ≡ true → addr e l ≡ eval e va) → (b : Bool) → in_win G.shared l ≡ b → StepsIf e G i (if b then Some (moved s sregs nl) else None) c m
       go_shared l n false q = tt
@@ -246,7 +244,7 @@ module _ (e : Env) (G : Ground) (h : Grounded e G) where
   alu_ok : (i : Ins) (next : ℕ) (nl : Loc) (d : ℕ) (r : ℕ × Status) (v : V) (o : Op) (a b : V) (s : SS) (c : Processor) (m : Memory) → Agrees e G s c m → c.rip + length (spelling i) ≡ next → next ≡ addr e nl → r.0 ≡ eval e v → r.1 ≡ status o (eval e a) (eval e b) → exec c m i next ≡ Done (with_effect (completed c) (in_flags (with_reg (task c next) d r.0) r.1)) m.words → Steps e G i (salu nl s d v o a b) c m
   alu_ok i next nl d r v o a b s c m g hn hl hv hs hx =
       plain i next s c m g hn (in_flags (with_reg (task c next) d r.0) r.1) m.words hx (set s.regs d v) nl (FOp o a b) s.words
-          (set_ok e c.regs s.regs d r.0 v g.regs hv) (length-set c.regs d r.0) hl (status_as s c m g o a b r.1 hs) g.words (λ x far far'. refl)
+      (set_ok e c.regs s.regs d r.0 v g.regs hv) (length-set c.regs d r.0) hl (status_as s c m g o a b r.1 hs) g.words (λ x far far'. refl)
 
   -- the result of an operation on values that are told
   told : (op : AluOp) (x y : ℕ) (a b : V) → x ≡ eval e a → y ≡ eval e b → (alu op x y).0 ≡ eval e (left_by G.facts op a b)
@@ -295,7 +293,7 @@ module _ (e : Env) (G : Ground) (h : Grounded e G) where
   swapgs_ok next nl s c m g hn hl true q = tt
   swapgs_ok next nl s c m g hn hl false q =
       quiet Swapgs next nl s c m g hl c.regs s.regs refl g.regs c.cr2 s.cr2 g.cr2 c.gs s.selector g.selector c.msrs.kernel_gs_base s.kernel_gs g.kernel_gs c.msrs.gs_base s.gs g.gs
-          (λ a nmi. executes c m Swapgs next Special (kernel_ok s c m g) hn refl a nmi ∙ does a nmi)
+      (λ a nmi. executes c m Swapgs next Special (kernel_ok s c m g) hn refl a nmi ∙ does a nmi)
     where
       does : (a : Apic) (nmi : Bool) → special c a m nmi next Swapgs ≡ ran (at_next (swapgs c) next) a m.words nmi
       does a nmi = ap (λ b. if b then fault c a m nmi ud else ran (at_next (swapgs c) next) a m.words nmi) (ap has_fred g.rest ∙ h.fred ∙ q)
@@ -306,9 +304,9 @@ module _ (e : Env) (G : Ground) (h : Grounded e G) where
   lkgs_ok r next nl s c m g hn hl (Some d) q =
       let sel : selector (register c r) ≡ eval e d.selector = ap selector (reg_ok s c m g r) ∙ q.0 in
       quiet (Lkgs r) next nl s c m g hl c.regs s.regs refl g.regs c.cr2 s.cr2 g.cr2 (eval e d.selector) d.selector refl c.msrs.gs_base s.gs g.gs (eval e d.base) d.base refl
-          (λ a nmi. executes c m (Lkgs r) next Special (kernel_ok s c m g) hn refl a nmi
-              ∙ ap (λ x. after_outcome a m nmi next (with_kernel_gs c m.words x (base_of c.gdt x))) sel
-              ∙ ap (λ o. after_outcome a m nmi next (with_kernel_gs c m.words (eval e d.selector) o)) (gdt_ok s c m g d q.1))
+      (λ a nmi. executes c m (Lkgs r) next Special (kernel_ok s c m g) hn refl a nmi
+      ∙ ap (λ x. after_outcome a m nmi next (with_kernel_gs c m.words x (base_of c.gdt x))) sel
+      ∙ ap (λ o. after_outcome a m nmi next (with_kernel_gs c m.words (eval e d.selector) o)) (gdt_ok s c m g d q.1))
 
   mov_gs_ok : (r next : ℕ) (nl : Loc) (s : SS) (c : Processor) (m : Memory) → Agrees e G s c m → c.rip + length (spelling (MovGs r)) ≡ next → next ≡ addr e nl → (o : Option Descriptor) → Selects e (sreg s r) o → StepsIf e G (MovGs r) (smov_gs nl s o) c m
   unfolding exec mov_gs
@@ -317,7 +315,7 @@ module _ (e : Env) (G : Ground) (h : Grounded e G) where
       let sel : selector (register c r) ≡ eval e d.selector = ap selector (reg_ok s c m g r) ∙ q.0 in
       let out : exec c m (MovGs r) next ≡ by_outcome next (with_gs c m.words (eval e d.selector) (Some (eval e d.base))) = ap (λ x. by_outcome next (with_gs c m.words x (base_of c.gdt x))) sel ∙ ap (λ o. by_outcome next (with_gs c m.words (eval e d.selector) o)) (gdt_ok s c m g d q.1) in
       quiet (MovGs r) next nl s c m g hl c.regs s.regs refl g.regs c.cr2 s.cr2 g.cr2 (eval e d.selector) d.selector refl (eval e d.base) d.base refl c.msrs.kernel_gs_base s.kernel_gs g.kernel_gs
-          (executes c m (MovGs r) next (by_outcome next (with_gs c m.words (eval e d.selector) (Some (eval e d.base)))) (kernel_ok s c m g) hn out)
+      (executes c m (MovGs r) next (by_outcome next (with_gs c m.words (eval e d.selector) (Some (eval e d.base)))) (kernel_ok s c m g) hn out)
 
   rdmsr_ok : (next : ℕ) (nl : Loc) (s : SS) (c : Processor) (m : Memory) → Agrees e G s c m → c.rip + length (spelling Rdmsr) ≡ next → next ≡ addr e nl → StepsIf e G Rdmsr (srdmsr G nl s) c m
   unfolding exec special msr eval
@@ -345,8 +343,8 @@ module _ (e : Env) (G : Ground) (h : Grounded e G) where
       pick false q = tt
       pick true q =
           quiet Rdmsr next nl s c m g hl regs sregs (length-set (set c.regs 0 (low32 c.msrs.gs_base)) 2 _ ∙ length-set c.regs 0 _) (set_ok e (set c.regs 0 (low32 c.msrs.gs_base)) (set s.regs 0 low) 2 (c.msrs.gs_base / 2 ^ 32) high (set_ok e c.regs s.regs 0 (low32 c.msrs.gs_base) low g.regs low_ok) high_ok)
-              c.cr2 s.cr2 g.cr2 c.gs s.selector g.selector c.msrs.gs_base s.gs g.gs c.msrs.kernel_gs_base s.kernel_gs g.kernel_gs
-              (λ a nmi. executes c m Rdmsr next Special (kernel_ok s c m g) hn refl a nmi ∙ ap (λ n. after_read c a m nmi next (msr c.msrs n)) (ap low32 (reg_ok s c m g 1) ∙ msr_is e 0xc0000101 (sreg s 1) q))
+          c.cr2 s.cr2 g.cr2 c.gs s.selector g.selector c.msrs.gs_base s.gs g.gs c.msrs.kernel_gs_base s.kernel_gs g.kernel_gs
+          (λ a nmi. executes c m Rdmsr next Special (kernel_ok s c m g) hn refl a nmi ∙ ap (λ n. after_read c a m nmi next (msr c.msrs n)) (ap low32 (reg_ok s c m g 1) ∙ msr_is e 0xc0000101 (sreg s 1) q))
 
   wrmsr_ok : (next : ℕ) (nl : Loc) (s : SS) (c : Processor) (m : Memory) → Agrees e G s c m → c.rip + length (spelling Wrmsr) ≡ next → next ≡ addr e nl → StepsIf e G Wrmsr (swrmsr G nl s) c m
   unfolding exec special written eval
@@ -415,7 +413,7 @@ module _ (e : Env) (G : Ground) (h : Grounded e G) where
       go l q (Some v) f =
           let same : addr e l ≡ displaced c.msrs.gs_base n = q (win_below G.known l f.0) ∙ sym (sat_ok s s.gs _ (sign_extend n) g.gs) in
           push_ok (GsPush n) next nl (m.words (displaced c.msrs.gs_base n)) v s c m g hn hl (ap m.words (sym same) ∙ f.1)
-              (ap (λ o. changed c ((unless o (m.words (displaced c.msrs.gs_base n))) >>= (λ x. pushed (view m (is_user c)) (task c next) x))) (accessible m (is_user c) (kernel_ok s c m g) false (gp 0) (displaced c.msrs.gs_base n) (subst (IsOpen m.regions) same (g.known_open l f.0))))
+          (ap (λ o. changed c ((unless o (m.words (displaced c.msrs.gs_base n))) >>= (λ x. pushed (view m (is_user c)) (task c next) x))) (accessible m (is_user c) (kernel_ok s c m g) false (gp 0) (displaced c.msrs.gs_base n) (subst (IsOpen m.regions) same (g.known_open l f.0))))
 
       outer : (o : Option Loc) → Names e (sop OAdd s.gs (K (sign_extend n))) o → StepsIf e G (GsPush n) (spush_at G nl s o) c m
       outer None q = tt

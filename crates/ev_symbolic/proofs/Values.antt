@@ -1,9 +1,9 @@
 -- What symbolic operations and conditions say of numbers.
-use Rattle.std.proofs.Common.{◌≡◌, ℕ, ◌+◌, ◌-◌, ◌*◌, ◌/◌, ◌%◌, ◌^◌, ◌<◌, ◌≤◌, Bool, true, false, not, ◌&&◌, List, [], ◌∷◌, Option, Some, None, refl, sym, ap, ◌∙◌, subst, arith}
+use Rattle.std.proofs.Common.{◌≡◌, ℕ, ◌+◌, ◌-◌, ◌%◌, ◌^◌, ◌≤◌, Bool, true, false, not, ◌&&◌, List, [], ◌∷◌, Option, Some, None, refl, sym, ap, ◌∙◌, subst, arith}
 use Rattle.std.specs.Prelude.{◌==◌, nat_lt, nat_le, if◌then◌else◌}
 use Rattle.std.proofs.Math.Nat.{mod-add-mod, add-mod-mod}
 use Rattle.std.proofs.lemmas.Bool.{eqb-true, leb-true}
-use Rattle.ev_isa.specs.Flags.{Status, alu, computed, sum, difference, shift_left, shift_right, holds}
+use Rattle.ev_isa.specs.Flags.{alu, sum, difference, shift_left, shift_right, holds}
 use Rattle.ev_isa.specs.declared.instruction.AluOp.{AluOp}
 use Rattle.ev_isa.specs.declared.instruction.AluOp.TheVariants.{Add, Or, And, Sub, Xor, Cmp}
 use Rattle.ev_isa.specs.declared.instruction.Cond.{Cond}

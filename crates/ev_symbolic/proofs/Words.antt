@@ -1,17 +1,17 @@
 -- Places, windows and known words: what a write does to them, and what a found word says.
-use Rattle.std.proofs.Common.{◌≡◌, ℕ, ◌+◌, ◌-◌, ◌%◌, ◌<◌, Bool, true, false, not, ◌&&◌, List, [], ◌∷◌, get_or, set, map, Option, Some, None, refl, sym, ap, ◌∙◌, subst, arith, ⊎_elim}
+use Rattle.std.proofs.Common.{◌≡◌, ℕ, ◌+◌, ◌%◌, ◌<◌, Bool, true, false, not, List, [], ◌∷◌, set, map, Option, Some, None, refl, sym, ap, ◌∙◌, subst, arith, ⊎_elim}
 use Rattle.std.specs.Prelude.{◌==◌, nat_lt, if◌then◌else◌}
 use Rattle.std.proofs.lemmas.List.{map-set}
 use Rattle.std.proofs.lemmas.Bool.{eqb-true, eq-eqb, ltb-true}
 use Rattle.std.proofs.lemmas.Bool.Decides.{eqb_tells}
-use Rattle.ev_isa.specs.Word.{NatMap, put_at, is_canonical, is_aligned}
+use Rattle.ev_isa.specs.Word.{NatMap, put_at, is_aligned}
 use Rattle.ev_isa.specs.Pages.{fault_at}
 use Rattle.ev_event.specs.declared.event.Event.{Event}
 use Rattle.ev_event.specs.Event.{ac}
 use Rattle.ev_effect.specs.Effect.{access_event, page_event}
 use Rattle.ev_mem.specs.Memory.{Memory, view, page_fault, data_access, present_in}
 use Rattle.ev_symbolic.specs.Value.{M, V, K, P, X, B}
-use Rattle.ev_symbolic.specs.State.{Loc, Word, Win, absolute, is_within, in_one, in_win, in_text, loc_eq, loc_of, shift, find, without, is_below, above}
+use Rattle.ev_symbolic.specs.State.{Loc, Word, Win, is_within, in_one, in_win, in_text, loc_eq, loc_of, shift, find, without, is_below, above}
 use Rattle.ev_symbolic.specs.Agrees.{Env, eval, addr, Known, IsOpen, Apart, Disjoint, Within}
 use Rattle.ev_symbolic.proofs.Values.{and_left, and_right, add_shift}
 

@@ -1,8 +1,8 @@
 -- From the end of a block to the opening of the next: the next block's variables stand for values of the first.
-use Rattle.std.specs.Prelude.{◌≡◌, ℕ, true, List, get_or, map, Some}
+use Rattle.std.specs.Prelude.{◌≡◌, true, List, get_or, map, Some}
 use Rattle.ev_isa.specs.Flags.{Flags}
 use Rattle.ev_symbolic.specs.Value.{V, K, P, X, B}
-use Rattle.ev_symbolic.specs.State.{Word, SS, Win, in_win, find}
+use Rattle.ev_symbolic.specs.State.{SS, Win, in_win, find}
 use Rattle.ev_symbolic.specs.Agrees.{Env, eval}
 
 -- a value of the next block, in terms of those of the block before

@@ -5,3 +5,4 @@ pub mod Listed
 pub mod Agrees
 pub mod Join
 pub mod Machine
+pub mod Claims

@@ -1,12 +1,12 @@
 -- Steps inside blocks, as steps of a processor.
-use Rattle.std.specs.Prelude.{◌≡◌, ℕ, Bool, true, false, length, Option, Some, None}
+use Rattle.std.specs.Prelude.{◌≡◌, ℕ, Bool, true, false, length, Some, None}
 use Rattle.ev_isa.specs.Word.{NatMap}
 use Rattle.ev_isa.specs.declared.instruction.Ins.{Ins}
 use Rattle.ev_apic.specs.declared.apic.Apic.{Apic}
 use Rattle.ev_state.specs.Processor.{Processor}
 use Rattle.ev_mem.specs.Memory.{Memory, page_fault}
 use Rattle.ev_proc.specs.ProcessorStep.{executed, ran, instruction_at}
-use Rattle.ev_symbolic.specs.State.{SS, Block}
+use Rattle.ev_symbolic.specs.State.{Block}
 use Rattle.ev_symbolic.specs.Agrees.{Env, untracked, with_words, Within, Cell, Code, edge_cell, At}
 
 -- memory holds the code's bytes, and the kernel can fetch them

@@ -1,11 +1,11 @@
 -- The symbolic step of an instruction, and runs of blocks. No step (None): a load of a word that isn't known, a store outside the windows, a jump whose
 -- condition or target isn't known, and every instruction that is visible to others or enters or leaves an activation.
-use Rattle.std.specs.Prelude.{ℕ, zero, suc, ◌+◌, ◌%◌, ◌^◌, Bool, true, false, ◌&&◌, ◌==◌, nat_lt, if◌then◌else◌, List, [], ◌∷◌, set, Option, Some, None}
+use Rattle.std.specs.Prelude.{ℕ, zero, suc, ◌%◌, ◌^◌, Bool, true, false, ◌&&◌, ◌==◌, nat_lt, if◌then◌else◌, List, [], ◌∷◌, set, Option, Some, None}
 use Rattle.ev_isa.specs.Word.{sign_extend}
 use Rattle.ev_isa.specs.declared.instruction.Ins.{Ins}
 use Rattle.ev_isa.specs.declared.instruction.Ins.TheVariants.{MovImm, MovReg, Load, Store, StoreImm, GsLoad, GsStore, GsPush, Alu, AluImm, Shl, Shr, Jmp, Jcc, JmpReg, Push, PushImm, Pop, Lkgs, MovGs, ReadCr2, WriteCr2, Nop, Swapgs, Rdmsr, Wrmsr}
-use Rattle.ev_symbolic.specs.Value.{M, Op, OAdd, OSub, OAnd, OShl, OShr, V, K, P, X, B, F, FOp, v_eq, norm, sop, op_of, left_by, sholds}
-use Rattle.ev_symbolic.specs.State.{Loc, Word, SS, Line, Descriptor, Ground, Block, in_win, in_text, loc_eq, loc_of, shift, find, write, above, sreg, is_listed, descriptor}
+use Rattle.ev_symbolic.specs.Value.{M, Op, OAdd, OSub, OAnd, OShl, OShr, V, K, P, FOp, v_eq, norm, sop, op_of, left_by, sholds}
+use Rattle.ev_symbolic.specs.State.{Loc, SS, Line, Descriptor, Ground, Block, in_win, in_text, loc_eq, loc_of, shift, find, write, above, sreg, is_listed, descriptor}
 
 -- the state after an instruction that sets registers, and goes on
 abbrev pub moved : SS → List V → Loc → SS
