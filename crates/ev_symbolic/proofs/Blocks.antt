@@ -13,7 +13,7 @@ use Rattle.ev_proc.specs.ProcessorStep.{executed, ran, fetched, step_by, next_of
 use Rattle.ev_symbolic.specs.Value.{V, K, P, X, B, FVar, number}
 use Rattle.ev_symbolic.specs.State.{Loc, Word, SS, Win, Line, Ground, Block, in_win, loc_eq, find, is_below, all_above, above, sreg}
 use Rattle.ev_symbolic.specs.Run.{line_at, sstep, tidy, tidy_if, bstep, bnext, brun}
-use Rattle.ev_symbolic.specs.Agrees.{Env, untracked, eval, addr, eval_flags, Known, Open, Code, edge_cell, Stands, Agrees, with_words, Foreign, ForeignAbove, StepsIf, At}
+use Rattle.ev_symbolic.specs.Agrees.{Env, untracked, eval, addr, eval_flags, Known, Open, Code, edge_cell, Stands, Agrees, with_words, Far, FarAbove, Within, Foreign, ForeignAbove, FactsHold, Described, AreTops, Fits, StepsIf, At}
 use Rattle.ev_symbolic.specs.Join.{inst, Joins, env_after}
 use Rattle.ev_symbolic.specs.Machine.{Fetches, Inside}
 use Rattle.ev_symbolic.proofs.Words.{loc_same, Found, found_ok, above_ok}
@@ -219,4 +219,34 @@ stays_above code b k e c m n at r h = record {
   is = at.is;
   clear = at.clear;
   agrees = agrees_in e b.ground at.state c m n r at.agrees (kept_above e b.ground.known (sreg at.state 4) m.words n.words h at.state.words at.clear at.agrees.words);
+}
+
+-- whoever wrote within windows that lie apart has left the private windows alone
+pub foreign : (e f : Env) (W O S : List Win) (m n : NatMap ℕ) → Within f O S m n → Far e W f O → Far e W f S → Foreign e W m n
+foreign e f W O S m n w o s l i = w (addr e l) (λ k j q. o l k i j q) (λ k j q. s l k i j q)
+
+pub foreign_above : (e f : Env) (W O S : List Win) (v : V) (m n : NatMap ℕ) → Within f O S m n → FarAbove e W v f O → FarAbove e W v f S → ForeignAbove e W v m n
+foreign_above e f W O S v m n w o s l i a = w (addr e l) (λ k j q. o l k i a j q) (λ k j q. s l k i a j q)
+
+-- ---- the next block's environment: bases and the rest of the processor stay, so that only what speaks of variables is to be shown anew
+
+stands_after : (code : Code) (e : Env) (θ : List V) (f : Flags) (xs : List Line) → Stands code e xs → Stands code (env_after e θ f) xs
+stands_after code e θ f [] h = tt
+stands_after code e θ f (x ∷ xs) h = (h.0, stands_after code e θ f xs h.1)
+
+pub fits_after : (code : Code) (e : Env) (b : Block) (θ : List V) (f : Flags) → Fits code e b → FactsHold (env_after e θ f) b.ground.facts → Described (env_after e θ f) b.ground.descriptors → AreTops (env_after e θ f) b.ground.tops → Fits code (env_after e θ f) b
+fits_after code e b θ f h facts descriptors tops = record {
+  ground = record {
+    zero_base = h.ground.zero_base;
+    kernel = h.ground.kernel;
+    fred = h.ground.fred;
+    sep = h.ground.sep;
+    across = h.ground.across;
+    facts = facts;
+    descriptors = descriptors;
+    tops = tops;
+    text = h.ground.text;
+  };
+  spaced = h.spaced;
+  stands = stands_after code e θ f b.lines h.stands;
 }

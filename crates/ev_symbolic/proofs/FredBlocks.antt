@@ -10,7 +10,7 @@ use Rattle.ev_symbolic.specs.Value.{M, V, K, P, X}
 use Rattle.ev_symbolic.specs.State.{Word, SS, Line, Ground, Block, absolute}
 use Rattle.ev_symbolic.specs.Run.{brun}
 use Rattle.ev_symbolic.specs.Listed.{lines_of}
-use Rattle.ev_symbolic.proofs.Openings.{word, at_base, gs_tag, gs_word, win_below, win_at, words_from, opening, end_or}
+use Rattle.ev_symbolic.specs.Openings.{word, at_base, gs_tag, gs_word, win_below, win_at, words_from, opening, end_or}
 
 unfoldable pub fred_lines : List Line
 fred_lines = lines_of fred_listings

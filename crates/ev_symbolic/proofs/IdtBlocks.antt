@@ -8,7 +8,7 @@ use Rattle.ev_symbolic.specs.Value.{M, K, P, X, B, OShr}
 use Rattle.ev_symbolic.specs.State.{Word, SS, Line, Ground, Block, absolute, find}
 use Rattle.ev_symbolic.specs.Run.{brun}
 use Rattle.ev_symbolic.specs.Listed.{lines_of}
-use Rattle.ev_symbolic.proofs.Openings.{word, gs_tag, gs_word, win_below, win_at, words_from, opening, end_or}
+use Rattle.ev_symbolic.specs.Openings.{word, gs_tag, gs_word, win_below, win_at, words_from, opening, end_or}
 
 unfoldable pub idt_lines : List Line
 idt_lines = lines_of idt_listings

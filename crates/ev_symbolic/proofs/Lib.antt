@@ -3,6 +3,5 @@ pub mod Values
 pub mod Words
 pub mod Sound
 pub mod Blocks
-pub mod Openings
 pub mod FredBlocks
 pub mod IdtBlocks

@@ -34,7 +34,7 @@ use Rattle.ev_symbolic.proofs.Values.{and_left, and_right, v_same, sop_ok, nop_o
 use Rattle.ev_symbolic.proofs.Words.{win_below, text_below, Names, names_ok, shift_ok, Found, found_ok, put_same, without_ok, shared_ok, within_put, within_put_shared, accessible, set_ok}
 
 -- what an instruction's effect begins with
-abbrev task : Processor → ℕ → Task
+abbrev pub task : Processor → ℕ → Task
 task c next = record (task_of c) { rip = next }
 
 -- the symbolic state after a plain instruction
@@ -55,7 +55,7 @@ abbrev branched : Processor → ℕ → NatMap ℕ → ℕ → Bool → Executed
 branched c next words a b = changed c ((if b then (if is_canonical a then Ok (record (task c next) { rip = a }) else Err (gp 0)) else Ok (task c next)) >>= (λ t. Ok (t, words)))
 
 -- an instruction of the kernel, by what `exec` says of it
-executes : (c : Processor) (m : Memory) (i : Ins) (next : ℕ) (x : Executed) → is_user c ≡ false → c.rip + length (spelling i) ≡ next → exec c m i next ≡ x → (a : Apic) (nmi : Bool) → executed c a m nmi (Some i) ≡ after_exec c a m nmi next i x
+pub executes : (c : Processor) (m : Memory) (i : Ins) (next : ℕ) (x : Executed) → is_user c ≡ false → c.rip + length (spelling i) ≡ next → exec c m i next ≡ x → (a : Apic) (nmi : Bool) → executed c a m nmi (Some i) ≡ after_exec c a m nmi next i x
 executes c m i next x u hn hx a nmi =
     ap (λ b. if b && not (user_may i) then fault c a m nmi ud else after_exec c a m nmi (c.rip + length (spelling i)) i (exec c m i (c.rip + length (spelling i)))) u
     ∙ ap (λ n. after_exec c a m nmi n i (exec c m i n)) hn ∙ ap (after_exec c a m nmi next i) hx
@@ -112,14 +112,14 @@ msr_is e n (B o a b) h = absurd (cc)
 module _ (e : Env) (G : Ground) (h : Grounded e G) where
   -- ---- what a state that agrees tells
 
-  reg_ok : (s : SS) (c : Processor) (m : Memory) → Agrees e G s c m → (r : ℕ) → get_or c.regs r 0 ≡ eval e (sreg s r)
+  pub reg_ok : (s : SS) (c : Processor) (m : Memory) → Agrees e G s c m → (r : ℕ) → get_or c.regs r 0 ≡ eval e (sreg s r)
   unfolding eval
   reg_ok s c m g r = ap (λ xs. get_or xs r 0) g.regs ∙ get_or-map (eval e) s.regs r (K 0)
 
-  kernel_ok : (s : SS) (c : Processor) (m : Memory) → Agrees e G s c m → is_user c ≡ false
+  pub kernel_ok : (s : SS) (c : Processor) (m : Memory) → Agrees e G s c m → is_user c ≡ false
   kernel_ok s c m g = ap is_user g.rest ∙ h.kernel
 
-  flags_ok : (s : SS) (c : Processor) (m : Memory) → Agrees e G s c m → flags_of c.flags ≡ eval_flags e s.flags
+  pub flags_ok : (s : SS) (c : Processor) (m : Memory) → Agrees e G s c m → flags_of c.flags ≡ eval_flags e s.flags
   flags_ok s c m g = ap flags_of g.flags ∙ flags_back (eval_flags e s.flags)
 
   -- an operation's flags: only the status changes

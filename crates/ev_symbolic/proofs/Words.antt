@@ -12,7 +12,7 @@ use Rattle.ev_effect.specs.Effect.{access_event, page_event}
 use Rattle.ev_mem.specs.Memory.{Memory, view, page_fault, data_access, present_in}
 use Rattle.ev_symbolic.specs.Value.{M, V, K, P, X, B}
 use Rattle.ev_symbolic.specs.State.{Loc, Word, Win, is_within, in_one, in_win, in_text, loc_eq, loc_of, shift, find, without, is_below, above}
-use Rattle.ev_symbolic.specs.Agrees.{Env, eval, addr, Known, IsOpen, Apart, Disjoint, Within}
+use Rattle.ev_symbolic.specs.Agrees.{Env, eval, addr, Known, IsOpen, Apart, Far, Within}
 use Rattle.ev_symbolic.proofs.Values.{and_left, and_right, add_shift}
 
 -- ---- places
@@ -90,7 +90,7 @@ without_ok e N W sep m l v h (w ∷ ws) k = pick (loc_eq w.at l) refl (without_o
     pick true q r = r
     pick false q r = (k.0, put_other m (addr e l) v (addr e w.at) (sep w.at l k.0 h q) ∙ k.1, r)
 
-pub shared_ok : (e : Env) (W S : List Win) → Disjoint e W S → (m : NatMap ℕ) (l : Loc) (v : ℕ) → in_win S l ≡ true → (ws : List Word) → Known e W m ws → Known e W (put_at m (addr e l) v) ws
+pub shared_ok : (e : Env) (W S : List Win) → Far e W e S → (m : NatMap ℕ) (l : Loc) (v : ℕ) → in_win S l ≡ true → (ws : List Word) → Known e W m ws → Known e W (put_at m (addr e l) v) ws
 shared_ok e W S across m l v h [] k = tt
 shared_ok e W S across m l v h (w ∷ ws) k = (k.0, put_other m (addr e l) v (addr e w.at) (across w.at l k.0 h) ∙ k.1, shared_ok e W S across m l v h ws k.2)
 

@@ -113,9 +113,13 @@ Stands code e (x ∷ xs) = (code (addr e x.at) ≡ Some (edge_cell x.ins (addr e
 abbrev pub Apart : Env → List Win → List Win → Type 0
 Apart e N W = (k l : Loc) → in_win N k ≡ true → in_win W l ≡ true → loc_eq k l ≡ false → addr e k ≡ addr e l → ⊥
 
--- no place of the first is one of the second
-abbrev pub Disjoint : Env → List Win → List Win → Type 0
-Disjoint e N W = (k l : Loc) → in_win N k ≡ true → in_win W l ≡ true → addr e k ≡ addr e l → ⊥
+-- no place of the first is one of the second, which may be another activation's
+abbrev pub Far : Env → List Win → Env → List Win → Type 0
+Far e N f W = (k l : Loc) → in_win N k ≡ true → in_win W l ≡ true → addr e k ≡ addr f l → ⊥
+
+-- the same, but for what lies below the RSP of the first
+abbrev pub FarAbove : Env → List Win → V → Env → List Win → Type 0
+FarAbove e N rsp f W = (k l : Loc) → in_win N k ≡ true → is_below rsp k ≡ false → in_win W l ≡ true → addr e k ≡ addr f l → ⊥
 
 -- what an environment owes the ground of a block, for as long as an activation is in the block
 pub record Grounded (e : Env) (G : Ground) : Type 0 where
@@ -123,7 +127,7 @@ pub record Grounded (e : Env) (G : Ground) : Type 0 where
   pub kernel : is_user e.rest ≡ false
   pub fred : has_fred e.rest ≡ G.fred
   pub sep : Apart e G.known G.own
-  pub across : Disjoint e G.known G.shared
+  pub across : Far e G.known e G.shared
   pub facts : FactsHold e G.facts
   pub descriptors : Described e G.descriptors
   pub tops : AreTops e G.tops

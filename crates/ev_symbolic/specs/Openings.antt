@@ -1,5 +1,5 @@
 -- Words for the openings of blocks: the bases of an activation, its frame and its saved area.
-use Rattle.std.proofs.Common.{ℕ, ◌+◌, ◌-◌, false, List, [], ◌∷◌, Option, Some, None}
+use Rattle.std.specs.Prelude.{ℕ, ◌+◌, ◌-◌, false, List, [], ◌∷◌, Option, Some, None}
 use Rattle.ev_symbolic.specs.Value.{M, V, P, X, FVar}
 use Rattle.ev_symbolic.specs.State.{Loc, Word, Win, SS, absolute}
 
