@@ -1,0 +1,12 @@
+//! Instructions as bytes, and bytes as instructions (SDM volume 2; FRED specification for ERETU,
+//! ERETS and LKGS).
+#![tactic(auto)]
+
+mod decoding;
+mod fault;
+mod fields;
+mod memory_forms;
+mod register_forms;
+
+pub use decoding::decode;
+pub use fault::DecodeFault;
