@@ -400,9 +400,11 @@ int_again n rest = refl
 
 -- ---- all of them
 
--- What the reader needs of an instruction's fields. A vector may be any number.
+-- What the reader needs of an instruction's fields. A vector may be any number, and a shift's count is tested.
 abbrev pub FieldsRead : Ins → Type 0
 FieldsRead (IntN n) = Unit {0}
+FieldsRead (Shl d n) = d < 16
+FieldsRead (Shr d n) = d < 16
 FieldsRead i = FieldsFit i
 
 pub again : (i : Ins) (rest : List ℕ) → FieldsRead i → is_instruction i ≡ true → instruction_at (spelling i ++ rest) ≡ Ok (i, rest)
@@ -417,8 +419,8 @@ again (GsStore n s) rest f c = gs_first s _ f.1 ∙ gs_store_again s n rest f.1 
 again (GsPush n) rest f c = gs_push_again n rest f
 again (Alu op d s) rest f c = let r = rex_of s d f.1 f.0 in wide_first (rex s d) _ r.wide ∙ alu_wide_again op (rex s d) d s rest r f.0 f.1
 again (AluImm op d i) rest f c = let r = rex_of 0 d (omega arith) f.0 in wide_first (rex 0 d) _ r.wide ∙ alu_immediate_wide op (rex 0 d) d i rest r f.0 f.1
-again (Shl d n) rest f c = let r = rex_of 0 d (omega arith) f.0 in wide_first (rex 0 d) _ r.wide ∙ shl_wide (rex 0 d) d n rest r f.0 c
-again (Shr d n) rest f c = let r = rex_of 0 d (omega arith) f.0 in wide_first (rex 0 d) _ r.wide ∙ shr_wide (rex 0 d) d n rest r f.0 c
+again (Shl d n) rest f c = let r = rex_of 0 d (omega arith) f in wide_first (rex 0 d) _ r.wide ∙ shl_wide (rex 0 d) d n rest r f c
+again (Shr d n) rest f c = let r = rex_of 0 d (omega arith) f in wide_first (rex 0 d) _ r.wide ∙ shr_wide (rex 0 d) d n rest r f c
 again (Xchg b n s) rest f c = let r = rex_of s b f.2 f.0 in wide_first (rex s b) _ r.wide ∙ xchg_again (rex s b) b s n rest r f.2 f.0 f.1
 again (CmpXchg b n s) rest f c = let r = rex_of s b f.2 f.0 in locked_first (rex s b) _ r.wide ∙ cmpxchg_again (rex s b) b s n rest r f.2 f.0 f.1
 again (Xadd b n s) rest f c = let r = rex_of s b f.2 f.0 in locked_first (rex s b) _ r.wide ∙ xadd_again (rex s b) b s n rest r f.2 f.0 f.1

@@ -16,6 +16,8 @@ use Rattle.ev_code.proofs.Again.{FieldsRead, again}
 
 fields_read : (i : Ins) → FieldsFit i → FieldsRead i
 fields_read (IntN n) f = tt
+fields_read (Shl d n) f = f.0
+fields_read (Shr d n) f = f.0
 fields_read i f = f
 
 -- what is spelled is read
@@ -26,10 +28,10 @@ read_again i rest e = again i rest (fields_read i e.fields) e.counts
 pub read_takes : (bytes : List ℕ) (i : Ins) (rest : List ℕ) → IsBytes bytes → instruction_at bytes ≡ Ok (i, rest) → IsEncodable i × (bytes ≡ spelling i ++ rest)
 read_takes bytes i rest are t = let k = instruction_reads.takes tt bytes (i, rest) are t in (k.0, k.1)
 
-abbrev read_of : Ins → List ℕ → Read Ins
+abbrev pub read_of : Ins → List ℕ → Read Ins
 read_of i rest = Ok (i, rest)
 
-ok_parts : (i j : Ins) (xs ys : List ℕ) → read_of i xs ≡ read_of j ys → (i ≡ j) × (xs ≡ ys)
+pub ok_parts : (i j : Ins) (xs ys : List ℕ) → read_of i xs ≡ read_of j ys → (i ≡ j) × (xs ≡ ys)
 ok_parts i j xs ys h = let p : (i, xs) ≡ (let u : Ins × List ℕ = (j, ys) in u) = cc in (ap (λ (d : Ins × List ℕ). d.0) p, ap (λ (d : Ins × List ℕ). d.1) p)
 
 -- no spelling begins another
