@@ -20,7 +20,8 @@ use Rattle.ev_code.specs.Reader.{Read, instruction_at}
 use Rattle.ev_code.proofs.FieldReads.{sib_if, and_true}
 use Rattle.ev_code.proofs.RegisterReads.{no_prefix, high_prefix}
 use Rattle.ev_code.proofs.Again.{FieldsRead, again, immediate_back, either_prefix, Prefixes}
-use Rattle.ev_code.proofs.Spelled.{read_again, ok_parts}
+use Rattle.ev_code.proofs.Spelled.{read_again, read_takes, ok_parts}
+use Rattle.ev_code.proofs.Parts.{IsBytes}
 
 -- ---- what is tested begins the bytes
 
@@ -427,3 +428,37 @@ unfolding reading
 reading_again i rest e =
     let p = place_of i rest e.fields in
     found_at i rest (forms (spelling i ++ rest)) p.0 e (each_reads (spelling i ++ rest)) p.1 p.2
+
+-- ---- what is read begins the bytes
+
+found_passes_by : (b : List ℕ) (y x : Ins) (t : Bool) (rest : Option Ins) → test b y ≡ t → (is_prefix (spelling y) b ≡ true → FieldsRead y) → (rest ≡ Some x → (test b x ≡ true) × FieldsRead x)
+    → cond t (Some y) rest ≡ Some x → (test b x ≡ true) × FieldsRead x
+found_passes_by b y x true rest e reads below h =
+    let s : y ≡ x = cc in
+    let p = and_true (is_instruction y) (is_prefix (spelling y) b) e in
+    subst (λ (j : Ins). (test b j ≡ true) × FieldsRead j) s (e, reads p.1)
+found_passes_by b y x false rest e reads below h = below h
+
+found_passes : (b : List ℕ) (js : List Ins) (x : Ins) → EachReads b js → find (test b) js ≡ Some x → (test b x ≡ true) × FieldsRead x
+found_passes b [] x reads h = absurd cc
+found_passes b (y ∷ js) x reads h = found_passes_by b y x (test b y) (find (test b) js) refl reads.0 (λ k. found_passes b js x reads.1 k) h
+
+-- what bytes read as is an instruction that they begin with, and the reader reads it
+pub reading_begins : (b : List ℕ) (i : Ins) → reading b ≡ Some i → (is_instruction i ≡ true) × ((rest : List ℕ) × (b ≡ spelling i ++ rest) × (instruction_at b ≡ Ok (i, rest)))
+unfolding reading
+reading_begins b i h =
+    let k = found_passes b (forms b) i (each_reads b) h in
+    let p = and_true (is_instruction i) (is_prefix (spelling i) b) k.0 in
+    let r = prefix_begins (spelling i) b p.1 in
+    (p.0, (r.0, r.1, ap instruction_at r.1 ∙ again i r.0 k.1 p.0))
+
+-- what the reader refuses reads as nothing
+refused_by : (b : List ℕ) (f : DecodeFault) (o : Option Ins) → instruction_at b ≡ Err f → reading b ≡ o → o ≡ None
+refused_by b f None t h = refl
+refused_by b f (Some i) t h = absurd (let k = reading_begins b i h in let e = sym t ∙ k.1.2 in cc)
+
+pub refused_reading : (b : List ℕ) (f : DecodeFault) → instruction_at b ≡ Err f → reading b ≡ None
+refused_reading b f t = refused_by b f (reading b) t refl
+
+pub read_reading : (b : List ℕ) (i : Ins) (rest : List ℕ) → IsBytes b → instruction_at b ≡ Ok (i, rest) → reading b ≡ Some i
+read_reading b i rest are t = let k = read_takes b i rest are t in ap reading k.1 ∙ reading_again i rest k.0

@@ -1,9 +1,10 @@
 // Decoding.
 
-ghost use Rattle.std.specs.Prelude.{◌≡◌, ◌++◌, ◌↔◌, ℕ, List, length, IfOk, Ok, Err};
+ghost use Rattle.std.specs.Prelude.{◌≡◌, ◌++◌, ◌↔◌, ℕ, List, length, IfOk, MatchResult, Ok, Err, Some, None, true};
 ghost use Rattle.ev_isa.specs.declared.instruction.Ins.{Ins};
+ghost use Rattle.ev_isa.specs.Instruction.{is_instruction};
 ghost use Rattle.ev_isa.specs.Spelling.{spelling};
-ghost use Rattle.ev_isa.specs.Reading.{BeginsWith};
+ghost use Rattle.ev_isa.specs.Reading.{BeginsWith, reading};
 ghost use Rattle.ev_code.specs.Coding.{IsEncodable, IsCutShort};
 ghost use Rattle.ev_code.specs.Reader.{Gives, behind_at, instruction_at};
 
@@ -51,6 +52,8 @@ pub fn decode(bytes: &[u8]) -> Result<(Ins, u8), DecodeFault>
     ensures decoded { (i : Ins) (rest : List ℕ) → IsEncodable i → bytes.now ≡ spelling i ++ rest → result ≡ Ok (i, length (spelling i)) }
     ensures short { (result ≡ Err DecodeFault.Short) ↔ IsCutShort bytes.now }
     ensures unknown { (result ≡ Err DecodeFault.Unknown) ↔ (¬ IsCutShort bytes.now × ((i : Ins) → IsEncodable i → ¬ BeginsWith bytes.now i)) }
+    // It answers what the definition reads.
+    ensures reading { MatchResult result (λ x. reading bytes.now ≡ Some x.0) (λ _. reading bytes.now ≡ None) }
 {
     match instruction(bytes) {
         Ok((found, rest)) => {
@@ -59,4 +62,17 @@ pub fn decode(bytes: &[u8]) -> Result<(Ins, u8), DecodeFault>
         }
         Err(fault) => Err(fault),
     }
+}
+
+/// No spelling begins another: bytes begin with one instruction at most. Own.
+pub fn one_instruction()
+    ensures { (i j : Ins) (xs ys : List ℕ) → IsEncodable i → IsEncodable j → spelling i ++ xs ≡ spelling j ++ ys → (i ≡ j) × (xs ≡ ys) }
+{
+}
+
+/// Bytes read as what they begin with, and as nothing else. Own.
+pub fn reading_law()
+    ensures spelled { (i : Ins) (rest : List ℕ) → IsEncodable i → reading (spelling i ++ rest) ≡ Some i }
+    ensures begins { (bytes : List ℕ) (i : Ins) → reading bytes ≡ Some i → (is_instruction i ≡ true) × BeginsWith bytes i }
+{
 }

@@ -3,10 +3,11 @@
 #![tactic(auto)]
 
 mod decoding;
+mod encoding;
 mod fault;
 mod fields;
 mod memory_forms;
 mod register_forms;
 
-pub use decoding::decode;
+pub use decoding::{decode, one_instruction, reading_law};
 pub use fault::DecodeFault;

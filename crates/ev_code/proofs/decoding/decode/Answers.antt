@@ -1,6 +1,7 @@
 use Rattle.std.proofs.Common.{◌≡◌, ℕ, ◌+◌, ◌≤◌, length, refl, Fits, w8, arith}
 use Rattle.ev_isa.specs.Spelling.{spelling}
 use Rattle.ev_code.proofs.Spelled.{spelling_length, read_size, ok_spelled, ok_decoded, ok_not_short, ok_not_unknown, err_decoded, err_short, err_unknown}
+use Rattle.ev_code.proofs.ReadingForms.{read_reading, refused_reading}
 use Rattle.ev_code.proofs.Parts.{IsBytes}
 use Rattle.ev_code.proofs.decoding.decode.Goals as goal
 
@@ -34,3 +35,9 @@ returns-in-Err-clause-short c = err_short c.args.bytes.now c.in-Err.fault (λ k.
 
 pub returns-in-Err-clause-unknown : goal.returns-in-Err-clause-unknown
 returns-in-Err-clause-unknown c = err_unknown c.args.bytes.now c.in-Err.fault (λ k. omega (arith, c.type_inv.bytes k)) (c.in-Err.ensures {u = tt})
+
+pub returns-in-Ok-clause-reading : goal.returns-in-Ok-clause-reading
+returns-in-Ok-clause-reading c = read_reading c.args.bytes.now c.in-Ok.found c.in-Ok.rest.now (λ k. omega (arith, c.type_inv.bytes k)) (c.in-Ok.ensures {u = tt})
+
+pub returns-in-Err-clause-reading : goal.returns-in-Err-clause-reading
+returns-in-Err-clause-reading c = refused_reading c.args.bytes.now c.in-Err.fault (c.in-Err.ensures {u = tt})
