@@ -1,8 +1,8 @@
 -- What an instruction spells is read again, whatever follows.
-use Rattle.std.proofs.Common.{◌≡◌, ℕ, ℤ, zero, suc, ◌+◌, ◌*◌, ◌/◌, ◌%◌, ◌^◌, ◌<◌, ◌≤◌, Bool, true, false, ◌&&◌, cond, ltb, List, [], ◌∷◌, ◌++◌, length, take, drop, Option, Some, None, Result, Ok, Err, refl, sym, ap, subst, ◌∙◌, append_assoc, arith, if◌then◌else◌, ◌==◌, ◌||◌, inl, inr}
+use Rattle.std.proofs.Common.{◌≡◌, ℕ, ℤ, ◌+◌, ◌*◌, ◌/◌, ◌%◌, ◌^◌, ◌<◌, ◌≤◌, Bool, true, false, ◌&&◌, cond, ltb, List, [], ◌∷◌, ◌++◌, length, Some, None, Ok, refl, sym, ap, subst, ◌∙◌, append_assoc, arith, if◌then◌else◌, ◌==◌, ◌||◌, inl, inr}
 use Rattle.std.specs.Int.{w32, w64, from_le_bytes, to_le_bytes, cast_signed, cast_unsigned}
 use Rattle.std.specs.Int.RustNames.{FitsSigned}
-use Rattle.std.proofs.lemmas.Bool.{eqb-true, eq-eqb, ne_eqb, lt-ltb, le-ltb, cases_lt}
+use Rattle.std.proofs.lemmas.Bool.{eq-eqb, ne_eqb, le-ltb, cases_lt}
 use Rattle.std.proofs.lemmas.List.{take_at, drop_at, length-append}
 use Rattle.std.proofs.lemmas.Nat.{from_le_bytes-to_le_bytes_4, from_le_bytes-to_le_bytes_8}
 use Rattle.std.proofs.lemmas.Int.{to_z-of_z}
@@ -14,13 +14,11 @@ use Rattle.ev_isa.specs.declared.instruction.AluOp.TheVariants.{Add, Or, And, Su
 use Rattle.ev_isa.specs.declared.instruction.Cond.TheVariants.{Z, Nz, C, Nc, S, Ns}
 use Rattle.ev_isa.specs.declared.instruction.Ins.TheVariants.{MovImm, MovReg, Load, Store, StoreImm, GsLoad, GsStore, GsPush, Alu, AluImm, Shl, Shr, Xchg, CmpXchg, Xadd, Jmp, Jcc, JmpReg, Push, PushImm, Pop, IntN, Lkgs, MovGs, ReadCr2, WriteCr2, Nop, Int3, Int1, Syscall, Sysretq, Iretq, Swapgs, Eretu, Erets, Rdmsr, Wrmsr, Sti, Cli, Ud2}
 use Rattle.ev_isa.specs.Instruction.{is_instruction}
-use Rattle.ev_isa.specs.Spelling.{spelling, four_bytes, rex, short_rex, modrm, registers, memory, absolute, alu_number, cond_number}
-use Rattle.ev_code.specs.declared.fault.DecodeFault.{DecodeFault}
-use Rattle.ev_code.specs.declared.fault.DecodeFault.TheVariants.{Unknown, Short}
-use Rattle.ev_code.specs.Coding.{FieldsFit, IsEncodable}
-use Rattle.ev_code.specs.Reader.{Read, ◌>>=◌, byte_at, immediate_at, word_at, count_at, register_at, sib_at, displacement_at, memory_at, absolute_at, reg_field, rm_field, alu_of, cond_of, alu_opcode, is_wide, move_at, alu_at, alu_number_at, alu_immediate_at, store_immediate_at, shift_at, sysretq_at, return_at, mov_immediate_at, one_register_at, load_at, xchg_at, arithmetic_at, wide_at, gs_push_at, gs_word_at, gs_at, exchange_at, locked_wide_at, locked_at, with_register_at, lkgs_at, lkgs_high_at, lkgs_or_erets_at, last_at, repne_at, eretu_at, rep_at, cr2_at, condition_at, two_byte_at, narrow_at, cr2_high_at, extended_at, with_immediate_at, int_at, plain_at, behind_at, instruction_at}
+use Rattle.ev_isa.specs.Spelling.{spelling, four_bytes, rex, short_rex, modrm, registers, memory, absolute, alu_number}
+use Rattle.ev_code.specs.Coding.{FieldsFit}
+use Rattle.ev_code.specs.Reader.{Read, immediate_at, word_at, count_at, register_at, sib_at, displacement_at, memory_at, absolute_at, reg_field, rm_field, alu_of, cond_of, alu_opcode, is_wide, move_at, alu_at, alu_number_at, alu_immediate_at, store_immediate_at, shift_at, sysretq_at, return_at, mov_immediate_at, one_register_at, load_at, xchg_at, arithmetic_at, wide_at, gs_push_at, gs_word_at, gs_at, exchange_at, locked_wide_at, locked_at, with_register_at, lkgs_at, lkgs_high_at, lkgs_or_erets_at, last_at, repne_at, eretu_at, rep_at, cr2_at, condition_at, two_byte_at, narrow_at, cr2_high_at, extended_at, with_immediate_at, int_at, plain_at, behind_at, instruction_at}
 use Rattle.ev_code.proofs.FieldReads.{sib_if, is_count}
-use Rattle.ev_code.proofs.RegisterReads.{IsPrefix, no_prefix, high_prefix}
+use Rattle.ev_code.proofs.RegisterReads.{no_prefix, high_prefix}
 
 -- ---- fields
 

@@ -1,17 +1,17 @@
 -- The readers of fields take what they spell.
-use Rattle.std.proofs.Common.{◌≡◌, ℕ, ℤ, pos, zero, suc, ◌+◌, ◌*◌, ◌/◌, ◌%◌, ◌^◌, ◌<◌, ◌≤◌, Bool, true, false, ◌&&◌, cond, ltb, List, [], ◌∷◌, ◌++◌, length, get_or, take, drop, Result, Ok, Err, refl, sym, ap, subst, ◌∙◌, append_assoc, arith, if◌then◌else◌, ◌==◌, inl, inr, lit<, Fits, ◌-◌}
-use Rattle.std.specs.Int.{w32, w64, from_le_bytes, to_le_bytes, cast_signed, cast_unsigned}
+use Rattle.std.proofs.Common.{◌≡◌, ℕ, ℤ, pos, zero, suc, ◌+◌, ◌*◌, ◌/◌, ◌%◌, ◌^◌, ◌<◌, ◌≤◌, Bool, true, false, ◌&&◌, cond, ltb, List, [], ◌∷◌, ◌++◌, length, take, drop, Result, Ok, Err, refl, sym, ap, subst, arith, if◌then◌else◌, ◌==◌, inl, inr, Fits, ◌-◌}
+use Rattle.std.specs.Int.{w32, w64, from_le_bytes, to_le_bytes, cast_signed}
 use Rattle.std.specs.Int.RustNames.{FitsSigned}
 use Rattle.std.proofs.lemmas.Bool.{cases_lt, ltb-true, ltb-false, le-ltb, eqb-true, eq-eqb}
-use Rattle.std.proofs.lemmas.List.{take_all, drop_all, take_at, drop_at, take-append-drop, length-append, length-take, length-drop, get_or-drop, get_or-take, get_or_past, take-append-le, drop-append-le}
-use Rattle.std.proofs.lemmas.Nat.{le_bytes_4, le_bytes_8, from_le_bytes-to_le_bytes_4, from_le_bytes-to_le_bytes_8}
-use Rattle.std.proofs.lemmas.Int.{to_z-of_z, of_z-to_z}
-use Rattle.std.proofs.Math.Facts.{Fits-of_z, sfits_to_z}
+use Rattle.std.proofs.lemmas.List.{take_all, drop_all, take-append-drop, length-append, length-take, get_or-drop, get_or-take, get_or_past, take-append-le, drop-append-le}
+use Rattle.std.proofs.lemmas.Nat.{le_bytes_4, le_bytes_8}
+use Rattle.std.proofs.lemmas.Int.{of_z-to_z}
+use Rattle.std.proofs.Math.Facts.{sfits_to_z}
 use Rattle.ev_isa.specs.Spelling.{four_bytes, modrm, memory, absolute}
 use Rattle.ev_code.specs.declared.fault.DecodeFault.{DecodeFault}
-use Rattle.ev_code.specs.declared.fault.DecodeFault.TheVariants.{Unknown, Short}
-use Rattle.ev_code.specs.Reader.{Read, ◌>>=◌, byte_at, immediate_at, word_at, count_at, register_at, sib_at, displacement_at, memory_at, absolute_at, reg_field, rm_field}
-use Rattle.ev_code.proofs.Parts.{tail, IsBytes, Reads, IsField, IsStable, IsTrim, IsLive, Extends, same, done, stop, choose, field, next, live, no_bytes, bytes_cons}
+use Rattle.ev_code.specs.declared.fault.DecodeFault.TheVariants.{Short}
+use Rattle.ev_code.specs.Reader.{Read, immediate_at, word_at, count_at, register_at, sib_at, displacement_at, memory_at, absolute_at, reg_field, rm_field}
+use Rattle.ev_code.proofs.Parts.{tail, IsBytes, IsField, IsLive, Extends, done, stop, choose, field, next, live, no_bytes, bytes_cons}
 
 IsBytes-drop : (n : ℕ) (bytes : List ℕ) → IsBytes bytes → IsBytes (drop n bytes)
 IsBytes-drop n bytes h i = rw get_or-drop (h (n + i))

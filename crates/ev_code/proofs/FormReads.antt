@@ -1,20 +1,15 @@
 -- The readers of instructions behind REX.W, GS and LOCK take what they spell.
-use Rattle.std.proofs.Common.{◌≡◌, ℕ, ℤ, pos, zero, suc, ◌+◌, ◌*◌, ◌/◌, ◌%◌, ◌^◌, ◌<◌, Bool, true, false, ◌&&◌, ◌||◌, ◌⊎◌, cond, List, [], ◌∷◌, ◌++◌, Option, Some, None, Result, Ok, Err, refl, sym, ap, subst, ◌∙◌, append_assoc, arith, if◌then◌else◌, ◌==◌, inl, inr}
-use Rattle.std.specs.Int.{w32, w64, to_le_bytes}
-use Rattle.std.specs.Int.RustNames.{FitsSigned}
+use Rattle.std.proofs.Common.{◌≡◌, ℕ, ℤ, pos, ◌+◌, ◌*◌, ◌/◌, ◌%◌, ◌<◌, Bool, true, false, ◌||◌, ◌⊎◌, cond, List, [], ◌∷◌, ◌++◌, Option, Some, None, Ok, refl, sym, ap, subst, ◌∙◌, append_assoc, arith, ◌==◌, inl, inr}
+use Rattle.std.specs.Int.{w64, to_le_bytes}
 use Rattle.std.proofs.lemmas.Bool.{eqb-true}
-use Rattle.ev_isa.specs.declared.instruction.Ins.{Ins}
 use Rattle.ev_isa.specs.declared.instruction.AluOp.{AluOp}
 use Rattle.ev_isa.specs.declared.instruction.AluOp.TheVariants.{Add, Or, And, Sub, Xor, Cmp}
 use Rattle.ev_isa.specs.declared.instruction.Ins.TheVariants.{MovImm, MovReg, Load, Store, StoreImm, GsLoad, GsStore, GsPush, Alu, AluImm, Shl, Shr, Xchg, CmpXchg, Xadd, Sysretq, Iretq}
 use Rattle.ev_isa.specs.Instruction.{is_instruction}
 use Rattle.ev_isa.specs.Spelling.{spelling, four_bytes, modrm, rex, registers, memory, absolute, alu_number}
-use Rattle.ev_code.specs.declared.fault.DecodeFault.{DecodeFault}
-use Rattle.ev_code.specs.declared.fault.DecodeFault.TheVariants.{Unknown, Short}
-use Rattle.ev_code.specs.Coding.{FieldsFit, IsEncodable}
-use Rattle.ev_code.specs.Reader.{Read, ◌>>=◌, byte_at, immediate_at, word_at, count_at, sib_at, displacement_at, memory_at, absolute_at, reg_field, rm_field, alu_of, alu_opcode, is_wide, move_at, alu_at, alu_number_at, alu_immediate_at, store_immediate_at, shift_at, sysretq_at, return_at, mov_immediate_at, one_register_at, load_at, xchg_at, arithmetic_at, wide_at, gs_push_at, gs_word_at, gs_at, exchange_at, locked_wide_at, locked_at}
-use Rattle.ev_code.proofs.Parts.{IsBytes, Reads, IsReader, IsField, IsLive, same, done, stop, choose, pick, under, field, tail, next, live, no_bytes, bytes_cons}
-use Rattle.ev_code.proofs.FieldReads.{zeros, bytes_zeros, and_true, immediate_field, word_field, is_count, count_field, sib_field, sib_if, displacement_field, IsMemory, memory_field, absolute_field}
+use Rattle.ev_code.specs.Reader.{◌>>=◌, immediate_at, count_at, sib_at, displacement_at, memory_at, absolute_at, reg_field, rm_field, alu_of, alu_opcode, is_wide, move_at, alu_at, alu_number_at, alu_immediate_at, store_immediate_at, shift_at, sysretq_at, return_at, mov_immediate_at, one_register_at, load_at, xchg_at, arithmetic_at, wide_at, gs_push_at, gs_word_at, gs_at, exchange_at, locked_wide_at, locked_at}
+use Rattle.ev_code.proofs.Parts.{IsReader, IsLive, done, stop, choose, pick, under, field, next, live}
+use Rattle.ev_code.proofs.FieldReads.{zeros, and_true, immediate_field, word_field, count_field, sib_field, sib_if, displacement_field, IsMemory, memory_field, absolute_field}
 
 -- REX.W without X
 pub record IsRex (x : ℕ) : Type 0 where

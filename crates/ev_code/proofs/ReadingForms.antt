@@ -1,10 +1,9 @@
 -- The reading of bytes by forms finds what they begin with.
-use Rattle.std.proofs.Common.{◌≡◌, ℕ, ℤ, pos, negsuc, zero, suc, ◌+◌, ◌-◌, ◌*◌, ◌/◌, ◌%◌, ◌^◌, ◌<◌, ◌≤◌, Bool, true, false, ◌&&◌, cond, ltb, List, [], ◌∷◌, ◌++◌, length, take, drop, get_or, Option, Some, None, find, Result, Ok, Err, refl, sym, ap, subst, ◌∙◌, append_assoc, arith, if◌then◌else◌, ◌==◌, inl, inr, ◌⊎◌}
-use Rattle.std.specs.Int.{w32, w64, from_le_bytes, to_le_bytes, cast_signed, cast_unsigned}
+use Rattle.std.proofs.Common.{◌≡◌, ℕ, ℤ, pos, negsuc, zero, suc, ◌+◌, ◌-◌, ◌*◌, ◌/◌, ◌%◌, ◌^◌, ◌<◌, ◌≤◌, Bool, true, false, ◌&&◌, cond, ltb, List, [], ◌∷◌, ◌++◌, length, drop, get_or, Option, Some, None, find, Ok, Err, refl, sym, ap, subst, ◌∙◌, append_assoc, arith, if◌then◌else◌, ◌==◌, inl, inr, ◌⊎◌}
+use Rattle.std.specs.Int.{w32, w64, from_le_bytes, to_le_bytes, cast_signed}
 use Rattle.std.specs.Int.RustNames.{FitsSigned}
-use Rattle.std.proofs.lemmas.Bool.{eqb-true, eq-eqb, ne_eqb, ltb-true, ltb-false, lt-ltb, le-ltb, cases_lt}
+use Rattle.std.proofs.lemmas.Bool.{eqb-true, eq-eqb, ltb-true, ltb-false}
 use Rattle.std.proofs.lemmas.Nat.{from_le_bytes-to_le_bytes_8}
-use Rattle.std.proofs.lemmas.Int.{ints}
 use Rattle.ev_isa.specs.declared.instruction.Ins.{Ins}
 use Rattle.ev_isa.specs.declared.instruction.AluOp.{AluOp}
 use Rattle.ev_isa.specs.declared.instruction.Cond.{Cond}
@@ -12,14 +11,13 @@ use Rattle.ev_isa.specs.declared.instruction.AluOp.TheVariants.{Add, Or, And, Su
 use Rattle.ev_isa.specs.declared.instruction.Cond.TheVariants.{Z, Nz, C, Nc, S, Ns}
 use Rattle.ev_isa.specs.declared.instruction.Ins.TheVariants.{MovImm, MovReg, Load, Store, StoreImm, GsLoad, GsStore, GsPush, Alu, AluImm, Shl, Shr, Xchg, CmpXchg, Xadd, Jmp, Jcc, JmpReg, Push, PushImm, Pop, IntN, Lkgs, MovGs, ReadCr2, WriteCr2, Nop, Int3, Int1, Syscall, Sysretq, Iretq, Swapgs, Eretu, Erets, Rdmsr, Wrmsr, Sti, Cli, Ud2}
 use Rattle.ev_isa.specs.Instruction.{is_instruction}
-use Rattle.ev_isa.specs.Spelling.{spelling, four_bytes, rex, short_rex, modrm, registers, memory, absolute, alu_number, cond_number}
-use Rattle.ev_isa.specs.Reading.{is_prefix, byte, signed_at, reg_at, rm_at, behind, plain_forms, wide_forms, prefixed_forms, narrow_forms, forms, reading}
+use Rattle.ev_isa.specs.Spelling.{spelling, four_bytes, rex, modrm, registers, alu_number}
+use Rattle.ev_isa.specs.Reading.{is_prefix, signed_at, reg_at, rm_at, behind, plain_forms, wide_forms, prefixed_forms, narrow_forms, forms, reading}
 use Rattle.ev_code.specs.declared.fault.DecodeFault.{DecodeFault}
 use Rattle.ev_code.specs.Coding.{FieldsFit, IsEncodable}
-use Rattle.ev_code.specs.Reader.{Read, instruction_at}
+use Rattle.ev_code.specs.Reader.{instruction_at}
 use Rattle.ev_code.proofs.FieldReads.{sib_if, and_true}
-use Rattle.ev_code.proofs.RegisterReads.{no_prefix, high_prefix}
-use Rattle.ev_code.proofs.Again.{FieldsRead, again, immediate_back, either_prefix, Prefixes}
+use Rattle.ev_code.proofs.Again.{FieldsRead, again, immediate_back, either_prefix}
 use Rattle.ev_code.proofs.Spelled.{read_again, read_takes, ok_parts}
 use Rattle.ev_code.proofs.Parts.{IsBytes}
 
@@ -171,70 +169,193 @@ low_back x d r h lt e = omega arith
 
 each_reads : (b : List ℕ) → EachReads b (forms b)
 unfolding forms plain_forms wide_forms prefixed_forms narrow_forms
-each_reads b =
-    (λ p. signed_fits b 1,
-    (λ p. signed_fits b 1,
-    (λ p. tt,
-    (λ p. tt,
-    (λ p. tt,
-    (λ p. tt,
-    (λ p. tt,
-    (λ p. tt,
-    (λ p. tt,
-    (λ p. tt,
-    (λ p. tt,
-    (λ p. tt,
-    (λ p. tt,
-    (λ p. tt,
-    (λ p. tt,
-    (λ p. tt,
-    (λ p. tt,
-    (λ p. signed_fits b 2,
-    (λ p. signed_fits b 2,
-    (λ p. signed_fits b 2,
-    (λ p. signed_fits b 2,
-    (λ p. signed_fits b 2,
-    (λ p. signed_fits b 2,
-    (λ p. (rm_small b 0 1, mov_value_small b p),
-    (λ p. (rm_small b 0 2, reg_small b 0 2),
-    (λ p. (reg_small b 0 2, rm_small b 0 2, signed_fits b (behind b 2)),
-    (λ p. (rm_small b 0 2, signed_fits b (behind b 2), reg_small b 0 2),
-    (λ p. (rm_small b 0 2, signed_fits b (behind b 2), signed_fits b (behind b 2 + 4)),
-    (λ p. rm_small b 0 2,
-    (λ p. rm_small b 0 2,
-    (λ p. (rm_small b 0 2, signed_fits b (behind b 2), reg_small b 0 2),
-    (λ p. (rm_small b 0 2, reg_small b 0 2),
-    (λ p. (rm_small b 0 2, reg_small b 0 2),
-    (λ p. (rm_small b 0 2, reg_small b 0 2),
-    (λ p. (rm_small b 0 2, reg_small b 0 2),
-    (λ p. (rm_small b 0 2, reg_small b 0 2),
-    (λ p. (rm_small b 0 2, reg_small b 0 2),
-    (λ p. (rm_small b 0 2, signed_fits b 3),
-    (λ p. (rm_small b 0 2, signed_fits b 3),
-    (λ p. (rm_small b 0 2, signed_fits b 3),
-    (λ p. (rm_small b 0 2, signed_fits b 3),
-    (λ p. (rm_small b 0 2, signed_fits b 3),
-    (λ p. (rm_small b 0 2, signed_fits b 3),
-    (λ p. (reg_small b 1 3, signed_fits b 5),
-    (λ p. (signed_fits b 5, reg_small b 1 3),
-    (λ p. signed_fits b 4,
-    (λ p. (rm_small b 1 4, signed_fits b (behind b 4), reg_small b 1 4),
-    (λ p. (rm_small b 1 4, signed_fits b (behind b 4), reg_small b 1 4),
-    (λ p. omega arith,
-    (λ p. omega arith,
-    (λ p. omega arith,
-    (λ p. omega arith,
-    (λ p. omega arith,
-    (λ p. omega arith,
-    (λ p. omega arith,
-    (λ p. omega arith,
-    (λ p. omega arith,
-    (λ p. omega arith,
-    (λ p. omega arith,
-    (λ p. omega arith,
-    (λ p. omega arith,
-    (λ p. omega arith,
-    tt))))))))))))))))))))))))))))))))))))))))))))))))))))))))))))))
+each_reads b = (
+  λ p. signed_fits b 1,
+  (
+    λ p. signed_fits b 1,
+    (
+      λ p. tt,
+      (
+        λ p. tt,
+        (
+          λ p. tt,
+          (
+            λ p. tt,
+            (
+              λ p. tt,
+              (
+                λ p. tt,
+                (
+                  λ p. tt,
+                  (
+                    λ p. tt,
+                    (
+                      λ p. tt,
+                      (
+                        λ p. tt,
+                        (
+                          λ p. tt,
+                          (
+                            λ p. tt,
+                            (
+                              λ p. tt,
+                              (
+                                λ p. tt,
+                                (
+                                  λ p. tt,
+                                  (
+                                    λ p. signed_fits b 2,
+                                    (
+                                      λ p. signed_fits b 2,
+                                      (
+                                        λ p. signed_fits b 2,
+                                        (
+                                          λ p. signed_fits b 2,
+                                          (
+                                            λ p. signed_fits b 2,
+                                            (
+                                              λ p. signed_fits b 2,
+                                              (
+                                                λ p. (rm_small b 0 1, mov_value_small b p),
+                                                (
+                                                  λ p. (rm_small b 0 2, reg_small b 0 2),
+                                                  (
+                                                    λ p. (reg_small b 0 2, rm_small b 0 2, signed_fits b (behind b 2)),
+                                                    (
+                                                      λ p. (rm_small b 0 2, signed_fits b (behind b 2), reg_small b 0 2),
+                                                      (
+                                                        λ p. (rm_small b 0 2, signed_fits b (behind b 2), signed_fits b (behind b 2 + 4)),
+                                                        (
+                                                          λ p. rm_small b 0 2,
+                                                          (
+                                                            λ p. rm_small b 0 2,
+                                                            (
+                                                              λ p. (rm_small b 0 2, signed_fits b (behind b 2), reg_small b 0 2),
+                                                              (
+                                                                λ p. (rm_small b 0 2, reg_small b 0 2),
+                                                                (
+                                                                  λ p. (rm_small b 0 2, reg_small b 0 2),
+                                                                  (
+                                                                    λ p. (rm_small b 0 2, reg_small b 0 2),
+                                                                    (
+                                                                      λ p. (rm_small b 0 2, reg_small b 0 2),
+                                                                      (
+                                                                        λ p. (rm_small b 0 2, reg_small b 0 2),
+                                                                        (
+                                                                          λ p. (rm_small b 0 2, reg_small b 0 2),
+                                                                          (
+                                                                            λ p. (rm_small b 0 2, signed_fits b 3),
+                                                                            (
+                                                                              λ p. (rm_small b 0 2, signed_fits b 3),
+                                                                              (
+                                                                                λ p. (rm_small b 0 2, signed_fits b 3),
+                                                                                (
+                                                                                  λ p. (rm_small b 0 2, signed_fits b 3),
+                                                                                  (
+                                                                                    λ p. (rm_small b 0 2, signed_fits b 3),
+                                                                                    (
+                                                                                      λ p. (rm_small b 0 2, signed_fits b 3),
+                                                                                      (
+                                                                                        λ p. (reg_small b 1 3, signed_fits b 5),
+                                                                                        (
+                                                                                          λ p. (signed_fits b 5, reg_small b 1 3),
+                                                                                          (
+                                                                                            λ p. signed_fits b 4,
+                                                                                            (
+                                                                                              λ p. (rm_small b 1 4, signed_fits b (behind b 4), reg_small b 1 4),
+                                                                                              (
+                                                                                                λ p. (rm_small b 1 4, signed_fits b (behind b 4), reg_small b 1 4),
+                                                                                                (
+                                                                                                  λ p. omega arith,
+                                                                                                  (
+                                                                                                    λ p. omega arith,
+                                                                                                    (
+                                                                                                      λ p. omega arith,
+                                                                                                      (
+                                                                                                        λ p. omega arith,
+                                                                                                        (
+                                                                                                          λ p. omega arith,
+                                                                                                          (
+                                                                                                            λ p. omega arith,
+                                                                                                            (
+                                                                                                              λ p. omega arith,
+                                                                                                              (
+                                                                                                                λ p. omega arith,
+                                                                                                                (
+                                                                                                                  λ p. omega arith,
+                                                                                                                  (
+                                                                                                                    λ p. omega arith,
+                                                                                                                    (
+                                                                                                                      λ p. omega arith,
+                                                                                                                      (
+                                                                                                                        λ p. omega arith,
+                                                                                                                        (
+                                                                                                                          λ p. omega arith,
+                                                                                                                          (
+                                                                                                                            λ p. omega arith,
+                                                                                                                            tt,
+                                                                                                                          ),
+                                                                                                                        ),
+                                                                                                                      ),
+                                                                                                                    ),
+                                                                                                                  ),
+                                                                                                                ),
+                                                                                                              ),
+                                                                                                            ),
+                                                                                                          ),
+                                                                                                        ),
+                                                                                                      ),
+                                                                                                    ),
+                                                                                                  ),
+                                                                                                ),
+                                                                                              ),
+                                                                                            ),
+                                                                                          ),
+                                                                                        ),
+                                                                                      ),
+                                                                                    ),
+                                                                                  ),
+                                                                                ),
+                                                                              ),
+                                                                            ),
+                                                                          ),
+                                                                        ),
+                                                                      ),
+                                                                    ),
+                                                                  ),
+                                                                ),
+                                                              ),
+                                                            ),
+                                                          ),
+                                                        ),
+                                                      ),
+                                                    ),
+                                                  ),
+                                                ),
+                                              ),
+                                            ),
+                                          ),
+                                        ),
+                                      ),
+                                    ),
+                                  ),
+                                ),
+                              ),
+                            ),
+                          ),
+                        ),
+                      ),
+                    ),
+                  ),
+                ),
+              ),
+            ),
+          ),
+        ),
+      ),
+    ),
+  ),
+)
 
 -- the place of an instruction among the forms of bytes
 abbrev pub PlaceOf : List ℕ → Ins → Type 0
@@ -262,10 +383,12 @@ xchg_place b s n rest k h f = (30, omega arith, λ i. Xchg (rm_spelled s b 2 h k
 
 store_imm_place : (b : ℕ) (n j : ℤ) (rest : List ℕ) → b < 16 → FitsSigned w32 n → FitsSigned w32 j → PlaceOf (spelling (StoreImm b n j) ++ rest) (StoreImm b n j)
 unfolding forms plain_forms wide_forms prefixed_forms narrow_forms spelling rm_at
-store_imm_place b n j rest k f g =
-    (27, omega arith,
-    ap (λ (y : List ℕ). get_or (forms (rex 0 b ∷ 0xc7 ∷ modrm 2 0 b ∷ y)) 27 Nop) (append_assoc (sib_if (b % 8 == 4) ++ four_bytes n) (four_bytes j) rest)
-    ∙ (λ i. StoreImm (rm_number 0 b 2 k i) (two_here (rex 0 b) 0xc7 (modrm 2 0 b) b n (four_bytes j ++ rest) (memory_low 0 b) f i) (after_here (rex 0 b) 0xc7 (modrm 2 0 b) b n j rest (memory_low 0 b) g i)))
+store_imm_place b n j rest k f g = (
+  27,
+  omega arith,
+  ap (λ (y : List ℕ). get_or (forms (rex 0 b ∷ 0xc7 ∷ modrm 2 0 b ∷ y)) 27 Nop) (append_assoc (sib_if (b % 8 == 4) ++ four_bytes n) (four_bytes j) rest)
+      ∙ (λ i. StoreImm (rm_number 0 b 2 k i) (two_here (rex 0 b) 0xc7 (modrm 2 0 b) b n (four_bytes j ++ rest) (memory_low 0 b) f i) (after_here (rex 0 b) 0xc7 (modrm 2 0 b) b n j rest (memory_low 0 b) g i)),
+)
 
 shl_place : (d n : ℕ) (rest : List ℕ) → d < 16 → PlaceOf (spelling (Shl d n) ++ rest) (Shl d n)
 unfolding forms plain_forms wide_forms prefixed_forms narrow_forms spelling rm_at

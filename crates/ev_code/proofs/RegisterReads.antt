@@ -1,19 +1,18 @@
 -- The readers of instructions without REX.W take what they spell, and so does the reader of all instructions.
-use Rattle.std.proofs.Common.{◌≡◌, ℕ, ℤ, pos, zero, suc, ◌+◌, ◌*◌, ◌/◌, ◌%◌, ◌^◌, ◌<◌, Bool, true, false, ltb, List, [], ◌∷◌, ◌++◌, Option, Some, None, Result, Ok, Err, refl, sym, ap, subst, ◌∙◌, append_assoc, arith, if◌then◌else◌, ◌==◌}
+use Rattle.std.proofs.Common.{◌≡◌, ℕ, ℤ, ◌+◌, ◌*◌, ◌/◌, ◌%◌, ◌<◌, true, false, ltb, List, [], ◌∷◌, ◌++◌, Option, Some, None, Ok, Err, refl, sym, ap, ◌∙◌, append_assoc, arith, if◌then◌else◌, ◌==◌}
 use Rattle.std.specs.Int.{w32}
 use Rattle.std.specs.Int.RustNames.{FitsSigned}
 use Rattle.std.proofs.lemmas.Bool.{eqb-true, eq-eqb, lt-ltb, le-ltb}
 use Rattle.ev_isa.specs.declared.instruction.Ins.{Ins}
 use Rattle.ev_isa.specs.declared.instruction.Cond.{Cond}
 use Rattle.ev_isa.specs.declared.instruction.Cond.TheVariants.{Z, Nz, C, Nc, S, Ns}
-use Rattle.ev_isa.specs.declared.instruction.Ins.TheVariants.{MovReg, Jmp, Jcc, JmpReg, Push, PushImm, Pop, IntN, Lkgs, MovGs, ReadCr2, WriteCr2, Nop, Int3, Int1, Syscall, Swapgs, Eretu, Erets, Rdmsr, Wrmsr, Sti, Cli, Ud2}
+use Rattle.ev_isa.specs.declared.instruction.Ins.TheVariants.{Jmp, Jcc, JmpReg, Push, PushImm, Pop, IntN, Lkgs, MovGs, ReadCr2, WriteCr2, Nop, Int3, Int1, Syscall, Swapgs, Eretu, Erets, Rdmsr, Wrmsr, Sti, Cli, Ud2}
 use Rattle.ev_isa.specs.Instruction.{is_instruction}
 use Rattle.ev_isa.specs.Spelling.{spelling, four_bytes, short_rex, cond_number}
-use Rattle.ev_code.specs.declared.fault.DecodeFault.{DecodeFault}
-use Rattle.ev_code.specs.declared.fault.DecodeFault.TheVariants.{Unknown, Short}
+use Rattle.ev_code.specs.declared.fault.DecodeFault.TheVariants.{Unknown}
 use Rattle.ev_code.specs.Coding.{FieldsFit, IsEncodable}
-use Rattle.ev_code.specs.Reader.{Read, ◌>>=◌, byte_at, immediate_at, register_at, rm_field, cond_of, is_wide, wide_at, gs_at, locked_at, with_register_at, lkgs_at, lkgs_high_at, lkgs_or_erets_at, last_at, repne_at, eretu_at, rep_at, cr2_at, condition_at, two_byte_at, narrow_at, cr2_high_at, extended_at, with_immediate_at, int_at, plain_at, behind_at, instruction_at}
-use Rattle.ev_code.proofs.Parts.{IsBytes, Reads, IsReader, IsField, IsLive, same, done, stop, choose, pick, under, field, tail, next, live}
+use Rattle.ev_code.specs.Reader.{Read, register_at, rm_field, cond_of, is_wide, with_register_at, lkgs_at, lkgs_high_at, lkgs_or_erets_at, last_at, repne_at, eretu_at, rep_at, cr2_at, condition_at, two_byte_at, narrow_at, cr2_high_at, extended_at, with_immediate_at, int_at, plain_at, behind_at, instruction_at}
+use Rattle.ev_code.proofs.Parts.{IsReader, IsLive, same, done, stop, choose, pick, under, field, next, live}
 use Rattle.ev_code.proofs.FieldReads.{immediate_field, register_field}
 use Rattle.ev_code.proofs.FormReads.{number_step, rex_of_wide, wide_reads, gs_reads, locked_reads}
 

@@ -1,8 +1,8 @@
 -- What the reader of all instructions answers, in terms of spellings.
-use Rattle.std.proofs.Common.{◌≡◌, ℕ, ◌+◌, ◌<◌, ◌≤◌, List, [], ◌∷◌, ◌++◌, length, Result, Ok, Err, refl, sym, ap, subst, ◌∙◌, arith, Bool, true, false, ℤ, ◌%◌, ltb, ◌==◌, if◌then◌else◌, ◌-◌, ◌↔◌}
+use Rattle.std.proofs.Common.{◌≡◌, ℕ, ◌+◌, ◌≤◌, List, [], ◌∷◌, ◌++◌, length, Result, Ok, Err, refl, sym, ap, ◌∙◌, arith, Bool, true, false, ℤ, ◌%◌, ltb, ◌==◌, if◌then◌else◌, ◌-◌, ◌↔◌}
 use Rattle.std.proofs.lemmas.List.{append-nil, length-append}
 use Rattle.ev_isa.specs.declared.instruction.Ins.{Ins}
-use Rattle.ev_isa.specs.declared.instruction.Ins.TheVariants.{MovImm, MovReg, Load, Store, StoreImm, GsLoad, GsStore, GsPush, Alu, AluImm, Shl, Shr, Xchg, CmpXchg, Xadd, Jmp, Jcc, JmpReg, Push, PushImm, Pop, IntN, Lkgs, MovGs, ReadCr2, WriteCr2, Nop, Int3, Int1, Syscall, Sysretq, Iretq, Swapgs, Eretu, Erets, Rdmsr, Wrmsr, Sti, Cli, Ud2}
+use Rattle.ev_isa.specs.declared.instruction.Ins.TheVariants.{Load, Store, StoreImm, Shl, Shr, Xchg, CmpXchg, Xadd, JmpReg, Push, Pop, IntN, Lkgs, MovGs, ReadCr2, WriteCr2}
 use Rattle.ev_isa.specs.Spelling.{spelling, four_bytes, memory, short_rex, registers}
 use Rattle.ev_isa.specs.Reading.{BeginsWith}
 use Rattle.ev_code.specs.declared.fault.DecodeFault.{DecodeFault}

@@ -1,6 +1,6 @@
 -- What the decoder's own functions answer on lists of bytes: the value at the front and the bytes behind it. Own. The contract of `decode` speaks
 -- of spellings alone (`Coding`), and the laws that join the two are in proofs/.
-use Rattle.std.specs.Prelude.{ℕ, ℤ, ◌+◌, ◌*◌, ◌/◌, ◌%◌, ◌≡◌, Bool, true, false, ◌&&◌, ◌||◌, nat_lt, List, [], ◌∷◌, length, take, drop, ◌==◌, if◌then◌else◌, Option, Some, None, Result, Ok, Err}
+use Rattle.std.specs.Prelude.{ℕ, ℤ, ◌+◌, ◌*◌, ◌/◌, ◌%◌, ◌≡◌, Bool, ◌&&◌, ◌||◌, nat_lt, List, [], ◌∷◌, length, take, drop, ◌==◌, if◌then◌else◌, Option, Some, None, Result, Ok, Err}
 use Rattle.std.specs.Int.{w32, w64, cast_signed, from_le_bytes}
 use Rattle.ev_isa.specs.declared.instruction.Ins.{Ins}
 use Rattle.ev_isa.specs.declared.instruction.AluOp.{AluOp}

@@ -67,12 +67,10 @@ pub fn decode(bytes: &[u8]) -> Result<(Ins, u8), DecodeFault>
 /// No spelling begins another: bytes begin with one instruction at most. Own.
 pub fn one_instruction()
     ensures { (i j : Ins) (xs ys : List ℕ) → IsEncodable i → IsEncodable j → spelling i ++ xs ≡ spelling j ++ ys → (i ≡ j) × (xs ≡ ys) }
-{
-}
+{}
 
 /// Bytes read as what they begin with, and as nothing else. Own.
 pub fn reading_law()
     ensures spelled { (i : Ins) (rest : List ℕ) → IsEncodable i → reading (spelling i ++ rest) ≡ Some i }
     ensures begins { (bytes : List ℕ) (i : Ins) → reading bytes ≡ Some i → (is_instruction i ≡ true) × BeginsWith bytes i }
-{
-}
+{}

@@ -10,4 +10,5 @@ mod memory_forms;
 mod register_forms;
 
 pub use decoding::{decode, one_instruction, reading_law};
+pub use encoding::encode;
 pub use fault::DecodeFault;

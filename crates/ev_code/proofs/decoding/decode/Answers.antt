@@ -1,5 +1,4 @@
-use Rattle.std.proofs.Common.{◌≡◌, ℕ, ◌+◌, ◌≤◌, length, refl, Fits, w8, arith}
-use Rattle.ev_isa.specs.Spelling.{spelling}
+use Rattle.std.proofs.Common.{refl, arith}
 use Rattle.ev_code.proofs.Spelled.{spelling_length, read_size, ok_spelled, ok_decoded, ok_not_short, ok_not_unknown, err_decoded, err_short, err_unknown}
 use Rattle.ev_code.proofs.ReadingForms.{read_reading, refused_reading}
 use Rattle.ev_code.proofs.Parts.{IsBytes}
