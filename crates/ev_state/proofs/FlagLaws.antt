@@ -1,7 +1,7 @@
 -- RFLAGS as flags and as a word.
 use Rattle.std.proofs.Common.{◌≡◌, ℕ, ◌+◌, ◌*◌, ◌/◌, ◌%◌, ◌<◌, Bool, true, false, ◌==◌, arith, refl, sym, ap, ◌∙◌}
 use Rattle.ev_isa.specs.Word.{bit, bit_if}
-use Rattle.ev_isa.specs.Flags.{Flags, Status, flags_word, flags_of, modelled}
+use Rattle.ev_isa.specs.Flags.{Flags, flags_word, flags_of, modelled}
 
 -- a word with these bits
 abbrev word : ℕ → ℕ → ℕ → ℕ → ℕ → ℕ → ℕ

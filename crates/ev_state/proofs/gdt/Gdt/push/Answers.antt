@@ -1,4 +1,4 @@
-use Rattle.std.proofs.Common.{◌≡◌, ap, ◌∙◌}
+use Rattle.std.proofs.Common.{ap, ◌∙◌}
 use Rattle.ev_state.specs.Descriptors.{base_of}
 use Rattle.ev_state.proofs.Kept.{one_more}
 use Rattle.ev_state.proofs.gdt.Gdt.push.Goals as goal
