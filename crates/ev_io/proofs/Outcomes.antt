@@ -1,14 +1,13 @@
 -- What comes of the bytes of a line.
-use Rattle.std.proofs.Common.{◌≡◌, ◌≢◌, ℕ, ◌+◌, ◌<◌, ◌≤◌, ◌⊎◌, inl, inr, Bool, true, false, cond, List, [], ◌∷◌, ◌++◌, length, take, drop, Option, Some, None, IfSome, All, refl, ap, sym, subst, ◌∙◌, append-nil, rules, tests, arith}
+use Rattle.std.proofs.Common.{◌≡◌, ◌≢◌, ℕ, ◌+◌, ◌<◌, ◌≤◌, ◌⊎◌, inl, inr, false, cond, List, [], ◌∷◌, ◌++◌, length, take, drop, Option, Some, None, IfSome, All, refl, ap, sym, ◌∙◌, append-nil, rules, tests, arith}
 use Rattle.std.proofs.Math.Seq.{take-append_seam, drop-append_seam}
 use Rattle.std.proofs.lemmas.Bool.Decides.{nat_tests}
 use Rattle.std.proofs.lemmas.List.Elements.{All-head, All-tail}
 use Rattle.std.specs.List.{prefix_len}
 use Rattle.std.specs.Option.{option_map}
 use Rattle.std.specs.Io.KnownBytes.{prepend_known, IsAtEnd}
-use Rattle.ev_io.specs.declared.lines.LineFault.{LineFault}
 use Rattle.ev_io.specs.declared.lines.LineFault.TheVariants.{TooLong, TooLarge, NotAscii}
-use Rattle.ev_io.specs.Lines.{Outcome, Line, End, Bad, is_printable, IsPrintable, stop_of, last_line, outcome_at, outcome, outcomes, IsFirstLine, TakesLine}
+use Rattle.ev_io.specs.Lines.{Outcome, Line, End, Bad, is_printable, IsPrintable, stop_of, last_line, outcome_at, outcome, outcomes, TakesLine}
 
 -- a text that may stand in a line
 pub record IsText (gone : ℕ) (text : List ℕ) : Type 0 where

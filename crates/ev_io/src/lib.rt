@@ -8,6 +8,8 @@ mod lines;
 mod memory;
 mod number;
 mod standard;
+#[cfg(test)]
+mod tests;
 mod text;
 mod transfer;
 mod write;

@@ -1,6 +1,6 @@
 // A source and a sink in memory, whose calls fail where a list says so.
 
-ghost use Rattle.std.specs.Prelude.{◌≡◌, [], ◌<◌, ◌≤◌, ◌+◌, ◌-◌, ◌^◌, ℕ, Some, take, drop, length, min, Contains, IfOk, OnErr, IsOk, IsErr, ◌↔◌, ◌⊎◌, vec_len, vec_capacity};
+ghost use Rattle.std.specs.Prelude.{◌≡◌, [], ◌<◌, ◌≤◌, ◌+◌, ◌-◌, ◌^◌, ℕ, Some, take, drop, length, min, Contains, IfOk, MatchResult, OnErr, IsOk, IsErr, ◌↔◌, ◌⊎◌, vec_len, vec_capacity};
 ghost use Rattle.ev_io.specs.Transfer.{Reads, Rose, Writes};
 
 use crate::transfer::{Failed, Sink, Source, fail};
@@ -48,6 +48,7 @@ impl Source for MemSource {
 
         ensures failing { IsErr result ↔ Contains self.old.fails.items self.old.calls }
         ensures most { IfOk result (λ n. n ≡ min (length buf.new) (length (drop self.old.at self.old.bytes.items))) }
+        ensures place { MatchResult result (λ n. self.new.at ≡ self.old.at + n) (λ _. self.new.at ≡ self.old.at) }
         ensures calls { self.new.calls ≡ min (self.old.calls + 1) (2 ^ 64 - 1) }
         ensures fault { OnErr result (self.new.faults ≡ min (self.old.faults + 1) (2 ^ 64 - 1)) }
         ensures no_fault { IfOk result (λ _. self.new.faults ≡ self.old.faults) }

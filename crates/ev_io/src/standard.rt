@@ -9,12 +9,14 @@ use std::io::{Read, Write};
 /// Reads from a reader. Each error, also an interrupted read, is a fault. Own.
 #[derive(Debug, Drop)]
 pub struct StdSource<R> {
-    reader: R,
-    faults: u64,
+    /// The reader.
+    pub reader: R,
+    /// How many calls failed, up to the count's last value.
+    pub faults: u64,
 }
 
 impl<R> StdSource<R> {
-    /// The count of faults starts at 0.
+    /// A source over the reader, with no fault yet.
     pub fn new(reader: R) -> StdSource<R>
         ensures { result ≡ record { reader = reader; faults = 0 } }
     {
@@ -39,12 +41,14 @@ impl<R: Read> Source for StdSource<R> {
 /// takes nothing of a piece that isn't empty. Own.
 #[derive(Debug, Drop)]
 pub struct StdSink<W> {
-    writer: W,
-    faults: u64,
+    /// The writer.
+    pub writer: W,
+    /// How many calls failed, up to the count's last value.
+    pub faults: u64,
 }
 
 impl<W> StdSink<W> {
-    /// The count of faults starts at 0.
+    /// A sink over the writer, with no fault yet.
     pub fn new(writer: W) -> StdSink<W>
         ensures { result ≡ record { writer = writer; faults = 0 } }
     {

@@ -1,4 +1,4 @@
-use Rattle.std.proofs.Common.{arith, take, length, length-take}
+use Rattle.std.proofs.Common.{arith, take, length-take}
 use Rattle.ev_io.proofs.input.append.Goals as goal
 
 pub returns-then-n-most-clause-most : goal.returns-then-n-most-clause-most

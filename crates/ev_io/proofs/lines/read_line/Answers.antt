@@ -1,4 +1,4 @@
-use Rattle.std.proofs.Common.{◌<◌, ◌≤◌, ◌≡◌, ◌≢◌, ◌⊎◌, ◌+◌, ◌∙◌, ◌∷◌, ◌++◌, [], length, sym, ap, arith, inl, inr, refl, subst, All}
+use Rattle.std.proofs.Common.{◌<◌, ◌⊎◌, ◌∙◌, ◌∷◌, [], length, sym, ap, arith, inl, inr, refl, subst, All}
 use Rattle.std.proofs.lemmas.List.{length_push}
 use Rattle.std.proofs.lemmas.List.Elements.{All-push}
 use Rattle.std.specs.Io.KnownBytes.{prepend_known}

@@ -1,4 +1,4 @@
-use Rattle.std.proofs.Common.{rules, arith, refl, sym, ap, ◌∙◌, ◌≡◌, ◌*◌, ◌^◌, ◌<◌, ◌≤◌, ◌+◌, take, take_all, length, get_or, eqb-true, Some, subst, ℕ, List, nat_lt, true}
+use Rattle.std.proofs.Common.{rules, arith, sym, ap, ◌∙◌, ◌≡◌, ◌*◌, ◌^◌, ◌<◌, ◌+◌, take, take_all, length, eqb-true, Some, subst, ℕ, List, nat_lt, true}
 use Rattle.std.specs.List.{list_all}
 use Rattle.ev_io.specs.Number.{digit, value}
 use Rattle.ev_io.proofs.Digits.{no_digits, bad_digit, digits_more, value_more, large_prefix, all_digits, not_empty}

@@ -1,5 +1,5 @@
-use Rattle.std.proofs.Common.{◌++◌, Some, drop, take, length, ap, sym, ◌∙◌, arith}
-use Rattle.std.proofs.lemmas.List.{take-append-drop, length-drop, drop-drop, take_rest}
+use Rattle.std.proofs.Common.{◌++◌, Some, drop, take, ap, sym, ◌∙◌}
+use Rattle.std.proofs.lemmas.List.{take-append-drop, drop-drop, take_rest}
 use Rattle.ev_io.proofs.memory.MemSourceSource.read.Goals as goal
 
 pub returns-clause-bytes : goal.returns-clause-bytes
