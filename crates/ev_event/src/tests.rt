@@ -99,3 +99,14 @@ fn tables(rt: HostRuntime) {
         Combined::Serial
     );
 }
+
+#[test]
+fn exceptions(rt: HostRuntime) {
+    let fault = Event::exception(14, 6, 0x10000008);
+    assert!(rt; fault.is_exception(14) && fault.has_error_code());
+    assert!(rt; !Event::exception(6, 0, 0).has_error_code());
+    assert_eq!(rt;
+        (EventType::Nmi.number(), EventType::Other.number()),
+        (2, 7)
+    );
+}

@@ -9,7 +9,7 @@ ghost use Rattle.ev_state.specs.Processor.{Processor, IsProcessor, is_user, regi
 use crate::flags::{Flags, Status, modelled, with_interrupts, with_status};
 use crate::gdt::Gdt;
 use crate::msr::MsrFile;
-use ev_event::{Event, EventType};
+use ev_event::Event;
 use ev_isa::Reg;
 use std::marker::Model;
 
@@ -151,7 +151,7 @@ impl Cpu {
     pub fn note_fault(&mut self, e: &Event)
         ensures { self.new ≡ with_cr2 self.old e.now }
     {
-        if e.kind == EventType::Hardware && e.vector == 14 {
+        if e.is_exception(14) {
             self.cr2 = e.info;
         }
     }
