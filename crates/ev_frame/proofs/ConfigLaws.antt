@@ -1,10 +1,10 @@
 -- The laws of the CONFIG word.
-use Rattle.std.proofs.Common.{◌≡◌, ◌<◌, ◌≤◌, ℕ, ◌+◌, ◌-◌, ◌*◌, ◌/◌, ◌%◌, ◌^◌, Bool, true, false, not, ◌||◌, ◌==◌, Result, Ok, Err, refl, arith, ap, ◌∙◌, sym, if◌then◌else◌}
+use Rattle.std.proofs.Common.{◌≡◌, ◌<◌, ℕ, ◌+◌, ◌-◌, ◌*◌, ◌/◌, ◌%◌, ◌^◌, Bool, true, false, not, ◌==◌, Ok, Err, refl, arith, sym, if◌then◌else◌}
 use Rattle.std.proofs.lemmas.Bool.{eqb-true, eqb-false, or_parts, not-false}
 use Rattle.ev_isa.specs.Word.{bit}
 use Rattle.ev_frame.specs.declared.config.FredConfig.{FredConfig}
 use Rattle.ev_frame.specs.declared.config.Reserved.{Reserved}
-use Rattle.ev_frame.specs.Config.{IsConfig, config_word, is_reserved, read_config, ConfigIsRead, ConfigIsWritten}
+use Rattle.ev_frame.specs.Config.{config_word, is_reserved, read_config, ConfigIsRead, ConfigIsWritten}
 
 -- the parts of the word
 record Parts (w p i d l : ℕ) : Type 0 where

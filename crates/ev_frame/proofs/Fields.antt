@@ -1,7 +1,7 @@
 -- Fields of a word, put together by `|` and taken out again.
-use Rattle.std.proofs.Common.{◌≡◌, ◌<◌, ◌≤◌, ℕ, zero, suc, ◌+◌, ◌*◌, ◌/◌, ◌%◌, ◌^◌, bit_and, bit_or, refl, arith, ap, sym, ◌∙◌}
+use Rattle.std.proofs.Common.{◌≡◌, ◌<◌, ℕ, zero, suc, ◌+◌, ◌*◌, ◌/◌, ◌%◌, ◌^◌, bit_or, refl, arith, ap, sym, ◌∙◌}
 use Rattle.std.proofs.Math.Nat.{pow-suc}
-use Rattle.std.proofs.lemmas.Nat.{or_shifted, or_comm, and_mask, shr-shr, div-add-mod'}
+use Rattle.std.proofs.lemmas.Nat.{or_shifted, or_comm, shr-shr, div-add-mod'}
 use Rattle.ev_isa.specs.Word.{bit, bit_if}
 use Rattle.ev_isa.proofs.Bits.{flag_at, flag_of}
 

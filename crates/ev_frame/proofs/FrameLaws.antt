@@ -1,15 +1,14 @@
 -- The laws of frames and their bytes.
-use Rattle.std.proofs.Common.{◌≡◌, ◌<◌, ◌≤◌, ℕ, ◌+◌, ◌*◌, ◌/◌, ◌%◌, ◌^◌, Bool, true, false, not, ◌||◌, nat_lt, ◌==◌, List, [], ◌∷◌, ◌++◌, length, take, drop, get_or, Result, Ok, Err, refl, arith, ap, ◌∙◌, sym, if◌then◌else◌}
+use Rattle.std.proofs.Common.{◌≡◌, ◌<◌, ◌≤◌, ℕ, ◌+◌, ◌*◌, ◌/◌, ◌%◌, ◌^◌, Bool, true, false, not, ◌||◌, nat_lt, ◌==◌, List, [], ◌∷◌, length, take, drop, get_or, Ok, Err, refl, arith, ap, ◌∙◌, sym, if◌then◌else◌}
 use Rattle.std.proofs.lemmas.Bool.{eqb-true, eqb-false, ltb-false, le-ltb, or_parts, not-false}
 use Rattle.std.proofs.lemmas.List.{get_or-drop}
 use Rattle.std.proofs.lemmas.Nat.{from_le_bytes-to_le_bytes_8}
 use Rattle.std.specs.List.{flat_map}
-use Rattle.std.specs.Int.{w64, to_le_bytes, from_le_bytes}
+use Rattle.std.specs.Int.{w64, to_le_bytes}
 use Rattle.ev_isa.specs.Word.{bit, bit_if}
 use Rattle.ev_isa.proofs.Bits.{flag_at, flag_is, flag_small}
 use Rattle.ev_isa.proofs.Words.{word_back, words_back}
 use Rattle.ev_frame.specs.declared.frame.Frame64.{Frame64}
-use Rattle.ev_frame.specs.declared.frame.FrameFault.{FrameFault}
 use Rattle.ev_frame.specs.declared.frame.FrameFault.TheVariants.{Short, Reserved}
 use Rattle.ev_frame.specs.Frame.{IsFrame, cs_word, ss_word, words_of, frame_bytes, word_at, has_stray_cs, has_stray_ss, has_stray, frame_in, read_frame, FrameIsRead, FrameIsWritten}
 use Rattle.ev_frame.proofs.FrameWords.{CsParts, SsParts, cs_parts, ss_parts, ss_word_is, cs_back, ss_back}

@@ -1,9 +1,9 @@
 -- The words of CS and SS: the fields put together, and taken out again.
-use Rattle.std.proofs.Common.{◌≡◌, ◌<◌, ◌≤◌, ℕ, ◌+◌, ◌*◌, ◌/◌, ◌%◌, ◌^◌, bit_or, Bool, ◌==◌, refl, arith, ◌∙◌, sym}
+use Rattle.std.proofs.Common.{◌≡◌, ◌<◌, ℕ, ◌+◌, ◌*◌, ◌/◌, ◌%◌, ◌^◌, bit_or, refl, arith}
 use Rattle.ev_isa.specs.Word.{bit, bit_if}
-use Rattle.ev_isa.proofs.Bits.{flag_at, flag_of, flag_small}
+use Rattle.ev_isa.proofs.Bits.{flag_at, flag_of}
 use Rattle.ev_frame.specs.declared.frame.Frame64.{Frame64}
-use Rattle.ev_frame.specs.Frame.{cs_word, ss_word}
+use Rattle.ev_frame.specs.Frame.{ss_word}
 use Rattle.ev_frame.proofs.Fields.{or_above}
 
 -- the word of SS as the code puts it together
