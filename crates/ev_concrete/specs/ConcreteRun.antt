@@ -15,6 +15,7 @@ use Rattle.ev_apic.specs.declared.send.Target.{Target}
 use Rattle.ev_apic.specs.declared.send.Target.TheVariants.{One, Myself, All, Others}
 use Rattle.ev_apic.specs.declared.send.SendKey.{SendKey}
 use Rattle.ev_mem.specs.Memory.{Memory}
+use Rattle.ev_trace.specs.FrameText.{Totals, Noted}
 use Rattle.ev_effect.specs.Frame.{addresses}
 use Rattle.ev_listing.specs.AddressMap.{stack_top, repeat_entry, nbody_entry, nlast_entry}
 use Rattle.ev_listing.specs.Marks.{Mark, Never, Always, IfNonzero, IfEqual, all_marks}
@@ -29,11 +30,6 @@ use Rattle.ev_event.specs.declared.frame_note.FrameNote.{FrameNote}
 use Rattle.ev_apic.specs.declared.inbox.Inbox.{Inbox}
 use Rattle.ev_apic.specs.Inbox.{no_mail, mailed, with_mail}
 use Rattle.ev_apic.specs.Vectors.{with_vector}
-
-pub record Totals : Type 0 where
-  pub steps : ℕ
-  pub frames : ℕ
-  pub low : Option ℕ
 
 -- An activation of a handler: RSP and RIP at which it was interrupted (those of the last one are the processor's), and whether it is that of an inner NMI.
 pub record Activation : Type 0 where
@@ -200,10 +196,6 @@ concrete_line marks n s (Turn p) = concrete_turn marks n s p
 concrete_line marks n s (Edge p k) = edges k marks n s p
 concrete_line marks n s (Arrive p key) = (arrived_at s p key, [])
 concrete_line marks n s (Accept p) = (accept_mail s p, [])
-
--- a frame with the number of the processor that wrote it
-abbrev pub Noted : Type 0
-Noted = ℕ × FrameNote
 
 abbrev pub noted : ℕ → List FrameNote → List Noted
 noted p fs = map (λ f. (p, f)) fs
