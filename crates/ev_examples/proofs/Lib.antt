@@ -21,9 +21,9 @@ mod GateBytes
 mod FrameBytes
 mod FlagsOfArithmetic
 mod Spellings
+mod AssembledText
 mod DeliveriesOnTheirOwn
 mod ReturnsOnTheirOwn
 mod WellFormedImages
 mod FramesOverNoLiveWord
 mod AgreementOfMachines
-mod Readings
