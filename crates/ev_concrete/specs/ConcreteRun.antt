@@ -1,6 +1,6 @@
 -- The concrete machine: visible steps and edges, and its run. Own.
 use Rattle.std.specs.Prelude.{ℕ, zero, suc, ◌+◌, ◌-◌, Bool, true, false, not, ◌&&◌, ◌||◌, nat_lt, nat_le, ◌==◌, if◌then◌else◌, List, [], ◌∷◌, ◌++◌, map, filter, min, Option, Some, None}
-use Rattle.ev_isa.specs.Word.{NatMap, NatSet, put_at, union, no_numbers, numbers_from}
+use Rattle.ev_isa.specs.Word.{NatMap, NatSet, put_at, no_numbers, numbers_from}
 use Rattle.ev_event.specs.declared.event.Event.{Event}
 use Rattle.ev_body.specs.declared.key.Key.{Key}
 use Rattle.ev_body.specs.declared.image.Image.{Image}
@@ -14,7 +14,6 @@ use Rattle.ev_apic.specs.declared.apic.Apic.{Apic}
 use Rattle.ev_apic.specs.declared.send.Target.{Target}
 use Rattle.ev_apic.specs.declared.send.Target.TheVariants.{One, Myself, All, Others}
 use Rattle.ev_apic.specs.declared.send.SendKey.{SendKey}
-use Rattle.ev_apic.specs.declared.send.SendKey.TheVariants.{Fixed}
 use Rattle.ev_mem.specs.Memory.{Memory}
 use Rattle.ev_trace.specs.FrameText.{Totals, Noted}
 use Rattle.ev_effect.specs.Frame.{addresses}

@@ -1,0 +1,7 @@
+pub mod FlagBits
+pub mod Values
+pub mod Words
+pub mod Sound
+pub mod Blocks
+pub mod FredBlocks
+pub mod IdtBlocks

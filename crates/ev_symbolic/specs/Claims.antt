@@ -1,0 +1,32 @@
+-- What is proved of the executor, as the contracts of this crate state it.
+use Rattle.std.specs.Prelude.{◌≡◌, ℕ, suc, ◌+◌, Bool, length, Some}
+use Rattle.ev_isa.specs.Spelling.{spelling}
+use Rattle.ev_isa.specs.declared.instruction.Ins.{Ins}
+use Rattle.ev_event.specs.declared.boundary.Next.{Next}
+use Rattle.ev_apic.specs.declared.apic.Apic.{Apic}
+use Rattle.ev_state.specs.Processor.{Processor}
+use Rattle.ev_mem.specs.Memory.{Memory}
+use Rattle.ev_proc.specs.ProcessorStep.{ran, next_of, step}
+use Rattle.ev_symbolic.specs.State.{Loc, SS, Ground, Block, sreg}
+use Rattle.ev_symbolic.specs.Run.{sstep, brun}
+use Rattle.ev_symbolic.specs.Agrees.{Env, addr, Code, Grounded, Agrees, ForeignAbove, StepsIf, At}
+use Rattle.ev_symbolic.specs.Machine.{Fetches, Inside}
+
+-- a symbolic step that gives an answer is what the processor does with the instruction
+abbrev pub IsSound : Type 0
+IsSound = (e : Env) (G : Ground) → Grounded e G → (i : Ins) (next : ℕ) (l : Loc) (s : SS) (c : Processor) (m : Memory)
+    → Agrees e G s c m → c.rip + length (spelling i) ≡ next → next ≡ addr e l → StepsIf e G i (sstep G i l s) c m
+
+-- where an instruction comes first at the boundary, a processor in a block goes to the block's next state
+pub record RunsInside (code : Code) (b : Block) (k : ℕ) (e : Env) (c : Processor) (m : Memory) (a : Apic) (nmi : Bool) : Type 0 where
+  pub to : Inside code b k e c m
+  pub is : step c a m nmi ≡ ran to.cpu a to.words nmi
+
+abbrev pub StepsInside : Type 0
+StepsInside = (code : Code) (b : Block) (k : ℕ) (e : Env) (c : Processor) (m : Memory) → At code b k e c m → (s : SS) → brun b (suc k) ≡ Some s
+    → Fetches code m → (a : Apic) (nmi : Bool) → next_of c a nmi ≡ Next.Instruction → RunsInside code b (suc k) e c m a nmi
+
+-- whoever leaves the private words of an activation alone, those below its RSP aside, leaves it where it stands
+abbrev pub LeavesOthers : Type 0
+LeavesOthers = (code : Code) (b : Block) (k : ℕ) (e : Env) (c : Processor) (m n : Memory) (at : At code b k e c m)
+    → n.regions ≡ m.regions → ForeignAbove e b.ground.known (sreg at.state 4) m.words n.words → At code b k e c n

@@ -1,0 +1,9 @@
+pub mod Value
+pub mod State
+pub mod Run
+pub mod Agrees
+pub mod Listed
+pub mod Join
+pub mod Machine
+pub mod Openings
+pub mod Claims

@@ -1,0 +1,67 @@
+-- The lines and the code table of the kernel's listings: each statement's instruction at its address, where a jump's displacement is the assembler's.
+-- So blocks have no listing of their own.
+use Rattle.std.specs.Prelude.{ℕ, ◌+◌, Bool, true, false, ◌==◌, List, [], ◌∷◌, ◌++◌, length, Option, Some, None, if◌then◌else◌}
+use Rattle.ev_isa.specs.declared.instruction.Ins.{Ins}
+use Rattle.ev_isa.specs.Spelling.{spelling}
+use Rattle.ev_asm.specs.declared.statement.Stmt.{Stmt}
+use Rattle.ev_asm.specs.declared.statement.Stmt.TheVariants.{Label, Plain, Jump}
+use Rattle.ev_asm.specs.Assembly.{Places, place, size, distance, jump}
+use Rattle.ev_listing.specs.Marks.{Mark, Never, Marked, Listing, all_places}
+use Rattle.ev_symbolic.specs.State.{Loc, absolute, shift, Line}
+use Rattle.ev_symbolic.specs.Agrees.{Cell, Code}
+
+-- the instruction of a statement at an address, if it has one
+abbrev pub instruction : Places → ℕ → Stmt → Option Ins
+instruction env a (Label name) = None
+instruction env a (Plain i) = Some i
+instruction env a (Jump c name) = Some (jump c (distance (place env name) (a + size (Jump c name))))
+
+-- ---- lines: blocks run over what the abstract machine doesn't see
+
+abbrev pub with_line : Mark → Loc → Loc → Option Ins → List Line → List Line
+with_line Never at next (Some i) rest = record { at = at; ins = i; next = next } ∷ rest
+with_line mark at next i rest = rest
+
+abbrev pub lines_from : Places → ℕ → List Marked → List Line
+lines_from env a [] = []
+lines_from env a (l ∷ ls) = with_line l.mark (absolute a) (absolute (a + size l.stmt)) (instruction env a l.stmt) (lines_from env (a + size l.stmt) ls)
+
+abbrev pub lines_in : Places → List Listing → List Line
+lines_in env [] = []
+lines_in env (b ∷ bs) = lines_from env b.address b.lines ++ lines_in env bs
+
+abbrev pub lines_of : List Listing → List Line
+lines_of bs = lines_in (all_places bs) bs
+
+-- instructions one behind the other from a place on, as those of an item
+abbrev pub lines_at : Loc → List Ins → List Line
+lines_at l [] = []
+lines_at l (i ∷ is) = record { at = l; ins = i; next = shift l (length (spelling i)) } ∷ lines_at (shift l (length (spelling i))) is
+
+-- ---- the code table
+
+abbrev pub is_seen : Mark → Bool
+is_seen Never = false
+is_seen mark = true
+
+abbrev pub Cells : Type 0
+Cells = List (ℕ × Cell)
+
+abbrev pub with_cell : Mark → ℕ → ℕ → Option Ins → Cells → Cells
+with_cell mark a next None rest = rest
+with_cell mark a next (Some i) rest = (a, record { ins = i; next = next; mark = is_seen mark }) ∷ rest
+
+abbrev pub cells_from : Places → ℕ → List Marked → Cells
+cells_from env a [] = []
+cells_from env a (l ∷ ls) = with_cell l.mark a (a + size l.stmt) (instruction env a l.stmt) (cells_from env (a + size l.stmt) ls)
+
+abbrev pub cells_in : Places → List Listing → Cells
+cells_in env [] = []
+cells_in env (b ∷ bs) = cells_from env b.address b.lines ++ cells_in env bs
+
+abbrev pub cell_at : Cells → Code
+cell_at [] a = None
+cell_at (x ∷ xs) a = if x.0 == a then Some x.1 else cell_at xs a
+
+abbrev pub code_of : List Listing → Code
+code_of bs = cell_at (cells_in (all_places bs) bs)
