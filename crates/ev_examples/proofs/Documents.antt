@@ -17,8 +17,8 @@ use Rattle.ev_abstract.specs.Run.{run, trace}
 use Rattle.ev_abstract.specs.declared.script_line.Line.{Line}
 use Rattle.ev_abstract.specs.declared.script_line.Line.TheVariants.{Turn}
 use Rattle.ev_concrete.specs.ConcreteRun.{settled_run}
-use Rattle.ev_concrete.specs.FrameText.{frames_text, totals_text}
-use Rattle.ev_concrete.specs.RunText.{mode_text, run_text}
+use Rattle.ev_concrete.specs.RunText.{run_text}
+use Rattle.ev_trace.specs.FrameText.{frames_text, mode_text, totals_text}
 
 -- a body without function parts
 abbrev pub body : Key → Side → List Item → Body
