@@ -7,7 +7,7 @@ ghost use Rattle.ev_abstract.specs.EntryText.{hex, key_text, side_text, rip_text
 ghost use Rattle.ev_trace.specs.FrameText.{mode_text};
 ghost use Rattle.ev_trace.specs.Spaced.{spaced};
 
-use crate::key::{push_key, side_word, type_number};
+use crate::key::{push_key, side_word};
 use crate::words::{end_line, push_decimal, push_hex, push_word, start_line};
 use arrayvec::ArrayString;
 use ev_abstract::Entry;
@@ -80,7 +80,7 @@ fn push_event(p: u32, key: Key, kind: EventType, side: Side, out: &mut ArrayStri
     push_word("enter", out);
     push_key(key, out);
     push_word("type", out);
-    push_decimal(u64::from(type_number(kind)), out);
+    push_decimal(u64::from(kind.number()), out);
     push_word(side_word(side), out);
 }
 

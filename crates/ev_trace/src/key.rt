@@ -1,14 +1,12 @@
-// The words of keys, sides and types.
+// The words of keys and sides.
 
 ghost use Rattle.std.specs.Prelude.{◌≡◌, ◌+◌, ◌<◌, ◌≤◌, ◌∷◌, ◌++◌, length};
 ghost use Rattle.arrayvec.specs.ArrayString.{array_string_len};
-ghost use Rattle.ev_event.specs.Event.{type_number};
 ghost use Rattle.ev_abstract.specs.EntryText.{key_text, side_text};
 
 use crate::words::{hex_digits, push_word};
 use arrayvec::ArrayString;
 use ev_body::{Key, Side};
-use ev_event::EventType;
 
 /// Appends a space and the key (own). There must be room for `irq` and 16 digits.
 #[tactic(auto, unfolding(ev_abstract::specs::EntryText::key_text))]
@@ -44,21 +42,5 @@ pub fn side_word(side: Side) -> &'static str
         Side::User => "user",
         Side::Kernel => "kernel",
         Side::Both => "both",
-    }
-}
-
-/// The number of the event's type.
-#[tactic(auto, unfolding(ev_event::specs::Event::type_number))]
-pub(crate) fn type_number(kind: EventType) -> u8
-    ensures { result ≡ type_number kind }
-{
-    match kind {
-        EventType::External => 0,
-        EventType::Nmi => 2,
-        EventType::Hardware => 3,
-        EventType::SoftInt => 4,
-        EventType::Int1 => 5,
-        EventType::Int3 => 6,
-        EventType::Other => 7,
     }
 }
