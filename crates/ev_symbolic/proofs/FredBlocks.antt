@@ -30,7 +30,7 @@ fixed = word (absolute (user_table + 0x800)) (X 24) ∷ word (gs_word 0x20) (K 0
 
 abbrev pub ground : Ground
 ground = record {
-  known = win_below 16 0xc0 ∷ win_at gs_tag 0x20 8 ∷ win_at 1000 user_table 0x2000 ∷ [];
+  known = win_below 16 0xc0 ∷ win_at gs_tag 0x20 8 ∷ win_at 1000 user_table 0x808 ∷ [];
   own = win_below 16 0xc0 ∷ [];
   shared = [];
   text = win_at 1000 fred_page 0x1000 ∷ [];

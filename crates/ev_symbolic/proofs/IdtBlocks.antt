@@ -18,7 +18,7 @@ idt_lines = lines_of idt_listings
 
 abbrev pub ground : Ground
 ground = record {
-  known = win_below 16 0xb0 ∷ win_at gs_tag 8 0x10 ∷ win_at 1000 user_table 0x2000 ∷ [];
+  known = win_below 16 0xb0 ∷ win_at gs_tag 8 0x10 ∷ win_at 1000 user_table 0x808 ∷ [];
   own = win_below 16 0xb0 ∷ win_at gs_tag 8 8 ∷ [];
   shared = [];
   text = win_at 1000 0xffffffff81000000 0x6000 ∷ [];
@@ -66,7 +66,7 @@ call_gs = (refl, refl)
 abbrev pub nmi : Block
 nmi = record {
   ground = record ground {
-    known = win_below 16 0x118 ∷ win_at 1000 user_table 0x2000 ∷ [];
+    known = win_below 16 0x118 ∷ win_at 1000 user_table 0x808 ∷ [];
     own = win_below 16 0x118 ∷ [];
     facts = record { val = B OShr (B OShr (X 60) (K 32)) (K 31); is = 0 } ∷ [];
   };
