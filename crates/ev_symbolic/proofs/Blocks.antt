@@ -1,5 +1,5 @@
 -- Steps inside a block, joins of blocks, and what others leave alone: once for all blocks.
-use Rattle.std.proofs.Common.{◌≡◌, ℕ, zero, suc, ◌+◌, Bool, true, false, List, [], ◌∷◌, get_or, drop, map, length, Option, Some, None, refl, sym, ap, ◌∙◌, subst, arith}
+use Rattle.std.proofs.Common.{◌≡◌, ℕ, zero, suc, ◌+◌, ◌≤◌, Bool, true, false, List, [], ◌∷◌, get_or, drop, map, length, Option, Some, None, refl, sym, ap, ◌∙◌, subst, arith}
 use Rattle.std.specs.Prelude.{if◌then◌else◌}
 use Rattle.ev_isa.specs.Word.{NatMap}
 use Rattle.ev_isa.specs.Flags.{Flags, flags_word}
@@ -12,10 +12,11 @@ use Rattle.ev_apic.specs.declared.apic.Apic.{Apic}
 use Rattle.ev_proc.specs.ProcessorStep.{executed, ran, fetched, step_by, next_of, step, instruction_at}
 use Rattle.ev_symbolic.specs.Value.{V, K, P, X, B, FVar, number}
 use Rattle.ev_symbolic.specs.State.{Loc, Word, SS, Win, Line, Ground, Block, in_win, loc_eq, find, is_below, all_above, above, sreg}
-use Rattle.ev_symbolic.specs.Run.{line_at, sstep, tidy, tidy_if, bstep, bnext, brun}
-use Rattle.ev_symbolic.specs.Agrees.{Env, untracked, eval, addr, eval_flags, Known, Open, Code, edge_cell, Stands, Agrees, with_words, Far, FarAbove, Within, Foreign, ForeignAbove, FactsHold, Described, AreTops, Fits, StepsIf, At}
+use Rattle.ev_symbolic.specs.Run.{line_at, sstep, tidy, tidy_if, bstep, bnext, brun, every_from, every}
+use Rattle.ev_symbolic.specs.Agrees.{Env, untracked, eval, addr, eval_flags, Known, Open, Cell, Code, edge_cell, Stands, Agrees, with_words, Far, FarAbove, Within, Foreign, ForeignAbove, FactsHold, Described, AreTops, Fits, StepsIf, At}
 use Rattle.ev_symbolic.specs.Join.{inst, Joins, env_after}
 use Rattle.ev_symbolic.specs.Machine.{Fetches, Inside}
+use Rattle.ev_symbolic.proofs.Values.{and_left, and_right}
 use Rattle.ev_symbolic.proofs.Words.{loc_same, Found, found_ok, above_ok}
 use Rattle.ev_symbolic.proofs.Sound.{step_ok}
 
@@ -98,13 +99,16 @@ steps_as c a m nmi i hn hu hp hi =
     ap (step_by c a m nmi) hn ∙ ap (λ b. fetched c a m nmi (page_fault m (record { user = b; write = false; fetch = true }) c.rip)) hu
     ∙ ap (fetched c a m nmi) hp ∙ ap (executed c a m nmi) hi
 
+-- an instruction of the code at RIP, marked or not: so an exit that is proved by hand begins
+pub cell_step : (code : Code) (c : Processor) (a : Apic) (m : Memory) (nmi : Bool) (x : Cell) → Fetches code m → code c.rip ≡ Some x → next_of c a nmi ≡ Next.Instruction → is_user c ≡ false → step c a m nmi ≡ executed c a m nmi (Some x.ins)
+cell_step code c a m nmi x f q hn hu = let r = f c.rip x q in steps_as c a m nmi x.ins hn hu r.0 r.1
+
 -- a step inside a block is the processor's, where an instruction comes first at the boundary
 pub inside_step : (code : Code) (b : Block) (k : ℕ) (e : Env) (c : Processor) (m : Memory) (at : At code b k e c m) (s : SS) (h : brun b (suc k) ≡ Some s) → Fetches code m → (a : Apic) (nmi : Bool) → next_of c a nmi ≡ Next.Instruction
     → let n : Inside code b (suc k) e c m = inside code b k e c m at s h in step c a m nmi ≡ ran n.cpu a n.words nmi
 inside_step code b k e c m at s h f a nmi hn =
     let n = inside code b k e c m at s h in
-    let r = f c.rip (edge_cell n.ins n.next) n.stands in
-    steps_as c a m nmi n.ins hn (ap is_user at.agrees.rest ∙ at.fits.ground.kernel) r.0 r.1 ∙ n.runs a nmi
+    cell_step code c a m nmi (edge_cell n.ins n.next) f n.stands hn (ap is_user at.agrees.rest ∙ at.fits.ground.kernel) ∙ n.runs a nmi
 
 -- a block that runs to its end has each state before it
 pub earlier : (b : Block) (k j : ℕ) (s : SS) → brun b (j + k) ≡ Some s → (t : SS) × (brun b k ≡ Some t)
@@ -114,6 +118,23 @@ earlier b k (suc j) s h = back (brun b (j + k)) refl (ap (brun b) (let e : suc (
     back : (o : Option SS) → brun b (j + k) ≡ o → bnext b (brun b (j + k)) ≡ Some s → ((t : SS) → brun b (j + k) ≡ Some t → (t : SS) × (brun b k ≡ Some t)) → (t : SS) × (brun b k ≡ Some t)
     back None q r f = let n : bnext b None ≡ Some s = ap (bnext b) (sym q) ∙ r in absurd (cc)
     back (Some t) q r f = f t q
+
+-- what a closed test says of each state of a run
+every_on : (test : SS → Bool) (b : Block) (n k : ℕ) (s : SS) → brun b k ≡ Some s → every_from test b n s ≡ true → (j : ℕ) → j ≤ n → (t : SS) → brun b (j + k) ≡ Some t → test t ≡ true
+every_on test b zero k s r h zero l t q = ap test (unsome t s (sym q ∙ ap (brun b) (let e : 0 + k ≡ k = omega arith in e) ∙ r)) ∙ h
+every_on test b zero k s r h (suc j) l t q = absurd (omega arith)
+every_on test b (suc n) k s r h zero l t q = ap test (unsome t s (sym q ∙ ap (brun b) (let e : 0 + k ≡ k = omega arith in e) ∙ r)) ∙ and_left (test s) _ h
+every_on test b (suc n) k s r h (suc j) l t q = next (bnext b (Some s)) refl (and_right (test s) _ h) (every_on test b n (suc k))
+  where
+    next : (o : Option SS) → bnext b (Some s) ≡ o → elim o [ None ↦ true | Some u ↦ every_from test b n u ] ≡ true → ((u : SS) → brun b (suc k) ≡ Some u → every_from test b n u ≡ true → (i : ℕ) → i ≤ n → (v : SS) → brun b (i + suc k) ≡ Some v → test v ≡ true) → test t ≡ true
+    next None p e f =
+        let none : brun b (suc k) ≡ None = ap (bnext b) r ∙ p in
+        let back = earlier b (suc k) j t (ap (brun b) (let z : j + suc k ≡ suc j + k = omega arith in z) ∙ q) in
+        let clash : None ≡ Some back.0 = sym none ∙ back.1 in absurd (cc)
+    next (Some u) p e f = f u (ap (bnext b) r ∙ p) e j (omega arith) t (ap (brun b) (let z : j + suc k ≡ suc j + k = omega arith in z) ∙ q)
+
+pub every_ok : (test : SS → Bool) (b : Block) → every test b ≡ true → (k : ℕ) → k ≤ b.steps → (s : SS) → brun b k ≡ Some s → test s ≡ true
+every_ok test b h k l s q = every_on test b b.steps 0 b.opening refl h k l s (ap (brun b) (let e : k + 0 ≡ k = omega arith in e) ∙ q)
 
 -- ---- joins
 

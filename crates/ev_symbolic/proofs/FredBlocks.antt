@@ -7,9 +7,11 @@ use Rattle.ev_listing.specs.AddressMap.{fred_page, user_table}
 use Rattle.ev_listing.specs.FredCode.{fred_listings}
 use Rattle.ev_listing.specs.Marks.{all_places}
 use Rattle.ev_symbolic.specs.Value.{M, V, K, P, X}
-use Rattle.ev_symbolic.specs.State.{Word, SS, Line, Ground, Block, absolute}
-use Rattle.ev_symbolic.specs.Run.{brun}
-use Rattle.ev_symbolic.specs.Listed.{lines_of}
+use Rattle.ev_symbolic.specs.State.{Word, SS, Line, Ground, Block, absolute, sreg, is_on_stack}
+use Rattle.ev_symbolic.specs.Run.{brun, every}
+use Rattle.ev_symbolic.specs.Agrees.{Env, Stands}
+use Rattle.ev_symbolic.specs.Listed.{lines_of, cells_in, code_of, distinct, are_low}
+use Rattle.ev_symbolic.proofs.Listed.{all_found, stands_in}
 use Rattle.ev_symbolic.specs.Openings.{word, at_base, gs_tag, gs_word, win_below, win_at, words_from, opening, end_or}
 
 unfoldable pub fred_lines : List Line
@@ -28,7 +30,7 @@ fixed = word (absolute (user_table + 0x800)) (X 24) ∷ word (gs_word 0x20) (K 0
 
 abbrev pub ground : Ground
 ground = record {
-  known = win_below 16 0xc0 ∷ win_at gs_tag 0x20 8 ∷ win_at 1000 user_table 0x2000 ∷ [];
+  known = win_below 16 0xc0 ∷ win_at gs_tag 0x20 8 ∷ win_at 1000 user_table 0x808 ∷ [];
   own = win_below 16 0xc0 ∷ [];
   shared = [];
   text = win_at 1000 fred_page 0x1000 ∷ [];
@@ -52,6 +54,11 @@ enter_run = refl
 pub enter_regs : enter_end.regs ≡ X 24 ∷ K user_table ∷ K 0x220700010002002b ∷ X 3 ∷ P 16 (M - 0xc0) ∷ X 5 ∷ X 16 ∷ K 0x100 ∷ X 22 ∷ K 0 ∷ K 0 ∷ K 0 ∷ K 0 ∷ K 0 ∷ K 0 ∷ X 15 ∷ []
 unfolding enter_end fred_lines fred_listings spelling four_bytes size places distance
 enter_regs = refl
+
+-- at each of its instructions RSP lies in the frame and the saved area
+pub enter_stack : every (λ s. is_on_stack 0xc0 (sreg s 4)) enter ≡ true
+unfolding fred_lines fred_listings spelling four_bytes size places distance
+enter_stack = refl
 
 -- ---- the exit
 
@@ -120,3 +127,17 @@ switch_regs = refl
 pub switch_to : (switch_end.rsp0 ≡ P 21 0) × (switch_end.kernel_gs ≡ X 51) × (switch_end.selector ≡ X 50) × (switch_end.rip ≡ leave_end.rip)
 unfolding switch_end leave_end fred_lines fred_listings spelling four_bytes size places distance
 switch_to = (refl, refl, refl, refl)
+
+-- ---- the lines stand in the code table of the listings
+
+fred_distinct : distinct (cells_in (all_places fred_listings) fred_listings) ≡ true
+unfolding fred_listings spelling four_bytes size places distance
+fred_distinct = refl
+
+fred_low : are_low (cells_in (all_places fred_listings) fred_listings) ≡ true
+unfolding fred_listings spelling four_bytes size places distance
+fred_low = refl
+
+pub fred_stands : (e : Env) → e.base 1000 ≡ 0 → Stands (code_of fred_listings) e fred_lines
+unfolding fred_lines
+fred_stands e z = stands_in (code_of fred_listings) e z (all_places fred_listings) fred_listings (all_found (cells_in (all_places fred_listings) fred_listings) fred_distinct) fred_low

@@ -1,13 +1,16 @@
 -- Blocks of the IDT code that run: the entry of a system call, and the first NMI of its stack.
-use Rattle.std.proofs.Common.{◌≡◌, ◌+◌, ◌-◌, false, List, [], ◌∷◌, ◌++◌, map, Some, refl}
+use Rattle.std.proofs.Common.{◌≡◌, ◌+◌, ◌-◌, true, false, List, [], ◌∷◌, ◌++◌, map, Some, refl}
 use Rattle.ev_isa.specs.Spelling.{spelling, four_bytes}
 use Rattle.ev_asm.specs.Assembly.{size, places, distance}
 use Rattle.ev_listing.specs.AddressMap.{sys_entry, nmi_entry, user_table}
 use Rattle.ev_listing.specs.IdtCode.{idt_listings}
+use Rattle.ev_listing.specs.Marks.{all_places}
 use Rattle.ev_symbolic.specs.Value.{M, K, P, X, B, OShr}
 use Rattle.ev_symbolic.specs.State.{Word, SS, Line, Ground, Block, absolute, find}
 use Rattle.ev_symbolic.specs.Run.{brun}
-use Rattle.ev_symbolic.specs.Listed.{lines_of}
+use Rattle.ev_symbolic.specs.Agrees.{Env, Stands}
+use Rattle.ev_symbolic.specs.Listed.{lines_of, cells_in, code_of, distinct, are_low}
+use Rattle.ev_symbolic.proofs.Listed.{all_found, stands_in}
 use Rattle.ev_symbolic.specs.Openings.{word, gs_tag, gs_word, win_below, win_at, words_from, opening, end_or}
 
 unfoldable pub idt_lines : List Line
@@ -15,7 +18,7 @@ idt_lines = lines_of idt_listings
 
 abbrev pub ground : Ground
 ground = record {
-  known = win_below 16 0xb0 ∷ win_at gs_tag 8 0x10 ∷ win_at 1000 user_table 0x2000 ∷ [];
+  known = win_below 16 0xb0 ∷ win_at gs_tag 8 0x10 ∷ win_at 1000 user_table 0x808 ∷ [];
   own = win_below 16 0xb0 ∷ win_at gs_tag 8 8 ∷ [];
   shared = [];
   text = win_at 1000 0xffffffff81000000 0x6000 ∷ [];
@@ -63,7 +66,7 @@ call_gs = (refl, refl)
 abbrev pub nmi : Block
 nmi = record {
   ground = record ground {
-    known = win_below 16 0x118 ∷ win_at 1000 user_table 0x2000 ∷ [];
+    known = win_below 16 0x118 ∷ win_at 1000 user_table 0x808 ∷ [];
     own = win_below 16 0x118 ∷ [];
     facts = record { val = B OShr (B OShr (X 60) (K 32)) (K 31); is = 0 } ∷ [];
   };
@@ -87,3 +90,17 @@ nmi_regs = refl
 pub nmi_gs : (nmi_end.gs ≡ P gs_tag 0) × (nmi_end.kernel_gs ≡ X 60)
 unfolding nmi_end idt_lines idt_listings spelling four_bytes size places distance
 nmi_gs = (refl, refl)
+
+-- ---- the lines stand in the code table of the listings
+
+idt_distinct : distinct (cells_in (all_places idt_listings) idt_listings) ≡ true
+unfolding idt_listings spelling four_bytes size places distance
+idt_distinct = refl
+
+idt_low : are_low (cells_in (all_places idt_listings) idt_listings) ≡ true
+unfolding idt_listings spelling four_bytes size places distance
+idt_low = refl
+
+pub idt_stands : (e : Env) → e.base 1000 ≡ 0 → Stands (code_of idt_listings) e idt_lines
+unfolding idt_lines
+idt_stands e z = stands_in (code_of idt_listings) e z (all_places idt_listings) idt_listings (all_found (cells_in (all_places idt_listings) idt_listings) idt_distinct) idt_low

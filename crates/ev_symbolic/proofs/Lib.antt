@@ -3,5 +3,6 @@ pub mod Values
 pub mod Words
 pub mod Sound
 pub mod Blocks
+pub mod Listed
 pub mod FredBlocks
 pub mod IdtBlocks

@@ -135,3 +135,11 @@ bnext b (Some s) = bstep b (line_at s.rip b.lines) s
 abbrev pub brun : Block → ℕ → Option SS
 brun b zero = Some b.opening
 brun b (suc k) = bnext b (brun b k)
+
+-- A test on the states of a run, from a state on and over so many steps: closed, so that what holds at every instruction of a block is told once.
+abbrev pub every_from : (SS → Bool) → Block → ℕ → SS → Bool
+every_from test b zero s = test s
+every_from test b (suc n) s = test s && elim (bnext b (Some s)) [ None ↦ true | Some t ↦ every_from test b n t ]
+
+abbrev pub every : (SS → Bool) → Block → Bool
+every test b = every_from test b b.steps b.opening

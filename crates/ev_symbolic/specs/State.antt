@@ -1,5 +1,5 @@
 -- Symbolic states, and what a block is: its code, its opening, and the ground that it stands on.
-use Rattle.std.specs.Prelude.{ℕ, ◌+◌, ◌-◌, ◌%◌, Bool, true, false, ◌&&◌, ◌==◌, nat_lt, if◌then◌else◌, List, [], ◌∷◌, get_or, Option, Some, None}
+use Rattle.std.specs.Prelude.{ℕ, ◌+◌, ◌-◌, ◌%◌, Bool, true, false, ◌&&◌, ◌==◌, nat_lt, nat_le, if◌then◌else◌, List, [], ◌∷◌, get_or, Option, Some, None}
 use Rattle.ev_isa.specs.declared.instruction.Ins.{Ins}
 use Rattle.ev_symbolic.specs.Value.{M, V, K, P, X, B, F, Fact, v_eq}
 
@@ -128,6 +128,11 @@ all_above v (w ∷ ws) = if is_below v w.at then false else all_above v ws
 
 abbrev pub sreg : SS → ℕ → V
 sreg s r = get_or s.regs r (K 0)
+
+-- below the top of the activation's frame, by at most so many bytes: asked of RSP, so that a delivery writes below what is live
+abbrev pub is_on_stack : ℕ → V → Bool
+is_on_stack n (P t o) = (t == top_tag) && (nat_lt o M && nat_le (M - n) o)
+is_on_stack n v = false
 
 abbrev pub is_listed : V → List V → Bool
 is_listed v [] = false

@@ -1,0 +1,5 @@
+pub mod Places
+pub mod Spans
+pub mod Windows
+pub mod Regions
+pub mod FredEntry
