@@ -64,7 +64,7 @@ impl Mem {
 
     /// The word at an address, and 0 where there is none.
     #[tactic(auto, unfolding(crate::specs::Mapped::memory))]
-    fn word(&self, a: u64) -> u64
+    pub fn word(&self, a: u64) -> u64
         ensures { result ≡ (memory self.now).words a }
     {
         if a % 8 != 0 {
@@ -76,7 +76,9 @@ impl Mem {
         }
     }
 
-    fn set_word(&mut self, a: u64, v: u64)
+    /// The word of a region at an address becomes v. The page's rules are not asked: they were before,
+    /// by `fault`, where several words are written together or not at all.
+    pub fn set_word(&mut self, a: u64, v: u64)
         requires aligned { is_aligned a ≡ true }
         requires mapped { is_some (slot_in self.old.regions a) ≡ true }
         ensures { memory self.new ≡ with_word (memory self.old) a v }
@@ -94,7 +96,7 @@ impl Mem {
 
     /// The error code of the page fault of an access, if it has one.
     #[tactic(auto, unfolding(crate::specs::Mapped::memory, ev_isa::specs::Pages::fault_at))]
-    fn fault(&self, a: u64, who: Who, write: bool) -> Option<u64>
+    pub fn fault(&self, a: u64, who: Who, write: bool) -> Option<u64>
         ensures { result ≡ page_fault (memory self.now) (access_of who write) a }
     {
         match kind_at(&self.regions, a) {

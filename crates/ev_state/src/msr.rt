@@ -1,6 +1,7 @@
 // Model-specific registers.
 
-ghost use Rattle.std.specs.Prelude.{◌≡◌, OnOk, OnErr, Some, None};
+ghost use Rattle.std.specs.Prelude.{◌≡◌, true, OnOk, OnErr, Some, None};
+ghost use Rattle.ev_isa.specs.Word.{is_canonical};
 ghost use Rattle.ev_frame.specs.Config.{is_reserved};
 ghost use Rattle.ev_state.specs.Msr.{msr, written, or_gp, is_level_rsp, AreMsrs, bases_exchanged};
 
@@ -96,6 +97,14 @@ impl MsrFile {
     {
         let base = self.gs_base;
         self.gs_base = self.kernel_gs_base;
+        self.kernel_gs_base = base;
+    }
+
+    /// The kernel GS base takes a canonical value (FRED specification, "LKGS").
+    pub fn set_kernel_gs(&mut self, base: u64)
+        requires { is_canonical base ≡ true }
+        ensures { self.new ≡ record self.old { kernel_gs_base = base } }
+    {
         self.kernel_gs_base = base;
     }
 }

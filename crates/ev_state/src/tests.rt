@@ -64,6 +64,7 @@ fn registers(rt: HostRuntime) {
     assert_eq!(rt; msrs.write_msr(0x1cd, 0xffff_c900_0000_4000), Ok(()));
     assert_eq!(rt; msrs.write_msr(0x1d4, 0x800), Err(Gp));
     assert_eq!(rt; msrs.read_msr(0x1cd), Ok(0xffff_c900_0000_4000));
+    msrs.set_kernel_gs(0x1000);
     msrs.kept();
 }
 

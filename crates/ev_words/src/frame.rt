@@ -1,14 +1,22 @@
 // Frames that a delivery writes.
 
-ghost use Rattle.std.specs.Prelude.{◌≡◌, ◌<◌, ◌≤◌, ◌^◌, true, length, reverse, OnOk, OnErr, None};
-ghost use Rattle.ev_effect.specs.Effect.{unless};
+ghost use Rattle.std.specs.Prelude.{◌≡◌, ◌≤◌, true, length, reverse, OnOk, OnErr, IfErr, Some, None};
 ghost use Rattle.ev_effect.specs.Frame.{addresses, first_event, placed};
+ghost use Rattle.ev_state.specs.Outcome.{below};
 ghost use Rattle.ev_mem.specs.Mapped.{memory};
 ghost use Rattle.ev_words.specs.Answer.{kernel_view};
 
 use crate::access::access_event;
 use ev_event::Event;
 use ev_mem::Mem;
+
+/// Where a frame of so many words, at most 8, begins that ends at an address.
+pub fn below(end: u64, count: u64) -> u64
+    requires { count ≤ 8 }
+    ensures { result ≡ below end count }
+{
+    end.wrapping_sub(8 * count)
+}
 
 /// The event of the first word that can't be written, from the highest down, if there is one.
 fn first_event(mem: &Mem, address: u64, count: usize) -> Option<Event>
@@ -28,9 +36,10 @@ fn first_event(mem: &Mem, address: u64, count: usize) -> Option<Event>
 /// all of them before one is written.
 pub fn write_frame(mem: &mut Mem, address: u64, words: &[u64]) -> Result<(), Event>
     requires { length words.now ≤ 8 }
-    ensures is { result ≡ unless (first_event (kernel_view (memory mem.old)) true (reverse (addresses address (length words.now)))) tt }
     ensures ok { OnOk result (memory mem.new ≡ record (memory mem.old) { words = placed (memory mem.old).words address words.now }) }
+    ensures writable { OnOk result (first_event (kernel_view (memory mem.old)) true (reverse (addresses address (length words.now))) ≡ None) }
     ensures err { OnErr result (mem.new ≡ mem.old) }
+    ensures met { IfErr result (λ e. first_event (kernel_view (memory mem.old)) true (reverse (addresses address (length words.now))) ≡ Some e) }
 {
     match first_event(mem, address, words.len()) {
         Some(e) => Err(e),

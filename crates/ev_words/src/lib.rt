@@ -7,5 +7,5 @@ mod frame;
 mod words;
 
 pub use access::access_event;
-pub use frame::write_frame;
+pub use frame::{below, write_frame};
 pub use words::{ReturnWords, read_return};
