@@ -1,5 +1,5 @@
 -- A flag as a bit of a word.
-use Rattle.std.proofs.Common.{◌≡◌, ◌<◌, ℕ, zero, suc, ◌*◌, ◌^◌, Bool, true, false, ◌==◌, refl, arith}
+use Rattle.std.proofs.Common.{◌≡◌, ◌<◌, ◌+◌, ℕ, zero, suc, ◌*◌, ◌^◌, Bool, true, false, ◌==◌, refl, arith}
 use Rattle.ev_isa.specs.Word.{bit_if}
 use mir.Val.{bool_byte}
 
