@@ -18,14 +18,10 @@ fn a_loop(rt: HostRuntime) {
     let text = assemble(rt.alloc(), &stmts, 0x400000, 9)
         .ok()
         .expect(&rt, "the text is too large");
-    assert_eq!(rt;
-        text.bytes.as_slice(),
-        &[0x90, 0x0f, 0x0b, 0x0f, 0x85, 0xf8, 0xff, 0xff, 0xff].as_slice()
-    );
-    assert_eq!(rt;
-        text.places.as_slice(),
-        &[0x400000, 0x400001, 0x400001, 0x400003].as_slice()
-    );
+    let bytes: [u8; 9] = [0x90, 0x0f, 0x0b, 0x0f, 0x85, 0xf8, 0xff, 0xff, 0xff];
+    let places: [u64; 4] = [0x400000, 0x400001, 0x400001, 0x400003];
+    assert_eq!(rt; text.bytes.as_slice(), bytes.as_slice());
+    assert_eq!(rt; text.places.as_slice(), places.as_slice());
     assert!(rt;
         matches!(
             assemble(rt.alloc(), &stmts, 0x400000, 8),

@@ -1,5 +1,4 @@
-use Rattle.std.proofs.Common.{◌≡◌, sym, ◌∙◌, arith}
-use Rattle.ev_asm.specs.Assembled.{leads_nowhere, stmt_labels}
+use Rattle.std.proofs.Common.{sym, ◌∙◌, arith}
 use Rattle.ev_asm.proofs.Statements.{all_lead, total_fits}
 use Rattle.ev_asm.proofs.assembly.assemble.Goals as goal
 

@@ -1,4 +1,4 @@
-use Rattle.std.proofs.Common.{◌≡◌, sym, ap, ◌∙◌}
+use Rattle.std.proofs.Common.{sym, ap, ◌∙◌}
 use Rattle.ev_asm.specs.Assembly.{size}
 use Rattle.ev_asm.proofs.Statements.{near}
 use Rattle.ev_asm.proofs.assembly.statement.Goals as goal

@@ -1,4 +1,4 @@
-use Rattle.std.proofs.Common.{◌≡◌, ◌+◌, ◌<◌, length, suc, true, false, not, refl, sym, ap, ◌∙◌, arith}
+use Rattle.std.proofs.Common.{not, sym, ap, ◌∙◌, arith}
 use Rattle.ev_asm.proofs.Statements.{label_step, label_stop, label_end}
 use Rattle.ev_asm.proofs.labels.has_label.Goals as goal
 

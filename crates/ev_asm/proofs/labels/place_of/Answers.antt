@@ -1,5 +1,5 @@
-use Rattle.std.proofs.Common.{◌≡◌, ◌+◌, ◌-◌, ◌<◌, ◌≤◌, length, suc, refl, sym, ap, ◌∙◌, arith}
-use Rattle.ev_asm.proofs.Statements.{place_step, place_stop, place_end, total_step, encoded_at}
+use Rattle.std.proofs.Common.{◌+◌, sym, ◌∙◌, arith}
+use Rattle.ev_asm.proofs.Statements.{place_step, place_stop, place_end, total_step}
 use Rattle.ev_asm.proofs.labels.place_of.Goals as goal
 
 pub returns-then-gives : goal.returns-then-gives

@@ -1,4 +1,4 @@
-use Rattle.std.proofs.Common.{sym, ap, ◌∙◌, ◌≡◌}
+use Rattle.std.proofs.Common.{◌∙◌}
 use Rattle.ev_asm.proofs.Statements.{same_name}
 use Rattle.ev_asm.proofs.labels.same.Goals as goal
 

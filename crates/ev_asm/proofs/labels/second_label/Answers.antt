@@ -1,5 +1,5 @@
-use Rattle.std.proofs.Common.{◌≡◌, ◌+◌, ◌<◌, length, suc, true, false, refl, sym, ap, ◌∙◌, arith}
-use Rattle.ev_asm.specs.Assembled.{is_second_label, leads_nowhere, stmt_labels}
+use Rattle.std.proofs.Common.{sym, ◌∙◌, arith}
+use Rattle.ev_asm.specs.Assembled.{is_second_label}
 use Rattle.ev_asm.proofs.Statements.{first_at_step, first_at_stop, first_at_end}
 use Rattle.ev_asm.proofs.labels.second_label.Goals as goal
 

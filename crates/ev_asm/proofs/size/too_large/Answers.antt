@@ -1,4 +1,4 @@
-use Rattle.std.proofs.Common.{◌≡◌, ◌+◌, ◌-◌, ◌<◌, ◌≤◌, length, suc, refl, sym, ap, ◌∙◌, arith}
+use Rattle.std.proofs.Common.{arith}
 use Rattle.ev_asm.proofs.Statements.{large_step, large_stop, large_end}
 use Rattle.ev_asm.proofs.size.too_large.Goals as goal
 
