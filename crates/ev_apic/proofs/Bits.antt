@@ -1,9 +1,9 @@
 -- One bit of a word, set and cleared.
-use Rattle.std.proofs.Common.{◌≡◌, ◌<◌, ◌≤◌, ◌≢◌, ℕ, zero, suc, max, ◌+◌, ◌-◌, ◌*◌, ◌/◌, ◌%◌, ◌^◌, bit_and, bit_or, Bool, true, false, ◌||◌, ◌==◌, refl, arith, inl, inr, ap, ◌∙◌, sym}
+use Rattle.std.proofs.Common.{◌≡◌, ◌<◌, ◌≤◌, ◌≢◌, ℕ, zero, suc, max, ◌-◌, ◌*◌, ◌/◌, ◌%◌, ◌^◌, bit_and, bit_or, Bool, true, false, ◌||◌, ◌==◌, refl, arith, inl, inr, ap, ◌∙◌, sym}
 use Rattle.std.proofs.Math.Nat.{mul-le-mul_left}
 use Rattle.std.proofs.lemmas.Bool.{cases_eq}
 use Rattle.std.specs.Int.{w64, bit_not, bit_at}
-use Rattle.std.proofs.lemmas.Nat.{or_disjoint, or_lt, and-not, and_comm, one_shl, pow_below, pow_pos, div-add-mod'}
+use Rattle.std.proofs.lemmas.Nat.{or_disjoint, or_lt, and-not, and_comm, one_shl, pow_below, div-add-mod'}
 use Rattle.std.proofs.lemmas.Nat.Bits.{and_pow, bit_at-lt, bit_at_or, bit_at-pow_same, bit_at-pow_other, bit_at_set_same, bit_at_set_other, bit_at_clear_same, bit_at_clear_other, same_from_bits}
 use Rattle.ev_isa.specs.Word.{bit, bit_if}
 use Rattle.ev_isa.proofs.Bits.{flag_at, flag_of}

@@ -1,6 +1,6 @@
 -- The greatest vector of a set.
-use Rattle.std.proofs.Common.{◌≡◌, ◌<◌, ◌≤◌, ℕ, zero, suc, ◌/◌, Bool, true, false, ◌&&◌, nat_lt, Option, Some, None, refl, arith, ap, ◌∙◌, sym, inl, inr, if◌then◌else◌}
-use Rattle.std.proofs.lemmas.Bool.{le-ltb, lt-ltb, ltb-true, ltb-false, cases_order, cases_lt, cases_Bool, and_from, and_left, and_right, and_parts}
+use Rattle.std.proofs.Common.{◌≡◌, ◌<◌, ◌≤◌, ℕ, zero, suc, ◌/◌, Bool, true, false, ◌&&◌, nat_lt, Option, Some, None, refl, arith, ap, sym, inl, inr}
+use Rattle.std.proofs.lemmas.Bool.{le-ltb, lt-ltb, cases_order, cases_lt, and_from, and_left, and_right}
 use Rattle.ev_isa.specs.Word.{NatSet, greatest_below}
 use Rattle.ev_apic.specs.declared.apic.Apic.{Apic}
 use Rattle.ev_apic.specs.Apic.{priority_class, next_vector}

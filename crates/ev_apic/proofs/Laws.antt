@@ -1,11 +1,11 @@
 -- The laws of sets of vectors and of the local APIC.
-use Rattle.std.proofs.Common.{◌≡◌, ◌<◌, ◌≤◌, ◌≢◌, ℕ, zero, suc, ◌/◌, ◌%◌, ◌^◌, bit_or, Bool, true, false, ◌&&◌, ◌||◌, ◌==◌, nat_lt, List, [], ◌∷◌, length, get_or, set, Option, Some, None, refl, arith, ap, ◌∙◌, sym, inl, inr, get_or-set_same, get_or-set_other}
+use Rattle.std.proofs.Common.{◌≡◌, ◌<◌, ◌≢◌, ℕ, zero, suc, ◌/◌, ◌%◌, ◌^◌, bit_or, Bool, ◌&&◌, nat_lt, List, [], ◌∷◌, length, get_or, set, Option, Some, None, refl, arith, ap, ◌∙◌, sym, inl, inr, get_or-set_same, get_or-set_other}
 use Rattle.std.proofs.Math.ListN.{length-set}
 use Rattle.std.proofs.lemmas.Bool.{cases_eq, cases_lt, eq-eqb, ne_eqb, ltb-true, ltb-false, lt-ltb, and_parts, and_cases, and_from, both_ways}
 use Rattle.std.proofs.Math.Bool.{or-false}
-use Rattle.ev_isa.specs.Word.{NatSet, bit, greatest_below, put_at}
+use Rattle.ev_isa.specs.Word.{bit, put_at}
 use Rattle.ev_apic.specs.declared.apic.Apic.{Apic}
-use Rattle.ev_apic.specs.Apic.{requested, priority_class, next_vector, accepted, IsNextVector, NextIsGreatest, AcceptedSetsBits}
+use Rattle.ev_apic.specs.Apic.{requested, priority_class, next_vector, IsNextVector, NextIsGreatest, AcceptedSetsBits}
 use Rattle.ev_apic.specs.Inbox.{united, UnitedIsUnion}
 use Rattle.ev_apic.specs.Vectors.{vectors_of, with_bit, with_vector, IsGreatestBelow, WithVectorPuts}
 use Rattle.ev_apic.proofs.Bits.{bit_same, bit_other, bit_of_or, with_bit_fits}
