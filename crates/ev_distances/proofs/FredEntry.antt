@@ -1,5 +1,5 @@
 -- The windows of the FRED entry of a system call, as an example: for every processor and every stack.
-use Rattle.std.proofs.Common.{◌≡◌, ◌≢◌, ℕ, ◌+◌, ◌-◌, ◌%◌, ◌<◌, ◌≤◌, Bool, true, ◌&&◌, ap, List, [], ◌∷◌, arith}
+use Rattle.std.proofs.Common.{◌≡◌, ◌≢◌, ℕ, ◌+◌, ◌-◌, ◌%◌, ◌<◌, ◌≤◌, true, ◌&&◌, ap, List, [], ◌∷◌, arith}
 use Rattle.ev_isa.specs.Word.{is_canonical}
 use Rattle.ev_listing.specs.AddressMap.{pcpu, stack_top}
 use Rattle.ev_symbolic.specs.State.{Loc, in_text}
