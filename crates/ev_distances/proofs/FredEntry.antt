@@ -1,15 +1,21 @@
 -- The windows of the FRED entry of a system call, as an example: for every processor and every stack.
-use Rattle.std.proofs.Common.{◌≡◌, ◌≢◌, ℕ, ◌+◌, ◌-◌, ◌%◌, ◌<◌, ◌≤◌, Bool, true, ◌&&◌, ap, List, [], ◌∷◌, arith}
+use Rattle.std.proofs.Common.{◌≡◌, ◌≢◌, ℕ, ◌+◌, ◌-◌, ◌%◌, ◌<◌, ◌≤◌, true, false, ◌&&◌, ap, List, [], ◌∷◌, arith}
 use Rattle.ev_isa.specs.Word.{is_canonical}
 use Rattle.ev_listing.specs.AddressMap.{pcpu, stack_top}
 use Rattle.ev_symbolic.specs.State.{Loc, in_text}
-use Rattle.ev_symbolic.specs.Agrees.{Env, addr, Far, Open}
+use Rattle.ev_symbolic.specs.Agrees.{Env, addr, Far, Open, Fits}
 use Rattle.ev_symbolic.specs.Agrees as agrees
 use Rattle.ev_body.specs.declared.image.Image.{Image}
 use Rattle.ev_concrete.specs.Opening.{regions}
 use Rattle.std.proofs.lemmas.Bool.{eq-eqb}
-use Rattle.ev_symbolic.proofs.FredBlocks.{ground}
-use Rattle.ev_distances.specs.Span.{Areas, Tables, Stacks, Codes, Span, Numbers, Processors, AllLocated}
+use Rattle.ev_symbolic.proofs.FredBlocks.{ground, enter, fred_stands}
+use Rattle.ev_symbolic.proofs.Listed.{spaced_in}
+use Rattle.ev_symbolic.specs.Listed.{code_of}
+use Rattle.ev_listing.specs.FredCode.{fred_listings}
+use Rattle.ev_listing.specs.Marks.{all_places}
+use Rattle.ev_state.specs.Processor.{is_user}
+use Rattle.ev_proc.specs.ProcessorStep.{has_fred}
+use Rattle.ev_distances.specs.Span.{Areas, Tables, Stacks, Codes, Span, OtherNumber, OtherProcessor, AllLocated}
 use Rattle.ev_distances.proofs.Spans.{far, differ}
 use Rattle.ev_distances.proofs.Regions.{stack_covered, area_covered, user_table_covered}
 use Rattle.ev_distances.proofs.Windows.{sep, open_ok, text_ok, in_area, on_stack, in_tables, in_code}
@@ -37,11 +43,11 @@ own_apart e p n used b hp hn hu = sep e ground.known ground.own (known_spans p n
 
 -- what one activation knows, against what another writes on another stack of the same processor
 pub other_stack : (e f : Env) (p n m used more : ℕ) → Bases e p n used → Bases f p m more → p < 32 → n < 7 → m < 7 → used + 0xc0 ≤ 0x4000 → more + 0xc0 ≤ 0x4000 → n ≢ m → Far e ground.known f ground.own
-other_stack e f p n m used more b c hp hn hm hu hv ne = far e f ground.known ground.own (known_spans p n used) (area_span p m more ∷ []) (known_located e p n used b hp hn hu) (own_located f p m more c hp hm hv) ((differ (area_span p n used) (area_span p m more) (Numbers ne), tt), ((tt, tt), ((tt, tt), tt)))
+other_stack e f p n m used more b c hp hn hm hu hv ne = far e f ground.known ground.own (known_spans p n used) (area_span p m more ∷ []) (known_located e p n used b hp hn hu) (own_located f p m more c hp hm hv) ((differ (area_span p n used) (area_span p m more) (OtherNumber ne), tt), ((tt, tt), ((tt, tt), tt)))
 
 -- and against what another processor writes
 pub other_processor : (e f : Env) (p q n m used more : ℕ) → Bases e p n used → Bases f q m more → p < 32 → q < 32 → n < 7 → m < 7 → used + 0xc0 ≤ 0x4000 → more + 0xc0 ≤ 0x4000 → p ≢ q → Far e ground.known f ground.own
-other_processor e f p q n m used more b c hp hq hn hm hu hv ne = far e f ground.known ground.own (known_spans p n used) (area_span q m more ∷ []) (known_located e p n used b hp hn hu) (own_located f q m more c hq hm hv) ((differ (area_span p n used) (area_span q m more) (Processors ne), tt), ((tt, tt), ((tt, tt), tt)))
+other_processor e f p q n m used more b c hp hq hn hm hu hv ne = far e f ground.known ground.own (known_spans p n used) (area_span q m more ∷ []) (known_located e p n used b hp hn hu) (own_located f q m more c hq hm hv) ((differ (area_span p n used) (area_span q m more) (OtherProcessor ne), tt), ((tt, tt), ((tt, tt), tt)))
 
 -- and the kernel reads and writes what it knows, by the regions of the opening
 pub known_open : (image : Image) (e : Env) (p n used : ℕ) → Bases e p n used → p < 32 → p < image.processors → n < 7 → used + 0xc0 ≤ 0x2000 → used % 8 ≡ 0 → Open e ground.known (regions image)
@@ -53,3 +59,21 @@ code_canonical e p n used b l h = text_ok e ground.text (record { part = Codes; 
   where
     by_zero : (z : ℕ) → z ≡ 0 → z + 0xffffffff81000000 ≡ 0xffffffff81000000
     by_zero z h = omega arith
+
+-- so the block fits the code of the listings under each such environment
+pub enter_fits : (e : Env) (p n used : ℕ) → Bases e p n used → p < 32 → n < 7 → used + 0xc0 ≤ 0x4000 → is_user e.rest ≡ false → has_fred e.rest ≡ true → Fits (code_of fred_listings) e enter
+enter_fits e p n used b hp hn hu hk hf = record {
+  ground = record {
+    zero_base = b.zero_base;
+    kernel = hk;
+    fred = hf;
+    sep = own_apart e p n used b hp hn hu;
+    across = λ k l i j q. absurd (cc);
+    facts = tt;
+    descriptors = tt;
+    tops = tt;
+    text = code_canonical e p n used b;
+  };
+  spaced = spaced_in (all_places fred_listings) fred_listings;
+  stands = fred_stands e b.zero_base;
+}

@@ -1,5 +1,5 @@
 -- The kernel's regions at the opening cover the spans of the address map, so that windows in them are open.
-use Rattle.std.proofs.Common.{◌≡◌, ℕ, zero, suc, ◌+◌, ◌-◌, ◌*◌, ◌/◌, ◌<◌, ◌≤◌, Bool, true, false, ◌&&◌, List, [], ◌∷◌, ◌++◌, map, length, refl, sym, ap, ◌∙◌, subst, arith, ◌⊎◌, inl, inr, ⊎_elim, append_assoc}
+use Rattle.std.proofs.Common.{◌≡◌, ℕ, zero, suc, ◌+◌, ◌-◌, ◌*◌, ◌<◌, ◌≤◌, Bool, true, false, ◌&&◌, List, [], ◌∷◌, ◌++◌, map, length, refl, sym, ap, ◌∙◌, subst, arith, ◌⊎◌, inl, inr, ⊎_elim}
 use Rattle.std.specs.Prelude.{nat_lt, nat_le, if◌then◌else◌, flat_map}
 use Rattle.std.proofs.lemmas.Bool.{le-leb, lt-ltb, leb-true, leb-false}
 use Rattle.ev_isa.specs.Word.{numbers_from}
@@ -11,7 +11,7 @@ use Rattle.ev_mem.specs.declared.region.RegionKind.TheVariants.{Kernel}
 use Rattle.ev_mem.specs.Memory.{place_by, place_in, page_map}
 use Rattle.ev_listing.specs.AddressMap.{pcpu, user_table, kernel_table, idt_base, cells_base, task_words, stack_top, fred_page, body_code, code_end}
 use Rattle.ev_concrete.specs.Opening.{region, stack_regions, regions}
-use Rattle.ev_distances.specs.Span.{Areas, Tables, Tasks, Stacks, Span, start, InSpan, IsCovered}
+use Rattle.ev_distances.specs.Span.{Areas, Tables, Tasks, Stacks, Span, start, IsCovered}
 use Rattle.ev_distances.specs.Regions.{Spans, InKernel, AreKernel}
 
 -- a place in an interval that the kernel's regions cover

@@ -7,7 +7,7 @@ use Rattle.std.proofs.Math.Numerals.{lt_of_le_of_ne}
 use Rattle.ev_symbolic.specs.Value.{M}
 use Rattle.ev_symbolic.specs.State.{Loc, Win, in_win}
 use Rattle.ev_symbolic.specs.Agrees.{Env, addr, Far}
-use Rattle.ev_distances.specs.Span.{Part, Areas, Tables, Tasks, Stacks, Codes, Span, processors, numbers, bytes, origin, start, IsSpan, InSpan, part_eq, Differ, Processors, Numbers, Below, Above, plainly_apart, DifferUnless, Apart, ApartFrom, AllApart, Located, AllLocated}
+use Rattle.ev_distances.specs.Span.{Part, Areas, Tables, Tasks, Stacks, Codes, Span, processors, numbers, bytes, origin, start, IsSpan, InSpan, part_eq, Differ, OtherProcessor, OtherNumber, Before, Behind, plainly_apart, DifferUnless, Apart, ApartFrom, AllApart, Located, AllLocated}
 use Rattle.ev_distances.proofs.Places.{In, InWord, cases, spot}
 
 -- ---- the bounds of parts
@@ -145,10 +145,10 @@ ordered s t hf i j h =
     (λ p. processors_apart t.part s t hf refl i j p.1) (eqb_tells s.p t.p)
 
 by_reason : (s t : Span) → s.part ≡ t.part → IsSpan s → IsSpan t → Differ s t → Ordered (start s) s.len (start t) t.len
-by_reason s t hf i j (Processors ne) = ordered s t hf i j (λ n p. absurd (ne p))
-by_reason s t hf i j (Numbers ne) = ordered s t hf i j (λ n p. absurd (ne n))
-by_reason s t hf i j (Below h) = ordered s t hf i j (λ n p. inl h)
-by_reason s t hf i j (Above h) = ordered s t hf i j (λ n p. inr h)
+by_reason s t hf i j (OtherProcessor ne) = ordered s t hf i j (λ n p. absurd (ne p))
+by_reason s t hf i j (OtherNumber ne) = ordered s t hf i j (λ n p. absurd (ne n))
+by_reason s t hf i j (Before h) = ordered s t hf i j (λ n p. inl h)
+by_reason s t hf i j (Behind h) = ordered s t hf i j (λ n p. inr h)
 
 -- ---- any two intervals
 
@@ -171,7 +171,7 @@ pub apart_ok : (s t : Span) → IsSpan s → IsSpan t → Apart s t → Ordered 
 apart_ok s t i j h = pick (part_eq s.part t.part) refl h
   where
     in_part : s.part ≡ t.part → (b : Bool) → (nat_le (s.lo + s.len) t.lo || nat_le (t.lo + t.len) s.lo) ≡ b → DifferUnless b s t → Ordered (start s) s.len (start t) t.len
-    in_part hf true q d = ⊎_elim (λ x. by_reason s t hf i j (Below (leb-true _ _ x))) (λ x. by_reason s t hf i j (Above (leb-true _ _ x))) (or_true _ _ q)
+    in_part hf true q d = ⊎_elim (λ x. by_reason s t hf i j (Before (leb-true _ _ x))) (λ x. by_reason s t hf i j (Behind (leb-true _ _ x))) (or_true _ _ q)
     in_part hf false q d = by_reason s t hf i j d
 
     pick : (b : Bool) → part_eq s.part t.part ≡ b → DifferUnless (if b then (nat_le (s.lo + s.len) t.lo || nat_le (t.lo + t.len) s.lo) else true) s t → Ordered (start s) s.len (start t) t.len

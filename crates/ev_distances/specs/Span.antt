@@ -68,10 +68,10 @@ part_eq a b = false
 
 -- why two intervals of one part are apart
 pub data Differ (s t : Span) : Type 0 where
-  Processors : s.p ≢ t.p → Differ s t
-  Numbers : s.n ≢ t.n → Differ s t
-  Below : s.lo + s.len ≤ t.lo → Differ s t
-  Above : t.lo + t.len ≤ s.lo → Differ s t
+  OtherProcessor : s.p ≢ t.p → Differ s t
+  OtherNumber : s.n ≢ t.n → Differ s t
+  Before : s.lo + s.len ≤ t.lo → Differ s t
+  Behind : t.lo + t.len ≤ s.lo → Differ s t
 
 -- a test for intervals that are apart by their parts, or by offsets that are numerals
 abbrev pub plainly_apart : Span → Span → Bool

@@ -1,5 +1,5 @@
 -- Steps inside a block, joins of blocks, and what others leave alone: once for all blocks.
-use Rattle.std.proofs.Common.{◌≡◌, ℕ, zero, suc, ◌+◌, ◌≤◌, Bool, true, false, List, [], ◌∷◌, get_or, drop, map, length, Option, Some, None, refl, sym, ap, ◌∙◌, subst, arith}
+use Rattle.std.proofs.Common.{◌≡◌, ℕ, zero, suc, ◌+◌, ◌<◌, ◌-◌, ◌≤◌, Bool, true, false, List, [], ◌∷◌, get_or, drop, map, length, Option, Some, None, refl, sym, ap, ◌∙◌, subst, arith}
 use Rattle.std.specs.Prelude.{if◌then◌else◌}
 use Rattle.ev_isa.specs.Word.{NatMap}
 use Rattle.ev_isa.specs.Flags.{Flags, flags_word}
@@ -118,6 +118,16 @@ earlier b k (suc j) s h = back (brun b (j + k)) refl (ap (brun b) (let e : suc (
     back : (o : Option SS) → brun b (j + k) ≡ o → bnext b (brun b (j + k)) ≡ Some s → ((t : SS) → brun b (j + k) ≡ Some t → (t : SS) × (brun b k ≡ Some t)) → (t : SS) × (brun b k ≡ Some t)
     back None q r f = let n : bnext b None ≡ Some s = ap (bnext b) (sym q) ∙ r in absurd (cc)
     back (Some t) q r f = f t q
+
+-- a block from its opening, through each instruction before its end, to its end
+pub begins : (code : Code) (b : Block) (e : Env) (c : Processor) (m : Memory) → Fits code e b → all_above (sreg b.opening 4) b.opening.words ≡ true → Agrees e b.ground b.opening c m → At code b 0 e c m
+begins code b e c m f h g = record { fits = f; state = b.opening; is = refl; clear = h; agrees = g }
+
+pub goes_on : (code : Code) (b : Block) (n : ℕ) (z : SS) → brun b n ≡ Some z → (k : ℕ) (e : Env) (c : Processor) (m : Memory) → At code b k e c m → k < n → Inside code b (suc k) e c m
+goes_on code b n z r k e c m at lt = let t = earlier b (suc k) (n - suc k) z (ap (brun b) (let q : (n - suc k) + suc k ≡ n = omega arith in q) ∙ r) in inside code b k e c m at t.0 t.1
+
+pub at_end : (code : Code) (b : Block) (n : ℕ) (z : SS) → brun b n ≡ Some z → (e : Env) (c : Processor) (m : Memory) → At code b n e c m → Agrees e b.ground z c m
+at_end code b n z r e c m at = subst (λ s. Agrees e b.ground s c m) (unsome at.state z (sym at.is ∙ r)) at.agrees
 
 -- what a closed test says of each state of a run
 every_on : (test : SS → Bool) (b : Block) (n k : ℕ) (s : SS) → brun b k ≡ Some s → every_from test b n s ≡ true → (j : ℕ) → j ≤ n → (t : SS) → brun b (j + k) ≡ Some t → test t ≡ true
