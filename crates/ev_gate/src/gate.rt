@@ -50,7 +50,7 @@ pub fn gate_bytes(g: &Gate) -> [u8; 16]
 
 /// The gate in two words whose type and reserved bits are right.
 #[tactic(auto, unfolding(crate::specs::Gate::gate_in))]
-fn gate_in(low: u64, high: u64) -> Gate
+pub fn gate_in(low: u64, high: u64) -> Gate
     ensures value { result ≡ gate_in low high }
     ensures ist { result.ist < 8 }
     ensures dpl { result.dpl < 4 }

@@ -6,5 +6,5 @@ mod gate;
 mod tests;
 mod tss;
 
-pub use gate::{Gate, GateFault, gate_bytes, gate_laws, read_gate};
+pub use gate::{Gate, GateFault, gate_bytes, gate_in, gate_laws, read_gate};
 pub use tss::{Short, Tss, read_tss, tss_bytes, tss_laws};

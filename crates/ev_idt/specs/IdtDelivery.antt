@@ -40,15 +40,18 @@ in_handler c g kind frame = record (with_rsp c frame) {
   sti_blocked = false;
 }
 
+-- a delivery through a gate
+abbrev pub through_gate : Processor → Memory → Event → Gate → Outcome
+through_gate c m e g =
+    let frame : List ℕ = idt_frame c e in
+    let a : ℕ = below (new_rsp c m.words g) (length frame) in
+    frame_written c (in_handler c g e.kind a) m.words a frame (first_event (view m false) true (reverse (addresses a (length frame))))
+
 -- Delivery of an event. RIP is the one that is saved.
 unfoldable pub idt_delivery : Processor → Memory → Event → Outcome
 idt_delivery c m e =
     let g : Gate = gate_at m.words c.idt e.vector in
-    let c' : Processor = with_cr2 c e in
-    let frame : List ℕ = idt_frame c' e in
-    let a : ℕ = below (new_rsp c' m.words g) (length frame) in
-    if is_gated e.kind && is_user c && nat_lt g.dpl 3 then Met c (gp (8 * e.vector + 2))
-    else frame_written c' (in_handler c' g e.kind a) m.words a frame (first_event (view m false) true (reverse (addresses a (length frame))))
+    if is_gated e.kind && is_user c && nat_lt g.dpl 3 then Met c (gp (8 * e.vector + 2)) else through_gate (with_cr2 c e) m e g
 
 -- ---- returns
 

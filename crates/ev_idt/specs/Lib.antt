@@ -1,1 +1,3 @@
 pub mod IdtDelivery
+pub mod Tables
+pub mod Pushed
