@@ -1,1 +1,3 @@
 pub mod Exec
+pub mod After
+pub mod Access
