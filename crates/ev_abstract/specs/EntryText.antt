@@ -82,9 +82,17 @@ register_words [] vs = []
 register_words (n ∷ ns) [] = []
 register_words (n ∷ ns) (v ∷ vs) = (if v == 0 then [] else n ∷ hex v ∷ []) ++ register_words ns vs
 
-unfoldable pub task_words : ℕ → ℕ → Task → List Text
-task_words p i t = codes "task" ∷ decimal p ∷ decimal i ∷ codes "rip" ∷ hex t.rip ∷ codes "flags" ∷ hex (flags_word t.flags) ∷ codes "gs" ∷ hex t.gs
-    ∷ register_words register_names t.regs
+-- task i of processor p with these registers, RIP, RFLAGS and GS base
+unfoldable pub state_words : ℕ → ℕ → List ℕ → ℕ → ℕ → ℕ → List Text
+state_words p i regs rip flags gs = codes "task" ∷ decimal p ∷ decimal i ∷ codes "rip" ∷ hex rip ∷ codes "flags" ∷ hex flags ∷ codes "gs" ∷ hex gs
+    ∷ register_words register_names regs
+
+abbrev pub task_words : ℕ → ℕ → Task → List Text
+task_words p i t = state_words p i t.regs t.rip (flags_word t.flags) t.gs
+
+-- a processor on which so many bodies stand
+abbrev pub busy_words : ℕ → ℕ → List Text
+busy_words p depth = codes "busy" ∷ decimal p ∷ codes "depth" ∷ decimal depth ∷ []
 
 -- the lines of the tasks from number i on, so many
 abbrev pub task_lines : Text → ℕ → Processor → ℕ → ℕ → Text
@@ -94,7 +102,7 @@ task_lines mode p x i (suc n) = line_text mode (task_words p i (x.tasks i)) ++ t
 -- the end lines of processor p: its tasks in the order of their numbers, or that it is busy
 abbrev pub end_lines : Text → ℕ → Processor → ℕ → Text
 end_lines mode p x zero = task_lines mode p x 0 (suc (length x.waiting))
-end_lines mode p x (suc depth) = line_text mode (codes "busy" ∷ decimal p ∷ codes "depth" ∷ decimal (suc depth) ∷ [])
+end_lines mode p x (suc depth) = line_text mode (busy_words p (suc depth))
 
 -- those of the processors from p on
 abbrev pub all_end_lines : Text → Machine → ℕ → ℕ → Text

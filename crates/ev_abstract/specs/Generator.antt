@@ -1,24 +1,19 @@
 -- The generator of scripts, and the checksum of a trace. Own.
-use Rattle.std.specs.Prelude.{ℕ, zero, suc, ◌+◌, ◌*◌, ◌/◌, ◌%◌, ◌^◌, Bool, nat_lt, ◌==◌, if◌then◌else◌, List, [], ◌∷◌, map, filter, length, get_or}
-use Rattle.std.specs.List.{list_any}
+use Rattle.std.specs.Prelude.{ℕ, zero, suc, ◌+◌, ◌*◌, ◌/◌, ◌%◌, ◌^◌, nat_lt, ◌==◌, if◌then◌else◌, List, [], ◌∷◌, map, filter, length, get_or}
 use Rattle.ev_body.specs.declared.key.Key.{Key}
 use Rattle.ev_body.specs.declared.key.Key.TheVariants.{Nmi, Irq}
-use Rattle.ev_body.specs.declared.body.Body.{Body}
 use Rattle.ev_body.specs.declared.image.Image.{Image}
-use Rattle.ev_body.specs.Bodies.{key_number}
 use Rattle.ev_isa.specs.Word.{numbers_from}
+use Rattle.ev_abstract.specs.Script.{has_body_of}
 use Rattle.ev_abstract.specs.declared.script_line.Line.{Line}
 use Rattle.ev_abstract.specs.declared.script_line.Line.TheVariants.{Turn, Edge, Arrive, Accept}
 
 abbrev pub next_seed : ℕ → ℕ
 next_seed x = (x * 6364136223846793005 + 1442695040888963407) % 2 ^ 64
 
-abbrev pub has_body : Image → Key → Bool
-has_body image key = list_any (λ (b : Body). key_number b.key == key_number key) image.bodies
-
 -- the keys that can arrive: nmi first, then the interrupts by rising vector
 abbrev pub arriving : Image → List Key
-arriving image = filter (has_body image) (Nmi ∷ map Irq (numbers_from 0x20 0xe0))
+arriving image = filter (has_body_of image) (Nmi ∷ map Irq (numbers_from 0x20 0xe0))
 
 abbrev pub arrival : List Key → ℕ → ℕ → Line
 arrival keys p u = if length keys == 0 then Turn p else Arrive p (get_or keys (u % length keys) Nmi)

@@ -11,6 +11,7 @@ pub mod Chain
 pub mod Rules
 pub mod Accepted
 pub mod CallLaws
-pub mod Generator
 pub mod Script
+pub mod Generator
 pub mod Claims
+pub mod Laws

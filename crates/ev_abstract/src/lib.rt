@@ -3,9 +3,11 @@
 #![tactic(auto)]
 
 mod entry;
+mod laws;
 mod refusal;
 mod script_line;
 
 pub use entry::Entry;
+pub use laws::{scripts_follow_each_other, steps_leave_others};
 pub use refusal::Refusal;
 pub use script_line::Line;

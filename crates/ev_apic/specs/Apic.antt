@@ -1,6 +1,6 @@
 -- The local APIC (SDM volume 3, 10.8, after x2APIC).
-use Rattle.std.specs.Prelude.{ℕ, ◌/◌, true, false, ◌&&◌, nat_lt, Option, Some, None, max, List, get_or, set, bit_or}
-use Rattle.ev_isa.specs.Word.{NatSet, greatest_below}
+use Rattle.std.specs.Prelude.{ℕ, ◌≡◌, ◌<◌, ◌≤◌, ◌/◌, ◌%◌, true, false, ◌&&◌, ◌||◌, ◌==◌, length, nat_lt, Option, Some, None, max, List, get_or, set, bit_or}
+use Rattle.ev_isa.specs.Word.{NatSet, bit, greatest_below}
 use Rattle.ev_apic.specs.declared.apic.Apic.{Apic}
 use Rattle.ev_apic.specs.Vectors.{vectors_of, with_vector}
 
@@ -38,3 +38,17 @@ without ws (Some v) = with_vector ws v false
 -- the end of an interrupt: the greatest vector leaves ISR
 abbrev pub ended : Apic → Apic
 ended a = record a { isr = without a.isr (greatest_below 256 (in_service a)) }
+
+-- The next vector is the greatest of IRR whose class exceeds that of the priority, and there is none exactly where there is no such vector:
+abbrev pub IsNextVector : Apic → Option ℕ → Type 0
+IsNextVector a None = (u : ℕ) → u < 256 → requested a u ≡ true → u / 16 ≤ priority_class a
+IsNextVector a (Some v) =
+    (v < 256) × (requested a v ≡ true) × (priority_class a < v / 16) × ((u : ℕ) → u < 256 → requested a u ≡ true → priority_class a < u / 16 → u ≤ v)
+
+abbrev pub NextIsGreatest : Type 0
+NextIsGreatest = (a : Apic) → IsNextVector a (next_vector a)
+
+-- and exactly the given bits of a word are requested besides.
+abbrev pub AcceptedSetsBits : Type 0
+AcceptedSetsBits =
+    (a : Apic) (word bits u : ℕ) → length a.irr ≡ 4 → word < 4 → requested (accepted a word bits) u ≡ (requested a u || ((u / 64 == word) && bit (u % 64) bits))

@@ -1,10 +1,10 @@
 -- The mail of a processor. Own.
-use Rattle.std.specs.Prelude.{ℕ, true, false, List, [], ◌∷◌, bit_or}
+use Rattle.std.specs.Prelude.{ℕ, ◌≡◌, ◌||◌, true, false, length, List, [], ◌∷◌, bit_or}
 use Rattle.ev_apic.specs.declared.inbox.Inbox.{Inbox}
 use Rattle.ev_apic.specs.declared.apic.Apic.{Apic}
 use Rattle.ev_apic.specs.declared.send.SendKey.{SendKey}
 use Rattle.ev_apic.specs.declared.send.SendKey.TheVariants.{Fixed, Nmi}
-use Rattle.ev_apic.specs.Vectors.{with_vector}
+use Rattle.ev_apic.specs.Vectors.{vectors_of, with_vector}
 
 abbrev pub no_mail : Inbox
 no_mail = record { vectors = 0 ∷ 0 ∷ 0 ∷ 0 ∷ []; nmi = false }
@@ -23,3 +23,8 @@ united (x ∷ xs) (y ∷ ys) = bit_or x y ∷ united xs ys
 -- the local APIC after it took the mail's vectors
 abbrev pub with_mail : Apic → Inbox → Apic
 with_mail a m = record a { irr = united a.irr m.vectors }
+
+-- the law of two sets together
+abbrev pub UnitedIsUnion : Type 0
+UnitedIsUnion =
+    (xs ys : List ℕ) → length xs ≡ length ys → ((v : ℕ) → vectors_of (united xs ys) v ≡ (vectors_of xs v || vectors_of ys v)) × (length (united xs ys) ≡ length xs)

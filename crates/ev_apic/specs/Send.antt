@@ -1,5 +1,6 @@
 -- Interrupt commands (SDM volume 3, 10.6.1, after x2APIC; what is refused is own).
-use Rattle.std.specs.Prelude.{ℕ, ◌/◌, ◌%◌, ◌^◌, ◌&&◌, nat_lt, ◌==◌, if◌then◌else◌, Option, Some, None}
+use Rattle.std.specs.Prelude.{ℕ, ◌/◌, ◌%◌, ◌^◌, ◌&&◌, nat_lt, ◌==◌, if◌then◌else◌, Option, Some, None, Result, Ok, Err}
+use Rattle.ev_isa.specs.declared.fault.Gp.{Gp}
 use Rattle.ev_apic.specs.declared.send.Target.{Target}
 use Rattle.ev_apic.specs.declared.send.Target.TheVariants.{One, Myself, All, Others}
 use Rattle.ev_apic.specs.declared.send.SendKey.{SendKey}
@@ -18,3 +19,8 @@ unfoldable pub sent : ℕ → Option Send
 sent v =
     if v / 2 ^ 8 % 8 == 4 then Some (send_to v Nmi)
     else (if (v / 2 ^ 8 % 8 == 0) && nat_lt 15 (v % 256) then Some (send_to v (Fixed (v % 256))) else None)
+
+-- the same as the result of the write
+abbrev pub or_gp : Option Send → Result Send Gp
+or_gp None = Err (record {})
+or_gp (Some s) = Ok s

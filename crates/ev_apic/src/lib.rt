@@ -4,7 +4,10 @@
 mod apic;
 mod inbox;
 mod send;
+#[cfg(test)]
+mod tests;
+mod vectors;
 
-pub use apic::Apic;
+pub use apic::{Apic, apic_laws};
 pub use inbox::Inbox;
-pub use send::{Send, SendKey, Target};
+pub use send::{Send, SendKey, Target, decode_icr};

@@ -1,6 +1,6 @@
 -- The bytes of statements at an address, or the first statement that stands in the way. Own.
-use Rattle.std.specs.Prelude.{ℕ, suc, ◌+◌, ◌-◌, Bool, true, false, not, ◌&&◌, nat_lt, List, [], ◌∷◌, ◌++◌, Option, Some, None, Result, Ok, Err}
-use Rattle.std.specs.List.{list_any}
+use Rattle.std.specs.Prelude.{ℕ, suc, ◌+◌, ◌-◌, Bool, true, false, not, nat_lt, List, [], ◌∷◌, ◌++◌, Option, Some, None, Result, Ok, Err}
+use Rattle.std.specs.List.{list_any, list_all}
 use Rattle.ev_isa.specs.Instruction.{is_instruction}
 use Rattle.ev_asm.specs.declared.statement.Stmt.{Stmt}
 use Rattle.ev_asm.specs.declared.statement.Stmt.TheVariants.{Label, Plain, Jump}
@@ -23,11 +23,18 @@ unfoldable pub is_second_label : List Stmt → Stmt → Bool
 is_second_label before (Label name) = not (is_new_name (stmt_labels before) name)
 is_second_label before s = false
 
--- whether each instruction is one of the project: a shift counts 1 to 63
-unfoldable pub are_instructions : List Stmt → Bool
-are_instructions [] = true
-are_instructions (Plain i ∷ ss) = is_instruction i && are_instructions ss
-are_instructions (s ∷ ss) = are_instructions ss
+-- whether a statement's instruction is one of the project: a shift counts 1 to 63
+unfoldable pub is_encoded : Stmt → Bool
+is_encoded (Plain i) = is_instruction i
+is_encoded s = true
+
+abbrev pub are_instructions : List Stmt → Bool
+are_instructions ss = list_all is_encoded ss
+
+-- whether a statement gives this label
+unfoldable pub gives_label : Stmt → Name → Bool
+gives_label (Label n) name = is_name n name
+gives_label s name = false
 
 -- the number of the first statement at which the test holds of the statements before it and itself
 unfoldable pub first_at : (List Stmt → Stmt → Bool) → ℕ → List Stmt → List Stmt → Option ℕ
@@ -55,6 +62,10 @@ unfoldable pub addresses_of : ℕ → List Stmt → List ℕ
 addresses_of a [] = []
 addresses_of a (s ∷ ss) = a ∷ addresses_of (a + size s) ss
 
+-- what the statements are at an address, where nothing stands in the way
+abbrev pub text_of : ℕ → List Stmt → Text
+text_of base stmts = record { base = base; bytes = code (places base stmts) base stmts; places = addresses_of base stmts }
+
 -- in the order of the faults, each over the whole list
 unfoldable pub assembled : List Stmt → (base limit : ℕ) → Result Text AsmFault
 assembled stmts base limit = elim (first_at is_second_label 0 [] stmts) [
@@ -63,7 +74,7 @@ assembled stmts base limit = elim (first_at is_second_label 0 [] stmts) [
     | Some n ↦ Err (NoLabel n)
     | None ↦ elim (first_too_large 0 limit stmts) [
       | Some n ↦ Err (TooLarge n)
-      | None ↦ Ok (record { base = base; bytes = code (places base stmts) base stmts; places = addresses_of base stmts })
+      | None ↦ Ok (text_of base stmts)
     ]
   ]
 ]

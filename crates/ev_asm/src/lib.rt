@@ -1,12 +1,19 @@
 //! Assembly: statements with labels, and their bytes at an address. Own.
 #![tactic(auto)]
 
+mod assembly;
 mod block;
 mod fault;
+mod labels;
+mod size;
 mod statement;
 mod text;
 
+pub use assembly::assemble;
 pub use block::{Block, Blocks};
 pub use fault::AsmFault;
 pub use statement::Stmt;
 pub use text::Text;
+
+#[cfg(test)]
+mod tests;

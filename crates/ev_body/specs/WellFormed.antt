@@ -1,5 +1,5 @@
 -- What the grammar gives of an image: limits, numbers in range, parts that end as they should. Own.
-use Rattle.std.specs.Prelude.{◌≡◌, ℕ, ◌+◌, ◌^◌, ◌≤◌, Bool, true, false, not, ◌&&◌, ◌||◌, nat_lt, nat_le, ◌==◌, List, [], ◌∷◌, length, map}
+use Rattle.std.specs.Prelude.{◌≡◌, ℕ, ◌+◌, ◌^◌, ◌≤◌, Bool, true, false, not, ◌&&◌, ◌||◌, nat_lt, nat_le, ◌==◌, List, [], ◌∷◌, length, map, flat_map}
 use Rattle.std.specs.List.{list_any, list_all}
 use Rattle.ev_isa.specs.declared.instruction.Cond.{Cond}
 use Rattle.ev_isa.specs.declared.instruction.Cond.TheVariants.{S, Ns}
@@ -84,7 +84,7 @@ abbrev pub are_parts : ℕ → ℕ → List Part → Bool
 are_parts bytes n [] = true
 are_parts bytes n (part ∷ parts) =
     nat_lt part.func 8 && ends_with is_finish part.items && list_all (has_operands bytes n (n + length part.items)) part.items
-    && not (list_any (λ (other : Part). other.func == part.func) parts) && are_parts bytes (n + length part.items) parts
+    && are_parts bytes (n + length part.items) parts
 
 -- the keys that have the user side alone
 unfoldable pub is_user_only : Key → Bool
@@ -128,6 +128,10 @@ abbrev pub are_distinct : List ℕ → Bool
 are_distinct [] = true
 are_distinct (n ∷ ns) = not (list_any (λ k. k == n) ns) && are_distinct ns
 
+-- the numbers of the functions of all bodies
+abbrev pub functions_of : List Body → List ℕ
+functions_of bodies = flat_map (λ (b : Body). map (λ (part : Part). part.func) b.parts) bodies
+
 pub record IsImage (image : KernelImage) : Type 0 where
   pub count : (1 ≤ image.processors) × (image.processors ≤ 8) × (1 ≤ image.nest) × (image.nest ≤ 32)
   pub pages_fit : list_all (λ i. nat_lt i 256) image.pages && are_distinct image.pages ≡ true
@@ -137,3 +141,4 @@ pub record IsImage (image : KernelImage) : Type 0 where
   pub tasks_given : (length image.tasks ≡ image.processors)
       × (list_all (λ ts. nat_lt 0 (length ts) && nat_le (length ts) 4 && list_all (is_task (length image.text)) ts) image.tasks ≡ true)
   pub bodies_given : (length image.bodies ≤ 64) × (list_all (is_body (length image.text)) image.bodies ≡ true) × (are_apart image.bodies ≡ true)
+  pub functions_once : are_distinct (functions_of image.bodies) ≡ true

@@ -1,6 +1,6 @@
 -- The concrete machine: visible steps and edges, and its run. Own.
 use Rattle.std.specs.Prelude.{ℕ, zero, suc, ◌+◌, ◌-◌, Bool, true, false, not, ◌&&◌, ◌||◌, nat_lt, nat_le, ◌==◌, if◌then◌else◌, List, [], ◌∷◌, ◌++◌, map, filter, min, Option, Some, None}
-use Rattle.ev_isa.specs.Word.{NatMap, NatSet, put_at, union, no_numbers, numbers_from}
+use Rattle.ev_isa.specs.Word.{NatMap, NatSet, put_at, no_numbers, numbers_from}
 use Rattle.ev_event.specs.declared.event.Event.{Event}
 use Rattle.ev_body.specs.declared.key.Key.{Key}
 use Rattle.ev_body.specs.declared.image.Image.{Image}
@@ -14,8 +14,8 @@ use Rattle.ev_apic.specs.declared.apic.Apic.{Apic}
 use Rattle.ev_apic.specs.declared.send.Target.{Target}
 use Rattle.ev_apic.specs.declared.send.Target.TheVariants.{One, Myself, All, Others}
 use Rattle.ev_apic.specs.declared.send.SendKey.{SendKey}
-use Rattle.ev_apic.specs.declared.send.SendKey.TheVariants.{Fixed}
 use Rattle.ev_mem.specs.Memory.{Memory}
+use Rattle.ev_trace.specs.FrameText.{Totals, Noted}
 use Rattle.ev_effect.specs.Frame.{addresses}
 use Rattle.ev_listing.specs.AddressMap.{stack_top, repeat_entry, nbody_entry, nlast_entry}
 use Rattle.ev_listing.specs.Marks.{Mark, Never, Always, IfNonzero, IfEqual, all_marks}
@@ -30,11 +30,6 @@ use Rattle.ev_event.specs.declared.frame_note.FrameNote.{FrameNote}
 use Rattle.ev_apic.specs.declared.inbox.Inbox.{Inbox}
 use Rattle.ev_apic.specs.Inbox.{no_mail, mailed, with_mail}
 use Rattle.ev_apic.specs.Vectors.{with_vector}
-
-pub record Totals : Type 0 where
-  pub steps : ℕ
-  pub frames : ℕ
-  pub low : Option ℕ
 
 -- An activation of a handler: RSP and RIP at which it was interrupted (those of the last one are the processor's), and whether it is that of an inner NMI.
 pub record Activation : Type 0 where
@@ -201,10 +196,6 @@ concrete_line marks n s (Turn p) = concrete_turn marks n s p
 concrete_line marks n s (Edge p k) = edges k marks n s p
 concrete_line marks n s (Arrive p key) = (arrived_at s p key, [])
 concrete_line marks n s (Accept p) = (accept_mail s p, [])
-
--- a frame with the number of the processor that wrote it
-abbrev pub Noted : Type 0
-Noted = ℕ × FrameNote
 
 abbrev pub noted : ℕ → List FrameNote → List Noted
 noted p fs = map (λ f. (p, f)) fs

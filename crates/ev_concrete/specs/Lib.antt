@@ -1,6 +1,5 @@
 pub mod Opening
 pub mod ConcreteRun
-pub mod FrameText
 pub mod LiveWords
 pub mod RunText
 pub mod Claims

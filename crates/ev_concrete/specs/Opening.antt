@@ -1,7 +1,7 @@
 -- The opening of the machine: the words of memory and the processors, for an image and a mode. Own.
 use Rattle.std.specs.Prelude.{ℕ, suc, ◌+◌, ◌-◌, ◌*◌, ◌/◌, ◌%◌, ◌^◌, Bool, true, false, ◌&&◌, nat_lt, nat_le, ◌==◌, if◌then◌else◌, List, [], ◌∷◌, ◌++◌, length, map, flat_map, get_or, drop, Option, Some, None}
 use Rattle.std.specs.Int.{w64, from_le_bytes}
-use Rattle.ev_isa.specs.Word.{no_numbers, members, values, numbers_from}
+use Rattle.ev_isa.specs.Word.{is_aligned, members, values, numbers_from}
 use Rattle.ev_isa.specs.Flags.{flags_word, start_flags}
 use Rattle.ev_body.specs.declared.key.Side.{Side}
 use Rattle.ev_body.specs.declared.key.Side.TheVariants.{User, Kernel}
@@ -124,8 +124,9 @@ stack_word mode image p n o =
 abbrev pub within : ℕ → ℕ → ℕ → Bool
 within base bytes a = nat_le base a && nat_lt a (base + bytes)
 
-unfoldable pub opening_word : Placed → Mode → Image → ℕ → ℕ
-opening_word es mode image a =
+-- the word at a multiple of 8
+unfoldable pub word_there : Placed → Mode → Image → ℕ → ℕ
+word_there es mode image a =
     if nat_lt a (2 ^ 63) then words_at_start image.text a
     else (if nat_le fred_page a then code_word es a
     else (if within (stack_top 0 0 - 0x4000) (0x100000 * image.processors) a
@@ -138,6 +139,10 @@ opening_word es mode image a =
     else (if within idt_base (16 * 256) a then idt_word ((a - idt_base) / 8)
     else (if within page_map (8 * 256) a then (if members image.pages ((a - page_map) / 8) then 1 else 0)
     else (if within cells_base (8 * 256) a then values image.cells ((a - cells_base) / 8) else 0)))))))))
+
+-- a memory's words stand at multiples of 8
+unfoldable pub opening_word : Placed → Mode → Image → ℕ → ℕ
+opening_word es mode image a = if is_aligned a then word_there es mode image a else 0
 
 -- ---- regions
 

@@ -1,5 +1,5 @@
 -- The text of a run in one or both modes. Own.
-use Rattle.std.specs.Prelude.{Bool, if◌then◌else◌, List, [], ◌∷◌, ◌++◌, map, codes}
+use Rattle.std.specs.Prelude.{Bool, if◌then◌else◌, List, [], ◌∷◌, ◌++◌, map}
 use Rattle.ev_body.specs.declared.image.Image.{Image}
 use Rattle.ev_abstract.specs.declared.entry.Entry.{Entry}
 use Rattle.ev_abstract.specs.Machine.{Machine, opening}
@@ -7,14 +7,9 @@ use Rattle.ev_isa.specs.Word.{numbers_from}
 use Rattle.ev_abstract.specs.declared.script_line.Line.{Line}
 use Rattle.ev_abstract.specs.Run.{line_step}
 use Rattle.ev_isa.specs.declared.mode.Mode.{Mode}
-use Rattle.ev_isa.specs.declared.mode.Mode.TheVariants.{Idt, Fred}
-use Rattle.ev_concrete.specs.ConcreteRun.{Marks, System, Noted, noted, processor_of, marks_of, opening_system, concrete_line, all_settled}
+use Rattle.ev_concrete.specs.ConcreteRun.{Marks, System, noted, processor_of, marks_of, opening_system, concrete_line, all_settled}
 use Rattle.ev_abstract.specs.EntryText.{Text, trace_text, all_end_lines}
-use Rattle.ev_concrete.specs.FrameText.{frames_text, totals_text}
-
-abbrev pub mode_text : Mode → Text
-mode_text Idt = codes "idt"
-mode_text Fred = codes "fred"
+use Rattle.ev_trace.specs.FrameText.{Noted, mode_text, frames_text, totals_text}
 
 -- a mode with the marks of its code and the state of its machine
 pub record ModeRun : Type 0 where

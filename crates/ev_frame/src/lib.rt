@@ -3,6 +3,10 @@
 
 mod config;
 mod frame;
+#[cfg(test)]
+mod tests;
 
-pub use config::{FredConfig, Reserved, StackLevels};
-pub use frame::{Frame64, FrameFault};
+pub use config::{
+    FredConfig, Reserved, StackLevels, config_laws, config_word, level_rsp, read_config,
+};
+pub use frame::{Frame64, FrameFault, frame_bytes, frame_laws, read_frame};

@@ -1,5 +1,5 @@
 -- The task-state segment (SDM volume 3, 7.7).
-use Rattle.std.specs.Prelude.{ℕ, ◌+◌, ◌*◌, ◌++◌, List, drop, flat_map, replicate, map, length, nat_lt, if◌then◌else◌, [], ◌∷◌, Result, Ok, Err}
+use Rattle.std.specs.Prelude.{ℕ, ◌≡◌, ◌<◌, ◌+◌, ◌*◌, ◌^◌, ◌++◌, List, get_or, take, drop, flat_map, replicate, map, length, nat_lt, if◌then◌else◌, [], ◌∷◌, Result, Ok, Err}
 use Rattle.std.specs.Int.{w16, w64, to_le_bytes, from_le_bytes}
 use Rattle.ev_isa.specs.Word.{NatMap}
 use Rattle.ev_gate.specs.declared.tss.Tss.{Tss}
@@ -18,6 +18,20 @@ unfoldable pub read_tss : List ℕ → Result Tss Short
 read_tss bytes =
     if nat_lt (length bytes) 104 then Err (record {})
     else Ok (record { rsp0 = word_from bytes 4; ist = map (λ k. word_from bytes (36 + 8 * k)) (0 ∷ 1 ∷ 2 ∷ 3 ∷ 4 ∷ 5 ∷ 6 ∷ []) })
+
+-- the fields within their widths
+abbrev pub IsTss : Tss → Type 0
+IsTss t = (t.rsp0 < 2 ^ 64) × (length t.ist ≡ 7) × ((i : ℕ) → get_or t.ist i 0 < 2 ^ 64)
+
+-- The laws of both directions: reading what was written gives the stacks,
+abbrev pub TssIsRead : Type 0
+TssIsRead = (t : Tss) → IsTss t → read_tss (tss_bytes t) ≡ Ok t
+
+-- and writing what was read gives the bytes of the stacks.
+abbrev pub TssIsWritten : Type 0
+TssIsWritten =
+    (bytes : List ℕ) (t : Tss) → ((i : ℕ) → get_or bytes i 0 < 256) → read_tss bytes ≡ Ok t
+    → (take 8 (drop 4 (tss_bytes t)) ≡ take 8 (drop 4 bytes)) × (take 56 (drop 36 (tss_bytes t)) ≡ take 56 (drop 36 bytes))
 
 -- what a delivery reads of the TSS that stands in memory at this address
 abbrev pub rsp0_at : NatMap ℕ → ℕ → ℕ

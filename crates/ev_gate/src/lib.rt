@@ -2,7 +2,9 @@
 #![tactic(auto)]
 
 mod gate;
+#[cfg(test)]
+mod tests;
 mod tss;
 
-pub use gate::{Gate, GateFault};
-pub use tss::{Short, Tss};
+pub use gate::{Gate, GateFault, gate_bytes, gate_laws, read_gate};
+pub use tss::{Short, Tss, read_tss, tss_bytes, tss_laws};

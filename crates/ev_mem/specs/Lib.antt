@@ -1,1 +1,5 @@
 pub mod Memory
+pub mod Mapped
+pub mod Conditions
+pub mod Access
+pub mod Code

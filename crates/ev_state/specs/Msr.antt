@@ -1,7 +1,8 @@
 -- Model-specific registers (SDM volume 4, table 2-2; FRED specification, "FRED configuration MSRs", in the project's profile).
-use Rattle.std.specs.Prelude.{◌≡◌, true, false, ℕ, ◌%◌, Bool, not, ◌&&◌, ◌==◌, if◌then◌else◌, List, get_or, set, Option, Some, None}
+use Rattle.std.specs.Prelude.{◌≡◌, true, false, ℕ, ◌%◌, Bool, not, ◌&&◌, ◌==◌, if◌then◌else◌, List, get_or, set, Option, Some, None, Result, Ok, Err}
 use Rattle.std.specs.List.{list_all}
 use Rattle.ev_isa.specs.Word.{is_canonical}
+use Rattle.ev_isa.specs.declared.fault.Gp.{Gp}
 use Rattle.ev_frame.specs.Config.{is_reserved}
 
 pub record Msrs : Type 0 where
@@ -59,3 +60,12 @@ pub record AreMsrs (lstar gs_base kernel_gs_base config : ℕ) (rsp : List ℕ) 
   pub config_canonical : is_canonical config ≡ true
   pub config_free : is_reserved config ≡ false
   pub level_rsps : list_all is_level_rsp rsp ≡ true
+
+-- an access to an MSR that isn't there is refused
+abbrev pub or_gp : Option ℕ → Result ℕ Gp
+or_gp None = Err (record {})
+or_gp (Some v) = Ok v
+
+-- the GS base and the kernel GS base are exchanged
+abbrev pub bases_exchanged : Msrs → Msrs
+bases_exchanged m = record m { gs_base = m.kernel_gs_base; kernel_gs_base = m.gs_base }

@@ -1,9 +1,9 @@
 -- The state of a processor (SDM volume 1, 3.4; FRED specification for the stack level).
 use Rattle.std.specs.Prelude.{◌≡◌, ◌⊎◌, ◌<◌, true, ℕ, ◌%◌, ◌^◌, Bool, ◌==◌, List}
 use Rattle.ev_isa.specs.Word.{is_canonical}
-use Rattle.ev_isa.specs.Flags.{flags_word, flags_of, modelled}
+use Rattle.ev_isa.specs.Flags.{Status, flags_word, flags_of, modelled}
 use Rattle.ev_effect.specs.Task.{Task, reg, with_reg}
-use Rattle.ev_state.specs.Msr.{Msrs}
+use Rattle.ev_state.specs.Msr.{Msrs, bases_exchanged}
 
 pub record Processor : Type 0 where
   pub regs : List ℕ  -- 16 registers
@@ -54,7 +54,7 @@ with_rsp c v = with_register c 4 v
 
 -- the GS base and the kernel GS base are exchanged
 abbrev pub gs_exchanged : Processor → Processor
-gs_exchanged c = record c { msrs = record c.msrs { gs_base = c.msrs.kernel_gs_base; kernel_gs_base = c.msrs.gs_base } }
+gs_exchanged c = record c { msrs = bases_exchanged c.msrs }
 
 -- a selector register holds the low 16 bits of what is loaded
 abbrev pub selector : ℕ → ℕ
@@ -66,3 +66,7 @@ interrupts_on c = (flags_of c.flags).interrupts
 
 abbrev pub with_interrupts : ℕ → Bool → ℕ
 with_interrupts flags b = flags_word (record (flags_of flags) { interrupts = b })
+
+-- RFLAGS with these status flags
+abbrev pub with_status : ℕ → Status → ℕ
+with_status flags s = flags_word (record (flags_of flags) { status = s })

@@ -1,0 +1,5 @@
+pub mod Numbers
+pub mod Fields
+pub mod ConfigLaws
+pub mod FrameWords
+pub mod FrameLaws

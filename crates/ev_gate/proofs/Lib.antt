@@ -1,0 +1,4 @@
+pub mod Numbers
+pub mod GateBytes
+pub mod GateLaws
+pub mod TssLaws

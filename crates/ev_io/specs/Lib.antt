@@ -1,0 +1,4 @@
+pub mod Transfer
+pub mod Lines
+pub mod Input
+pub mod Number

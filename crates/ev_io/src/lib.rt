@@ -1,0 +1,24 @@
+//! Sources and sinks of bytes, the lines of an input, and numbers in text.
+#![tactic(auto)]
+
+mod cause;
+mod chunk;
+mod input;
+mod lines;
+mod memory;
+mod number;
+mod standard;
+#[cfg(test)]
+mod tests;
+mod text;
+mod transfer;
+mod write;
+
+pub use cause::Cause;
+pub use input::{InputFault, read_all};
+pub use lines::{LineFault, Lines};
+pub use memory::{MemSink, MemSource};
+pub use number::read_number;
+pub use standard::{StdSink, StdSource};
+pub use transfer::{Failed, Sink, Source};
+pub use write::put_all;
