@@ -26,7 +26,7 @@ use Rattle.ev_idt.specs.IdtDelivery.{swapgs}
 use Rattle.ev_fred.specs.FredDelivery.{lkgs, with_kernel_gs}
 use Rattle.ev_proc.specs.ProcessorStep.{has_fred, executed, ran, fault, after_exec, after_outcome, after_read, after_write, write_msr, special, low32}
 use Rattle.ev_symbolic.specs.Value.{M, Op, OAdd, OSub, OAnd, OShl, OShr, V, K, P, X, B, F, FVar, FOp, v_eq, norm, number, sop, op_of, left_by, sholds}
-use Rattle.ev_symbolic.specs.State.{Loc, Word, SS, Descriptor, Ground, in_win, in_text, loc_of, shift, find, write, sreg, is_listed, descriptor}
+use Rattle.ev_symbolic.specs.State.{Loc, Word, SS, Descriptor, Ground, in_win, in_text, loc_of, shift, find, write, sreg, is_listed, descriptor_of}
 use Rattle.ev_symbolic.specs.Run.{moved, sload, sstore, pushed_rsp, spush, spush_at, sat, salu, sjump, sjump_to, sjcc, slkgs, smov_gs, is_msr, srdmsr, is_word, swrmsr, sstep}
 use Rattle.ev_symbolic.specs.Agrees.{Env, untracked, eval, addr, status, eval_flags, Known, Described, AreTops, IsOpen, Grounded, Agrees, Within, Steps, StepsIf}
 use Rattle.ev_symbolic.proofs.FlagBits.{flags_back}
@@ -87,11 +87,11 @@ abbrev Selects : Env → V → Option Descriptor → Type 0
 Selects e v None = Unit {0}
 Selects e v (Some d) = (selector (eval e v) ≡ eval e d.selector) × (base_of e.rest.gdt (eval e d.selector) ≡ Some (eval e d.base))
 
-selects : (e : Env) (v : V) (ds : List Descriptor) → Described e ds → Selects e v (descriptor v ds)
-selects e v [] h = tt
-selects e v (d ∷ ds) h = pick (v_eq d.value v) refl (selects e v ds h.2)
+selected_ok : (e : Env) (v : V) (ds : List Descriptor) → Described e ds → Selects e v (descriptor_of v ds)
+selected_ok e v [] h = tt
+selected_ok e v (d ∷ ds) h = pick (v_eq d.value v) refl (selected_ok e v ds h.2)
   where
-    pick : (b : Bool) → v_eq d.value v ≡ b → Selects e v (descriptor v ds) → Selects e v (if b then Some d else descriptor v ds)
+    pick : (b : Bool) → v_eq d.value v ≡ b → Selects e v (descriptor_of v ds) → Selects e v (if b then Some d else descriptor_of v ds)
     pick true q r = (ap (λ x. selector (eval e x)) (sym (v_same d.value v q)) ∙ h.0, h.1)
     pick false q r = r
 
@@ -432,8 +432,8 @@ module _ (e : Env) (G : Ground) (h : Grounded e G) where
   step_ok (WriteCr2 r) next nl s c m g hn hl = quiet (WriteCr2 r) next nl s c m g hl c.regs s.regs refl g.regs (get_or c.regs r 0) (sreg s r) (reg_ok s c m g r) c.gs s.selector g.selector c.msrs.gs_base s.gs g.gs c.msrs.kernel_gs_base s.kernel_gs g.kernel_gs (executes c m (WriteCr2 r) next _ (kernel_ok s c m g) hn refl)
   step_ok Nop next nl s c m g hn hl = plain Nop next s c m g hn (task c next) m.words refl s.regs nl s.flags s.words g.regs refl hl (flags_ok s c m g) g.words (λ x far far'. refl)
   step_ok Swapgs next nl s c m g hn hl = swapgs_ok next nl s c m g hn hl G.fred refl
-  step_ok (Lkgs r) next nl s c m g hn hl = lkgs_ok r next nl s c m g hn hl (descriptor (sreg s r) G.descriptors) (selects e (sreg s r) G.descriptors h.descriptors)
-  step_ok (MovGs r) next nl s c m g hn hl = mov_gs_ok r next nl s c m g hn hl (descriptor (sreg s r) G.descriptors) (selects e (sreg s r) G.descriptors h.descriptors)
+  step_ok (Lkgs r) next nl s c m g hn hl = lkgs_ok r next nl s c m g hn hl (descriptor_of (sreg s r) G.descriptors) (selected_ok e (sreg s r) G.descriptors h.descriptors)
+  step_ok (MovGs r) next nl s c m g hn hl = mov_gs_ok r next nl s c m g hn hl (descriptor_of (sreg s r) G.descriptors) (selected_ok e (sreg s r) G.descriptors h.descriptors)
   step_ok Rdmsr next nl s c m g hn hl = rdmsr_ok next nl s c m g hn hl
   step_ok Wrmsr next nl s c m g hn hl = wrmsr_ok next nl s c m g hn hl
   step_ok _ next nl s c m g hn hl = tt

@@ -5,7 +5,7 @@ use Rattle.ev_isa.specs.Word.{sign_extend}
 use Rattle.ev_isa.specs.declared.instruction.Ins.{Ins}
 use Rattle.ev_isa.specs.declared.instruction.Ins.TheVariants.{MovImm, MovReg, Load, Store, StoreImm, GsLoad, GsStore, GsPush, Alu, AluImm, Shl, Shr, Jmp, Jcc, JmpReg, Push, PushImm, Pop, Lkgs, MovGs, ReadCr2, WriteCr2, Nop, Swapgs, Rdmsr, Wrmsr}
 use Rattle.ev_symbolic.specs.Value.{M, Op, OAdd, OSub, OAnd, OShl, OShr, V, K, P, FOp, v_eq, norm, sop, op_of, left_by, sholds}
-use Rattle.ev_symbolic.specs.State.{Loc, SS, Line, Descriptor, Ground, Block, in_win, in_text, loc_eq, loc_of, shift, find, write, above, sreg, is_listed, descriptor}
+use Rattle.ev_symbolic.specs.State.{Loc, SS, Line, Descriptor, Ground, Block, in_win, in_text, loc_eq, loc_of, shift, find, write, above, sreg, is_listed, descriptor_of}
 
 -- the state after an instruction that sets registers, and goes on
 abbrev pub moved : SS → List V → Loc → SS
@@ -104,8 +104,8 @@ sstep G (ReadCr2 d) next s = Some (moved s (set s.regs d s.cr2) next)
 sstep G (WriteCr2 r) next s = Some (record (moved s s.regs next) { cr2 = sreg s r })
 sstep G Nop next s = Some (moved s s.regs next)
 sstep G Swapgs next s = if G.fred then None else Some (record (moved s s.regs next) { gs = s.kernel_gs; kernel_gs = s.gs })
-sstep G (Lkgs r) next s = slkgs next s (descriptor (sreg s r) G.descriptors)
-sstep G (MovGs r) next s = smov_gs next s (descriptor (sreg s r) G.descriptors)
+sstep G (Lkgs r) next s = slkgs next s (descriptor_of (sreg s r) G.descriptors)
+sstep G (MovGs r) next s = smov_gs next s (descriptor_of (sreg s r) G.descriptors)
 sstep G Rdmsr next s = srdmsr G next s
 sstep G Wrmsr next s = swrmsr G next s
 sstep G _ next s = None

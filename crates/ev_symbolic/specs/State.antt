@@ -138,6 +138,6 @@ abbrev pub is_listed : V → List V → Bool
 is_listed v [] = false
 is_listed v (w ∷ ws) = if v_eq w v then true else is_listed v ws
 
-abbrev pub descriptor : V → List Descriptor → Option Descriptor
-descriptor v [] = None
-descriptor v (d ∷ ds) = if v_eq d.value v then Some d else descriptor v ds
+abbrev pub descriptor_of : V → List Descriptor → Option Descriptor
+descriptor_of v [] = None
+descriptor_of v (d ∷ ds) = if v_eq d.value v then Some d else descriptor_of v ds
