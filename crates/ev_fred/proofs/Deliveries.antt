@@ -27,5 +27,5 @@ met c d after m e f nested level top a words hd hl ht ha hw h hc =
     let count : length words ≡ 8 = ap length hw in
     let g : first_event (view m false) true (reverse (addresses a 8)) ≡ Some f = ap (λ (n : ℕ). first_event (view m false) true (reverse (addresses a n))) (sym count) ∙ h in
     sym (parts c d m e nested level top a words hd hl ht ha hw
-      ∙ ap (λ (o : Option Event). frame_written d (in_fred_handler d e level a) m.words a words o) g
-      ∙ ap (λ (x : Processor). Met x f) (sym hc))
+    ∙ ap (λ (o : Option Event). frame_written d (in_fred_handler d e level a) m.words a words o) g
+    ∙ ap (λ (x : Processor). Met x f) (sym hc))

@@ -1,5 +1,5 @@
 -- The words of a frame: their addresses, and that each can be written.
-use Rattle.std.proofs.Common.{◌≡◌, ◌<◌, ◌≤◌, ℕ, zero, suc, ◌+◌, ◌-◌, ◌*◌, ◌%◌, ◌^◌, Bool, true, false, not, if◌then◌else◌, List, [], ◌∷◌, ◌++◌, Option, Some, None, length, reverse, get_or, drop, is_some, arith, refl, sym, ap, ◌∙◌, add-one, drop-cons}
+use Rattle.std.proofs.Common.{◌≡◌, ◌<◌, ◌≤◌, ℕ, zero, suc, ◌+◌, ◌-◌, ◌*◌, ◌^◌, Bool, true, false, not, if◌then◌else◌, List, [], ◌∷◌, ◌++◌, Option, Some, None, length, reverse, get_or, drop, is_some, arith, refl, ap, ◌∙◌, add-one, drop-cons}
 use Rattle.std.proofs.lemmas.List.{reverse-append}
 use Rattle.std.proofs.lemmas.Grind.{common_steps}
 use Rattle.ev_isa.specs.Word.{NatMap, wrap, is_aligned, is_canonical}
@@ -107,8 +107,8 @@ here old new address words at i p h = rw p.regions ((rw (drop-cons words i 0 h) 
 pub one_more : (old new after : MappedWords) (address : ℕ) (words : List ℕ) (at i v : ℕ) → IsPlacedSoFar old new address words at i → i < length words → v ≡ get_or words i 0 → memory after ≡ with_word (memory new) at v → IsPlacedSoFar old after address words (wrap (at + 8)) (i + 1)
 one_more old new after address words at i v p h e w = rw add-one (record {
   rest = ap (λ (m : Memory). placed m.words (wrap (at + 8)) (drop (suc i) words)) w
-    ∙ ap (λ (x : ℕ). placed (with_word (memory new) at x).words (wrap (at + 8)) (drop (suc i) words)) e
-    ∙ rw (drop-cons words i 0 h) at p.rest;
+      ∙ ap (λ (x : ℕ). placed (with_word (memory new) at x).words (wrap (at + 8)) (drop (suc i) words)) e
+      ∙ rw (drop-cons words i 0 h) at p.rest;
   regions = regions_of new after at v w ∙ p.regions;
   are_words = (rw (drop-cons words i 0 h) at p.are_words).1;
 })
@@ -119,5 +119,5 @@ at_end old new address words at i p h =
     let none : drop i words ≡ [] = grind (arith, common_steps) in
     joined new.regions old.regions (memory new).words (placed (memory old).words address words) p.regions (rw none at p.rest)
   where
-  joined : (r s : List Region) (v w : NatMap ℕ) → r ≡ s → v ≡ w → (let x : Memory = record { regions = r; words = v } in x) ≡ (let y : Memory = record { regions = s; words = w } in y)
-  joined r s v w h k = cc
+    joined : (r s : List Region) (v w : NatMap ℕ) → r ≡ s → v ≡ w → (let x : Memory = record { regions = r; words = v } in x) ≡ (let y : Memory = record { regions = s; words = w } in y)
+    joined r s v w h k = cc
