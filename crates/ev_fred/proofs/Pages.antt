@@ -1,5 +1,5 @@
 -- Pages of canonical addresses, and stack levels as bits.
-use Rattle.std.proofs.Common.{◌≡◌, ◌<◌, ℕ, ◌+◌, ◌-◌, ◌*◌, ◌/◌, ◌%◌, ◌^◌, Bool, true, false, ◌||◌, ◌==◌, arith, refl, sym, ap, ◌∙◌}
+use Rattle.std.proofs.Common.{◌≡◌, ◌<◌, ℕ, ◌+◌, ◌-◌, ◌*◌, ◌/◌, ◌%◌, ◌^◌, true, ◌||◌, ◌==◌, arith, sym, ap, ◌∙◌}
 use Rattle.ev_isa.specs.Word.{is_canonical}
 use Rattle.ev_frame.specs.Config.{level_of}
 use Rattle.std.proofs.lemmas.Nat.{pow-add, mul-pow}

@@ -1,13 +1,11 @@
 -- What the calls of deliveries and returns answer, as outcomes. Own.
-use Rattle.std.specs.Prelude.{ℕ, ◌≡◌, Bool, true, false, List, [], ◌∷◌, ◌++◌, map, Option, Some, None, Result, Ok, Err, All, is_some}
-use Rattle.ev_isa.specs.Word.{NatMap, is_aligned}
+use Rattle.std.specs.Prelude.{ℕ, false, List, [], ◌∷◌, Result, Ok, Err}
+use Rattle.ev_isa.specs.Word.{NatMap}
 use Rattle.ev_isa.specs.Pages.{View}
 use Rattle.ev_event.specs.declared.event.Event.{Event}
 use Rattle.ev_state.specs.Processor.{Processor}
 use Rattle.ev_state.specs.Outcome.{Outcome, Went, Met}
-use Rattle.ev_mem.specs.declared.region.Region.{Region}
 use Rattle.ev_mem.specs.Memory.{Memory, view}
-use Rattle.ev_mem.specs.Mapped.{slot_in}
 use Rattle.ev_words.specs.declared.words.ReturnWords.{ReturnWords}
 
 -- A delivery that answers the frame's address has led to the processor and the words after it, and one that answers an event has met it.

@@ -1,6 +1,3 @@
-use Rattle.std.proofs.Common.{◌≡◌, length, drop}
-use Rattle.ev_effect.specs.Frame.{addresses, placed}
-use Rattle.ev_mem.specs.Mapped.{memory}
 use Rattle.ev_words.proofs.Frames.{IsPlacedSoFar}
 use Rattle.ev_words.proofs.frame.place.Given as goal
 
