@@ -21,6 +21,7 @@ fn small(alloc: Global) -> Result<Mem, NoMemory> {
     Mem::new(alloc, &regions, &[0x90])
 }
 
+#[tactic(auto, unfolding(ev_isa::specs::Flags::flags_word, ev_isa::specs::Flags::flags_of))]
 fn processor() -> Cpu {
     Cpu {
         regs: [0; 16],
@@ -52,6 +53,7 @@ fn processor() -> Cpu {
 }
 
 #[test]
+#[tactic(auto, unfolding(ev_isa::specs::Instruction::is_instruction))]
 fn one_processor(rt: HostRuntime) {
     let Ok(mut mem) = small(rt.alloc()) else {
         panic!(rt; "no memory");

@@ -1,8 +1,6 @@
-use Rattle.std.proofs.Common.{rules, ◌≡◌, ℕ, Bool, true, if◌then◌else◌, Ok, sym, ap, ◌∙◌}
+use Rattle.std.proofs.Common.{rules, ◌≡◌, ℕ, ap, ◌∙◌}
 use Rattle.ev_isa.specs.Word.{displaced}
-use Rattle.ev_isa.specs.Flags.{holds, flags_of}
 use Rattle.ev_effect.specs.Effect.{effect, jumped}
-use Rattle.ev_state.specs.Processor.{register}
 use Rattle.ev_exec.specs.Exec.{exec}
 use Rattle.ev_exec.specs.After.{after, jump_effect, task_at}
 use Rattle.ev_exec.proofs.jumps.jmp.Goals as goal
