@@ -11,3 +11,6 @@ mod returns;
 pub use delivery::deliver_fred;
 pub use kernel_gs::lkgs;
 pub use returns::{erets, eretu};
+
+#[cfg(test)]
+mod tests;

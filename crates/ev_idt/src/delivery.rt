@@ -44,7 +44,7 @@ fn is_gated(kind: EventType) -> bool
 }
 
 /// Delivers an event through a gate.
-fn through_gate(cpu: &mut Cpu, mem: &mut Mem, e: &Event, gate: &Gate) -> Result<u64, Event>
+pub fn through_gate(cpu: &mut Cpu, mem: &mut Mem, e: &Event, gate: &Gate) -> Result<u64, Event>
     requires ist { gate.now.ist < 8 }
     requires canonical { is_canonical gate.now.offset ≡ true }
     requires tss { cpu.old.tss + 84 < 2 ^ 64 }

@@ -9,3 +9,6 @@ mod words;
 pub use access::access_event;
 pub use frame::{below, write_frame};
 pub use words::{ReturnWords, read_return};
+
+#[cfg(test)]
+mod tests;
