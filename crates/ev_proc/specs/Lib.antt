@@ -1,1 +1,2 @@
 pub mod ProcessorStep
+pub mod Conditions

@@ -1,6 +1,14 @@
 //! One step of a processor.
 #![tactic(auto)]
 
+mod boundary;
+mod delivery;
+mod events;
+mod instruction;
+mod model_specific;
+mod returns;
+mod special;
 mod stepped;
 
+pub use boundary::step;
 pub use stepped::Stepped;

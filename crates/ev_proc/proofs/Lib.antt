@@ -1,0 +1,5 @@
+pub mod Raised
+pub mod Tries
+pub mod Executions
+pub mod Returned
+pub mod Specials
