@@ -1,0 +1,48 @@
+-- The images and script lines that the program can run today. Own.
+use Rattle.std.specs.Prelude.{◌≡◌, Bool, true, false, ◌&&◌, ◌==◌, List, [], ◌∷◌, is_some}
+use Rattle.std.specs.List.{list_all}
+use Rattle.ev_isa.specs.declared.instruction.Ins.{Ins}
+use Rattle.ev_isa.specs.declared.mode.Mode.{Mode}
+use Rattle.ev_isa.specs.declared.mode.Mode.TheVariants.{Fred}
+use Rattle.ev_body.specs.declared.key.Side.TheVariants.{User}
+use Rattle.ev_body.specs.declared.item.Item.{Item}
+use Rattle.ev_body.specs.declared.item.Item.TheVariants.{Log, Ret}
+use Rattle.ev_body.specs.declared.body.Body.{Body}
+use Rattle.ev_body.specs.declared.image.TaskSpec.{TaskSpec}
+use Rattle.ev_body.specs.declared.image.Image.{Image}
+use Rattle.ev_body.specs.Bodies.{first_body}
+use Rattle.ev_body.specs.WellFormed.{is_user_side, has_no_parts}
+use Rattle.ev_abstract.specs.declared.script_line.Line.{Line}
+use Rattle.ev_abstract.specs.declared.script_line.Line.TheVariants.{Turn}
+use Rattle.ev_built.specs.Program.{IsProgram}
+
+unfoldable pub is_built_item : Item → Bool
+is_built_item (Log s) = true
+is_built_item Ret = true
+is_built_item _ = false
+
+abbrev pub is_built_body : Body → Bool
+is_built_body b = is_user_side b.side && (has_no_parts b.parts && list_all is_built_item b.items)
+
+-- one processor with one task at GS base 0 and no page and no cell; user code that never leaves its instructions; bodies of the user side alone, with
+-- one of system calls among them
+pub record IsBuilt (image : Image) : Type 0 where
+  pub one_processor : image.processors ≡ 1
+  pub no_pages : image.pages ≡ []
+  pub no_cells : image.cells ≡ []
+  pub task : TaskSpec
+  pub one_task : image.tasks ≡ (task ∷ []) ∷ []
+  pub no_base : task.gs ≡ 0
+  pub program : List Ins
+  pub is_program : IsProgram image.text task.start program
+  pub bodies : list_all is_built_body image.bodies ≡ true
+  pub system_calls : is_some (first_body 0 image.bodies 0x100 User) ≡ true
+
+-- the modes in which machines run
+unfoldable pub mode_is_built : Mode → Bool
+mode_is_built Fred = true
+mode_is_built _ = false
+
+unfoldable pub line_is_built : Line → Bool
+line_is_built (Turn p) = p == 0
+line_is_built _ = false
