@@ -1,12 +1,12 @@
 -- User code as a list of instructions, one behind the other from the text's first address on. Own.
 use Rattle.std.specs.Prelude.{◌≡◌, ℕ, ◌+◌, Bool, true, false, ◌&&◌, ◌==◌, if◌then◌else◌, List, [], ◌∷◌, ◌++◌, length, Option, Some, None, is_some}
 use Rattle.ev_isa.specs.Word.{displaced}
-use Rattle.ev_isa.specs.Instruction.{is_instruction}
 use Rattle.ev_isa.specs.Pages.{text_base}
 use Rattle.ev_isa.specs.Spelling.{spelling}
 use Rattle.ev_isa.specs.declared.instruction.AluOp.TheVariants.{Add}
 use Rattle.ev_isa.specs.declared.instruction.Ins.{Ins}
 use Rattle.ev_isa.specs.declared.instruction.Ins.TheVariants.{MovImm, Alu, Jmp, Syscall}
+use Rattle.ev_code.specs.Coding.{IsEncodable}
 
 -- the spellings in turn
 abbrev pub spelled : List Ins → List ℕ
@@ -42,11 +42,16 @@ is_built_instruction _ = false
 
 abbrev pub all_built : List Ins → Bool
 all_built [] = true
-all_built (i ∷ is) = is_built_instruction i && (is_instruction i && all_built is)
+all_built (i ∷ is) = is_built_instruction i && all_built is
+
+abbrev pub AllEncodable : List Ins → Type 0
+AllEncodable [] = Unit {0}
+AllEncodable (i ∷ is) = IsEncodable i × AllEncodable is
 
 -- user code that never leaves its instructions
 pub record IsProgram (text : List ℕ) (start : ℕ) (program : List Ins) : Type 0 where
   pub text_is : text ≡ spelled program
   pub built : all_built program ≡ true
+  pub encodable : AllEncodable program
   pub starts : begins program start ≡ true
   pub closed : all_lead program text_base program ≡ true
