@@ -1,3 +1,5 @@
 pub mod Facts
 pub mod Maps
 pub mod Runs
+pub mod Opens
+pub mod Tells
