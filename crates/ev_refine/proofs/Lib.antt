@@ -3,3 +3,5 @@ pub mod Maps
 pub mod Runs
 pub mod Opens
 pub mod Tells
+pub mod Fits
+pub mod Standing
