@@ -47,10 +47,10 @@ by_item P log ret _ h = absurd (cc)
 abbrev pub AreBuilt : List Item → Type 0
 AreBuilt items = list_all is_built_item items ≡ true
 
-first_built : (i : Item) (is : List Item) → AreBuilt (i ∷ is) → is_built_item i ≡ true
+pub first_built : (i : Item) (is : List Item) → AreBuilt (i ∷ is) → is_built_item i ≡ true
 first_built i is h = and_left _ _ h
 
-rest_built : (i : Item) (is : List Item) → AreBuilt (i ∷ is) → AreBuilt is
+pub rest_built : (i : Item) (is : List Item) → AreBuilt (i ∷ is) → AreBuilt is
 rest_built i is h = and_right (is_built_item i) _ h
 
 pub take_built : (n : ℕ) (items : List Item) → AreBuilt items → AreBuilt (take n items)

@@ -27,11 +27,18 @@ fred_table image = code_of (listings Fred image)
 
 -- the kernel's exit of activations of NMIs, and the one that the `ret` of a body of this key goes to
 abbrev pub fexitn : ℕ
-fexitn = 0xffffffff81000460
+fexitn = 0xffffffff8100044c
 
 abbrev pub exit_address : Key → ℕ
 exit_address Nmi = fexitn
 exit_address _ = fexit
+
+-- the last instruction of the entry, that jumps to a body, and the last of the exit, that returns to the task
+abbrev pub body_jump : ℕ
+body_jump = 0xffffffff810002bd
+
+abbrev pub task_return : ℕ
+task_return = 0xffffffff81000426
 
 -- an unmarked jump to an exit
 pub record RetCell (code : Code) (a exit : ℕ) : Type 0 where
@@ -75,3 +82,10 @@ UnmarkedCellsAreEdges = (image : Image) → IsImage image → IsBuilt image → 
 
 abbrev pub MarkedCellsAreSeen : Type 0
 MarkedCellsAreSeen = (image : Image) → IsImage image → IsBuilt image → (a : ℕ) (x : Cell) → fred_table image a ≡ Some x → x.mark ≡ true → mark_at (marks_of Fred image) a ≡ Always
+
+-- the ends of the entry and of the exit
+abbrev pub BodyJumpStands : Type 0
+BodyJumpStands = (image : Image) → IsImage image → IsBuilt image → fred_table image body_jump ≡ Some (record { ins = JmpReg 0; next = body_jump + 2; mark = false })
+
+abbrev pub TaskReturnStands : Type 0
+TaskReturnStands = (image : Image) → IsImage image → IsBuilt image → fred_table image task_return ≡ Some (record { ins = Eretu; next = task_return + 4; mark = true })
