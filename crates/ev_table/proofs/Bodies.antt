@@ -1,5 +1,5 @@
 -- The listings of an image's bodies: their cells, labels and marks.
-use Rattle.std.proofs.Common.{◌≡◌, ℕ, zero, suc, ◌+◌, ◌*◌, ◌<◌, ◌≤◌, Bool, true, false, ◌&&◌, List, [], ◌∷◌, ◌++◌, length, Some, refl, sym, ap, ◌∙◌, subst, arith, append_assoc, append-nil}
+use Rattle.std.proofs.Common.{◌≡◌, ℕ, zero, suc, ◌+◌, ◌≤◌, true, ◌&&◌, List, [], ◌∷◌, ◌++◌, length, Some, refl, sym, ap, ◌∙◌, subst, arith, append_assoc, append-nil}
 use Rattle.std.specs.Prelude.{◌==◌, ◌||◌, not, nat_le, slice_get, flat_map}
 use Rattle.std.specs.List.{list_all}
 use Rattle.std.proofs.lemmas.Bool.{leb-true}
@@ -16,7 +16,7 @@ use Rattle.ev_listing.specs.Expansion.{exit_of, function_address, body_stmts}
 use Rattle.ev_listing.specs.Marks.{Listing, stmts_of, all_places, all_marks, marks}
 use Rattle.ev_concrete.specs.Opening.{body_listings}
 use Rattle.ev_concrete.specs.ConcreteRun.{Marks}
-use Rattle.ev_built.specs.Built.{is_built_item, is_built_body}
+use Rattle.ev_built.specs.Built.{is_built_body}
 use Rattle.ev_symbolic.specs.Agrees.{Code}
 use Rattle.ev_symbolic.specs.Listed.{Cells, cells_in, distinct, AllFound}
 use Rattle.ev_symbolic.proofs.Values.{and_left, and_right}
@@ -43,8 +43,8 @@ few_items : (bytes : ℕ) (b : Body) → is_body bytes b ≡ true → nat_le (le
 few_items bytes b h =
     and_right
     (
-      is_key b.key && (not (is_user_only b.key) || is_user_side b.side) && ends_with is_ret b.items && list_all (has_operands bytes 0 (length b.items)) b.items
-      && (has_no_parts b.parts || (key_number b.key == 0xfb)) && are_parts bytes (length b.items) b.parts
+    is_key b.key && (not (is_user_only b.key) || is_user_side b.side) && ends_with is_ret b.items && list_all (has_operands bytes 0 (length b.items)) b.items
+    && (has_no_parts b.parts || (key_number b.key == 0xfb)) && are_parts bytes (length b.items) b.parts
     )
     _ h
 

@@ -1,6 +1,6 @@
 -- The cells, the sizes and the labels of the items that the program can run today.
-use Rattle.std.proofs.Common.{◌≡◌, ℕ, zero, suc, ◌+◌, ◌*◌, ◌<◌, ◌≤◌, Bool, true, false, List, [], ◌∷◌, ◌++◌, length, pos, take, Option, Some, None, refl, sym, ap, ◌∙◌, subst, arith}
-use Rattle.std.specs.Prelude.{◌==◌, ◌&&◌, slice_get, if◌then◌else◌, codes}
+use Rattle.std.proofs.Common.{◌≡◌, ℕ, zero, suc, ◌+◌, ◌*◌, ◌<◌, ◌≤◌, true, false, List, [], ◌∷◌, length, pos, take, Some, refl, ap, ◌∙◌, subst, arith}
+use Rattle.std.specs.Prelude.{◌&&◌, slice_get}
 use Rattle.std.specs.List.{list_all}
 use Rattle.ev_isa.specs.Spelling.{spelling, four_bytes}
 use Rattle.ev_isa.specs.declared.instruction.Ins.TheVariants.{GsStore, Jmp}
@@ -8,9 +8,9 @@ use Rattle.ev_isa.specs.declared.mode.Mode.TheVariants.{Fred}
 use Rattle.ev_body.specs.declared.key.Key.{Key}
 use Rattle.ev_body.specs.declared.item.Item.{Item}
 use Rattle.ev_body.specs.declared.item.Item.TheVariants.{Log, Ret}
-use Rattle.ev_asm.specs.Assembly.{Name, Places, place, places, size, total_size, distance}
-use Rattle.ev_listing.specs.Expansion.{expansion, expansions, exit_of, item_label}
-use Rattle.ev_listing.specs.Marks.{Never, Always, Marked, stmts_of, marks}
+use Rattle.ev_asm.specs.Assembly.{Places, place, size, total_size, distance}
+use Rattle.ev_listing.specs.Expansion.{expansion, expansions, exit_of}
+use Rattle.ev_listing.specs.Marks.{Always, stmts_of, marks}
 use Rattle.ev_concrete.specs.ConcreteRun.{Marks}
 use Rattle.ev_built.specs.Built.{is_built_item}
 use Rattle.ev_symbolic.specs.Agrees.{Cell, Code}

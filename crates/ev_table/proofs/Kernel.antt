@@ -1,5 +1,5 @@
 -- The kernel's own cells under FRED: closed tests of the listings, and single cells.
-use Rattle.std.proofs.Common.{◌≡◌, ℕ, ◌+◌, true, false, List, [], ◌∷◌, ◌++◌, Some, refl}
+use Rattle.std.proofs.Common.{◌≡◌, ◌+◌, true, false, Some, refl}
 use Rattle.ev_isa.specs.Spelling.{spelling, four_bytes}
 use Rattle.ev_isa.specs.declared.instruction.Ins.TheVariants.{JmpReg, Eretu}
 use Rattle.ev_isa.specs.declared.mode.Mode.TheVariants.{Fred}
@@ -10,7 +10,7 @@ use Rattle.ev_listing.specs.Expansion.{exit_of}
 use Rattle.ev_listing.specs.FredCode.{fred_listings}
 use Rattle.ev_listing.specs.Marks.{all_places, all_marks, marks}
 use Rattle.ev_symbolic.specs.Listed.{Cells, cells_in, cell_at, distinct, are_low}
-use Rattle.ev_table.specs.Table.{fexitn, exit_address, body_jump, task_return}
+use Rattle.ev_table.specs.Table.{exit_address, body_jump, task_return}
 use Rattle.ev_table.proofs.Cells.{are_below, marks_by}
 use Rattle.ev_table.proofs.Labels.{all_inner}
 

@@ -1,20 +1,18 @@
 -- Labels of bodies begin with "b", and those that the kernel's jumps name don't: so the kernel's have the same places in every image.
 use Rattle.std.proofs.Common.{◌≡◌, ℕ, suc, ◌+◌, Bool, true, false, not, ◌&&◌, List, [], ◌∷◌, ◌++◌, refl, sym, ap, ◌∙◌, append_assoc}
-use Rattle.std.specs.Prelude.{◌==◌, if◌then◌else◌, codes, decimal}
+use Rattle.std.specs.Prelude.{◌==◌, if◌then◌else◌}
 use Rattle.std.proofs.lemmas.Bool.{eqb-true, not-true}
 use Rattle.ev_isa.specs.Spelling.{spelling, four_bytes}
 use Rattle.ev_isa.specs.declared.mode.Mode.TheVariants.{Fred}
 use Rattle.ev_body.specs.declared.key.Key.{Key}
 use Rattle.ev_body.specs.declared.key.Key.TheVariants.{Nmi}
 use Rattle.ev_body.specs.declared.item.Item.{Item}
-use Rattle.ev_body.specs.declared.item.Item.TheVariants.{Log, Ret}
 use Rattle.ev_asm.specs.declared.statement.Stmt.{Stmt}
 use Rattle.ev_asm.specs.declared.statement.Stmt.TheVariants.{Label, Plain, Jump}
 use Rattle.ev_asm.specs.Assembly.{Name, Places, is_name, place, places, size}
-use Rattle.ev_listing.specs.Expansion.{expansion, expansions, exit_of, item_label}
+use Rattle.ev_listing.specs.Expansion.{expansion, expansions, exit_of}
 use Rattle.ev_listing.specs.Marks.{Marked, Listing, stmts_of, all_places}
-use Rattle.ev_built.specs.Built.{is_built_item}
-use Rattle.ev_symbolic.specs.Listed.{Cells, cells_from, cells_in, SameTarget, SameTargets}
+use Rattle.ev_symbolic.specs.Listed.{cells_from, cells_in, SameTarget, SameTargets}
 use Rattle.ev_symbolic.proofs.Listed.{cells_same}
 use Rattle.ev_symbolic.proofs.Values.{and_left, and_right}
 use Rattle.ev_table.proofs.Items.{by_item, AreBuilt, first_built, rest_built}

@@ -8,6 +8,7 @@ use Rattle.ev_body.specs.declared.key.Key.TheVariants.{Nmi}
 use Rattle.ev_body.specs.declared.item.Item.TheVariants.{Log, Ret}
 use Rattle.ev_body.specs.declared.body.Body.{Body}
 use Rattle.ev_body.specs.declared.image.Image.{Image}
+use Rattle.ev_body.specs.Bodies.{key_number}
 use Rattle.ev_body.specs.WellFormed.{IsImage}
 use Rattle.ev_abstract.specs.Run.{item_at}
 use Rattle.ev_listing.specs.AddressMap.{body_code}
@@ -89,3 +90,7 @@ BodyJumpStands = (image : Image) → IsImage image → IsBuilt image → fred_ta
 
 abbrev pub TaskReturnStands : Type 0
 TaskReturnStands = (image : Image) → IsImage image → IsBuilt image → fred_table image task_return ≡ Some (record { ins = Eretu; next = task_return + 4; mark = true })
+
+-- keys other than that of NMIs have one exit
+abbrev pub OthersHaveOneExit : Type 0
+OthersHaveOneExit = (key : Key) → (key_number key ≡ 2 → ⊥) → exit_address key ≡ fexit
