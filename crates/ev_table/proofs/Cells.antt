@@ -36,13 +36,6 @@ from_lower lo lo' (x ∷ xs) h f = (through lo lo' x.0 h f.0, from_lower lo lo' 
     through : (a b c : ℕ) → a ≤ b → b ≤ c → a ≤ c
     through a b c h k = omega arith
 
-pub below_higher : (hi hi' : ℕ) (xs : Cells) → hi ≤ hi' → Below hi xs → Below hi' xs
-below_higher hi hi' [] h f = tt
-below_higher hi hi' (x ∷ xs) h f = (through x.0 hi hi' f.0 h, below_higher hi hi' xs h f.1)
-  where
-    through : (a b c : ℕ) → a < b → b ≤ c → a < c
-    through a b c h k = omega arith
-
 pub from_append : (lo : ℕ) (xs ys : Cells) → From lo xs → From lo ys → From lo (xs ++ ys)
 from_append lo [] ys f g = g
 from_append lo (x ∷ xs) ys f g = (f.0, from_append lo xs ys f.1 g)
