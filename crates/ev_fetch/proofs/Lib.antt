@@ -1,0 +1,4 @@
+pub mod Bytes
+pub mod Regions
+pub mod Text
+pub mod InCode
