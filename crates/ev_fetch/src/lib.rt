@@ -1,12 +1,13 @@
 //! Code and user text are read back from memory as the instructions that they spell.
 #![tactic(auto)]
 
-ghost use Rattle.ev_fetch.specs.Claims.{TextFetches, StaysInCode};
+ghost use Rattle.ev_fetch.specs.Claims.{KernelFetches, TextFetches, StaysInCode};
 
 /// Where memory holds the opening's words of code and text, a fetch gives what was assembled: at
 /// each cell of the code table the kernel fetches the cell's instruction, in the text user code
 /// fetches what its bytes read as, and what can be fetched ends at a canonical address.
 pub fn fetches()
+    ensures kernel { KernelFetches }
     ensures text { TextFetches }
     ensures inside { StaysInCode }
 {}
