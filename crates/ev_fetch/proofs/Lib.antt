@@ -6,3 +6,6 @@ pub mod Spellings
 pub mod Placed
 pub mod Sizes
 pub mod Kernel
+pub mod Encodes
+pub mod Labels
+pub mod Items
