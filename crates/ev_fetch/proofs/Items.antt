@@ -24,7 +24,7 @@ use Rattle.ev_fetch.proofs.Labels.{InCode, Gives, gives_at, IsGood}
 small : (d : ℕ) → is_local d ≡ true → d < 16
 small d h = let lt = ltb-true d 14 (and_right (nat_le 6 d) _ h) in omega arith
 
-kept : (t : Bool) → not t ≡ false → t ≡ true
+pub kept : (t : Bool) → not t ≡ false → t ≡ true
 kept true h = refl
 kept false h = absurd (cc)
 

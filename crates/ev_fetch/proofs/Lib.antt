@@ -9,3 +9,5 @@ pub mod Kernel
 pub mod Encodes
 pub mod Labels
 pub mod Items
+pub mod Bodies
+pub mod AllSpelled

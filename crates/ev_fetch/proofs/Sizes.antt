@@ -72,7 +72,7 @@ item_size mode b key function n Take = omega arith
 item_size mode b key function n Finish = omega arith
 item_size mode b key function n Ret = omega arith
 
-items_size : (mode : Mode) (b : ℕ) (key : Key) (function : ℕ → ℕ) (n : ℕ) (items : List Item) → total_size (stmts_of (expansions mode b key function n items)) ≤ 512 * length items
+pub items_size : (mode : Mode) (b : ℕ) (key : Key) (function : ℕ → ℕ) (n : ℕ) (items : List Item) → total_size (stmts_of (expansions mode b key function n items)) ≤ 512 * length items
 unfolding size
 items_size mode b key function n [] = omega arith
 items_size mode b key function n (item ∷ items) =
@@ -81,11 +81,11 @@ items_size mode b key function n (item ∷ items) =
     omega (arith, item_size mode b key function n item, items_size mode b key function (suc n) items,
     ap total_size (map-append (λ (l : Marked). l.stmt) here rest), total_append (stmts_of here) (stmts_of rest))
 
-body_size : (mode : Mode) (image : Image) (n : ℕ) (b : Body) → length (body_items b) ≤ 256 → total_size (stmts_of (body_stmts mode image n b)) ≤ 0x20000
+pub body_size : (mode : Mode) (image : Image) (n : ℕ) (b : Body) → length (body_items b) ≤ 256 → total_size (stmts_of (body_stmts mode image n b)) ≤ 0x20000
 unfolding body_stmts
 body_size mode image n b h = omega (arith, items_size mode n b.key (function_address mode image) 0 (body_items b))
 
-few_items : (bytes : ℕ) (b : Body) → is_body bytes b ≡ true → length (body_items b) ≤ 256
+pub few_items : (bytes : ℕ) (b : Body) → is_body bytes b ≡ true → length (body_items b) ≤ 256
 few_items bytes b h = leb-true (length (body_items b)) 256 (and_right _ (nat_le (length (body_items b)) 256) h)
 
 -- the bodies from number n on stand in their own parts
@@ -111,7 +111,7 @@ abbrev are_outside : ℕ → ℕ → List Listing → Bool
 are_outside low high [] = true
 are_outside low high (b ∷ bs) = (nat_le (end_of b) low || nat_le high b.address) && are_outside low high bs
 
-abbrev are_between : ℕ → ℕ → List Listing → Bool
+abbrev pub are_between : ℕ → ℕ → List Listing → Bool
 are_between low high [] = true
 are_between low high (b ∷ bs) = nat_le low b.address && nat_le (end_of b) high && are_between low high bs
 
@@ -151,10 +151,10 @@ both_disjoint (x ∷ xs) ys h k f = (λ a w i. ⊎_elim (λ l. h.0 a w l) (λ r.
 
 -- ---- the kernel's own code
 
-abbrev stub_if : Bool → ℕ → List Marked
+abbrev pub stub_if : Bool → ℕ → List Marked
 stub_if t v = (if t then [] else op (PushImm (pos 0)) ∷ []) ++ op (PushImm (pos v)) ∷ jmp (codes "COMMON") ∷ []
 
-stub_size : (t : Bool) (v : ℕ) → total_size (stmts_of (stub_if t v)) ≤ 0x10
+pub stub_size : (t : Bool) (v : ℕ) → total_size (stmts_of (stub_if t v)) ≤ 0x10
 unfolding size spelling four_bytes
 stub_size true v = omega arith
 stub_size false v = omega arith
@@ -172,13 +172,13 @@ stubs_disjoint v (suc n) =
     (λ a w i. let k = (stubs_inside (suc v) n a i).0 in let u = w.1 in omega arith, stubs_disjoint (suc v) n)
 
 -- the IDT code without the stubs
-abbrev idt_code : List Listing
+abbrev pub idt_code : List Listing
 idt_code =
     record { address = no_body; lines = none } ∷ record { address = sys_entry; lines = sys } ∷ record { address = common_entry; lines = common }
     ∷ record { address = exit_entry; lines = exit } ∷ record { address = nmi_entry; lines = nmi } ∷ record { address = repeat_entry; lines = repeat }
     ∷ record { address = nbody_entry; lines = nbody } ∷ record { address = exitn_entry; lines = exitn } ∷ record { address = nlast_entry; lines = nlast } ∷ []
 
-idt_between : are_between fred_page code_end idt_code ≡ true
+pub idt_between : are_between fred_page code_end idt_code ≡ true
 unfolding size spelling four_bytes
 idt_between = refl
 
@@ -190,7 +190,7 @@ idt_outside : are_outside (vector_stub 0) (vector_stub 256) idt_code ≡ true
 unfolding size spelling four_bytes
 idt_outside = refl
 
-fred_between : are_between fred_page code_end fred_listings ≡ true
+pub fred_between : are_between fred_page code_end fred_listings ≡ true
 unfolding fred_listings size spelling four_bytes
 fred_between = refl
 

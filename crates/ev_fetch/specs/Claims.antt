@@ -1,5 +1,6 @@
 -- What is proved of fetching, as the contract of this crate states it.
 use Rattle.std.specs.Prelude.{◌≡◌, ℕ, ◌+◌, ◌<◌, ◌≤◌, true, false, List, length, None}
+use Rattle.std.specs.List.{list_all}
 use Rattle.ev_isa.specs.Word.{NatMap, is_aligned}
 use Rattle.ev_isa.specs.Pages.{text_base, text_word}
 use Rattle.ev_isa.specs.Reading.{reading}
@@ -17,7 +18,7 @@ use Rattle.ev_concrete.specs.Opening.{listings, regions, code_word}
 use Rattle.ev_concrete.specs.Opening as opening
 use Rattle.ev_symbolic.specs.Listed.{Cells, cells_in, code_of}
 use Rattle.ev_symbolic.specs.Machine.{Fetches}
-use Rattle.ev_fetch.specs.Spelled.{AreSpelled}
+use Rattle.ev_fetch.specs.Spelled.{AreSpelled, has_spelling}
 
 -- the cells of the code of a mode and an image
 abbrev pub kernel_cells : Mode → Image → Cells
@@ -43,3 +44,7 @@ TextFetches = (image : Image) (m : Memory) → IsImage image → m.regions ≡ r
 -- What can be fetched lies in the text or in a region of the kernel, and these end far below the addresses that aren't canonical.
 abbrev pub StaysInCode : Type 0
 StaysInCode = (image : Image) (m : Memory) (c : Processor) → IsImage image → m.regions ≡ regions image → IsInCode c m
+
+-- So have the cells of an image all of whose numbers are in range.
+abbrev pub BodiesAreSpelled : Type 0
+BodiesAreSpelled = (mode : Mode) (image : Image) → IsImage image → list_all (has_spelling image.processors) image.bodies ≡ true → AreSpelled (kernel_cells mode image)
