@@ -11,3 +11,5 @@ pub mod Labels
 pub mod Items
 pub mod Bodies
 pub mod AllSpelled
+pub mod Opened
+pub mod Ruled
