@@ -12,6 +12,7 @@ use Rattle.ev_mem.specs.Memory.{Memory, page_fault}
 use Rattle.ev_proc.specs.ProcessorStep.{instruction_at}
 use Rattle.ev_proc.specs.Conditions.{IsInCode}
 use Rattle.ev_abstract.specs.UserCode.{text_bytes}
+use Rattle.ev_abstract.specs.Accepted.{IsAccepted}
 use Rattle.ev_listing.specs.AddressMap.{fred_page}
 use Rattle.ev_listing.specs.Marks.{all_places}
 use Rattle.ev_concrete.specs.Opening.{listings, regions, code_word}
@@ -48,3 +49,7 @@ StaysInCode = (image : Image) (m : Memory) (c : Processor) → IsImage image →
 -- So have the cells of an image all of whose numbers are in range.
 abbrev pub BodiesAreSpelled : Type 0
 BodiesAreSpelled = (mode : Mode) (image : Image) → IsImage image → list_all (has_spelling image.processors) image.bodies ≡ true → AreSpelled (kernel_cells mode image)
+
+-- Accepted images are such.
+abbrev pub AcceptedAreSpelled : Type 0
+AcceptedAreSpelled = (mode : Mode) (image : Image) → IsImage image → IsAccepted image → AreSpelled (kernel_cells mode image)
