@@ -1,7 +1,6 @@
 -- All cells of an image have spellings, where its bodies' numbers are in range.
-use Rattle.std.proofs.Common.{◌≡◌, ℕ, zero, suc, ◌+◌, ◌-◌, ◌*◌, ◌<◌, ◌≤◌, Bool, true, false, not, ◌&&◌, ◌||◌, List, [], ◌∷◌, ◌++◌, length, refl, sym, ap, subst, ◌∙◌, append_assoc, arith}
-use Rattle.std.specs.Prelude.{codes, if◌then◌else◌, flat_map}
-use Rattle.std.specs.List.{list_all, list_any}
+use Rattle.std.proofs.Common.{◌≡◌, ℕ, zero, suc, ◌+◌, ◌<◌, ◌≤◌, Bool, true, false, List, [], ◌∷◌, ◌++◌, length, refl, sym, ap, ◌∙◌, append_assoc, arith}
+use Rattle.std.specs.Prelude.{codes}
 use Rattle.ev_isa.specs.declared.mode.Mode.{Mode}
 use Rattle.ev_isa.specs.declared.mode.Mode.TheVariants.{Idt, Fred}
 use Rattle.ev_isa.specs.Instruction.{is_instruction}
@@ -9,28 +8,17 @@ use Rattle.ev_isa.specs.Spelling.{spelling, four_bytes}
 use Rattle.ev_event.specs.Event.{has_error_code}
 use Rattle.ev_body.specs.declared.key.Key.{Key}
 use Rattle.ev_body.specs.declared.key.Key.TheVariants.{Sys, Db, Nmi, Bp, Ud, Ss, Gp, Pf, Ac, Irq}
-use Rattle.ev_body.specs.declared.item.Item.{Item}
-use Rattle.ev_body.specs.declared.item.Item.TheVariants.{Log, Ret}
-use Rattle.ev_body.specs.declared.body.Part.{Part}
-use Rattle.ev_body.specs.declared.body.Body.{Body}
-use Rattle.ev_body.specs.declared.image.Image.{Image}
-use Rattle.ev_body.specs.Bodies.{body_items}
-use Rattle.ev_body.specs.WellFormed.{IsImage, has_no_parts, is_finish}
-use Rattle.ev_abstract.specs.Rules.{breaks_slots, is_take}
 use Rattle.ev_asm.specs.Assembly.{Name, Places, place, places, size}
-use Rattle.ev_listing.specs.AddressMap.{fred_page, vector_stub, code_end}
-use Rattle.ev_listing.specs.Marks.{Marked, Listing, stmts_of, all_places}
+use Rattle.ev_listing.specs.Marks.{Listing, stmts_of, all_places}
 use Rattle.ev_listing.specs.Expansion.{exit_of}
 use Rattle.ev_listing.specs.IdtCode.{idt_listings, stubs}
 use Rattle.ev_listing.specs.FredCode.{fred_listings}
 use Rattle.ev_concrete.specs.Opening.{kernel_listings, body_listings, listings}
-use Rattle.ev_symbolic.proofs.Values.{and_left, and_right}
-use Rattle.ev_fetch.specs.Spelled.{AreSpelled, has_spelling}
-use Rattle.ev_fetch.specs.Claims.{kernel_cells, BodiesAreSpelled}
+use Rattle.ev_fetch.specs.Claims.{BodiesAreSpelled}
 use Rattle.ev_fetch.proofs.Regions.{Each, each_append}
 use Rattle.ev_fetch.proofs.Sizes.{idt_code, stub_if, stub_size, idt_between, fred_between}
-use Rattle.ev_fetch.proofs.Labels.{InCode, has_place, place_in_code, has_first, has_rest, LiesInCode, places_in_code, IsGood, listings_spelled}
-use Rattle.ev_fetch.proofs.Bodies.{lie, bodies_lie, bodies_good, listings_good, fred_good, idt_good}
+use Rattle.ev_fetch.proofs.Labels.{InCode, has_place, place_in_code, has_first, has_rest, LiesInCode, places_in_code, IsSpelledWith, listings_spelled}
+use Rattle.ev_fetch.proofs.Bodies.{lie, bodies_lie, bodies_spelled, closed_listings, fred_spelled, idt_spelled}
 
 -- ---- the places of listings one behind the other
 
@@ -50,14 +38,14 @@ stubs_lie : (v n : ℕ) → v + n ≤ 256 → Each LiesInCode (stubs v n)
 stubs_lie v zero h = tt
 stubs_lie v (suc n) h = let size = stub_size (has_error_code v) v in ((omega arith, omega arith), stubs_lie (suc v) n (omega arith))
 
-stub_good : (env : Places) (t : Bool) (v : ℕ) → v < 256 → InCode (place env (codes "COMMON")) → Each (λ l. IsGood env l.stmt) (stub_if t v)
+stub_spelled : (env : Places) (t : Bool) (v : ℕ) → v < 256 → InCode (place env (codes "COMMON")) → Each (λ l. IsSpelledWith env l.stmt) (stub_if t v)
 unfolding is_instruction
-stub_good env true v h c = (record { fields = record { sfits = omega arith }; counts = refl }, (c, tt))
-stub_good env false v h c = (record { fields = record { sfits = omega arith }; counts = refl }, (record { fields = record { sfits = omega arith }; counts = refl }, (c, tt)))
+stub_spelled env true v h c = (record { fields = record { sfits = omega arith }; counts = refl }, (c, tt))
+stub_spelled env false v h c = (record { fields = record { sfits = omega arith }; counts = refl }, (record { fields = record { sfits = omega arith }; counts = refl }, (c, tt)))
 
-stubs_good : (env : Places) (v n : ℕ) → v + n ≤ 256 → InCode (place env (codes "COMMON")) → Each (λ b. Each (λ l. IsGood env l.stmt) b.lines) (stubs v n)
-stubs_good env v zero h c = tt
-stubs_good env v (suc n) h c = (stub_good env (has_error_code v) v (omega arith) c, stubs_good env (suc v) n (omega arith) c)
+stubs_spelled : (env : Places) (v n : ℕ) → v + n ≤ 256 → InCode (place env (codes "COMMON")) → Each (λ b. Each (λ l. IsSpelledWith env l.stmt) b.lines) (stubs v n)
+stubs_spelled env v zero h c = tt
+stubs_spelled env v (suc n) h c = (stub_spelled env (has_error_code v) v (omega arith) c, stubs_spelled env (suc v) n (omega arith) c)
 
 -- ---- the kernel's own code
 
@@ -70,12 +58,12 @@ common_there : has_place (all_places idt_code) (codes "COMMON") ≡ true
 unfolding size spelling four_bytes places
 common_there = refl
 
-kernel_good : (mode : Mode) (env : Places) → ((name : Name) → has_place (all_places (kernel_listings mode)) name ≡ true → InCode (place env name)) → Each (λ b. Each (λ l. IsGood env l.stmt) b.lines) (kernel_listings mode)
+kernel_spelled : (mode : Mode) (env : Places) → ((name : Name) → has_place (all_places (kernel_listings mode)) name ≡ true → InCode (place env name)) → Each (λ b. Each (λ l. IsSpelledWith env l.stmt) b.lines) (kernel_listings mode)
 unfolding idt_listings
-kernel_good Idt env known =
+kernel_spelled Idt env known =
     let own : (name : Name) → has_place (all_places idt_code) name ≡ true → InCode (place env name) = λ name h. known name (first_has idt_code (stubs 0 256) name h) in
-    each_append (λ b. Each (λ l. IsGood env l.stmt) b.lines) idt_code (stubs 0 256) (listings_good env (all_places idt_code) own idt_code idt_good) (stubs_good env 0 256 (omega arith) (own (codes "COMMON") common_there))
-kernel_good Fred env known = listings_good env (all_places fred_listings) known fred_listings fred_good
+    each_append (λ b. Each (λ l. IsSpelledWith env l.stmt) b.lines) idt_code (stubs 0 256) (closed_listings env (all_places idt_code) own idt_code idt_spelled) (stubs_spelled env 0 256 (omega arith) (own (codes "COMMON") common_there))
+kernel_spelled Fred env known = closed_listings env (all_places fred_listings) known fred_listings fred_spelled
 
 exit_there : has_place (all_places idt_code) (codes "EXIT") ≡ true
 unfolding size spelling four_bytes places
@@ -134,6 +122,6 @@ bodies_are_spelled mode image is h =
     let few = is.bodies_given.0 in
     let lies = each_append LiesInCode bodies kernel (bodies_lie mode image (length image.text) 0 image.bodies good (omega arith)) (kernel_lies mode) in
     let known : (name : Name) → has_place env name ≡ true → InCode (place env name) = λ name k. place_in_code env name (places_in_code (bodies ++ kernel) lies) k in
-    listings_spelled env (bodies ++ kernel) lies (each_append (λ b. Each (λ l. IsGood env l.stmt) b.lines) bodies kernel
-    (bodies_good mode image is env 0 image.bodies good h (λ key. known (exit_of mode key) (rest_has bodies kernel (exit_of mode key) (kernel_exit mode key))) (λ name k. known name (first_has bodies kernel name k)))
-    (kernel_good mode env (λ name k. known name (rest_has bodies kernel name k))))
+    listings_spelled env (bodies ++ kernel) lies (each_append (λ b. Each (λ l. IsSpelledWith env l.stmt) b.lines) bodies kernel
+    (bodies_spelled mode image is env 0 image.bodies good h (λ key. known (exit_of mode key) (rest_has bodies kernel (exit_of mode key) (kernel_exit mode key))) (λ name k. known name (first_has bodies kernel name k)))
+    (kernel_spelled mode env (λ name k. known name (rest_has bodies kernel name k))))

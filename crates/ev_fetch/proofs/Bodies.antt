@@ -1,16 +1,13 @@
 -- The statements of bodies and of the kernel's own code have spellings.
-use Rattle.std.proofs.Common.{◌≡◌, ℕ, zero, suc, ◌+◌, ◌-◌, ◌*◌, ◌^◌, ◌<◌, ◌≤◌, Bool, true, false, not, ◌&&◌, ◌||◌, List, [], ◌∷◌, ◌++◌, length, take, Option, Some, None, refl, sym, ap, subst, ◌∙◌, arith, length-append, ◌⊎◌, inl, inr, ⊎_elim}
-use Rattle.std.specs.Prelude.{nat_lt, nat_le, ◌==◌, if◌then◌else◌, slice_get, flat_map, codes}
+use Rattle.std.proofs.Common.{◌≡◌, ℕ, zero, suc, ◌+◌, ◌^◌, ◌<◌, ◌≤◌, Bool, true, false, not, ◌&&◌, ◌||◌, List, [], ◌∷◌, length, take, Option, Some, None, refl, ap, subst, arith, length-append, ◌⊎◌, inl, inr, ⊎_elim}
+use Rattle.std.specs.Prelude.{nat_le, slice_get, flat_map}
 use Rattle.std.specs.List.{list_all, list_any}
 use Rattle.std.proofs.lemmas.List.{length-take}
 use Rattle.std.proofs.lemmas.Option.{slice_get_within}
 use Rattle.std.proofs.lemmas.Bool.{leb-true}
 use Rattle.ev_isa.specs.declared.mode.Mode.{Mode}
-use Rattle.ev_isa.specs.declared.mode.Mode.TheVariants.{Idt, Fred}
 use Rattle.ev_isa.specs.Spelling.{spelling, four_bytes}
-use Rattle.ev_event.specs.Event.{has_error_code}
 use Rattle.ev_body.specs.declared.key.Key.{Key}
-use Rattle.ev_body.specs.declared.key.Key.TheVariants.{Sys, Db, Nmi, Bp, Ud, Ss, Gp, Pf, Ac, Irq}
 use Rattle.ev_body.specs.declared.key.Side.TheVariants.{User}
 use Rattle.ev_body.specs.declared.item.Item.{Item}
 use Rattle.ev_body.specs.declared.item.Item.TheVariants.{Take}
@@ -22,23 +19,20 @@ use Rattle.ev_body.specs.WellFormed.{IsImage, is_body, has_operands, are_parts, 
 use Rattle.ev_abstract.specs.Rules.{breaks_slots, is_take}
 use Rattle.ev_asm.specs.declared.statement.Stmt.{Stmt}
 use Rattle.ev_asm.specs.declared.statement.Stmt.TheVariants.{Label, Plain, Jump}
-use Rattle.ev_asm.specs.Assembly.{Name, Places, place, places, size, total_size}
-use Rattle.ev_listing.specs.AddressMap.{fred_page, vector_stub, body_code, code_end}
+use Rattle.ev_asm.specs.Assembly.{Name, Places, place, places, size}
+use Rattle.ev_listing.specs.AddressMap.{fred_page, body_code, code_end}
 use Rattle.ev_listing.specs.Marks.{Marked, Listing, stmts_of, all_places}
-use Rattle.ev_listing.specs.Expansion.{expansion, expansions, body_stmts, function_address, address_in, item_address, item_label, taken_label, exit_of}
-use Rattle.ev_listing.specs.IdtCode.{idt_listings, stubs}
+use Rattle.ev_listing.specs.Expansion.{expansion, expansions, body_stmts, function_address, address_in, item_label, taken_label, exit_of}
 use Rattle.ev_listing.specs.FredCode.{fred_listings}
-use Rattle.ev_concrete.specs.Opening.{kernel_listings, body_listings, listings}
-use Rattle.ev_symbolic.specs.Listed.{cells_in}
+use Rattle.ev_concrete.specs.Opening.{body_listings}
 use Rattle.ev_symbolic.proofs.Values.{and_left, and_right}
-use Rattle.ev_fetch.specs.Spelled.{AreSpelled, has_spelling}
-use Rattle.ev_fetch.specs.Claims.{BodiesAreSpelled}
+use Rattle.ev_fetch.specs.Spelled.{has_spelling}
 use Rattle.ev_fetch.proofs.Regions.{Each, each_append}
 use Rattle.ev_fetch.proofs.Placed.{end_of}
-use Rattle.ev_fetch.proofs.Sizes.{items_size, body_size, few_items, idt_code, stub_if, stub_size, are_between, idt_between, fred_between}
-use Rattle.ev_fetch.proofs.Encodes.{both, encodes, encodable}
-use Rattle.ev_fetch.proofs.Labels.{InCode, has_place, place_in_code, has_first, has_rest, Gives, gives_first, gives_rest, gives_at, label_placed, LiesInCode, places_in_code, IsGood, listings_spelled}
-use Rattle.ev_fetch.proofs.Items.{kept, item_good}
+use Rattle.ev_fetch.proofs.Sizes.{items_size, body_size, few_items, idt_code, are_between}
+use Rattle.ev_fetch.proofs.Encodes.{and_parts, encodes, encodable}
+use Rattle.ev_fetch.proofs.Labels.{InCode, has_place, has_first, has_rest, Gives, gives_first, gives_rest, gives_at, label_placed, LiesInCode, IsSpelledWith}
+use Rattle.ev_fetch.proofs.Items.{item_spelled}
 
 or_first : (x y : Bool) → x ≡ true → (x || y) ≡ true
 or_first true y h = refl
@@ -92,7 +86,6 @@ each_bounded bytes total low high [] h l = tt
 each_bounded bytes total low high (item ∷ items) h l =
     (record { low = low; high = high; operands = and_left _ _ h; ends = l }, each_bounded bytes total low high items (and_right (has_operands bytes low high item) _ h) l)
 
-
 parts_bounded : (bytes total n : ℕ) (parts : List Part) → are_parts bytes n parts ≡ true → n + length (flat_map (λ (part : Part). part.items) parts) ≤ total → Each (Bounded bytes total) (flat_map (λ (part : Part). part.items) parts)
 parts_bounded bytes total n [] h l = tt
 parts_bounded bytes total n (part ∷ parts) h l =
@@ -139,31 +132,33 @@ function_small mode image is f = by (first_body 0 image.bodies 0xfb User)
 
 module _ (mode : Mode) (image : Image) (is : IsImage image) (env : Places) where
   module _ (b : ℕ) (key : Key) (total : ℕ) (target : (i : ℕ) → i < total → InCode (place env (item_label b i))) (exit : InCode (place env (exit_of mode key))) where
-    items_good : (n : ℕ) (items : List Item) → Each (Bounded (length image.text) total) items → list_all (λ item. not (breaks_slots image.processors item)) items ≡ true
+    items_spelled : (n : ℕ) (items : List Item) → Each (Bounded (length image.text) total) items → list_all (λ item. not (breaks_slots image.processors item)) items ≡ true
         → (list_any is_finish items ≡ true → InCode (place env (taken_label b)))
         → ((name : Name) → Gives name (expansions mode b key (function_address mode image) n items) → InCode (place env name))
-        → Each (λ l. IsGood env l.stmt) (expansions mode b key (function_address mode image) n items)
-    items_good n [] h k t g = tt
-    items_good n (item ∷ items) h k t g =
+        → Each (λ l. IsSpelledWith env l.stmt) (expansions mode b key (function_address mode image) n items)
+    items_spelled n [] h k t g = tt
+    items_spelled n (item ∷ items) h k t g =
         let here = expansion mode b key (function_address mode image) n item in
         let rest = expansions mode b key (function_address mode image) (suc n) items in
-        let few = is.count.1 in
-        (tt, each_append (λ l. IsGood env l.stmt) here rest
-        (item_good mode b key (function_address mode image) n env (length image.text) h.0.low h.0.high total image.processors is.text_fits few h.0.ends (function_small mode image is) target exit item h.0.operands
-          (not_broken (breaks_slots image.processors item) (and_left _ _ k))
-          (λ f. t (or_first (is_finish item) (list_any is_finish items) f)) (λ name own. g name (inr (gives_first name here rest own))))
-        (items_good (suc n) items h.1 (and_right (not (breaks_slots image.processors item)) _ k) (λ f. t (or_second (is_finish item) (list_any is_finish items) f)) (λ name own. g name (inr (gives_rest name here rest own)))))
+        let few = is.count.1 in (
+          tt,
+          each_append (λ l. IsSpelledWith env l.stmt) here rest
+              (item_spelled mode b key (function_address mode image) n env (length image.text) h.0.low h.0.high total image.processors is.text_fits few h.0.ends (function_small mode image is) target exit item h.0.operands
+              (not_broken (breaks_slots image.processors item) (and_left _ _ k))
+              (λ f. t (or_first (is_finish item) (list_any is_finish items) f)) (λ name own. g name (inr (gives_first name here rest own))))
+              (items_spelled (suc n) items h.1 (and_right (not (breaks_slots image.processors item)) _ k) (λ f. t (or_second (is_finish item) (list_any is_finish items) f)) (λ name own. g name (inr (gives_rest name here rest own)))),
+        )
       where
         not_broken : (t : Bool) → not t ≡ true → t ≡ false
         not_broken true h = absurd (cc)
         not_broken false h = refl
 
-  body_good : (n : ℕ) (b : Body) → is_body (length image.text) b ≡ true → has_spelling image.processors b ≡ true → InCode (place env (exit_of mode b.key))
-      → ((name : Name) → Gives name (body_stmts mode image n b) → InCode (place env name)) → Each (λ l. IsGood env l.stmt) (body_stmts mode image n b)
+  body_spelled : (n : ℕ) (b : Body) → is_body (length image.text) b ≡ true → has_spelling image.processors b ≡ true → InCode (place env (exit_of mode b.key))
+      → ((name : Name) → Gives name (body_stmts mode image n b) → InCode (place env name)) → Each (λ l. IsSpelledWith env l.stmt) (body_stmts mode image n b)
   unfolding body_stmts
-  body_good n b h s exit g =
-      let k = both (list_all (λ item. not (breaks_slots image.processors item)) (body_items b)) (list_any is_take (body_items b) || not (list_any is_finish (body_items b))) s in
-      items_good n b.key (length (body_items b))
+  body_spelled n b h s exit g =
+      let k = and_parts (list_all (λ item. not (breaks_slots image.processors item)) (body_items b)) (list_any is_take (body_items b) || not (list_any is_finish (body_items b))) s in
+      items_spelled n b.key (length (body_items b))
       (λ i l. g (item_label n i) (subst (λ x. Gives (item_label n x) (expansions mode n b.key (function_address mode image) 0 (body_items b))) (let e : 0 + i ≡ i = omega arith in e) (label_there mode n b.key (function_address mode image) 0 (body_items b) i l)))
       exit 0 (body_items b) (body_bounded (length image.text) b h) k.0
       (λ f. g (taken_label n) (take_there mode n b.key (function_address mode image) 0 (body_items b) (has_take (list_any is_take (body_items b)) (list_any is_finish (body_items b)) k.1 f))) g
@@ -173,14 +168,15 @@ module _ (mode : Mode) (image : Image) (is : IsImage image) (env : Places) where
       has_take false true h q = absurd (cc)
       has_take false false h q = absurd (cc)
 
-  pub bodies_good : (n : ℕ) (bs : List Body) → list_all (is_body (length image.text)) bs ≡ true → list_all (has_spelling image.processors) bs ≡ true → ((key : Key) → InCode (place env (exit_of mode key)))
-      → ((name : Name) → has_place (all_places (body_listings mode image n bs)) name ≡ true → InCode (place env name)) → Each (λ b. Each (λ l. IsGood env l.stmt) b.lines) (body_listings mode image n bs)
-  bodies_good n [] h s exit g = tt
-  bodies_good n (b ∷ bs) h s exit g =
+  pub bodies_spelled : (n : ℕ) (bs : List Body) → list_all (is_body (length image.text)) bs ≡ true → list_all (has_spelling image.processors) bs ≡ true → ((key : Key) → InCode (place env (exit_of mode key)))
+      → ((name : Name) → has_place (all_places (body_listings mode image n bs)) name ≡ true → InCode (place env name)) → Each (λ b. Each (λ l. IsSpelledWith env l.stmt) b.lines) (body_listings mode image n bs)
+  bodies_spelled n [] h s exit g = tt
+  bodies_spelled n (b ∷ bs) h s exit g =
       let own = places (body_code n) (stmts_of (body_stmts mode image n b)) in
-      let rest = all_places (body_listings mode image (suc n) bs) in
-      (body_good n b (and_left _ _ h) (and_left _ _ s) (exit b.key) (λ name l. g name (has_first own rest name (label_placed (body_code n) (body_stmts mode image n b) name l))),
-      bodies_good (suc n) bs (and_right (is_body (length image.text) b) _ h) (and_right (has_spelling image.processors b) _ s) exit (λ name l. g name (has_rest own rest name l)))
+      let rest = all_places (body_listings mode image (suc n) bs) in (
+        body_spelled n b (and_left _ _ h) (and_left _ _ s) (exit b.key) (λ name l. g name (has_first own rest name (label_placed (body_code n) (body_stmts mode image n b) name l))),
+        bodies_spelled (suc n) bs (and_right (is_body (length image.text) b) _ h) (and_right (has_spelling image.processors b) _ s) exit (λ name l. g name (has_rest own rest name l)),
+      )
 
 pub bodies_lie : (mode : Mode) (image : Image) (bytes n : ℕ) (bs : List Body) → list_all (is_body bytes) bs ≡ true → n + length bs ≤ 64 → Each LiesInCode (body_listings mode image n bs)
 bodies_lie mode image bytes n [] h l = tt
@@ -199,35 +195,35 @@ lie (b ∷ bs) h =
     ((omega arith, omega arith), lie bs (and_right (nat_le fred_page b.address && nat_le (end_of b) code_end) _ h))
 
 -- closed statements, with the places of closed code
-abbrev is_good : Places → Stmt → Bool
-is_good own (Label name) = true
-is_good own (Plain i) = encodes i
-is_good own (Jump c name) = has_place own name
+abbrev is_spelled_with : Places → Stmt → Bool
+is_spelled_with own (Label name) = true
+is_spelled_with own (Plain i) = encodes i
+is_spelled_with own (Jump c name) = has_place own name
 
-abbrev lines_are_good : Places → List Marked → Bool
-lines_are_good own ls = list_all (λ (l : Marked). is_good own l.stmt) ls
+abbrev lines_are_spelled : Places → List Marked → Bool
+lines_are_spelled own ls = list_all (λ (l : Marked). is_spelled_with own l.stmt) ls
 
-abbrev listings_are_good : Places → List Listing → Bool
-listings_are_good own bs = list_all (λ (b : Listing). lines_are_good own b.lines) bs
+abbrev listings_are_spelled : Places → List Listing → Bool
+listings_are_spelled own bs = list_all (λ (b : Listing). lines_are_spelled own b.lines) bs
 
 module _ (env own : Places) (known : (name : Name) → has_place own name ≡ true → InCode (place env name)) where
-  good : (s : Stmt) → is_good own s ≡ true → IsGood env s
-  good (Label name) h = tt
-  good (Plain i) h = encodable i h
-  good (Jump c name) h = known name h
+  closed_statement : (s : Stmt) → is_spelled_with own s ≡ true → IsSpelledWith env s
+  closed_statement (Label name) h = tt
+  closed_statement (Plain i) h = encodable i h
+  closed_statement (Jump c name) h = known name h
 
-  lines_good : (ls : List Marked) → lines_are_good own ls ≡ true → Each (λ l. IsGood env l.stmt) ls
-  lines_good [] h = tt
-  lines_good (l ∷ ls) h = (good l.stmt (and_left _ _ h), lines_good ls (and_right (is_good own l.stmt) _ h))
+  closed_lines : (ls : List Marked) → lines_are_spelled own ls ≡ true → Each (λ l. IsSpelledWith env l.stmt) ls
+  closed_lines [] h = tt
+  closed_lines (l ∷ ls) h = (closed_statement l.stmt (and_left _ _ h), closed_lines ls (and_right (is_spelled_with own l.stmt) _ h))
 
-  pub listings_good : (bs : List Listing) → listings_are_good own bs ≡ true → Each (λ b. Each (λ l. IsGood env l.stmt) b.lines) bs
-  listings_good [] h = tt
-  listings_good (b ∷ bs) h = (lines_good b.lines (and_left _ _ h), listings_good bs (and_right (lines_are_good own b.lines) _ h))
+  pub closed_listings : (bs : List Listing) → listings_are_spelled own bs ≡ true → Each (λ b. Each (λ l. IsSpelledWith env l.stmt) b.lines) bs
+  closed_listings [] h = tt
+  closed_listings (b ∷ bs) h = (closed_lines b.lines (and_left _ _ h), closed_listings bs (and_right (lines_are_spelled own b.lines) _ h))
 
-pub fred_good : listings_are_good (all_places fred_listings) fred_listings ≡ true
+pub fred_spelled : listings_are_spelled (all_places fred_listings) fred_listings ≡ true
 unfolding fred_listings size spelling four_bytes places
-fred_good = refl
+fred_spelled = refl
 
-pub idt_good : listings_are_good (all_places idt_code) idt_code ≡ true
+pub idt_spelled : listings_are_spelled (all_places idt_code) idt_code ≡ true
 unfolding size spelling four_bytes places
-idt_good = refl
+idt_spelled = refl

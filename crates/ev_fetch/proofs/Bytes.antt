@@ -4,7 +4,7 @@ use Rattle.std.proofs.lemmas.Bool.{eq-eqb}
 use Rattle.std.specs.Int.{w64, to_le_bytes, from_le_bytes}
 use Rattle.std.proofs.lemmas.Nat.{le_bytes_8}
 use Rattle.ev_isa.specs.Word.{NatMap, numbers_from, is_aligned}
-use Rattle.ev_mem.specs.Memory.{bytes_on, code_bytes}
+use Rattle.ev_mem.specs.Memory.{code_bytes}
 
 -- what a function of addresses gives from an address on
 abbrev pub bytes_from : (ℕ → ℕ) → ℕ → ℕ → List ℕ

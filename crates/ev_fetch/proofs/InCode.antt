@@ -1,5 +1,5 @@
 -- What can be fetched ends at a canonical address.
-use Rattle.std.proofs.Common.{◌≡◌, ℕ, ◌+◌, ◌-◌, ◌/◌, ◌^◌, ◌<◌, ◌≤◌, Bool, true, false, ◌||◌, length, None, refl, sym, ap, ◌∙◌, arith, ◌⊎◌, inl, inr, ⊎_elim}
+use Rattle.std.proofs.Common.{◌≡◌, ℕ, ◌+◌, ◌-◌, ◌/◌, ◌^◌, ◌<◌, ◌≤◌, Bool, true, false, ◌||◌, length, refl, sym, ap, ◌∙◌, arith, ⊎_elim}
 use Rattle.std.specs.Prelude.{◌==◌}
 use Rattle.std.proofs.lemmas.Bool.{eq-eqb}
 use Rattle.ev_isa.specs.Word.{is_canonical}
@@ -8,8 +8,6 @@ use Rattle.ev_isa.specs.Spelling.{spelling}
 use Rattle.ev_code.proofs.Spelled.{spelling_length}
 use Rattle.ev_state.specs.Processor.{is_user}
 use Rattle.ev_mem.specs.Memory.{place_in, present_in}
-use Rattle.ev_proc.specs.Conditions.{IsInCode}
-use Rattle.ev_concrete.specs.Opening.{regions}
 use Rattle.ev_fetch.specs.Claims.{StaysInCode}
 use Rattle.ev_fetch.proofs.Regions.{IsFar, fetches_far}
 
@@ -29,6 +27,6 @@ ends_well a n h f = ⊎_elim (λ l. low (a + n) (omega arith)) (λ k. high (a + 
 pub stays_in_code : StaysInCode
 stays_in_code image m c is e = record {
   ends = λ i fetch read.
-    let at = ap (λ rs. fault_at (present_in m) (record { user = is_user c; write = false; fetch = true }) (place_in rs c.rip)) e in
-    ends_well c.rip (length (spelling i)) (spelling_length i) (fetches_far image (present_in m) (record { user = is_user c; write = false; fetch = true }) c.rip is (sym at ∙ fetch));
+      let at = ap (λ rs. fault_at (present_in m) (record { user = is_user c; write = false; fetch = true }) (place_in rs c.rip)) e in
+      ends_well c.rip (length (spelling i)) (spelling_length i) (fetches_far image (present_in m) (record { user = is_user c; write = false; fetch = true }) c.rip is (sym at ∙ fetch));
 }

@@ -1,5 +1,5 @@
 -- The kernel fetches the instructions of its code table.
-use Rattle.std.proofs.Common.{◌≡◌, ℕ, ◌+◌, ◌-◌, ◌*◌, ◌%◌, ◌<◌, ◌≤◌, true, false, List, ◌++◌, length, Some, None, refl, sym, ap, ◌∙◌, arith, inl, inr, ⊎_elim}
+use Rattle.std.proofs.Common.{◌≡◌, ℕ, ◌+◌, ◌-◌, ◌%◌, ◌≤◌, true, false, length, Some, None, ap, ◌∙◌, arith, ⊎_elim}
 use Rattle.std.proofs.lemmas.Bool.{eqb-true}
 use Rattle.ev_isa.specs.Pages.{KernelWord, fault_at}
 use Rattle.ev_isa.specs.Reading.{reading}
@@ -11,7 +11,7 @@ use Rattle.ev_code.proofs.ReadingForms.{reading_again}
 use Rattle.ev_body.specs.declared.image.Image.{Image}
 use Rattle.ev_body.specs.WellFormed.{IsImage}
 use Rattle.ev_mem.specs.Memory.{Memory, place_in, present_in, code_bytes}
-use Rattle.ev_listing.specs.AddressMap.{fred_page, body_code, code_end}
+use Rattle.ev_listing.specs.AddressMap.{fred_page}
 use Rattle.ev_listing.specs.Marks.{all_places}
 use Rattle.ev_concrete.specs.Opening.{listings, regions, byte_of, code_word}
 use Rattle.ev_concrete.specs.Opening as opening

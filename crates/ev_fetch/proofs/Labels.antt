@@ -1,11 +1,10 @@
 -- The labels that statements give are places in the code.
-use Rattle.std.proofs.Common.{◌≡◌, ℕ, ◌+◌, ◌-◌, ◌<◌, ◌≤◌, Bool, true, false, ◌&&◌, List, [], ◌∷◌, ◌++◌, Option, Some, None, refl, sym, ap, subst, ◌∙◌, arith, ◌⊎◌, inl, inr, ⊎_elim}
-use Rattle.std.specs.Prelude.{zero, suc, pos, negsuc, nat_le, ◌==◌, if◌then◌else◌, slice_get}
+use Rattle.std.proofs.Common.{◌≡◌, ℕ, ◌+◌, ◌-◌, ◌≤◌, Bool, true, false, ◌&&◌, List, [], ◌∷◌, ◌++◌, Option, Some, None, refl, ap, subst, ◌∙◌, arith, ◌⊎◌, inl, inr, ⊎_elim}
+use Rattle.std.specs.Prelude.{zero, suc, pos, negsuc, nat_le, if◌then◌else◌, slice_get}
 use Rattle.std.specs.Int.{w32}
 use Rattle.std.specs.Int.RustNames.{FitsSigned}
 use Rattle.std.proofs.lemmas.Bool.{eq-eqb, leb-true, leb-false}
 use Rattle.ev_isa.specs.declared.instruction.Cond.{Cond}
-use Rattle.ev_isa.specs.declared.instruction.Ins.{Ins}
 use Rattle.ev_isa.specs.Instruction.{is_instruction}
 use Rattle.ev_asm.specs.declared.statement.Stmt.{Stmt}
 use Rattle.ev_asm.specs.declared.statement.Stmt.TheVariants.{Label, Plain, Jump}
@@ -120,10 +119,10 @@ places_in_code (b ∷ bs) h = each_append (λ (e : Name × ℕ). InCode e.1) (pl
 
 -- ---- statements that are spelled
 
-abbrev pub IsGood : Places → Stmt → Type 0
-IsGood env (Label name) = Unit {0}
-IsGood env (Plain i) = IsEncodable i
-IsGood env (Jump c name) = InCode (place env name)
+abbrev pub IsSpelledWith : Places → Stmt → Type 0
+IsSpelledWith env (Label name) = Unit {0}
+IsSpelledWith env (Plain i) = IsEncodable i
+IsSpelledWith env (Jump c name) = InCode (place env name)
 
 far : (target next : ℕ) → InCode target → InCode next → FitsSigned w32 (distance target next)
 unfolding distance
@@ -133,28 +132,28 @@ far target next t n = pick (nat_le next target) refl
     pick true q = let t1 = t.1 in let n0 = n.0 in let le = leb-true next target q in record { sfits = omega arith }
     pick false q = let t0 = t.0 in let n1 = n.1 in let lt = leb-false next target q in record { sfits = omega arith }
 
-jump_good : (c : Option Cond) (target next : ℕ) → InCode target → InCode next → IsEncodable (jump c (distance target next))
+jump_spelled : (c : Option Cond) (target next : ℕ) → InCode target → InCode next → IsEncodable (jump c (distance target next))
 unfolding is_instruction
-jump_good None target next t n = record { fields = far target next t n; counts = refl }
-jump_good (Some c) target next t n = record { fields = far target next t n; counts = refl }
+jump_spelled None target next t n = record { fields = far target next t n; counts = refl }
+jump_spelled (Some c) target next t n = record { fields = far target next t n; counts = refl }
 
 -- statements at an address of the code
-pub cells_spelled : (env : Places) (a : ℕ) (ls : List Marked) → Each (λ l. IsGood env l.stmt) ls → 0xffffffff81000000 ≤ a → a + total_size (stmts_of ls) ≤ 0xffffffff82800000 → AreSpelled (cells_from env a ls)
+pub cells_spelled : (env : Places) (a : ℕ) (ls : List Marked) → Each (λ l. IsSpelledWith env l.stmt) ls → 0xffffffff81000000 ≤ a → a + total_size (stmts_of ls) ≤ 0xffffffff82800000 → AreSpelled (cells_from env a ls)
 cells_spelled env a [] g l h = tt
 cells_spelled env a (x ∷ xs) g l h = one x.stmt g.0 (omega arith) (omega arith) (cells_spelled env (a + size x.stmt) xs g.1 (omega arith) (omega arith))
   where
-    one : (s : Stmt) → IsGood env s → 0xffffffff81000000 ≤ a + size s → a + size s ≤ 0xffffffff82800000 → AreSpelled (cells_from env (a + size s) xs)
+    one : (s : Stmt) → IsSpelledWith env s → 0xffffffff81000000 ≤ a + size s → a + size s ≤ 0xffffffff82800000 → AreSpelled (cells_from env (a + size s) xs)
         → AreSpelled (with_cell x.mark a (a + size s) (instruction env a s) (cells_from env (a + size s) xs))
     one (Label name) g l h k = k
     one (Plain i) g l h k = (g, k)
-    one (Jump c name) g l h k = (jump_good c (place env name) (a + size (Jump c name)) g (l, h), k)
+    one (Jump c name) g l h k = (jump_spelled c (place env name) (a + size (Jump c name)) g (l, h), k)
 
 pub spelled_append : (xs ys : Cells) → AreSpelled xs → AreSpelled ys → AreSpelled (xs ++ ys)
 spelled_append [] ys h k = k
 spelled_append (x ∷ xs) ys h k = (h.0, spelled_append xs ys h.1 k)
 
 -- the statements of each listing are good
-pub listings_spelled : (env : Places) (bs : List Listing) → Each LiesInCode bs → Each (λ b. Each (λ l. IsGood env l.stmt) b.lines) bs → AreSpelled (cells_in env bs)
+pub listings_spelled : (env : Places) (bs : List Listing) → Each LiesInCode bs → Each (λ b. Each (λ l. IsSpelledWith env l.stmt) b.lines) bs → AreSpelled (cells_in env bs)
 listings_spelled env [] h g = tt
 listings_spelled env (b ∷ bs) h g =
     spelled_append (cells_from env b.address b.lines) (cells_in env bs) (cells_spelled env b.address b.lines g.0 h.0.0 h.0.1) (listings_spelled env bs h.1 g.1)

@@ -1,13 +1,14 @@
 -- The words of the opening hold the code and the text.
-use Rattle.std.proofs.Common.{◌≡◌, ℕ, ◌+◌, ◌-◌, ◌*◌, ◌/◌, ◌^◌, ◌<◌, ◌≤◌, Bool, true, false, ◌&&◌, refl, ap, ◌∙◌, arith}
+use Rattle.std.proofs.Common.{◌≡◌, ℕ, ◌+◌, ◌^◌, ◌<◌, ◌≤◌, Bool, true, false, ◌&&◌, refl, ap, ◌∙◌, arith}
 use Rattle.std.specs.Prelude.{nat_lt, nat_le, if◌then◌else◌}
 use Rattle.std.proofs.lemmas.Bool.{le-leb, lt-ltb, ltb-true}
 use Rattle.ev_isa.specs.Word.{is_aligned}
-use Rattle.ev_isa.specs.Pages.{Text, place_of, text_base, text_word, word_at_start, words_at_start}
+use Rattle.ev_isa.specs.Pages.{Text, place_of, text_base, text_word, word_at_start}
 use Rattle.ev_isa.specs.declared.mode.Mode.{Mode}
 use Rattle.ev_body.specs.declared.image.Image.{Image}
 use Rattle.ev_listing.specs.AddressMap.{fred_page}
 use Rattle.ev_concrete.specs.Opening.{Placed, word_there, opening_word, code_word}
+use Rattle.ev_fetch.proofs.Regions.{and_both}
 
 only_if : {X : Type 0} (t : Bool) (x y : X) → t ≡ true → (if t then x else y) ≡ x
 only_if true x y h = refl
@@ -24,10 +25,6 @@ not_below a b h = by (nat_lt a b) refl
     by true q = absurd (let lt = ltb-true a b q in omega arith)
     by false q = q
 
-both : (x y : Bool) → x ≡ true → y ≡ true → (x && y) ≡ true
-both true y p q = q
-both false y p q = p
-
 -- at and behind the first entry
 pub opened_code : (es : Placed) (mode : Mode) (image : Image) (a : ℕ) → is_aligned a ≡ true → fred_page ≤ a → opening_word es mode image a ≡ code_word es a
 unfolding opening_word word_there
@@ -39,4 +36,4 @@ pub opened_text : (es : Placed) (mode : Mode) (image : Image) (a : ℕ) → is_a
 unfolding opening_word word_there place_of word_at_start
 opened_text es mode image a al l h =
     only_if (is_aligned a) _ _ al ∙ only_if (nat_lt a (2 ^ 63)) _ _ (lt-ltb a (2 ^ 63) (omega arith))
-    ∙ ap (word_at_start image.text a) (only_if (nat_le text_base a && nat_lt a (text_base + 0x10000)) Text _ (both _ _ (le-leb text_base a l) (lt-ltb a (text_base + 0x10000) h)))
+    ∙ ap (word_at_start image.text a) (only_if (nat_le text_base a && nat_lt a (text_base + 0x10000)) Text _ (and_both _ _ (le-leb text_base a l) (lt-ltb a (text_base + 0x10000) h)))

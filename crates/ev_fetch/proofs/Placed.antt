@@ -1,16 +1,15 @@
 -- The bytes of listings at their addresses are the spellings of their cells.
-use Rattle.std.proofs.Common.{◌≡◌, ℕ, zero, suc, ◌+◌, ◌-◌, ◌<◌, ◌≤◌, Bool, true, false, ◌&&◌, List, [], ◌∷◌, ◌++◌, length, get_or, Option, Some, None, refl, sym, ap, subst, ◌∙◌, arith, length-append, ◌⊎◌, inl, inr, ⊎_elim}
+use Rattle.std.proofs.Common.{◌≡◌, ℕ, ◌+◌, ◌-◌, ◌<◌, ◌≤◌, Bool, true, false, ◌&&◌, List, [], ◌∷◌, ◌++◌, length, get_or, Some, None, refl, sym, ap, subst, ◌∙◌, arith, length-append, ◌⊎◌, inl, inr, ⊎_elim}
 use Rattle.std.specs.Prelude.{◌==◌, nat_lt, nat_le, if◌then◌else◌}
 use Rattle.std.proofs.lemmas.Bool.{le-leb, lt-ltb, leb-true, ltb-true, eqb-true}
 use Rattle.std.proofs.lemmas.List.{get_or_append_left, get_or-append-add}
-use Rattle.ev_isa.specs.declared.instruction.Cond.{Cond}
 use Rattle.ev_isa.specs.declared.instruction.Ins.{Ins}
 use Rattle.ev_isa.specs.Spelling.{spelling, four_bytes}
 use Rattle.ev_asm.specs.declared.statement.Stmt.{Stmt}
 use Rattle.ev_asm.specs.declared.statement.Stmt.TheVariants.{Label, Plain, Jump}
-use Rattle.ev_asm.specs.Assembly.{Places, place, size, total_size, distance, jump, stmt_bytes, code}
-use Rattle.ev_listing.specs.Marks.{Marked, Listing, stmts_of}
-use Rattle.ev_concrete.specs.Opening.{Placed, placed_code, byte_of}
+use Rattle.ev_asm.specs.Assembly.{Places, size, total_size, stmt_bytes, code}
+use Rattle.ev_listing.specs.Marks.{Listing, stmts_of}
+use Rattle.ev_concrete.specs.Opening.{placed_code, byte_of}
 use Rattle.ev_symbolic.specs.Agrees.{Cell}
 use Rattle.ev_symbolic.specs.Listed.{Cells, cells_from, cells_in, spelled, cell_at, Laid}
 use Rattle.ev_code.proofs.Parts.{IsBytes, bytes_append, no_bytes}
@@ -19,6 +18,7 @@ use Rattle.ev_symbolic.proofs.Blocks.{unsome}
 use Rattle.ev_symbolic.proofs.Listed.{laid, bytes_spelled}
 use Rattle.ev_fetch.specs.Spelled.{AreSpelled}
 use Rattle.ev_fetch.proofs.Spellings.{spelling_bytes}
+use Rattle.ev_fetch.proofs.Regions.{and_both}
 
 -- ---- sizes
 
@@ -123,10 +123,6 @@ pub inside_there : (env : Places) (bs : List Listing) (a : ℕ) (x : Cell) → c
 inside_there env [] a x q j h = absurd (cc)
 inside_there env (b ∷ bs) a x q j h = ⊎_elim (λ l. inl (own_within env b a x l j h)) (λ r. inr (inside_there env bs a x r j h)) (one_of (own_cells env b) (cells_in env bs) a x q)
 
-both : (x y : Bool) → x ≡ true → y ≡ true → (x && y) ≡ true
-both true y p q = q
-both false y p q = p
-
 -- a byte of the first listing, and one of a later listing
 first_byte : (env : Places) (b : Listing) (bs : List Listing) (a : ℕ) → IsWithin b a → byte_of (placed_code env (b ∷ bs)) a ≡ get_or (own_code env b) (a - b.address) 0
 first_byte env b bs a w =
@@ -134,16 +130,17 @@ first_byte env b bs a w =
     let l = w.0 in
     let k = w.1 in
     ap (λ t. if t then get_or (own_code env b) (a - b.address) 0 else byte_of (placed_code env bs) a)
-    (both (nat_le b.address a) (nat_lt a (b.address + length (own_code env b))) (le-leb b.address a l) (lt-ltb a (b.address + length (own_code env b)) (omega arith)))
+    (and_both (nat_le b.address a) (nat_lt a (b.address + length (own_code env b))) (le-leb b.address a l) (lt-ltb a (b.address + length (own_code env b)) (omega arith)))
 
 later_byte : (env : Places) (b : Listing) (bs : List Listing) (a : ℕ) → (IsWithin b a → ⊥) → byte_of (placed_code env (b ∷ bs)) a ≡ byte_of (placed_code env bs) a
 later_byte env b bs a w = pick (nat_le b.address a && nat_lt a (b.address + length (own_code env b))) refl
   where
     pick : (t : Bool) → (nat_le b.address a && nat_lt a (b.address + length (own_code env b))) ≡ t
         → (if t then get_or (own_code env b) (a - b.address) 0 else byte_of (placed_code env bs) a) ≡ byte_of (placed_code env bs) a
-    pick true q = absurd (w
-      (let l = leb-true b.address a (and_left _ _ q) in l,
-      let k = ltb-true a (b.address + length (own_code env b)) (and_right (nat_le b.address a) _ q) in let n = code_length env b.address (stmts_of b.lines) in omega arith))
+    pick true q = absurd (w (
+      let l = leb-true b.address a (and_left _ _ q) in l,
+      let k = ltb-true a (b.address + length (own_code env b)) (and_right (nat_le b.address a) _ q) in let n = code_length env b.address (stmts_of b.lines) in omega arith,
+    ))
     pick false q = refl
 
 own_byte : (env : Places) (b : Listing) (bs : List Listing) (a : ℕ) (x : Cell) → cell_at (own_cells env b) a ≡ Some x → (j : ℕ) → j < length (spelling x.ins)

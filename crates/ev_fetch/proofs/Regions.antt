@@ -1,8 +1,8 @@
 -- Where the regions of the opening lie, and which place an address of code or text has.
-use Rattle.std.proofs.Common.{◌≡◌, ℕ, zero, suc, ◌+◌, ◌-◌, ◌*◌, ◌^◌, ◌<◌, ◌≤◌, Bool, true, false, ◌&&◌, List, [], ◌∷◌, ◌++◌, map, length, get_or, Option, None, Some, refl, sym, ap, ◌∙◌, arith, ◌⊎◌, inl, inr, ⊎_elim}
+use Rattle.std.proofs.Common.{◌≡◌, ℕ, zero, suc, ◌+◌, ◌-◌, ◌*◌, ◌^◌, ◌<◌, ◌≤◌, Bool, true, false, ◌&&◌, List, [], ◌∷◌, ◌++◌, map, length, get_or, None, refl, ap, ◌∙◌, arith, ◌⊎◌, inl, inr, ⊎_elim}
 use Rattle.std.specs.Prelude.{nat_lt, nat_le, if◌then◌else◌, flat_map}
 use Rattle.std.specs.List.{list_all}
-use Rattle.std.proofs.lemmas.Bool.{le-leb, lt-ltb, leb-true, ltb-true, eq-eqb}
+use Rattle.std.proofs.lemmas.Bool.{le-leb, lt-ltb, leb-true, ltb-true}
 use Rattle.ev_isa.specs.Word.{NatSet, numbers_from}
 use Rattle.ev_isa.specs.Pages.{Place, Text, KernelWord, Access, fault_at, text_base, page_base}
 use Rattle.ev_body.specs.declared.image.Image.{Image}
@@ -40,12 +40,12 @@ all_small (x ∷ xs) h (suc i) = all_small xs (and_right (nat_lt x 256) _ h) i
 
 -- ---- a region and an address
 
-both : (x y : Bool) → x ≡ true → y ≡ true → (x && y) ≡ true
-both true y p q = q
-both false y p q = p
+pub and_both : (x y : Bool) → x ≡ true → y ≡ true → (x && y) ≡ true
+and_both true y p q = q
+and_both false y p q = p
 
 contains : (r : Region) (a : ℕ) → r.base ≤ a → a < r.base + 8 * r.words → (nat_le r.base a && nat_lt a (r.base + 8 * r.words)) ≡ true
-contains r a h k = both _ _ (le-leb r.base a h) (lt-ltb a (r.base + 8 * r.words) k)
+contains r a h k = and_both _ _ (le-leb r.base a h) (lt-ltb a (r.base + 8 * r.words) k)
 
 here : (r : Region) (rs : List Region) (a : ℕ) → r.base ≤ a → a < r.base + 8 * r.words → place_in (r ∷ rs) a ≡ place_by r.kind
 here r rs a h k = ap (λ b. if b then place_by r.kind else place_in rs a) (contains r a h k)
@@ -103,9 +103,16 @@ areas_high image is =
 
 tables_high : (image : Image) → IsImage image → Each IsHigh (table_regions image)
 tables_high image is =
-    let few = is.count.1 in
-    (record { from = omega arith; to = omega arith; kind = refl }, (record { from = omega arith; to = omega arith; kind = refl }, (record { from = omega arith; to = omega arith; kind = refl },
-    (record { from = omega arith; to = omega arith; kind = refl }, (record { from = omega arith; to = omega arith; kind = refl }, (record { from = omega arith; to = omega arith; kind = refl }, tt))))))
+    let few = is.count.1 in (
+      record { from = omega arith; to = omega arith; kind = refl },
+      (
+        record { from = omega arith; to = omega arith; kind = refl },
+        (
+          record { from = omega arith; to = omega arith; kind = refl },
+          (record { from = omega arith; to = omega arith; kind = refl }, (record { from = omega arith; to = omega arith; kind = refl }, (record { from = omega arith; to = omega arith; kind = refl }, tt))),
+        ),
+      ),
+    )
 
 code_high : (image : Image) → IsImage image → Each IsHigh (code_regions image)
 code_high image is =

@@ -1,10 +1,11 @@
 -- Which bodies have spellings: those of accepted images, and those that hold nothing but `log` and `ret`.
-use Rattle.std.proofs.Common.{◌≡◌, ℕ, zero, suc, ◌+◌, Bool, true, false, not, ◌&&◌, ◌||◌, List, [], ◌∷◌, ◌++◌, length, Option, Some, None, refl, sym, ap, subst, ◌∙◌, ◌⊎◌, inl, inr, ⊎_elim}
-use Rattle.std.specs.Prelude.{◌==◌, if◌then◌else◌, flat_map, nat_le}
+use Rattle.std.proofs.Common.{◌≡◌, ℕ, suc, Bool, true, false, not, ◌&&◌, ◌||◌, List, [], ◌∷◌, ◌++◌, length, Option, Some, None, refl, ap, ◌∙◌}
+use Rattle.std.specs.Prelude.{if◌then◌else◌, flat_map, nat_le}
 use Rattle.std.specs.List.{list_all, list_any}
 use Rattle.std.proofs.lemmas.List.{append-nil}
+use Rattle.ev_isa.specs.declared.mode.Mode.{Mode}
 use Rattle.ev_body.specs.declared.item.Item.{Item}
-use Rattle.ev_body.specs.declared.item.Item.TheVariants.{Set, Copy, Alu, Jcc, Goto, Nop, Log, Cpu, Slot, Put, Cell, SetCell, AddCell, SwapCell, Uget, Uput, GetReg, SetReg, SetRip, Map, Unmap, Resched, Sti, Cli, Eoi, Send, Call, Kick, Wait, Take, Finish, Ret}
+use Rattle.ev_body.specs.declared.item.Item.TheVariants.{Log, Finish, Ret}
 use Rattle.ev_body.specs.declared.body.Part.{Part}
 use Rattle.ev_body.specs.declared.body.Body.{Body}
 use Rattle.ev_body.specs.declared.image.Image.{Image}
@@ -12,13 +13,12 @@ use Rattle.ev_body.specs.declared.key.Side.TheVariants.{User, Kernel}
 use Rattle.ev_body.specs.Bodies.{body_items, covers}
 use Rattle.ev_body.specs.WellFormed.{IsImage, is_body, are_parts, has_operands, has_no_parts, ends_with, is_ret, is_finish}
 use Rattle.ev_abstract.specs.Rules.{first_item_from, refusal_at, first_refused, first_some, rules, missing_body, slot_rule, register_rule, flag_rule, if_rule, eoi_rule, fault_rule, nmi_rule, call_rule, breaks_slots, is_take, is_call_handler, failing_call}
-use Rattle.ev_abstract.specs.Accepted.{IsAccepted}
 use Rattle.ev_abstract.specs.declared.refusal.Refusal.{Refusal}
 use Rattle.ev_abstract.specs.declared.refusal.Refusal.TheVariants.{SlotRule, CallRule}
 use Rattle.ev_symbolic.proofs.Values.{and_left, and_right}
-use Rattle.ev_fetch.specs.Spelled.{has_spelling}
-use Rattle.ev_fetch.specs.Claims.{AcceptedAreSpelled}
-use Rattle.ev_fetch.proofs.Regions.{Each}
+use Rattle.ev_fetch.specs.Spelled.{AreSpelled, has_spelling}
+use Rattle.ev_fetch.specs.Claims.{kernel_cells, AcceptedAreSpelled}
+use Rattle.ev_fetch.proofs.Regions.{and_both, Each}
 use Rattle.ev_fetch.proofs.AllSpelled.{bodies_are_spelled}
 
 -- ---- `log` and `ret`
@@ -27,10 +27,6 @@ abbrev pub IsLogOrRet : Item → Type 0
 IsLogOrRet (Log s) = Unit {0}
 IsLogOrRet Ret = Unit {0}
 IsLogOrRet _ = ⊥
-
-both : (x y : Bool) → x ≡ true → y ≡ true → (x && y) ≡ true
-both true y p q = q
-both false y p q = p
 
 plain_slots : (n : ℕ) (item : Item) → IsLogOrRet item → not (breaks_slots n item) ≡ true
 unfolding breaks_slots
@@ -47,7 +43,7 @@ plain_finish _ h = absurd h
 module _ (test : Item → Bool) (passes : (item : Item) → test item ≡ true → IsLogOrRet item) where
   all_slots : (n : ℕ) (items : List Item) → list_all test items ≡ true → list_all (λ item. not (breaks_slots n item)) items ≡ true
   all_slots n [] h = refl
-  all_slots n (item ∷ items) h = both _ _ (plain_slots n item (passes item (and_left _ _ h))) (all_slots n items (and_right (test item) _ h))
+  all_slots n (item ∷ items) h = and_both _ _ (plain_slots n item (passes item (and_left _ _ h))) (all_slots n items (and_right (test item) _ h))
 
   no_finish : (items : List Item) → list_all test items ≡ true → list_any is_finish items ≡ false
   no_finish [] h = refl
@@ -55,19 +51,30 @@ module _ (test : Item → Bool) (passes : (item : Item) → test item ≡ true �
 
   without_parts : (items : List Item) (parts : List Part) → has_no_parts parts ≡ true → list_all test items ≡ true → list_all test (items ++ flat_map (λ (part : Part). part.items) parts) ≡ true
   without_parts [] [] p h = refl
-  without_parts (item ∷ items) [] p h = both _ _ (and_left _ _ h) (without_parts items [] p (and_right (test item) _ h))
+  without_parts (item ∷ items) [] p h = and_both _ _ (and_left _ _ h) (without_parts items [] p (and_right (test item) _ h))
   without_parts items (part ∷ parts) p h = absurd (cc)
 
   -- a body without parts whose items are each `log` or `ret`
   pub plain_spelled : (n : ℕ) (b : Body) → has_no_parts b.parts ≡ true → list_all test b.items ≡ true → has_spelling n b ≡ true
   plain_spelled n b p h =
       let all = without_parts b.items b.parts p h in
-      both _ _ (all_slots n (body_items b) all) (last (list_any is_take (body_items b)) (list_any is_finish (body_items b)) (no_finish (body_items b) all))
+      and_both _ _ (all_slots n (body_items b) all) (last (list_any is_take (body_items b)) (list_any is_finish (body_items b)) (no_finish (body_items b) all))
     where
       last : (x y : Bool) → y ≡ false → (x || not y) ≡ true
       last true y h = refl
       last false true h = absurd (cc)
       last false false h = refl
+
+  module _ (is_plain : Body → Bool) (holds : (b : Body) → is_plain b ≡ true → (has_no_parts b.parts ≡ true) × (list_all test b.items ≡ true)) where
+    bodies_plain : (n : ℕ) (bs : List Body) → list_all is_plain bs ≡ true → list_all (has_spelling n) bs ≡ true
+    bodies_plain n [] h = refl
+    bodies_plain n (b ∷ bs) h =
+        let k = holds b (and_left _ _ h) in
+        and_both _ _ (plain_spelled n b k.0 k.1) (bodies_plain n bs (and_right (is_plain b) _ h))
+
+    -- an image of such bodies
+    pub plain_are_spelled : (mode : Mode) (image : Image) → IsImage image → list_all is_plain image.bodies ≡ true → AreSpelled (kernel_cells mode image)
+    plain_are_spelled mode image is h = bodies_are_spelled mode image is (bodies_plain image.processors image.bodies h)
 
 -- ---- accepted images
 
@@ -159,8 +166,8 @@ finish_takes image bytes n b h q f =
 each_spelled : (image : Image) (bytes n : ℕ) (bs : List Body) → list_all (is_body bytes) bs ≡ true
     → FailNowhere (λ n b. first_item_from 0 (λ i item. breaks_slots image.processors item) (body_items b)) n bs → FailNowhere (failing_call image) n bs → list_all (has_spelling image.processors) bs ≡ true
 each_spelled image bytes n [] h s c = refl
-each_spelled image bytes n (b ∷ bs) h s c = both _ _
-    (both _ _ (no_item (breaks_slots image.processors) 0 (body_items b) s.0) (by (list_any is_take (body_items b)) (list_any is_finish (body_items b)) (finish_takes image bytes n b (and_left _ _ h) c.0)))
+each_spelled image bytes n (b ∷ bs) h s c = and_both _ _
+    (and_both _ _ (no_item (breaks_slots image.processors) 0 (body_items b) s.0) (by (list_any is_take (body_items b)) (list_any is_finish (body_items b)) (finish_takes image bytes n b (and_left _ _ h) c.0)))
     (each_spelled image bytes (suc n) bs (and_right (is_body bytes b) _ h) s.1 c.1)
   where
     by : (x y : Bool) → (y ≡ true → x ≡ true) → (x || not y) ≡ true

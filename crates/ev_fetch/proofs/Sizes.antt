@@ -1,5 +1,5 @@
 -- How many bytes bodies have, and that no two listings of a mode and an image have an address in common.
-use Rattle.std.proofs.Common.{◌≡◌, ℕ, zero, suc, ◌+◌, ◌-◌, ◌*◌, ◌<◌, ◌≤◌, Bool, true, false, ◌&&◌, ◌||◌, List, [], ◌∷◌, ◌++◌, length, refl, sym, ap, ◌∙◌, arith, ◌⊎◌, inl, inr, ⊎_elim}
+use Rattle.std.proofs.Common.{◌≡◌, ℕ, zero, suc, ◌+◌, ◌*◌, ◌<◌, ◌≤◌, Bool, true, false, ◌&&◌, ◌||◌, List, [], ◌∷◌, ◌++◌, length, refl, ap, arith, ◌⊎◌, inl, inr, ⊎_elim}
 use Rattle.std.specs.Prelude.{nat_le, if◌then◌else◌, pos, codes}
 use Rattle.std.specs.List.{list_all}
 use Rattle.std.proofs.lemmas.List.{map-append}
@@ -26,14 +26,13 @@ use Rattle.ev_listing.specs.IdtCode.{idt_listings, stubs, none, sys, common, exi
 use Rattle.ev_listing.specs.FredCode.{fred_listings}
 use Rattle.ev_concrete.specs.Opening.{kernel_listings, body_listings, listings}
 use Rattle.ev_symbolic.proofs.Values.{and_left, and_right}
-use Rattle.ev_fetch.proofs.Placed.{end_of, IsWithin, Inside, Disjoint}
+use Rattle.ev_fetch.proofs.Placed.{end_of, Inside, Disjoint}
 
 -- ---- bodies
 
 total_append : (xs ys : List Stmt) → total_size (xs ++ ys) ≡ total_size xs + total_size ys
 total_append [] ys = omega arith
 total_append (x ∷ xs) ys = omega (arith, total_append xs ys)
-
 
 -- an item has at most 34 instructions of at most 15 bytes
 item_size : (mode : Mode) (b : ℕ) (key : Key) (function : ℕ → ℕ) (n : ℕ) (item : Item) → total_size (stmts_of (expansion mode b key function n item)) ≤ 510
@@ -78,8 +77,13 @@ items_size mode b key function n [] = omega arith
 items_size mode b key function n (item ∷ items) =
     let here = expansion mode b key function n item in
     let rest = expansions mode b key function (suc n) items in
-    omega (arith, item_size mode b key function n item, items_size mode b key function (suc n) items,
-    ap total_size (map-append (λ (l : Marked). l.stmt) here rest), total_append (stmts_of here) (stmts_of rest))
+    omega (
+      arith,
+      item_size mode b key function n item,
+      items_size mode b key function (suc n) items,
+      ap total_size (map-append (λ (l : Marked). l.stmt) here rest),
+      total_append (stmts_of here) (stmts_of rest),
+    )
 
 pub body_size : (mode : Mode) (image : Image) (n : ℕ) (b : Body) → length (body_items b) ≤ 256 → total_size (stmts_of (body_stmts mode image n b)) ≤ 0x20000
 unfolding body_stmts

@@ -1,5 +1,5 @@
 -- The spelling of an instruction whose fields fit is a list of bytes, and not empty.
-use Rattle.std.proofs.Common.{◌≡◌, ℕ, ℤ, ◌+◌, ◌*◌, ◌/◌, ◌%◌, ◌<◌, Bool, true, false, List, [], ◌∷◌, ◌++◌, length, refl, arith, length-append}
+use Rattle.std.proofs.Common.{ℕ, ℤ, ◌+◌, ◌*◌, ◌%◌, ◌<◌, Bool, true, false, List, [], ◌∷◌, ◌++◌, length, arith, length-append}
 use Rattle.std.specs.Prelude.{◌==◌, nat_lt, if◌then◌else◌}
 use Rattle.std.specs.Int.{w32, w64, cast_unsigned, to_le_bytes}
 use Rattle.ev_isa.specs.declared.instruction.Ins.{Ins}
@@ -8,7 +8,7 @@ use Rattle.ev_isa.specs.declared.instruction.Cond.{Cond}
 use Rattle.ev_isa.specs.declared.instruction.AluOp.TheVariants.{Add, Or, And, Sub, Xor, Cmp}
 use Rattle.ev_isa.specs.declared.instruction.Cond.TheVariants.{Z, Nz, C, Nc, S, Ns}
 use Rattle.ev_isa.specs.declared.instruction.Ins.TheVariants.{MovImm, MovReg, Load, Store, StoreImm, GsLoad, GsStore, GsPush, Alu, AluImm, Shl, Shr, Xchg, CmpXchg, Xadd, Jmp, Jcc, JmpReg, Push, PushImm, Pop, IntN, Lkgs, MovGs, ReadCr2, WriteCr2, Nop, Int3, Int1, Syscall, Sysretq, Iretq, Swapgs, Eretu, Erets, Rdmsr, Wrmsr, Sti, Cli, Ud2}
-use Rattle.ev_isa.specs.Spelling.{spelling, four_bytes, rex, short_rex, modrm, registers, memory, absolute, alu_number, cond_number}
+use Rattle.ev_isa.specs.Spelling.{spelling, four_bytes, rex, short_rex, registers, memory, absolute, alu_number, cond_number}
 use Rattle.ev_code.specs.Coding.{IsEncodable}
 use Rattle.ev_code.proofs.Parts.{IsBytes, bytes_cons, no_bytes}
 use Rattle.ev_fetch.proofs.Regions.{Each, each_append}

@@ -1,15 +1,12 @@
 -- User code fetches the bytes of the text.
-use Rattle.std.proofs.Common.{◌≡◌, ℕ, zero, suc, ◌+◌, ◌-◌, ◌*◌, ◌%◌, ◌<◌, ◌≤◌, true, false, List, [], ◌∷◌, ◌++◌, length, take, drop, replicate, get_or, None, refl, sym, ap, ◌∙◌, arith, length-append}
+use Rattle.std.proofs.Common.{◌≡◌, ℕ, zero, suc, ◌+◌, ◌-◌, ◌%◌, ◌<◌, ◌≤◌, true, false, List, [], ◌∷◌, ◌++◌, length, drop, replicate, get_or, refl, sym, ap, ◌∙◌, arith, length-append}
 use Rattle.std.specs.Int.{w64, from_le_bytes}
 use Rattle.std.proofs.lemmas.Bool.{eqb-true}
 use Rattle.std.proofs.lemmas.List.{get_or-drop, get_or-take, length-take-le}
-use Rattle.ev_isa.specs.Word.{NatMap, is_aligned}
+use Rattle.ev_isa.specs.Word.{NatMap}
 use Rattle.ev_isa.specs.Pages.{text_base, text_word, fault_at}
 use Rattle.ev_isa.specs.Reading.{reading}
-use Rattle.ev_body.specs.declared.image.Image.{Image}
-use Rattle.ev_body.specs.WellFormed.{IsImage}
-use Rattle.ev_mem.specs.Memory.{Memory, page_fault, place_in, present_in, code_bytes}
-use Rattle.ev_proc.specs.ProcessorStep.{instruction_at}
+use Rattle.ev_mem.specs.Memory.{place_in, present_in, code_bytes}
 use Rattle.ev_abstract.specs.UserCode.{text_bytes}
 use Rattle.ev_concrete.specs.Opening.{regions}
 use Rattle.ev_fetch.specs.Claims.{HoldsText, TextFetches}
@@ -57,8 +54,7 @@ pub text_fetches : TextFetches
 unfolding fault_at
 text_fetches image m is e holds a l h =
     let short = is.text_fits in
-    let place : place_in m.regions a ≡ place_in (regions image) a = ap (λ rs. place_in rs a) e in
-    (
+    let place : place_in m.regions a ≡ place_in (regions image) a = ap (λ rs. place_in rs a) e in (
       ap (fault_at (present_in m) (record { user = true; write = false; fetch = true })) (place ∙ text_place image a is l (omega arith)),
       ap reading (text_there image.text m.words a (all_small image.text is.text_bytes) is.text_fits holds l h),
     )

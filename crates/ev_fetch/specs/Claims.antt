@@ -25,10 +25,11 @@ use Rattle.ev_fetch.specs.Spelled.{AreSpelled, has_spelling}
 abbrev pub kernel_cells : Mode → Image → Cells
 kernel_cells mode image = cells_in (all_places (listings mode image)) (listings mode image)
 
--- the words hold the placed code, and the text with zeros behind it
+-- the words from the first entry on hold the placed code
 abbrev pub HoldsCode : Mode → Image → NatMap ℕ → Type 0
 HoldsCode mode image words = (a : ℕ) → is_aligned a ≡ true → fred_page ≤ a → words a ≡ code_word (opening.code_of (listings mode image)) a
 
+-- the words of the text's region hold the text, with zeros behind it
 abbrev pub HoldsText : List ℕ → NatMap ℕ → Type 0
 HoldsText text words = (a : ℕ) → is_aligned a ≡ true → text_base ≤ a → a < text_base + 0x10000 → words a ≡ text_word text a
 
@@ -46,10 +47,10 @@ TextFetches = (image : Image) (m : Memory) → IsImage image → m.regions ≡ r
 abbrev pub StaysInCode : Type 0
 StaysInCode = (image : Image) (m : Memory) (c : Processor) → IsImage image → m.regions ≡ regions image → IsInCode c m
 
--- So have the cells of an image all of whose numbers are in range.
+-- The cells of an image have spellings where the numbers of its items are in range.
 abbrev pub BodiesAreSpelled : Type 0
 BodiesAreSpelled = (mode : Mode) (image : Image) → IsImage image → list_all (has_spelling image.processors) image.bodies ≡ true → AreSpelled (kernel_cells mode image)
 
--- Accepted images are such.
+-- The cells of an accepted image have spellings.
 abbrev pub AcceptedAreSpelled : Type 0
 AcceptedAreSpelled = (mode : Mode) (image : Image) → IsImage image → IsAccepted image → AreSpelled (kernel_cells mode image)

@@ -1,5 +1,5 @@
 -- Cells and bodies whose instructions have spellings. Own.
-use Rattle.std.specs.Prelude.{ℕ, Bool, not, ◌&&◌, ◌||◌, List, [], ◌∷◌}
+use Rattle.std.specs.Prelude.{ℕ, Bool, not, ◌&&◌, ◌||◌, [], ◌∷◌}
 use Rattle.std.specs.List.{list_any, list_all}
 use Rattle.ev_body.specs.declared.body.Body.{Body}
 use Rattle.ev_body.specs.Bodies.{body_items}

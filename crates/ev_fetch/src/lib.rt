@@ -3,11 +3,10 @@
 
 ghost use Rattle.ev_fetch.specs.Claims.{KernelFetches, BodiesAreSpelled, AcceptedAreSpelled, TextFetches, StaysInCode};
 
-/// Where memory holds the opening's words of code and text, a fetch gives what was assembled: at
-/// each cell of the code table the kernel fetches the cell's instruction, if all cells have
-/// spellings, as they have where the numbers of items are in range, and so in each accepted image.
-/// In the text user code fetches
-/// what its bytes read as, and what can be fetched ends at a canonical address. Own.
+/// Where memory holds the opening's words of code, the kernel fetches each instruction of the code
+/// table at its address, if all of them have spellings. They have where the numbers of items are
+/// in range, and so in each accepted image. Where it holds the text, user code fetches what the
+/// text's bytes read as. What can be fetched ends at a canonical address. Own.
 pub fn fetches()
     ensures kernel { KernelFetches }
     ensures spelled { BodiesAreSpelled }
