@@ -2,12 +2,13 @@
 use Rattle.std.proofs.Common.{◌≡◌, ℕ, ◌+◌, ◌^◌, ◌<◌, ◌≤◌, Bool, true, false, ◌&&◌, refl, ap, ◌∙◌, arith}
 use Rattle.std.specs.Prelude.{nat_lt, nat_le, if◌then◌else◌}
 use Rattle.std.proofs.lemmas.Bool.{le-leb, lt-ltb, ltb-true}
-use Rattle.ev_isa.specs.Word.{is_aligned}
+use Rattle.ev_isa.specs.Word.{NatMap, is_aligned}
 use Rattle.ev_isa.specs.Pages.{Text, place_of, text_base, text_word, word_at_start}
 use Rattle.ev_isa.specs.declared.mode.Mode.{Mode}
 use Rattle.ev_body.specs.declared.image.Image.{Image}
 use Rattle.ev_listing.specs.AddressMap.{fred_page}
-use Rattle.ev_concrete.specs.Opening.{Placed, word_there, opening_word, code_word}
+use Rattle.ev_concrete.specs.Opening.{Placed, code_of, listings, word_there, opening_word, code_word}
+use Rattle.ev_fetch.specs.Claims.{HoldsCode, HoldsText}
 use Rattle.ev_fetch.proofs.Regions.{and_both}
 
 only_if : {X : Type 0} (t : Bool) (x y : X) → t ≡ true → (if t then x else y) ≡ x
@@ -37,3 +38,11 @@ unfolding opening_word word_there place_of word_at_start
 opened_text es mode image a al l h =
     only_if (is_aligned a) _ _ al ∙ only_if (nat_lt a (2 ^ 63)) _ _ (lt-ltb a (2 ^ 63) (omega arith))
     ∙ ap (word_at_start image.text a) (only_if (nat_le text_base a && nat_lt a (text_base + 0x10000)) Text _ (and_both _ _ (le-leb text_base a l) (lt-ltb a (text_base + 0x10000) h)))
+
+-- words that are the opening's there
+pub holds_code : (mode : Mode) (image : Image) (words : NatMap ℕ) → ((a : ℕ) → fred_page ≤ a → words a ≡ opening_word (code_of (listings mode image)) mode image a) → HoldsCode mode image words
+holds_code mode image words h a al l = h a l ∙ opened_code (code_of (listings mode image)) mode image a al l
+
+pub holds_text : (mode : Mode) (image : Image) (words : NatMap ℕ) → ((a : ℕ) → text_base ≤ a → a < text_base + 0x10000 → words a ≡ opening_word (code_of (listings mode image)) mode image a)
+    → HoldsText image.text words
+holds_text mode image words h a al l k = h a l k ∙ opened_text (code_of (listings mode image)) mode image a al l k
