@@ -1,3 +1,4 @@
 pub mod Facts
 pub mod Fits
 pub mod Standing
+pub mod Return
