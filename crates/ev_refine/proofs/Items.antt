@@ -55,9 +55,9 @@ main_items b h = go b.parts h
     go (p ∷ ps) h = absurd (cc)
 
 -- `log` or `ret`
-pub data Today : Item → Type 0 where
-  IsLog : (s : ℕ) → 6 ≤ s → s < 14 → Today (Log s)
-  IsRet : Today Ret
+pub data Today (i : Item) : Type 0 where
+  IsLog : (s : ℕ) → i ≡ Log s → 6 ≤ s → s < 14 → Today i
+  IsRet : i ≡ Ret → Today i
 
 module _ (image : Image) (built : IsBuilt image) (good : IsImage image) (n : ℕ) (b : Body) (hb : slice_get image.bodies n ≡ Some b) where
   built_body : is_built_body b ≡ true
@@ -77,8 +77,8 @@ module _ (image : Image) (built : IsBuilt image) (good : IsImage image) (n : ℕ
       pick x (all_at is_built_item b.items i x (and_right (has_no_parts b.parts) _ (and_right _ _ built_body)) there) (all_at (has_operands (length image.text) 0 (length b.items)) b.items i x parsed.1 there)
     where
       pick : (y : Item) → is_built_item y ≡ true → has_operands (length image.text) 0 (length b.items) y ≡ true → Today y
-      pick (Log s) h k = IsLog s (leb-true 6 s (and_left (nat_le 6 s) _ k)) (ltb-true s 14 (and_right (nat_le 6 s) _ k))
-      pick Ret h k = IsRet
+      pick (Log s) h k = IsLog s refl (leb-true 6 s (and_left (nat_le 6 s) _ k)) (ltb-true s 14 (and_right (nat_le 6 s) _ k))
+      pick Ret h k = IsRet refl
       pick _ h k = absurd (cc)
 
   pub behind_log : (i s : ℕ) → item_at (Some b) i ≡ Some (Log s) → (y : Item) × (item_at (Some b) (suc i) ≡ Some y)

@@ -18,7 +18,7 @@ use Rattle.ev_body.specs.declared.image.Image.{Image}
 use Rattle.ev_body.specs.WellFormed.{IsImage}
 use Rattle.ev_effect.specs.Task.{Task}
 use Rattle.ev_effect.specs.Effect.{◌>>=◌, effect}
-use Rattle.ev_listing.specs.AddressMap.{pcpu, stack_top, body_code, nlast_entry}
+use Rattle.ev_listing.specs.AddressMap.{pcpu, stack_top, body_code, nlast_entry, repeat_entry}
 use Rattle.ev_listing.specs.Expansion.{item_address}
 use Rattle.ev_state.specs.Processor.{Processor, is_user, register, task_of, with_effect}
 use Rattle.ev_state.specs.Outcome.{Outcome, Went}
@@ -41,7 +41,7 @@ use Rattle.ev_concrete.specs.LiveWords.{IsSafeStep}
 use Rattle.ev_built.specs.Built.{IsBuilt}
 use Rattle.ev_symbolic.specs.Value.{M, V, K, P, X}
 use Rattle.ev_symbolic.specs.State.{Loc, SS, Line, Ground, Block, absolute, sreg, all_above}
-use Rattle.ev_symbolic.specs.Run.{line_at, sstep, tidy_if, bstep, bnext, brun}
+use Rattle.ev_symbolic.specs.Run.{moved, line_at, sstep, tidy_if, bstep, bnext, brun}
 use Rattle.ev_symbolic.specs.Openings.{at_base}
 use Rattle.ev_symbolic.specs.Agrees.{Env, untracked, eval, eval_flags, addr, Cell, Code, edge_cell, Open, Fits, Agrees, Within, with_words, Steps, StepsIf, At}
 use Rattle.ev_symbolic.specs.Join.{env_after}
@@ -50,10 +50,10 @@ use Rattle.ev_symbolic.proofs.FlagBits.{flags_back}
 use Rattle.ev_symbolic.proofs.Sound.{executes, reg_ok, step_ok}
 use Rattle.ev_symbolic.proofs.Sound as sound
 use Rattle.ev_symbolic.proofs.Blocks.{unsome, LineOk, line_ok, cell_step, earlier, goes_on, at_end, joined}
-use Rattle.ev_blocks_fred.specs.Blocks.{SystemCall, Spot, AtEntry, AtItem, AtExit, fred_lines, fred_ground, fexit, enter, item, leave, block, edges_left}
+use Rattle.ev_blocks_fred.specs.Blocks.{Kind, SystemCall, Spot, AtEntry, AtItem, AtExit, fred_lines, fred_ground, fexit, enter, item, leave, block, edges_left}
 use Rattle.ev_blocks_fred.specs.Ends.{enter_end, leave_end, enter_values}
 use Rattle.ev_blocks_fred.proofs.Ends.{enter_run, enter_regs, enter_line, enter_joins, leave_run, leave_rip}
-use Rattle.ev_refine.specs.Relation.{code_table, item_place, address_of_item, RunsTask, here, top_of, rest_in, Entering, Saved, InItem, Leaving, Means, Active, IsContext, StandsOn, Stands, Chain, most_edges}
+use Rattle.ev_refine.specs.Relation.{code_table, item_place, address_of_item, RunsTask, here, top_of, rest_in, Entering, Saved, InItem, Leaving, Means, Active, IsContext, StandsOver, StandsOn, Stands, Chain, most_edges}
 use Rattle.ev_refine.specs.Claims.{MakesEdge, MakesTurn}
 use Rattle.ev_refine.specs.Shown.{shown, shown_instruction}
 use Rattle.ev_refine.proofs.Facts.{Facts, RetCell}
@@ -233,3 +233,204 @@ module _ (image : Image) (built : IsBuilt image) (good : IsImage image) (facts :
     ret_turn hi =
         turns Ret hi ∙ ap (λ bs. (with_processor m p (dropped image b x (below_last bs)), [])) bodies
         ∙ ap (λ z. (with_processor m p (if z && not (is_nmi_body image b) then rescheduled (record x { bodies = [] }) else record x { bodies = [] }), [])) on.resched
+
+    -- ---- inside a block
+
+    inside : (spot : Spot) (k : ℕ) (v : ℕ → ℕ) (f : Flags) → At code (block SystemCall spot) k (env b v f) c s.memory → Means Fred image built SystemCall spot v w b → length c.regs ≡ 16 → edges_left spot k ≤ left p → k < (block SystemCall spot).steps → Result
+    inside spot k v f at means long enough lt =
+        let S : ℕ = (block SystemCall spot).steps in
+        let end = ends spot in
+        let i : Inside code (block SystemCall spot) (suc k) (env b v f) c s.memory = goes_on code (block SystemCall spot) S end.0 end.1 k (env b v f) c s.memory at lt in
+        let next = earlier (block SystemCall spot) (suc k) (S - suc k) end.0 (ap (brun (block SystemCall spot)) (let q : (S - suc k) + suc k ≡ S = omega arith in q) ∙ end.1) in
+        edge v f (edge_cell i.ins i.next) i.stands refl (stays_inside code (block SystemCall spot) k (env b v f) c s.memory at next.0 next.1 i.ins i.next i.stands) (ap is_user at.agrees.rest) i.cpu i.words i.runs
+        (same_ground spot (env b v f) s.memory.words i.words i.within) (edges_left spot (suc k)) (one_less spot k (left p) enough lt)
+        (record { spot = spot; k = suc k; var = v; flags = f; within = lt; enough = omega arith; at = i.there; means = means; long = i.long ∙ long })
+
+    -- ---- the entry's end: the jump to the body's first item
+
+    at_entry : (v : ℕ → ℕ) (f : Flags) → At code (enter SystemCall) 45 (env b v f) c s.memory → Entering Fred image built SystemCall v w b → length c.regs ≡ 16 → 24 ≤ left p
+        → (body : Body) → slice_get image.bodies b.body ≡ Some body → Result
+    unfolding eval is_return
+    at_entry v f at means long enough body is =
+        let e : Env = env b v f in
+        let a : Agrees e fred_ground (enter_end SystemCall) c s.memory = at_end code (enter SystemCall) 45 (enter_end SystemCall) (enter_run SystemCall) e c s.memory at in
+        let hu : is_user c ≡ false = ap is_user a.rest in
+        let cell : Cell = edge_cell (JmpReg 0) 0xffffffff810002bf in
+        let hc : code c.rip ≡ Some cell = ap code a.rip ∙ subst (LineOk code e (enter_end SystemCall).rip) (enter_line SystemCall) (line_ok code e (enter_end SystemCall).rip fred_lines (facts.stands e refl)) in
+        let rax : get_or c.regs 0 0 ≡ v 24 = reg_ok e fred_ground at.fits.ground (enter_end SystemCall) c s.memory a 0 ∙ ap (λ (xs : List V). eval e (get_or xs 0 (K 0))) (enter_regs SystemCall) in
+        let first_is : item_address Fred b.body body b.place ≡ body_code b.body = ap (item_address Fred b.body body) means.place ∙ facts.first_item b.body body in
+        let target : get_or c.regs 0 0 ≡ item_address Fred b.body body b.place = rax ∙ means.code ∙ sym first_is in
+        let fine = facts.item_small b.body b.place body is in
+        let low : item_address Fred b.body body b.place ≡ (item_address Fred b.body body b.place + 0) % M = plus_zero _ fine.1 in
+        let place_is : item_place Fred image b.body b.place ≡ item_address Fred b.body body b.place = ap (address_of_item Fred b.body b.place) is in
+        let cpu : Processor = jumped c (get_or c.regs 0 0) in
+        let g : Flags = flags_of c.flags in
+        let u : Env = env_after e (enter_values SystemCall) g in
+        let open_at = opens_at image built facts p small hp w b u.var g s.memory h.regions_are top in
+        let agrees : Agrees u fred_ground (item SystemCall).opening cpu s.memory = joined e (enter_values SystemCall) fred_ground fred_ground (enter_end SystemCall) c s.memory (item SystemCall).opening a (enter_joins SystemCall) cpu g refl refl refl refl refl refl
+            (target ∙ low ∙ ap (λ y. (y + 0) % M) (sym place_is)) refl refl open_at.0 open_at.1 in
+        edge v f cell hc refl refl hu cpu s.memory.words
+        (executes c s.memory (JmpReg 0) cell.next (Done cpu s.memory.words) hu (sym (facts.spaced c.rip cell hc)) (jump_by_register c s.memory 0 cell.next (ap is_canonical target ∙ fine.0)))
+        (λ y far far'. refl) 23 (omega arith)
+        (record {
+          spot = AtItem;
+          k = 0;
+          var = u.var;
+          flags = g;
+          within = omega arith;
+          enough = omega arith;
+          at = record { fits = fits_at image built facts p small hp AtItem w b u.var g top refl fred; state = (item SystemCall).opening; is = refl; clear = refl; agrees = agrees };
+          means = record {
+            saved = record { framed = record { rip = means.framed.rip; flags = means.framed.flags; gs = means.framed.gs; selector = means.framed.selector; cr2 = means.framed.cr2 }; regs = means.regs };
+            locals = means.locals ∙ (λ i. sym means.error i ∷ 0x100 ∷ sym means.info i ∷ 0 ∷ 0 ∷ 0 ∷ 0 ∷ 0 ∷ []);
+          };
+          long = long;
+        })
+
+    -- ---- an item
+
+    -- the place of the context's item
+    at_item : (v : ℕ → ℕ) (f : Flags) → Agrees (env b v f) fred_ground (item SystemCall).opening c s.memory → (body : Body) → slice_get image.bodies b.body ≡ Some body → c.rip ≡ item_address Fred b.body body b.place
+    at_item v f a body is =
+        a.rip ∙ ap (λ y. (y + 0) % M) (ap (address_of_item Fred b.body b.place) is) ∙ sym (plus_zero _ (facts.item_small b.body b.place body is).1)
+
+    at_log : (v : ℕ → ℕ) (f : Flags) → At code (item SystemCall) 0 (env b v f) c s.memory → InItem Fred image built v w b → length c.regs ≡ 16
+        → (body : Body) → slice_get image.bodies b.body ≡ Some body → (q : ℕ) → item_at (Some body) b.place ≡ Some (Log q) → 6 ≤ q → q < 14 → Result
+    unfolding eval eval_flags is_return shown_instruction
+    at_log v f at means long body is q hi lo hq =
+        let e : Env = env b v f in
+        let a : Agrees e fred_ground (item SystemCall).opening c s.memory = at_end code (item SystemCall) 0 (item SystemCall).opening refl e c s.memory at in
+        let hu : is_user c ≡ false = ap is_user a.rest in
+        let next : ℕ = item_address Fred b.body body (suc b.place) in
+        let cell : Cell = record { ins = GsStore (pos 0x28) q; next = next; mark = true } in
+        let hc : code c.rip ≡ Some cell = ap code (at_item v f a body is) ∙ facts.log_cell b.body b.place q body is hi in
+        let next_small : next + 16 < 2 ^ 64 = (facts.item_small b.body (suc b.place) body is).1 in
+        let st : Steps e fred_ground (GsStore (pos 0x28) q) (moved (item SystemCall).opening (item SystemCall).opening.regs (absolute next)) c s.memory
+        = step_ok e fred_ground at.fits.ground (GsStore (pos 0x28) q) next (absolute next) (item SystemCall).opening c s.memory a (sym (facts.spaced c.rip cell hc)) (zero_plus next next_small) in
+        let behind = behind_log image built good b.body body is b.place q hi in
+        let on_next : IsContext Fred image built (onward b) = record { item = behind.0; is = ap (λ o. item_at o (suc b.place)) is ∙ behind.1; interrupts = ctx.interrupts; service = ctx.service; calls = ctx.calls } in
+        let agrees : Agrees (env (onward b) v f) fred_ground (item SystemCall).opening st.cpu (with_words s.memory st.words) = record {
+          regs = st.agrees.regs;
+          rip = st.agrees.rip ∙ sym (zero_plus next next_small) ∙ plus_zero next next_small ∙ ap (λ y. (y + 0) % M) (sym (ap (address_of_item Fred b.body (suc b.place)) is));
+          flags = st.agrees.flags;
+          gs = st.agrees.gs;
+          kernel_gs = st.agrees.kernel_gs;
+          selector = st.agrees.selector;
+          cr2 = st.agrees.cr2;
+          levels = st.agrees.levels;
+          blocked = st.agrees.blocked;
+          rest = st.agrees.rest;
+          words = st.agrees.words;
+          known_open = (opens_at image built facts p small hp w (onward b) v f s.memory h.regions_are top).0;
+          shared_open = (opens_at image built facts p small hp w (onward b) v f s.memory h.regions_are top).1;
+        } in
+        let act : Active Fred image built p 23 SystemCall w (onward b) st.cpu (with_words s.memory st.words) = record {
+          spot = AtItem;
+          k = 0;
+          var = v;
+          flags = f;
+          within = omega arith;
+          enough = omega arith;
+          at = record { fits = fits_at image built facts p small hp AtItem w (onward b) v f top refl fred; state = (item SystemCall).opening; is = refl; clear = refl; agrees = agrees };
+          means = record { saved = means.saved; locals = means.locals };
+          long = st.long ∙ long;
+        } in
+        visible v f cell hc refl hu st.cpu st.words st.runs st.within (onward b ∷ [])
+        (ap length (ran_stays s p st.cpu cell.ins (fetches c.rip cell hc).1 refl) ∙ on.depth ∙ ap length bodies) 23 (omega arith)
+        (w, SystemCall, refl, on_next, same_task (onward b ∷ []) w r, act)
+        (Entry.Log p (local b q) ∷ []) (ap (λ y. Entry.Log p y ∷ []) (local_is e c.regs b.locals a.regs means.locals q lo hq))
+        (log_turn q (ap (λ o. item_at o b.place) is ∙ hi))
+
+    at_ret : (v : ℕ → ℕ) (f : Flags) → At code (item SystemCall) 0 (env b v f) c s.memory → InItem Fred image built v w b → length c.regs ≡ 16 → 23 ≤ left p
+        → (body : Body) → slice_get image.bodies b.body ≡ Some body → item_at (Some body) b.place ≡ Some Ret → Result
+    unfolding eval eval_flags is_return
+    at_ret v f at means long enough body is hi =
+        let e : Env = env b v f in
+        let a : Agrees e fred_ground (item SystemCall).opening c s.memory = at_end code (item SystemCall) 0 (item SystemCall).opening refl e c s.memory at in
+        let hu : is_user c ≡ false = ap is_user a.rest in
+        let rc : RetCell image (item_address Fred b.body body b.place) = facts.ret_cell b.body b.place body is hi in
+        let hc : code c.rip ≡ Some rc.cell = ap code (at_item v f a body is) ∙ rc.is in
+        let cpu : Processor = jumped c (displaced rc.cell.next rc.distance) in
+        let run : exec c s.memory rc.cell.ins rc.cell.next ≡ Done cpu s.memory.words = ap (λ i. exec c s.memory i rc.cell.next) rc.jump ∙ jump c s.memory rc.distance rc.cell.next (ap is_canonical rc.leads) in
+        let agrees : Agrees e fred_ground (leave SystemCall).opening cpu s.memory = record {
+          regs = a.regs;
+          rip = rc.leads;
+          flags = ap (λ y. flags_word (flags_of y)) a.flags ∙ ap flags_word (flags_back f);
+          gs = a.gs;
+          kernel_gs = a.kernel_gs;
+          selector = a.selector;
+          cr2 = a.cr2;
+          levels = a.levels;
+          blocked = refl;
+          rest = a.rest;
+          words = a.words;
+          known_open = a.known_open;
+          shared_open = a.shared_open;
+        } in
+        edge v f rc.cell hc rc.unmarked (ap (λ i. is_return (Some i)) rc.jump) hu cpu s.memory.words
+        (executes c s.memory rc.cell.ins rc.cell.next (Done cpu s.memory.words) hu (sym (facts.spaced c.rip rc.cell hc)) run)
+        (λ y far far'. refl) 22 (omega arith)
+        (record {
+          spot = AtExit;
+          k = 0;
+          var = v;
+          flags = f;
+          within = omega arith;
+          enough = omega arith;
+          at = record { fits = fits_at image built facts p small hp AtExit w b v f top refl fred; state = (leave SystemCall).opening; is = refl; clear = refl; agrees = agrees };
+          means = record { saved = means.saved; ret = ap (λ o. item_at o b.place) is ∙ hi };
+          long = long;
+        })
+
+    -- ---- the exit's end: the return
+
+    at_exit : (v : ℕ → ℕ) (f : Flags) → At code (leave SystemCall) 22 (env b v f) c s.memory → Leaving Fred image built v w b → Result
+    unfolding exec special is_return shown_instruction
+    at_exit v f at means =
+        let e : Env = env b v f in
+        let a : Agrees e fred_ground (leave_end SystemCall) c s.memory = at_end code (leave SystemCall) 22 (leave_end SystemCall) (leave_run SystemCall) e c s.memory at in
+        let hu : is_user c ≡ false = ap is_user a.rest in
+        let rip : c.rip ≡ 0xffffffff81000426 = a.rip ∙ ap (addr e) (leave_rip SystemCall) in
+        let cell : Cell = record { ins = Eretu; next = eretu_cell.0; mark = true } in
+        let hc : code c.rip ≡ Some cell = ap code rip ∙ eretu_cell.1 in
+        let back : eretu c s.memory ≡ Went w s.memory.words 0 = returns image built good p small x on.running w r b v f c s.memory a means.saved in
+        let does : Executes Eretu w s.memory.words = λ n nmi.
+            executes c s.memory Eretu cell.next Special hu (sym (facts.spaced c.rip cell hc)) refl n nmi
+            ∙ ap (λ z. if z then after_return n s.memory nmi (eretu c s.memory) else fault c n s.memory nmi ud) (ap has_fred a.rest ∙ fred)
+            ∙ ap (after_return n s.memory nmi) back in
+        let once : is_repeated c w ≡ false = ap (λ y. (y == nlast_entry + 12) && (w.rip == repeat_entry)) rip in
+        visible v f cell hc refl hu w s.memory.words does (λ y far far'. refl) []
+        (ap length (ran_returns s p w Eretu (fetches c.rip cell hc).1 refl hu once) ∙ none_left (s.activations p) (on.depth ∙ ap length bodies)) 0 (omega arith)
+        (same_task [] w r) [] refl (ret_turn means.ret)
+
+    -- ---- every step
+
+    by_item : (v : ℕ → ℕ) (f : Flags) → At code (item SystemCall) 0 (env b v f) c s.memory → InItem Fred image built v w b → length c.regs ≡ 16 → 23 ≤ left p
+        → (body : Body) → slice_get image.bodies b.body ≡ Some body → (i : Item) → Today i → item_at (Some body) b.place ≡ Some i → Result
+    by_item v f at means long enough body is i (IsLog q e lo hq) hi = at_log v f at means long body is q (hi ∙ ap (λ j. Some j) e) lo hq
+    by_item v f at means long enough body is i (IsRet e) hi = at_ret v f at means long enough body is (hi ∙ ap (λ j. Some j) e)
+
+    at_the_end : (spot : Spot) (k : ℕ) (v : ℕ → ℕ) (f : Flags) → k ≡ (block SystemCall spot).steps → At code (block SystemCall spot) k (env b v f) c s.memory → Means Fred image built SystemCall spot v w b → length c.regs ≡ 16 → edges_left spot k ≤ left p
+        → (body : Body) → slice_get image.bodies b.body ≡ Some body → item_at (Some body) b.place ≡ Some ctx.item → Result
+    at_the_end AtEntry k v f q at means long enough body is hi = at_entry v f (subst (λ j. At code (enter SystemCall) j (env b v f) c s.memory) q at) means long (subst (λ j. edges_left AtEntry j ≤ left p) q enough) body is
+    at_the_end AtItem k v f q at means long enough body is hi = by_item v f (subst (λ j. At code (item SystemCall) j (env b v f) c s.memory) q at) means long enough body is ctx.item (which image built good b.body body is b.place ctx.item hi) hi
+    at_the_end AtExit k v f q at means long enough body is hi = at_exit v f (subst (λ j. At code (leave SystemCall) j (env b v f) c s.memory) q at) means
+
+    act_step : Active Fred image built p (left p) SystemCall w b c s.memory → Result
+    act_step act =
+        let found = body_at (slice_get image.bodies b.body) b.place ctx.item ctx.is in
+        pick (nat_le (suc act.k) (block SystemCall act.spot).steps) refl found.0 found.1 found.2
+      where
+        pick : (t : Bool) → nat_le (suc act.k) (block SystemCall act.spot).steps ≡ t → (body : Body) → slice_get image.bodies b.body ≡ Some body → item_at (Some body) b.place ≡ Some ctx.item → Result
+        pick true q body is hi = inside act.spot act.k act.var act.flags act.at act.means act.long act.enough (leb-true _ _ q)
+        pick false q body is hi = at_the_end act.spot act.k act.var act.flags (let up = leb-false _ _ q in let down = act.within in omega arith) act.at act.means act.long act.enough body is hi
+
+  -- a step of a processor on which a body stands: an edge or a turn, and it writes no frame
+  pub kernel_step : (b : BodyContext) (below : List BodyContext) → x.bodies ≡ b ∷ below → Result
+  kernel_step b below hb = go chain.0 chain.1 chain.2 chain.3 chain.4 chain.5
+    where
+      chain : Chain Fred image built p (left p) x (b ∷ below) c s.memory
+      chain = subst (λ bs. Chain Fred image built p (left p) x bs c s.memory) hb on.chain
+
+      go : (w : Processor) (κ : Kind) → StandsOver Fred image built κ below → IsContext Fred image built b → Chain Fred image built p (left p) x below w s.memory → Active Fred image built p (left p) κ w b c s.memory → Result
+      go w SystemCall none ctx task act = act_step b (hb ∙ ap (λ bs. b ∷ bs) none) ctx w (subst (λ bs. Chain Fred image built p (left p) x bs w s.memory) none task) act
