@@ -5,3 +5,6 @@ pub mod Opens
 pub mod Tells
 pub mod Fits
 pub mod Standing
+pub mod Return
+pub mod Items
+pub mod Kernel
