@@ -1,2 +1,5 @@
 pub mod Facts
 pub mod UserText
+pub mod UserState
+pub mod UserStep
+pub mod UserPlain
