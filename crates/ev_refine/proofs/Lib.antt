@@ -3,3 +3,5 @@ pub mod UserText
 pub mod UserState
 pub mod UserStep
 pub mod UserPlain
+pub mod UserFrame
+pub mod UserBody
