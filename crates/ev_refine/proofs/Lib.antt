@@ -5,3 +5,4 @@ pub mod UserStep
 pub mod UserPlain
 pub mod UserFrame
 pub mod UserBody
+pub mod UserSafe
