@@ -6,3 +6,4 @@ pub mod UserPlain
 pub mod UserFrame
 pub mod UserBody
 pub mod UserSafe
+pub mod SystemCall

@@ -26,7 +26,7 @@ abbrev pub all_in : List Win → ℕ → ℕ → Bool
 all_in W off zero = true
 all_in W off (suc n) = in_win W (at_top off) && all_in W ((off + 8) % M) n
 
-next_place : (b off : ℕ) → wrap ((b + off) % M + 8) ≡ (b + (off + 8) % M) % M
+pub next_place : (b off : ℕ) → wrap ((b + off) % M + 8) ≡ (b + (off + 8) % M) % M
 next_place b off = sym (add_shift b off 8)
 
 pub placed_known : (e : Env) (K W : List Win) → Apart e K W → (vs : List V) (off : ℕ) (words : NatMap ℕ) (ws : List Word) → all_in W off (length vs) ≡ true → all_in K off (length vs) ≡ true

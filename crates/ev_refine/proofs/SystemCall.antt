@@ -1,0 +1,126 @@
+-- The delivery of a system call: the frame that it writes, and the activation that it begins.
+use Rattle.std.proofs.Common.{◌≡◌, ℕ, suc, ◌+◌, ◌-◌, ◌*◌, ◌%◌, ◌^◌, ◌<◌, ◌≤◌, Bool, true, false, ◌&&◌, List, [], ◌∷◌, ◌++◌, get_or, set, drop, length, map, reverse, Option, Some, None, refl, sym, ap, ◌∙◌, subst, arith, inl}
+use Rattle.std.specs.Prelude.{◌==◌, if◌then◌else◌, slice_get}
+use Rattle.ev_isa.specs.Word.{NatMap, put_at, wrap}
+use Rattle.ev_isa.specs.Flags.{Flags, no_status, flags_word}
+use Rattle.ev_isa.specs.Instruction.{user_may}
+use Rattle.ev_isa.specs.Spelling.{spelling}
+use Rattle.ev_isa.specs.declared.instruction.Ins.TheVariants.{Syscall}
+use Rattle.ev_isa.specs.declared.mode.Mode.TheVariants.{Fred}
+use Rattle.ev_event.specs.declared.event.Event.{Event}
+use Rattle.ev_event.specs.declared.event.EventType.TheVariants.{Other}
+use Rattle.ev_event.specs.Event.{software, type_number}
+use Rattle.ev_body.specs.declared.key.Side.TheVariants.{User}
+use Rattle.ev_body.specs.declared.image.Image.{Image}
+use Rattle.ev_effect.specs.Task.{Task}
+use Rattle.ev_effect.specs.Frame.{addresses, placed, first_event}
+use Rattle.ev_state.specs.Processor.{Processor, is_user}
+use Rattle.ev_state.specs.Outcome.{Outcome, Went, below, frame_written}
+use Rattle.ev_mem.specs.Memory.{Memory, view}
+use Rattle.ev_apic.specs.declared.apic.Apic.{Apic}
+use Rattle.ev_fred.specs.FredDelivery.{fred_delivery, fred_frame, in_fred_handler, ss_word}
+use Rattle.ev_exec.specs.Exec.{exec}
+use Rattle.ev_proc.specs.declared.stepped.Stepped.{Stepped}
+use Rattle.ev_proc.specs.ProcessorStep.{After, after_arrival, deliveries, executed, special, has_fred}
+use Rattle.ev_proc.proofs.Tries.{went}
+use Rattle.ev_listing.specs.AddressMap.{pcpu, user_table, task_selector, stack_top, body_code, fred_page}
+use Rattle.ev_abstract.specs.Context.{BodyContext}
+use Rattle.ev_abstract.specs.Delivery.{body_at_start, saved_by}
+use Rattle.ev_concrete.specs.Opening.{regions}
+use Rattle.ev_built.specs.Built.{IsBuilt}
+use Rattle.ev_symbolic.specs.Value.{M}
+use Rattle.ev_symbolic.specs.State.{in_win}
+use Rattle.ev_symbolic.specs.Agrees.{Env, eval, eval_flags, Known, Open, Fits, Agrees, with_words}
+use Rattle.ev_symbolic.proofs.Blocks.{begins}
+use Rattle.ev_blocks_fred.specs.Blocks.{SystemCall, Spot, AtEntry, frame, frame_words, fixed_words, fred_ground, enter, block}
+use Rattle.ev_refine.specs.Relation.{code_table, task_processor, top_of, rest_in, here, Entering, Active}
+use Rattle.ev_refine.proofs.UserFrame.{next_place, words_placed, placed_known, places_open, no_event, eight_open}
+
+-- ---- sixteen registers, one by one
+
+abbrev listed : List ℕ → List ℕ
+listed xs =
+    get_or xs 0 0 ∷ get_or xs 1 0 ∷ get_or xs 2 0 ∷ get_or xs 3 0 ∷ get_or xs 4 0 ∷ get_or xs 5 0 ∷ get_or xs 6 0 ∷ get_or xs 7 0 ∷ get_or xs 8 0 ∷ get_or xs 9 0 ∷ get_or xs 10 0 ∷ get_or xs 11 0
+    ∷ get_or xs 12 0 ∷ get_or xs 13 0 ∷ get_or xs 14 0 ∷ get_or xs 15 0 ∷ []
+
+listed_is : (xs : List ℕ) → length xs ≡ 16 → xs ≡ listed xs
+listed_is (x0 ∷ x1 ∷ x2 ∷ x3 ∷ x4 ∷ x5 ∷ x6 ∷ x7 ∷ x8 ∷ x9 ∷ x10 ∷ x11 ∷ x12 ∷ x13 ∷ x14 ∷ x15 ∷ []) h = refl
+listed_is _ h = absurd (omega arith)
+
+-- ---- what the delivery speaks of
+
+abbrev pub call_event : Event
+call_event = software Other 1 2
+
+-- the task to which the call returns
+abbrev pub returning : Task → ℕ → Task
+returning t next = saved_by Other (record t { rip = next })
+
+-- the variables of the entry block
+abbrev pub variables : Task → (next selector cr2 code : ℕ) → ℕ → ℕ
+variables t next selector cr2 code i =
+    if i == 16 then 0 else (if i == 17 then next else (if i == 19 then flags_word t.flags else (if i == 20 then get_or t.regs 4 0 else (if i == 22 then 0 else (if i == 24 then code
+    else (if i == 60 then t.gs else (if i == 61 then selector else (if i == 62 then cr2 else get_or t.regs i 0))))))))
+
+abbrev pub no_flags : Flags
+no_flags = record { status = no_status; interrupts = false; alignment = false }
+
+-- a block of the activation fits the code, and the kernel has access to its windows
+abbrev pub FitsAt : (image : Image) → IsBuilt image → ℕ → Type 0
+FitsAt image built p = (spot : Spot) (w : Processor) (b : BodyContext) (v : ℕ → ℕ) (f : Flags) → top_of Fred image built SystemCall w ≡ stack_top p 0
+    → is_user (rest_in Fred image built SystemCall w) ≡ false → has_fred (rest_in Fred image built SystemCall w) ≡ true
+    → Fits (code_table Fred image) (here Fred image built p SystemCall w b v f) (block SystemCall spot)
+
+abbrev pub OpensAt : (image : Image) → IsBuilt image → ℕ → Type 0
+OpensAt image built p = (w : Processor) (b : BodyContext) (v : ℕ → ℕ) (f : Flags) (m : Memory) → m.regions ≡ regions image → top_of Fred image built SystemCall w ≡ stack_top p 0
+    → Open (here Fred image built p SystemCall w b v f) fred_ground.known m.regions × Open (here Fred image built p SystemCall w b v f) fred_ground.shared m.regions
+
+frame_address : (top : ℕ) → (top + (M - 64)) % M ≡ below top 8
+frame_address top = ap (λ z. z % M) (let e : top + (M - 64) ≡ top + M - 64 = omega arith in e)
+
+-- ---- the delivery, of a task on its stack n
+
+module _ (image : Image) (built : IsBuilt image) (p n : ℕ) (t : Task) (cr2 next body : ℕ) where
+  abbrev pub caller : Processor
+  caller = task_processor Fred image p n t cr2
+
+  abbrev pub over : Processor
+  over = task_processor Fred image p n (returning t next) cr2
+
+  abbrev pub context : BodyContext
+  context = body_at_start body User call_event
+
+  abbrev pub env : Env
+  env = here Fred image built p SystemCall over context (variables t next (task_selector p n) cr2 (body_code body)) no_flags
+
+  abbrev pub frame_at : ℕ
+  frame_at = (stack_top p n + (M - 64)) % M
+
+  abbrev pub handler : Processor
+  handler = in_fred_handler (record caller { rip = next }) call_event 0 frame_at
+
+  abbrev pub words_after : NatMap ℕ → NatMap ℕ
+  words_after words = placed words frame_at (map (eval env) (frame SystemCall))
+
+  frame_is : fred_frame (record caller { rip = next }) call_event false ≡ map (eval env) (frame SystemCall)
+  unfolding ss_word type_number eval
+  frame_is = refl
+
+  delivery_is : (m : Memory) → first_event (view m false) true (reverse (addresses frame_at 8)) ≡ None → fred_delivery (record caller { rip = next }) m call_event false ≡ Went handler (words_after m.words) frame_at
+  unfolding fred_delivery
+  delivery_is m h =
+      let c : Processor = record caller { rip = next } in
+      ap (λ a. frame_written c (in_fred_handler c call_event 0 a) m.words a (fred_frame c call_event false) (first_event (view m false) true (reverse (addresses a 8)))) (sym (frame_address (stack_top p n)))
+      ∙ ap (frame_written c handler m.words frame_at (fred_frame c call_event false)) h
+      ∙ ap (λ f. Went handler (placed m.words frame_at f) frame_at) frame_is
+
+  abbrev pub arrival : Apic → Memory → Bool → After
+  arrival a m nmi = record { cpu = handler; apic = a; words = words_after m.words; nmi = nmi; step = Stepped.Delivered call_event (Some frame_at) }
+
+  -- the instruction delivers it
+  pub call_runs : (a : Apic) (m : Memory) (nmi : Bool) → t.rip + length (spelling Syscall) ≡ next → first_event (view m false) true (reverse (addresses frame_at 8)) ≡ None
+      → executed caller a m nmi (Some Syscall) ≡ arrival a m nmi
+  unfolding exec special user_may
+  call_runs a m nmi hn h =
+      ap (λ x. after_arrival a nmi (deliveries 4 (record caller { rip = x }) t.rip m call_event false)) hn
+      ∙ ap (after_arrival a nmi) (sym (went 3 4 (record caller { rip = next }) handler t.rip frame_at m (words_after m.words) call_event false refl (sym (delivery_is m h))))
