@@ -1,6 +1,7 @@
 -- The delivery of a system call: the frame that it writes, and the activation that it begins.
 use Rattle.std.proofs.Common.{◌≡◌, ℕ, suc, ◌+◌, ◌-◌, ◌*◌, ◌%◌, ◌^◌, ◌<◌, ◌≤◌, Bool, true, false, ◌&&◌, List, [], ◌∷◌, ◌++◌, get_or, set, drop, length, map, reverse, Option, Some, None, refl, sym, ap, ◌∙◌, subst, arith, inl}
 use Rattle.std.specs.Prelude.{◌==◌, if◌then◌else◌, slice_get}
+use Rattle.std.proofs.lemmas.List.{length-set}
 use Rattle.ev_isa.specs.Word.{NatMap, put_at, wrap}
 use Rattle.ev_isa.specs.Flags.{Flags, no_status, flags_word}
 use Rattle.ev_isa.specs.Instruction.{user_may}
@@ -28,13 +29,13 @@ use Rattle.ev_abstract.specs.Context.{BodyContext}
 use Rattle.ev_abstract.specs.Delivery.{body_at_start, saved_by}
 use Rattle.ev_concrete.specs.Opening.{regions}
 use Rattle.ev_built.specs.Built.{IsBuilt}
-use Rattle.ev_symbolic.specs.Value.{M}
+use Rattle.ev_symbolic.specs.Value.{M, K, X}
 use Rattle.ev_symbolic.specs.State.{in_win}
 use Rattle.ev_symbolic.specs.Agrees.{Env, eval, eval_flags, Known, Open, Fits, Agrees, with_words}
 use Rattle.ev_symbolic.proofs.Blocks.{begins}
-use Rattle.ev_blocks_fred.specs.Blocks.{SystemCall, Spot, AtEntry, frame, frame_words, fixed_words, fred_ground, enter, block}
+use Rattle.ev_blocks_fred.specs.Blocks.{SystemCall, cs_of, ss_of, Spot, AtEntry, frame, frame_words, fixed_words, fred_ground, enter, block}
 use Rattle.ev_refine.specs.Relation.{code_table, task_processor, top_of, rest_in, here, Entering, Active}
-use Rattle.ev_refine.proofs.UserFrame.{next_place, words_placed, placed_known, places_open, no_event, eight_open}
+use Rattle.ev_refine.proofs.UserFrame.{next_place, words_placed, placed_known, places_open, no_event, eight_open, eight_known, word_at_top}
 
 -- ---- sixteen registers, one by one
 
@@ -124,3 +125,71 @@ module _ (image : Image) (built : IsBuilt image) (p n : ℕ) (t : Task) (cr2 nex
   call_runs a m nmi hn h =
       ap (λ x. after_arrival a nmi (deliveries 4 (record caller { rip = x }) t.rip m call_event false)) hn
       ∙ ap (after_arrival a nmi) (sym (went 3 4 (record caller { rip = next }) handler t.rip frame_at m (words_after m.words) call_event false refl (sym (delivery_is m h))))
+
+  -- ---- the activation that begins
+
+  module _ (running : n ≡ 0) (small : p < 32) (long : length t.regs ≡ 16) (fits : FitsAt image built p) (opens : OpensAt image built p) where
+    top_is : top_of Fred image built SystemCall over ≡ stack_top p 0
+    top_is = ap (stack_top p) running
+
+    open_windows : (m : Memory) → m.regions ≡ regions image → Open env fred_ground.known m.regions × Open env fred_ground.shared m.regions
+    open_windows m h = opens over context (variables t next (task_selector p n) cr2 (body_code body)) no_flags m h top_is
+
+    fit : (spot : Spot) → Fits (code_table Fred image) env (block SystemCall spot)
+    fit spot = fits spot over context (variables t next (task_selector p n) cr2 (body_code body)) no_flags top_is refl refl
+
+    -- the kernel has access to the frame's words
+    pub frame_open : (m : Memory) → m.regions ≡ regions image → first_event (view m false) true (reverse (addresses frame_at 8)) ≡ None
+    frame_open m h = no_event m true (reverse (addresses frame_at 8)) (eight_open m.regions _ _ _ _ _ _ _ _ (places_open env fred_ground.known m.regions (open_windows m h).0 8 (M - 64) refl))
+
+    -- the words that the entry reads: its frame, the table's word and the mark
+    pub known : (words : NatMap ℕ) → words (user_table + 0x800) ≡ body_code body → words (pcpu p + 0x20) ≡ 0 → Known env fred_ground.known (words_after words) (enter SystemCall).opening.words
+    unfolding eval
+    known words ht hm = eight_known env fred_ground.known (words_after words)
+        (word_at_top (M - 8) (K 0)) (word_at_top (M - 16) (X 22)) (word_at_top (M - 24) (K (ss_of SystemCall))) (word_at_top (M - 32) (X 20)) (word_at_top (M - 40) (X 19)) (word_at_top (M - 48) (K (cs_of SystemCall))) (word_at_top (M - 56) (X 17)) (word_at_top (M - 64) (X 16)) fixed_words
+        (placed_known env fred_ground.known fred_ground.own (fit AtEntry).ground.sep (frame SystemCall) (M - 64) words fixed_words refl refl
+        (refl, ht, (refl, ap words (let e : (pcpu p + 0x20) % M ≡ pcpu p + 0x20 = omega arith in e) ∙ hm, tt)))
+
+    agrees : (m : Memory) → m.regions ≡ regions image → m.words (user_table + 0x800) ≡ body_code body → m.words (pcpu p + 0x20) ≡ 0
+        → Agrees env fred_ground (enter SystemCall).opening handler (with_words m (words_after m.words))
+    unfolding eval eval_flags flags_word
+    agrees m hr ht hm = record {
+      regs = ap (λ xs. set xs 4 frame_at) (listed_is t.regs long);
+      rip = refl;
+      flags = refl;
+      gs = (let e : pcpu p ≡ (pcpu p + 0) % M = omega arith in e);
+      kernel_gs = refl;
+      selector = refl;
+      cr2 = refl;
+      levels = ap (λ z. z ∷ env.rest.msrs.rsp) (let e : stack_top p n ≡ (stack_top p n + 0) % M = omega arith in e);
+      blocked = refl;
+      rest = refl;
+      words = known m.words ht hm;
+      known_open = (open_windows m hr).0;
+      shared_open = (open_windows m hr).1;
+    }
+
+    entering : Entering Fred image built SystemCall (variables t next (task_selector p n) cr2 (body_code body)) over context
+    entering = record {
+      framed = record { rip = refl; flags = refl; gs = refl; selector = refl; cr2 = refl };
+      regs = ap (λ xs. set (set xs 1 next) 11 (flags_word t.flags)) (listed_is t.regs long);
+      error = refl;
+      info = refl;
+      code = refl;
+      place = refl;
+      locals = refl;
+    }
+
+    pub begins_call : (m : Memory) → m.regions ≡ regions image → m.words (user_table + 0x800) ≡ body_code body → m.words (pcpu p + 0x20) ≡ 0
+        → Active Fred image built p 69 SystemCall over context handler (with_words m (words_after m.words))
+    begins_call m hr ht hm = record {
+      spot = AtEntry;
+      k = 0;
+      var = variables t next (task_selector p n) cr2 (body_code body);
+      flags = no_flags;
+      within = omega arith;
+      enough = omega arith;
+      at = begins (code_table Fred image) (enter SystemCall) env handler (with_words m (words_after m.words)) (fit AtEntry) refl (agrees m hr ht hm);
+      means = entering;
+      long = length-set t.regs 4 frame_at ∙ long;
+    }

@@ -67,3 +67,11 @@ no_event m write (a ∷ as') o = ap (λ z. or_else z (first_event (view m false)
 -- eight places, from the highest down
 pub eight_open : (regions : List Region) (a b c d e f g h : ℕ) → AllOpen regions (a ∷ b ∷ c ∷ d ∷ e ∷ f ∷ g ∷ h ∷ []) → AllOpen regions (h ∷ g ∷ f ∷ e ∷ d ∷ c ∷ b ∷ a ∷ [])
 eight_open regions a b c d e f g h (i, (j, (k, (l, (m, (n, (o, (q, r)))))))) = (q, (o, (n, (m, (l, (k, (j, (i, r))))))))
+
+abbrev pub word_at_top : ℕ → V → Word
+word_at_top off v = record { at = at_top off; val = v }
+
+-- eight known words in the other order
+pub eight_known : (e : Env) (W : List Win) (m : NatMap ℕ) (a b c d f g h i : Word) (ws : List Word) → Known e W m (a ∷ b ∷ c ∷ d ∷ f ∷ g ∷ h ∷ i ∷ ws) → Known e W m (i ∷ h ∷ g ∷ f ∷ d ∷ c ∷ b ∷ a ∷ ws)
+eight_known e W m a b c d f g h i ws (a0, a1, (b0, b1, (c0, c1, (d0, d1, (f0, f1, (g0, g1, (h0, h1, (i0, i1, r)))))))) =
+    (i0, i1, (h0, h1, (g0, g1, (f0, f1, (d0, d1, (c0, c1, (b0, b1, (a0, a1, r))))))))
