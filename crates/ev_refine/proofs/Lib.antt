@@ -7,3 +7,4 @@ pub mod UserFrame
 pub mod UserBody
 pub mod UserSafe
 pub mod SystemCall
+pub mod User

@@ -143,12 +143,17 @@ module _ (image : Image) (built : IsBuilt image) (p n : ℕ) (t : Task) (cr2 nex
     frame_open m h = no_event m true (reverse (addresses frame_at 8)) (eight_open m.regions _ _ _ _ _ _ _ _ (places_open env fred_ground.known m.regions (open_windows m h).0 8 (M - 64) refl))
 
     -- the words that the entry reads: its frame, the table's word and the mark
-    pub known : (words : NatMap ℕ) → words (user_table + 0x800) ≡ body_code body → words (pcpu p + 0x20) ≡ 0 → Known env fred_ground.known (words_after words) (enter SystemCall).opening.words
+    known : (words : NatMap ℕ) → words (user_table + 0x800) ≡ body_code body → words (pcpu p + 0x20) ≡ 0 → Known env fred_ground.known (words_after words) (enter SystemCall).opening.words
     unfolding eval
     known words ht hm = eight_known env fred_ground.known (words_after words)
         (word_at_top (M - 8) (K 0)) (word_at_top (M - 16) (X 22)) (word_at_top (M - 24) (K (ss_of SystemCall))) (word_at_top (M - 32) (X 20)) (word_at_top (M - 40) (X 19)) (word_at_top (M - 48) (K (cs_of SystemCall))) (word_at_top (M - 56) (X 17)) (word_at_top (M - 64) (X 16)) fixed_words
         (placed_known env fred_ground.known fred_ground.own (fit AtEntry).ground.sep (frame SystemCall) (M - 64) words fixed_words refl refl
         (refl, ht, (refl, ap words (let e : (pcpu p + 0x20) % M ≡ pcpu p + 0x20 = omega arith in e) ∙ hm, tt)))
+
+    -- the frame's second word is the RIP that was saved
+    pub saved_is : (words : NatMap ℕ) → words (user_table + 0x800) ≡ body_code body → words (pcpu p + 0x20) ≡ 0 → words_after words (wrap (frame_at + 8)) ≡ next
+    unfolding eval
+    saved_is words ht hm = ap (words_after words) (next_place (stack_top p n) (M - 64)) ∙ (known words ht hm).2.1
 
     agrees : (m : Memory) → m.regions ≡ regions image → m.words (user_table + 0x800) ≡ body_code body → m.words (pcpu p + 0x20) ≡ 0
         → Agrees env fred_ground (enter SystemCall).opening handler (with_words m (words_after m.words))
