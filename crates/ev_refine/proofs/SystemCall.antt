@@ -1,8 +1,8 @@
 -- The delivery of a system call: the frame that it writes, and the activation that it begins.
-use Rattle.std.proofs.Common.{◌≡◌, ℕ, suc, ◌+◌, ◌-◌, ◌*◌, ◌%◌, ◌^◌, ◌<◌, ◌≤◌, Bool, true, false, ◌&&◌, List, [], ◌∷◌, ◌++◌, get_or, set, drop, length, map, reverse, Option, Some, None, refl, sym, ap, ◌∙◌, subst, arith, inl}
-use Rattle.std.specs.Prelude.{◌==◌, if◌then◌else◌, slice_get}
+use Rattle.std.proofs.Common.{◌≡◌, ℕ, ◌+◌, ◌-◌, ◌%◌, ◌<◌, Bool, true, false, List, [], ◌∷◌, get_or, set, length, map, reverse, Some, None, refl, sym, ap, ◌∙◌, arith}
+use Rattle.std.specs.Prelude.{◌==◌, if◌then◌else◌}
 use Rattle.std.proofs.lemmas.List.{length-set}
-use Rattle.ev_isa.specs.Word.{NatMap, put_at, wrap}
+use Rattle.ev_isa.specs.Word.{NatMap, wrap}
 use Rattle.ev_isa.specs.Flags.{Flags, no_status, flags_word}
 use Rattle.ev_isa.specs.Instruction.{user_may}
 use Rattle.ev_isa.specs.Spelling.{spelling}
@@ -16,7 +16,7 @@ use Rattle.ev_body.specs.declared.image.Image.{Image}
 use Rattle.ev_effect.specs.Task.{Task}
 use Rattle.ev_effect.specs.Frame.{addresses, placed, first_event}
 use Rattle.ev_state.specs.Processor.{Processor, is_user}
-use Rattle.ev_state.specs.Outcome.{Outcome, Went, below, frame_written}
+use Rattle.ev_state.specs.Outcome.{Went, below, frame_written}
 use Rattle.ev_mem.specs.Memory.{Memory, view}
 use Rattle.ev_apic.specs.declared.apic.Apic.{Apic}
 use Rattle.ev_fred.specs.FredDelivery.{fred_delivery, fred_frame, in_fred_handler, ss_word}
@@ -24,18 +24,17 @@ use Rattle.ev_exec.specs.Exec.{exec}
 use Rattle.ev_proc.specs.declared.stepped.Stepped.{Stepped}
 use Rattle.ev_proc.specs.ProcessorStep.{After, after_arrival, deliveries, executed, special, has_fred}
 use Rattle.ev_proc.proofs.Tries.{went}
-use Rattle.ev_listing.specs.AddressMap.{pcpu, user_table, task_selector, stack_top, body_code, fred_page}
+use Rattle.ev_listing.specs.AddressMap.{pcpu, user_table, task_selector, stack_top, body_code}
 use Rattle.ev_abstract.specs.Context.{BodyContext}
 use Rattle.ev_abstract.specs.Delivery.{body_at_start, saved_by}
 use Rattle.ev_concrete.specs.Opening.{regions}
 use Rattle.ev_built.specs.Built.{IsBuilt}
 use Rattle.ev_symbolic.specs.Value.{M, K, X}
-use Rattle.ev_symbolic.specs.State.{in_win}
 use Rattle.ev_symbolic.specs.Agrees.{Env, eval, eval_flags, Known, Open, Fits, Agrees, with_words}
 use Rattle.ev_symbolic.proofs.Blocks.{begins}
-use Rattle.ev_blocks_fred.specs.Blocks.{SystemCall, cs_of, ss_of, Spot, AtEntry, frame, frame_words, fixed_words, fred_ground, enter, block}
+use Rattle.ev_blocks_fred.specs.Blocks.{SystemCall, cs_of, ss_of, Spot, AtEntry, frame, fixed_words, fred_ground, enter, block}
 use Rattle.ev_refine.specs.Relation.{code_table, task_processor, top_of, rest_in, here, Entering, Active}
-use Rattle.ev_refine.proofs.UserFrame.{next_place, words_placed, placed_known, places_open, no_event, eight_open, eight_known, word_at_top}
+use Rattle.ev_refine.proofs.UserFrame.{next_place, placed_known, places_open, no_event, eight_open, eight_known, word_at_top}
 
 -- ---- sixteen registers, one by one
 

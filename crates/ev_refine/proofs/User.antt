@@ -1,7 +1,7 @@
 -- The turns of the task: a plain instruction, or a system call, which begins an activation.
-use Rattle.std.proofs.Common.{◌≡◌, ℕ, suc, ◌+◌, ◌-◌, ◌*◌, ◌%◌, ◌<◌, ◌≤◌, Bool, true, false, ◌&&◌, List, [], ◌∷◌, set, length, map, Option, Some, None, refl, sym, ap, ◌∙◌, subst, arith, ◌⊎◌, inl, inr, ⊎_elim}
-use Rattle.std.specs.Prelude.{◌==◌, ◌||◌, if◌then◌else◌, slice_get, is_some}
-use Rattle.ev_isa.specs.Word.{NatMap, put_at, wrap}
+use Rattle.std.proofs.Common.{◌≡◌, ℕ, suc, ◌+◌, ◌-◌, ◌*◌, ◌%◌, ◌<◌, ◌≤◌, Bool, true, false, List, [], ◌∷◌, set, length, map, Option, Some, None, refl, sym, ap, ◌∙◌, subst, arith, ◌⊎◌, inl, inr, ⊎_elim}
+use Rattle.std.specs.Prelude.{◌||◌, if◌then◌else◌, slice_get, is_some}
+use Rattle.ev_isa.specs.Word.{NatMap, wrap}
 use Rattle.std.proofs.lemmas.List.{length-set}
 use Rattle.ev_isa.specs.Flags.{flags_word}
 use Rattle.ev_isa.specs.Spelling.{spelling}
@@ -18,7 +18,6 @@ use Rattle.ev_body.specs.WellFormed.{IsImage}
 use Rattle.ev_effect.specs.Task.{Task}
 use Rattle.ev_effect.specs.Frame.{placed}
 use Rattle.ev_state.specs.Processor.{Processor, is_user}
-use Rattle.ev_mem.specs.Memory.{Memory}
 use Rattle.ev_proc.specs.ProcessorStep.{After, executed, has_fred, instruction_at}
 use Rattle.ev_proc.specs.declared.stepped.Stepped.{Stepped}
 use Rattle.ev_listing.specs.AddressMap.{pcpu, user_table, task_words, stack_top, body_code}
@@ -30,7 +29,7 @@ use Rattle.ev_abstract.specs.Machine as abstract
 use Rattle.ev_abstract.specs.Delivery.{body_at_start, delivered, entered}
 use Rattle.ev_abstract.specs.UserCode.{user_view}
 use Rattle.ev_abstract.specs.UserCode as user
-use Rattle.ev_abstract.specs.Run.{turn, task_step}
+use Rattle.ev_abstract.specs.Run.{task_step}
 use Rattle.ev_concrete.specs.Opening.{opening_apic}
 use Rattle.ev_concrete.specs.ConcreteRun.{System, Activation, acted, after_step, activations_by, interrupted}
 use Rattle.ev_concrete.specs.LiveWords.{IsSafeStep}
@@ -49,7 +48,7 @@ use Rattle.ev_refine.proofs.UserPlain.{AtUser, at_user, plain_turn}
 use Rattle.ev_refine.proofs.UserFrame.{placed_other}
 use Rattle.ev_refine.proofs.UserBody.{IsSystemCall, is_system_call, table_word_is}
 use Rattle.ev_refine.proofs.UserSafe.{OnlyTask, overwrites_none}
-use Rattle.ev_refine.proofs.SystemCall.{call_event, returning, variables, FitsAt, OpensAt, caller, over, context, env, frame_at, handler, words_after, arrival, call_runs, frame_open, saved_is, begins_call}
+use Rattle.ev_refine.proofs.SystemCall.{call_event, returning, FitsAt, OpensAt, caller, over, context, env, frame_at, handler, words_after, arrival, call_runs, frame_open, saved_is, begins_call}
 
 is_empty : {X : Type 0} (xs : List X) → length xs ≡ 0 → xs ≡ []
 is_empty [] h = refl
@@ -75,6 +74,32 @@ delivered_is image p x n c hb hf =
     ∙ entered_is p x n image.bodies c.body c.is
     ∙ ap (λ k. (record x { bodies = body_at_start n User call_event ∷ [] }, Enter p k Other User 1 0 0 (Some (task x).rip) ∷ [])) c.key
 
+-- the processor p in the body, over the task that will go on at this address
+abbrev called : abstract.Processor → (next body : ℕ) → abstract.Processor
+called x next body = record (with_task x (returning (task x) next)) { bodies = body_at_start body User call_event ∷ [] }
+
+call_steps : (image : Image) (m : Machine) (p next body : ℕ) (c : IsSystemCall image body) → (processor m p).bodies ≡ [] → first_body 0 image.bodies 0x100 User ≡ Some body
+    → task_step image m p (user.executed (user_view (user_memory image m)) (task (processor m p)) next Syscall)
+    ≡ (with_processor m p (called (processor m p) next body), Enter p Sys Other User 1 0 0 (Some next) ∷ [])
+unfolding user.executed
+call_steps image m p next body c hb hf =
+    let x : abstract.Processor = processor m p in
+    let back : Task = returning (task x) next in
+    ap (λ (q : abstract.Processor × List Entry). (with_processor m p q.0, q.1)) (delivered_is image p (with_task x back) body c hb hf)
+    ∙ ap (λ (t : Task). (with_processor m p (called x next body), Enter p Sys Other User 1 0 0 (Some t.rip) ∷ [])) (put_same x.tasks x.running back)
+
+-- ---- what the processor's step shows of it
+
+shown_is : (p depth : ℕ) (c : Processor) (i : Option Ins) (r : After) (a next : ℕ) → is_user c ≡ true → depth ≡ 0 → has_fred c ≡ true → r.words (wrap (a + 8)) ≡ next
+    → shown_by p depth c i r (Stepped.Delivered call_event (Some a)) ≡ Enter p Sys Other User 1 0 0 (Some next) ∷ []
+unfolding key_of
+shown_is p depth c i r a next hu hd hf hs =
+    let address : Bool → ℕ = λ f. if f || false then wrap (a + 8) else a in
+    ap (λ u. Enter p Sys Other (if u then User else Kernel) (suc depth) 0 0 (if u then Some (r.words (address (has_fred c))) else None) ∷ []) hu
+    ∙ ap (λ d. Enter p Sys Other User (suc d) 0 0 (Some (r.words (address (has_fred c)))) ∷ []) hd
+    ∙ ap (λ f. Enter p Sys Other User 1 0 0 (Some (r.words (address f))) ∷ []) hf
+    ∙ ap (λ n. Enter p Sys Other User 1 0 0 (Some n) ∷ []) hs
+
 -- ---- what the call's frame leaves
 
 -- the frame lies between the areas and the code
@@ -92,7 +117,6 @@ module _ (image : Image) (formed : IsImage image) (built : IsBuilt image) (facts
   -- a system call
   pub call_turn : (left : NatMap ℕ) (s : System) (m : Machine) → Stands Fred image built left s m → (p : ℕ) → p < image.processors → (processor m p).bodies ≡ [] → FitsAt image built p → OpensAt image built p
       → (u : AtUser image formed built facts left s m p) → u.ins ≡ Syscall → TurnsTo image built left s m p
-  unfolding user.executed key_of
   call_turn left s m h p lt hb fits opens u hi =
       let x : abstract.Processor = processor m p in
       let c : Processor = s.cpus p in
@@ -112,7 +136,7 @@ module _ (image : Image) (formed : IsImage image) (built : IsBuilt image) (facts
       let b : BodyContext = context image built p n t c.cr2 next body in
       let back : Task = returning t next in
       let z : abstract.Processor = with_task x back in
-      let y : abstract.Processor = record z { bodies = b ∷ [] } in
+      let y : abstract.Processor = called x next body in
       let r : After = arrival image built p n t c.cr2 next body opening_apic s.memory false in
       let s' : System = (acted image.processors (after_step s p r) p r.step).0 in
       let m' : Machine = with_processor m p y in
@@ -150,7 +174,6 @@ module _ (image : Image) (formed : IsImage image) (built : IsBuilt image) (facts
       } in
       let saved : words' (wrap (a + 8)) ≡ next = saved_is image built p n t c.cr2 next body u.on.running small u.runs.long fits opens words table u.on.mark in
       let entries : List Entry = Enter p Sys Other User 1 0 0 (Some next) ∷ [] in
-      let saved_address : Bool → ℕ = λ f. if f || false then wrap (a + 8) else a in
       record {
         after = r;
         steps = u.steps ∙ ap (λ i. executed (caller image built p n t c.cr2 next body) opening_apic s.memory false (Some i)) hi
@@ -158,15 +181,11 @@ module _ (image : Image) (formed : IsImage image) (built : IsBuilt image) (facts
         machine = m';
         entries = entries;
         turns = u.turns ∙ ap (λ i. task_step image m p (user.executed (user_view (user_memory image m)) t (t.rip + length (spelling i)) i)) hi
-            ∙ ap (λ (q : abstract.Processor × List Entry). (with_processor m p q.0, q.1)) (delivered_is image p z body call hb found.1)
-            ∙ ap (λ (q : Task). (m', Enter p Sys Other User 1 0 0 (Some q.rip) ∷ [])) task_is;
+            ∙ call_steps image m p next body call hb found.1;
         seen = u.seen;
         now_left = 69;
         stands = stands_again image built left s m h p lt 69 s' m' refl (λ q i. stays q (not_there q i)) refl refl (subst (λ q. StandsOn Fred image built p 69 s' q) (sym (put_same m.processors p y)) stands_on);
-        shows = ap (λ v. Enter p Sys Other (if v then User else Kernel) (suc (length (s.activations p))) 0 0 (if v then Some (words' (saved_address (has_fred c))) else None) ∷ []) u.at_cpl3
-            ∙ ap (λ k. Enter p Sys Other User (suc k) 0 0 (Some (words' (saved_address (has_fred c)))) ∷ []) u.shallow
-            ∙ ap (λ (q : Processor). Enter p Sys Other User 1 0 0 (Some (words' (saved_address (has_fred q)))) ∷ []) u.runs.is
-            ∙ ap (λ k. Enter p Sys Other User 1 0 0 (Some k) ∷ []) saved;
+        shows = shown_is p (length (s.activations p)) c (instruction_at words c.rip) r a next u.at_cpl3 u.shallow (ap has_fred u.runs.is) saved;
         safe = overwrites_none image built s only (acted image.processors (after_step s p r) p r.step).1;
       }
 

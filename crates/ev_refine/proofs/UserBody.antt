@@ -1,6 +1,6 @@
 -- The body of system calls: it stands in the image, its key is that of SYSCALL, it has an item, and the table has its address.
-use Rattle.std.proofs.Common.{◌≡◌, ℕ, zero, suc, ◌+◌, ◌-◌, ◌*◌, ◌/◌, ◌%◌, ◌<◌, ◌≤◌, Bool, true, false, ◌&&◌, not, List, [], ◌∷◌, ◌++◌, length, Option, Some, None, refl, sym, ap, ◌∙◌, subst, arith}
-use Rattle.std.specs.Prelude.{◌==◌, if◌then◌else◌, nat_lt, nat_le, ◌||◌, slice_get, is_some, flat_map}
+use Rattle.std.proofs.Common.{◌≡◌, ℕ, zero, suc, ◌+◌, ◌-◌, ◌*◌, ◌/◌, ◌%◌, ◌<◌, Bool, true, false, ◌&&◌, List, [], ◌∷◌, ◌++◌, length, Some, refl, ap, ◌∙◌, subst, arith}
+use Rattle.std.specs.Prelude.{◌==◌, if◌then◌else◌, nat_lt, nat_le, slice_get, flat_map}
 use Rattle.std.specs.List.{list_all}
 use Rattle.std.proofs.lemmas.Bool.{eqb-true, ltb-true}
 use Rattle.ev_isa.specs.declared.mode.Mode.TheVariants.{Fred}
@@ -12,8 +12,8 @@ use Rattle.ev_body.specs.declared.item.Item.{Item}
 use Rattle.ev_body.specs.declared.body.Part.{Part}
 use Rattle.ev_body.specs.declared.body.Body.{Body}
 use Rattle.ev_body.specs.declared.image.Image.{Image}
-use Rattle.ev_body.specs.Bodies.{key_number, covers, body_items, first_body}
-use Rattle.ev_body.specs.WellFormed.{IsImage, is_key, is_ret, is_user_only, is_user_side, ends_with, is_body}
+use Rattle.ev_body.specs.Bodies.{key_number, covers, first_body}
+use Rattle.ev_body.specs.WellFormed.{IsImage, is_key, is_ret, ends_with, is_body}
 use Rattle.ev_listing.specs.AddressMap.{pcpu, user_table, body_code}
 use Rattle.ev_abstract.specs.Run.{item_at}
 use Rattle.ev_concrete.specs.Opening.{opening_word, word_there, pcpu_word, body_address}

@@ -1,9 +1,7 @@
 -- The words of a frame: where a delivery places them, an activation knows them; all else stays; and the kernel has access to their places.
-use Rattle.std.proofs.Common.{◌≡◌, ℕ, zero, suc, ◌+◌, ◌-◌, ◌*◌, ◌%◌, ◌^◌, ◌<◌, ◌≤◌, Bool, true, false, ◌&&◌, List, [], ◌∷◌, length, map, Option, Some, None, refl, sym, ap, ◌∙◌, subst, arith, ◌⊎◌, inl, inr, ⊎_elim}
+use Rattle.std.proofs.Common.{◌≡◌, ℕ, zero, suc, ◌+◌, ◌*◌, ◌%◌, ◌<◌, ◌≤◌, Bool, true, false, ◌&&◌, List, [], ◌∷◌, length, map, None, refl, sym, ap, ◌∙◌, subst, arith, ◌⊎◌, inl, inr, ⊎_elim}
 use Rattle.ev_isa.specs.Word.{NatMap, put_at, wrap}
 use Rattle.ev_event.specs.Event.{ss}
-use Rattle.ev_event.specs.declared.event.Event.{Event}
-use Rattle.ev_effect.specs.Effect.{access_event}
 use Rattle.ev_effect.specs.Frame.{addresses, placed, or_else, first_event}
 use Rattle.ev_mem.specs.declared.region.Region.{Region}
 use Rattle.ev_mem.specs.Memory.{Memory, view}

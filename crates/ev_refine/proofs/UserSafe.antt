@@ -1,5 +1,5 @@
 -- Where only the task runs, no word is live: no activation stands, and the task's own area is in no use.
-use Rattle.std.proofs.Common.{◌≡◌, ℕ, ◌+◌, ◌-◌, ◌<◌, ◌≤◌, Bool, true, false, ◌&&◌, not, List, [], ◌∷◌, length, get_or, map, Option, Some, None, refl, sym, ap, ◌∙◌, subst}
+use Rattle.std.proofs.Common.{◌≡◌, ℕ, ◌+◌, ◌-◌, Bool, true, false, ◌&&◌, not, List, [], ◌∷◌, length, get_or, map, refl, ap, ◌∙◌}
 use Rattle.std.specs.Prelude.{◌==◌, ◌||◌, nat_lt, nat_le, filter}
 use Rattle.std.specs.List.{list_any}
 use Rattle.std.proofs.lemmas.Bool.{eq-eqb}
@@ -13,7 +13,7 @@ use Rattle.ev_state.specs.Processor.{is_user}
 use Rattle.ev_listing.specs.AddressMap.{pcpu, stack_top, task_words}
 use Rattle.ev_concrete.specs.Opening.{tasks_of}
 use Rattle.ev_concrete.specs.ConcreteRun.{System, Activation, interrupted}
-use Rattle.ev_concrete.specs.LiveWords.{stands_on, standing, lowest, is_from, is_in_use, area_bytes, runs_task, is_kept, is_live_on, is_live, overwrites}
+use Rattle.ev_concrete.specs.LiveWords.{stands_on, standing, lowest, is_from, is_in_use, area_bytes, is_kept, is_live_on, is_live, overwrites}
 use Rattle.ev_built.specs.Built.{IsBuilt}
 
 none_of : {X : Type 0} (test : X → Bool) → ((x : X) → test x ≡ false) → (xs : List X) → list_any test xs ≡ false

@@ -1,11 +1,11 @@
 -- A step of user code that raises no event: the processor and the task make the same effect.
-use Rattle.std.proofs.Common.{◌≡◌, ℕ, ◌+◌, ◌-◌, ◌*◌, ◌/◌, ◌^◌, ◌<◌, ◌≤◌, ◌⊎◌, inl, inr, Bool, true, false, ◌&&◌, not, List, [], ◌∷◌, length, Option, Some, None, Ok, Err, refl, sym, ap, ◌∙◌, subst, arith}
-use Rattle.std.specs.Prelude.{◌==◌, ◌||◌, if◌then◌else◌, nat_lt, nat_le}
+use Rattle.std.proofs.Common.{◌≡◌, ℕ, ◌+◌, ◌-◌, ◌*◌, ◌/◌, ◌^◌, ◌<◌, ◌≤◌, ◌⊎◌, inl, inr, Bool, true, false, ◌&&◌, not, [], length, Some, None, Ok, Err, refl, sym, ap, ◌∙◌}
+use Rattle.std.specs.Prelude.{if◌then◌else◌, nat_lt, nat_le}
 use Rattle.std.specs.List.{list_any, list_all}
-use Rattle.std.proofs.lemmas.Bool.{eq-eqb, le-leb, lt-ltb}
+use Rattle.std.proofs.lemmas.Bool.{le-leb, lt-ltb}
 use Rattle.std.proofs.lemmas.List.{length-set}
-use Rattle.ev_isa.specs.Word.{NatMap, put_at, displaced, is_canonical, no_numbers, greatest_below}
-use Rattle.ev_isa.specs.Flags.{Flags, flags_word, flags_of, alu}
+use Rattle.ev_isa.specs.Word.{displaced, is_canonical, no_numbers, greatest_below}
+use Rattle.ev_isa.specs.Flags.{Flags, alu}
 use Rattle.ev_isa.specs.Pages.{text_base, View, Place, Text, Page, Lower, Upper, page_base, place_of, fault_at, UserMemory}
 use Rattle.ev_isa.specs.Instruction.{user_may}
 use Rattle.ev_isa.specs.Spelling.{spelling}
@@ -16,11 +16,10 @@ use Rattle.ev_isa.specs.declared.instruction.Ins.TheVariants.{MovImm, Alu, Jmp, 
 use Rattle.ev_isa.specs.declared.mode.Mode.TheVariants.{Fred}
 use Rattle.ev_event.specs.Event.{gp}
 use Rattle.ev_event.specs.Boundary.{first_of, interrupt_or_instruction}
-use Rattle.ev_event.specs.declared.boundary.Next.{Next}
 use Rattle.ev_event.specs.declared.boundary.Next.TheVariants.{Instruction}
 use Rattle.ev_body.specs.declared.image.Image.{Image}
 use Rattle.ev_effect.specs.Task.{Task, reg, with_reg}
-use Rattle.ev_effect.specs.Effect.{Changed, effect, with_result, ◌>>=◌}
+use Rattle.ev_effect.specs.Effect.{effect, with_result, ◌>>=◌}
 use Rattle.ev_state.specs.Processor.{Processor, is_user, task_of, with_effect, interrupts_on}
 use Rattle.ev_state.proofs.FlagLaws.{flags_of-flags_word}
 use Rattle.ev_mem.specs.Memory.{Memory, view, page_fault}
@@ -36,8 +35,7 @@ use Rattle.ev_abstract.specs.UserCode as user
 use Rattle.ev_abstract.specs.Boundary.{Choice, Next as NextItem, choice, maskable, interrupt_or_next, is_nmi_body, open_to_interrupts, outranks}
 use Rattle.ev_abstract.specs.Run.{turn, chosen_step, next_step, task_step}
 use Rattle.ev_concrete.specs.Opening.{opening_apic}
-use Rattle.ev_built.specs.Built.{IsBuilt}
-use Rattle.ev_built.specs.Program.{begins, leads_to, is_built_instruction}
+use Rattle.ev_built.specs.Program.{leads_to, is_built_instruction}
 use Rattle.ev_refine.specs.Relation.{task_processor}
 
 -- ---- the boundary

@@ -1,16 +1,15 @@
 -- The instruction at the RIP of a task: it stands in the text, it is one of today's, and it leads to the beginning of another.
-use Rattle.std.proofs.Common.{◌≡◌, ℕ, suc, ◌+◌, ◌-◌, ◌<◌, ◌≤◌, Bool, true, false, ◌&&◌, List, [], ◌∷◌, ◌++◌, length, take, drop, Option, Some, None, refl, sym, ap, ◌∙◌, subst, arith, append_assoc}
+use Rattle.std.proofs.Common.{◌≡◌, ℕ, suc, ◌+◌, ◌-◌, ◌<◌, ◌≤◌, Bool, true, false, List, [], ◌∷◌, ◌++◌, length, take, drop, Option, Some, None, refl, sym, ap, ◌∙◌, subst, arith, append_assoc}
 use Rattle.std.specs.Prelude.{◌==◌, if◌then◌else◌, replicate, is_some}
 use Rattle.std.proofs.lemmas.Bool.{eqb-true}
 use Rattle.std.proofs.lemmas.List.{length-append}
 use Rattle.std.proofs.Math.Seq.{take-append-add}
 use Rattle.ev_isa.specs.Pages.{text_base}
-use Rattle.ev_isa.specs.Spelling.{spelling, four_bytes}
+use Rattle.ev_isa.specs.Spelling.{spelling}
 use Rattle.ev_isa.specs.Reading.{reading}
 use Rattle.ev_isa.specs.declared.instruction.AluOp.TheVariants.{Add}
 use Rattle.ev_isa.specs.declared.instruction.Ins.{Ins}
 use Rattle.ev_isa.specs.declared.instruction.Ins.TheVariants.{MovImm, Alu, Jmp, Syscall}
-use Rattle.ev_body.specs.declared.image.Image.{Image}
 use Rattle.ev_code.specs.Coding.{IsEncodable}
 use Rattle.ev_code.proofs.Spelled.{spelling_length}
 use Rattle.ev_code.proofs.ReadingForms.{reading_again}
