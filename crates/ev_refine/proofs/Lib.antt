@@ -8,3 +8,12 @@ pub mod Standing
 pub mod Return
 pub mod Items
 pub mod Kernel
+pub mod UserText
+pub mod UserState
+pub mod UserStep
+pub mod UserPlain
+pub mod UserFrame
+pub mod UserBody
+pub mod UserSafe
+pub mod SystemCall
+pub mod User
