@@ -1,11 +1,10 @@
 -- A step of a processor on which a body stands: an instruction of the kernel's code, an item, or the return.
-use Rattle.std.proofs.Common.{◌≡◌, ◌⊎◌, inl, inr, ⊎_elim, ℕ, zero, suc, ◌+◌, ◌-◌, ◌*◌, ◌%◌, ◌^◌, ◌<◌, ◌≤◌, Bool, true, false, not, ◌&&◌, ◌||◌, List, [], ◌∷◌, get_or, map, length, Option, Some, None, Ok, Err, refl, sym, ap, ◌∙◌, subst, arith}
+use Rattle.std.proofs.Common.{◌≡◌, ◌⊎◌, inl, inr, ℕ, suc, ◌+◌, ◌-◌, ◌%◌, ◌^◌, ◌<◌, ◌≤◌, Bool, true, false, not, ◌&&◌, List, [], ◌∷◌, get_or, length, Option, Some, None, Ok, Err, refl, sym, ap, ◌∙◌, subst, arith}
 use Rattle.std.specs.Prelude.{ℤ, pos, if◌then◌else◌, ◌==◌, slice_get, nat_le}
 use Rattle.std.specs.List.{list_any}
 use Rattle.std.proofs.lemmas.Bool.{leb-true, leb-false}
-use Rattle.ev_isa.specs.Word.{NatMap, put_at, bit, wrap, is_canonical, displaced, greatest_below}
+use Rattle.ev_isa.specs.Word.{NatMap, put_at, bit, is_canonical, displaced, greatest_below}
 use Rattle.ev_isa.specs.Flags.{Flags, flags_word, flags_of}
-use Rattle.ev_isa.specs.Spelling.{spelling}
 use Rattle.ev_isa.specs.declared.instruction.Ins.{Ins}
 use Rattle.ev_isa.specs.declared.instruction.Ins.TheVariants.{GsStore, Jmp, JmpReg, Eretu, Erets, Iretq, Sysretq}
 use Rattle.ev_isa.specs.declared.mode.Mode.TheVariants.{Fred}
@@ -16,17 +15,16 @@ use Rattle.ev_body.specs.declared.item.Item.TheVariants.{Log, Ret}
 use Rattle.ev_body.specs.declared.body.Body.{Body}
 use Rattle.ev_body.specs.declared.image.Image.{Image}
 use Rattle.ev_body.specs.WellFormed.{IsImage}
-use Rattle.ev_effect.specs.Task.{Task}
 use Rattle.ev_effect.specs.Effect.{◌>>=◌, effect}
-use Rattle.ev_listing.specs.AddressMap.{pcpu, stack_top, body_code, nlast_entry, repeat_entry}
+use Rattle.ev_listing.specs.AddressMap.{stack_top, body_code, nlast_entry, repeat_entry}
 use Rattle.ev_listing.specs.Expansion.{item_address}
-use Rattle.ev_state.specs.Processor.{Processor, is_user, register, task_of, with_effect}
-use Rattle.ev_state.specs.Outcome.{Outcome, Went}
+use Rattle.ev_state.specs.Processor.{Processor, is_user, task_of, with_effect}
+use Rattle.ev_state.specs.Outcome.{Went}
 use Rattle.ev_mem.specs.Memory.{Memory}
 use Rattle.ev_apic.specs.declared.apic.Apic.{Apic}
 use Rattle.ev_exec.specs.Exec.{Executed, Done, Special, completed, changed, exec}
 use Rattle.ev_fred.specs.FredDelivery.{eretu}
-use Rattle.ev_proc.specs.ProcessorStep.{has_fred, next_of, step, executed, ran, fault, special, after_return, instruction_at}
+use Rattle.ev_proc.specs.ProcessorStep.{has_fred, next_of, executed, ran, fault, special, after_return}
 use Rattle.ev_proc.specs.declared.stepped.Stepped.{Stepped}
 use Rattle.ev_abstract.specs.Boundary.{Choice, choice, maskable, open_to_interrupts, interrupt_or_next, deliverable, is_nmi_body}
 use Rattle.ev_abstract.specs.Context.{BodyContext, local, onward}
@@ -36,30 +34,29 @@ use Rattle.ev_abstract.specs.declared.entry.Entry.{Entry}
 use Rattle.ev_abstract.specs.Machine.{Machine, processor, with_processor, task}
 use Rattle.ev_abstract.specs.Machine as abstract
 use Rattle.ev_abstract.specs.Run.{item_at, item_or_nothing, next_step, chosen_step, turn}
-use Rattle.ev_concrete.specs.ConcreteRun.{System, Activation, marks_of, is_return, is_repeated, without_last, activations_by, concrete_step}
+use Rattle.ev_concrete.specs.ConcreteRun.{System, Activation, marks_of, is_return, is_repeated, without_last, activations_by}
 use Rattle.ev_concrete.specs.LiveWords.{IsSafeStep}
 use Rattle.ev_built.specs.Built.{IsBuilt}
-use Rattle.ev_symbolic.specs.Value.{M, V, K, P, X}
-use Rattle.ev_symbolic.specs.State.{Loc, SS, Line, Ground, Block, absolute, sreg, all_above}
+use Rattle.ev_symbolic.specs.Value.{M, V, K}
+use Rattle.ev_symbolic.specs.State.{Loc, SS, Line, Ground, Block, absolute}
 use Rattle.ev_symbolic.specs.Run.{moved, line_at, sstep, tidy_if, bstep, bnext, brun}
-use Rattle.ev_symbolic.specs.Openings.{at_base}
-use Rattle.ev_symbolic.specs.Agrees.{Env, untracked, eval, eval_flags, addr, Cell, Code, edge_cell, Open, Fits, Agrees, Within, with_words, Steps, StepsIf, At}
+use Rattle.ev_symbolic.specs.Agrees.{Env, eval, eval_flags, addr, Cell, Code, edge_cell, Agrees, Within, with_words, Steps, At}
 use Rattle.ev_symbolic.specs.Join.{env_after}
 use Rattle.ev_symbolic.specs.Machine.{Fetches, Inside}
 use Rattle.ev_symbolic.proofs.FlagBits.{flags_back}
 use Rattle.ev_symbolic.proofs.Sound.{executes, reg_ok, step_ok}
 use Rattle.ev_symbolic.proofs.Sound as sound
 use Rattle.ev_symbolic.proofs.Blocks.{unsome, LineOk, line_ok, cell_step, earlier, goes_on, at_end, joined}
-use Rattle.ev_blocks_fred.specs.Blocks.{Kind, SystemCall, Spot, AtEntry, AtItem, AtExit, fred_lines, fred_ground, fexit, enter, item, leave, block, edges_left}
+use Rattle.ev_blocks_fred.specs.Blocks.{Kind, SystemCall, Spot, AtEntry, AtItem, AtExit, fred_lines, fred_ground, enter, item, leave, block, edges_left}
 use Rattle.ev_blocks_fred.specs.Ends.{enter_end, leave_end, enter_values}
 use Rattle.ev_blocks_fred.proofs.Ends.{enter_run, enter_regs, enter_line, enter_joins, leave_run, leave_rip}
-use Rattle.ev_refine.specs.Relation.{code_table, item_place, address_of_item, RunsTask, here, top_of, rest_in, Entering, Saved, InItem, Leaving, Means, Active, IsContext, StandsOver, StandsOn, Stands, Chain, most_edges}
+use Rattle.ev_refine.specs.Relation.{code_table, item_place, address_of_item, RunsTask, here, top_of, rest_in, Entering, InItem, Leaving, Means, Active, IsContext, StandsOver, StandsOn, Stands, Chain}
 use Rattle.ev_refine.specs.Claims.{MakesEdge, MakesTurn}
-use Rattle.ev_refine.specs.Shown.{shown, shown_instruction}
+use Rattle.ev_refine.specs.Shown.{shown_instruction}
 use Rattle.ev_refine.proofs.Facts.{Facts, RetCell}
 use Rattle.ev_refine.proofs.Fits.{fits_at, opens_at, leaves_fixed, leaves_mark, leaves_task}
 use Rattle.ev_refine.proofs.Standing.{put_here, instruction_first, hidden, seen, after_ran, Runs, ran_step, ran_safe, ran_shown, ran_stays, ran_returns, stands_on_after, stands_after}
-use Rattle.ev_refine.proofs.Return.{task_canonical, returns}
+use Rattle.ev_refine.proofs.Return.{returns}
 use Rattle.ev_refine.proofs.Items.{Today, IsLog, IsRet, which, behind_log, local_is}
 
 -- ---- instructions by themselves

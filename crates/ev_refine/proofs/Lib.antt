@@ -17,3 +17,4 @@ pub mod UserBody
 pub mod UserSafe
 pub mod SystemCall
 pub mod User
+pub mod CodeFacts

@@ -1,33 +1,31 @@
 -- Steps of a processor as steps of the whole machine: the choice at the boundary, what a step leaves of the system, and the relation after it.
-use Rattle.std.proofs.Common.{◌≡◌, ℕ, suc, ◌+◌, ◌<◌, ◌≤◌, Bool, true, false, not, ◌&&◌, ◌||◌, List, [], ◌∷◌, length, Option, Some, None, refl, sym, ap, ◌∙◌, subst, arith}
-use Rattle.std.specs.Prelude.{if◌then◌else◌, ◌==◌}
+use Rattle.std.proofs.Common.{◌≡◌, ℕ, ◌+◌, ◌<◌, ◌≤◌, Bool, true, false, not, ◌&&◌, ◌||◌, List, [], length, Some, None, refl, sym, ap, ◌∙◌, subst, arith}
+use Rattle.std.specs.Prelude.{if◌then◌else◌}
 use Rattle.std.specs.List.{list_any}
 use Rattle.std.proofs.lemmas.Bool.{eq-eqb}
-use Rattle.ev_isa.specs.Word.{NatMap, NatSet, put_at, no_numbers, greatest_below}
+use Rattle.ev_isa.specs.Word.{NatMap, put_at}
 use Rattle.ev_isa.specs.declared.instruction.Ins.{Ins}
 use Rattle.ev_isa.specs.declared.mode.Mode.TheVariants.{Fred}
 use Rattle.ev_event.specs.declared.boundary.Next.{Next}
 use Rattle.ev_event.specs.Boundary.{first_of}
 use Rattle.ev_body.specs.declared.image.Image.{Image}
-use Rattle.ev_listing.specs.AddressMap.{pcpu, task_words}
+use Rattle.ev_listing.specs.AddressMap.{pcpu}
 use Rattle.ev_listing.specs.Marks.{Never, Always}
 use Rattle.ev_state.specs.Processor.{Processor, is_user, interrupts_on}
 use Rattle.ev_apic.specs.declared.apic.Apic.{Apic}
 use Rattle.ev_apic.specs.Apic.{next_vector}
-use Rattle.ev_mem.specs.Memory.{Memory}
-use Rattle.ev_proc.specs.ProcessorStep.{After, ran, next_of, step, instruction_at}
+use Rattle.ev_proc.specs.ProcessorStep.{ran, next_of, step, instruction_at}
 use Rattle.ev_proc.specs.declared.stepped.Stepped.{Stepped}
 use Rattle.ev_abstract.specs.Context.{BodyContext}
-use Rattle.ev_abstract.specs.declared.entry.Entry.{Entry}
 use Rattle.ev_abstract.specs.Machine.{Machine, processor}
 use Rattle.ev_abstract.specs.Machine as abstract
-use Rattle.ev_concrete.specs.Opening.{opening_apic, regions}
-use Rattle.ev_concrete.specs.ConcreteRun.{System, Activation, Marks, marks_of, mark_at, is_seen, is_visible, is_visible_by, is_return, is_repeated, without_last, acted, activations_by, after_step, concrete_step}
+use Rattle.ev_concrete.specs.Opening.{opening_apic}
+use Rattle.ev_concrete.specs.ConcreteRun.{System, Marks, mark_at, is_seen, is_visible, is_visible_by, is_return, is_repeated, without_last, acted, activations_by, after_step, concrete_step}
 use Rattle.ev_concrete.specs.LiveWords.{IsSafeStep, overwrites}
 use Rattle.ev_event.specs.declared.frame_note.FrameNote.{FrameNote}
 use Rattle.ev_built.specs.Built.{IsBuilt}
 use Rattle.ev_symbolic.specs.Agrees.{with_words}
-use Rattle.ev_refine.specs.Relation.{first_word, IsFixed, Chain, most_edges, StandsOn, Stands}
+use Rattle.ev_refine.specs.Relation.{IsFixed, Chain, most_edges, StandsOn, Stands}
 use Rattle.ev_refine.specs.Shown.{shown, shown_by, shown_instruction}
 
 -- ---- maps

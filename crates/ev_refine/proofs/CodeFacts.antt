@@ -1,5 +1,5 @@
 -- The facts on an image's code hold for the images of today.
-use Rattle.std.proofs.Common.{◌≡◌, ℕ, ◌&&◌, true, List, Some, refl, ap, ◌∙◌}
+use Rattle.std.proofs.Common.{◌≡◌, ℕ, true, List, Some, ap, ◌∙◌}
 use Rattle.std.specs.Prelude.{slice_get}
 use Rattle.std.specs.List.{list_all}
 use Rattle.ev_body.specs.declared.item.Item.{Item}
@@ -29,7 +29,7 @@ use Rattle.ev_fetch.proofs.Ruled.{IsLogOrRet, plain_are_spelled}
 use Rattle.ev_fetch.proofs.Opened.{holds_code, holds_text}
 use Rattle.ev_fetch.specs.Spelled.{AreSpelled}
 use Rattle.ev_fetch.specs.Claims.{kernel_cells}
-use Rattle.ev_refine.specs.Relation.{IsFixed, InText, InCode}
+use Rattle.ev_refine.specs.Relation.{InText, InCode}
 use Rattle.ev_refine.proofs.Facts.{Facts, RetCell}
 use Rattle.ev_refine.proofs.Items.{all_at}
 
