@@ -184,14 +184,16 @@ module _ (image : Image) (built : IsBuilt image) (good : IsImage image) (facts :
         let few : left p ≤ 69 = on.few in
         let chain : Chain Fred image built p now x x.bodies cpu (with_words s.memory words) = subst (λ bs. Chain Fred image built p now x bs cpu (with_words s.memory words)) (sym bodies) (w, SystemCall, refl, ctx, r, act) in
         let there : StandsOn Fred image built p now (after_ran s p cpu words) x = stands_on_after image built p (left p) now s x cpu words x.bodies on (omega arith) (leaves_mark image built facts p small hp w b v f top s.memory.words words wrote) (leaves_task image built facts p small hp w b v f top s.memory.words words wrote)
-            (ap length (ran_stays s p cpu cell.ins (fetches c.rip cell hc).1 hr) ∙ on.depth) chain in
-        (inl (record {
-          hidden = hidden (marks_of Fred image) s p first hu (facts.unmarked c.rip cell hc hm);
-          now_left = now;
-          fewer = fewer;
-          stands = subst (λ z. Stands Fred image built (put_at left p now) z.0 m) (sym (ran_step image.processors s p cpu words run))
-              (stands_after image built left s m m p now cpu words h hp (leaves_fixed image built facts p small hp w b v f top s.memory.words words wrote) refl refl there);
-        }), ran_safe image s p cpu words run)
+        (ap length (ran_stays s p cpu cell.ins (fetches c.rip cell hc).1 hr) ∙ on.depth) chain in (
+          inl (record {
+            hidden = hidden (marks_of Fred image) s p first hu (facts.unmarked c.rip cell hc hm);
+            now_left = now;
+            fewer = fewer;
+            stands = subst (λ z. Stands Fred image built (put_at left p now) z.0 m) (sym (ran_step image.processors s p cpu words run))
+                (stands_after image built left s m m p now cpu words h hp (leaves_fixed image built facts p small hp w b v f top s.memory.words words wrote) refl refl there);
+          }),
+          ran_safe image s p cpu words run,
+        )
 
     visible : (v : ℕ → ℕ) (f : Flags) (cell : Cell) → code c.rip ≡ Some cell → cell.mark ≡ true → is_user c ≡ false
         → (cpu : Processor) (words : NatMap ℕ) → Executes cell.ins cpu words → Within (env b v f) fred_ground.own fred_ground.shared s.memory.words words
@@ -203,13 +205,15 @@ module _ (image : Image) (built : IsBuilt image) (good : IsImage image) (facts :
         let there : StandsOn Fred image built p now (after_ran s p cpu words) (record x { bodies = bs }) = stands_on_after image built p (left p) now s x cpu words bs on few (leaves_mark image built facts p small hp w b v f top s.memory.words words wrote) (leaves_task image built facts p small hp w b v f top s.memory.words words wrote) depth chain in
         let placed : StandsOn Fred image built p now (after_ran s p cpu words) (put_at m.processors p (record x { bodies = bs }) p) = subst (StandsOn Fred image built p now (after_ran s p cpu words)) (sym (put_here m.processors p (record x { bodies = bs }))) there in
         let all : Stands Fred image built (put_at left p now) (after_ran s p cpu words) (with_processor m p (record x { bodies = bs })) = stands_after image built left s m (with_processor m p (record x { bodies = bs })) p now cpu words h hp (leaves_fixed image built facts p small hp w b v f top s.memory.words words wrote) refl refl placed in
-        let turned : Stands Fred image built (put_at left p now) (after_ran s p cpu words) (turn image m p).0 = subst (λ z. Stands Fred image built (put_at left p now) (after_ran s p cpu words) z.0) (sym ht) all in
-        (inr (record {
-          seen = seen (marks_of Fred image) s p first hu (facts.marked c.rip cell hc hm);
-          now_left = now;
-          stands = subst (λ z. Stands Fred image built (put_at left p now) z.0 (turn image m p).0) (sym (ran_step image.processors s p cpu words run)) turned;
-          entries = ran_shown s p cpu words cell.ins run hu (fetches c.rip cell hc).1 ∙ hes ∙ sym (ap (λ (y : Step). y.1) ht);
-        }), ran_safe image s p cpu words run)
+        let turned : Stands Fred image built (put_at left p now) (after_ran s p cpu words) (turn image m p).0 = subst (λ z. Stands Fred image built (put_at left p now) (after_ran s p cpu words) z.0) (sym ht) all in (
+          inr (record {
+            seen = seen (marks_of Fred image) s p first hu (facts.marked c.rip cell hc hm);
+            now_left = now;
+            stands = subst (λ z. Stands Fred image built (put_at left p now) z.0 (turn image m p).0) (sym (ran_step image.processors s p cpu words run)) turned;
+            entries = ran_shown s p cpu words cell.ins run hu (fetches c.rip cell hc).1 ∙ hes ∙ sym (ap (λ (y : Step). y.1) ht);
+          }),
+          ran_safe image s p cpu words run,
+        )
 
     -- ---- the abstract machine's step
 
@@ -265,7 +269,7 @@ module _ (image : Image) (built : IsBuilt image) (good : IsImage image) (facts :
         let u : Env = env_after e (enter_values SystemCall) g in
         let open_at = opens_at image built facts p small hp w b u.var g s.memory h.regions_are top in
         let agrees : Agrees u fred_ground (item SystemCall).opening cpu s.memory = joined e (enter_values SystemCall) fred_ground fred_ground (enter_end SystemCall) c s.memory (item SystemCall).opening a (enter_joins SystemCall) cpu g refl refl refl refl refl refl
-            (target ∙ low ∙ ap (λ y. (y + 0) % M) (sym place_is)) refl refl open_at.0 open_at.1 in
+        (target ∙ low ∙ ap (λ y. (y + 0) % M) (sym place_is)) refl refl open_at.0 open_at.1 in
         edge v f cell hc refl refl hu cpu s.memory.words
         (executes c s.memory (JmpReg 0) cell.next (Done cpu s.memory.words) hu (sym (facts.spaced c.rip cell hc)) (jump_by_register c s.memory 0 cell.next (ap is_canonical target ∙ fine.0)))
         (λ y far far'. refl) 23 (omega arith)
@@ -392,9 +396,9 @@ module _ (image : Image) (built : IsBuilt image) (good : IsImage image) (facts :
         let hc : code c.rip ≡ Some cell = ap code rip ∙ eretu_cell.1 in
         let back : eretu c s.memory ≡ Went w s.memory.words 0 = returns image built good p small x on.running w r b v f c s.memory a means.saved in
         let does : Executes Eretu w s.memory.words = λ n nmi.
-            executes c s.memory Eretu cell.next Special hu (sym (facts.spaced c.rip cell hc)) refl n nmi
-            ∙ ap (λ z. if z then after_return n s.memory nmi (eretu c s.memory) else fault c n s.memory nmi ud) (ap has_fred a.rest ∙ fred)
-            ∙ ap (after_return n s.memory nmi) back in
+        executes c s.memory Eretu cell.next Special hu (sym (facts.spaced c.rip cell hc)) refl n nmi
+        ∙ ap (λ z. if z then after_return n s.memory nmi (eretu c s.memory) else fault c n s.memory nmi ud) (ap has_fred a.rest ∙ fred)
+        ∙ ap (after_return n s.memory nmi) back in
         let once : is_repeated c w ≡ false = ap (λ y. (y == nlast_entry + 12) && (w.rip == repeat_entry)) rip in
         visible v f cell hc refl hu w s.memory.words does (λ y far far'. refl) []
         (ap length (ran_returns s p w Eretu (fetches c.rip cell hc).1 refl hu once) ∙ none_left (s.activations p) (on.depth ∙ ap length bodies)) 0 (omega arith)

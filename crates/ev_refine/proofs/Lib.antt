@@ -18,3 +18,4 @@ pub mod UserSafe
 pub mod SystemCall
 pub mod User
 pub mod CodeFacts
+pub mod Refine
