@@ -20,7 +20,8 @@ use Rattle.ev_distances.proofs.Places.{InWord, cases}
 use Rattle.ev_distances.proofs.Spans.{far, located_in}
 use Rattle.ev_distances.proofs.Regions.{stack_covered, area_covered, user_table_covered}
 use Rattle.ev_distances.proofs.Windows.{sep, open_ok, text_ok, in_area, on_stack, in_tables, in_code}
-use Rattle.ev_blocks_fred.specs.Blocks.{SystemCall, Spot, AtEntry, AtItem, AtExit, fred_ground, block}
+use Rattle.ev_activation.specs.Activation.{SystemCall, Spot, AtEntry, AtItem, AtExit}
+use Rattle.ev_blocks_fred.specs.Blocks.{fred_ground, block}
 use Rattle.ev_refine.specs.Relation.{code_table, IsFixed, InText, InTables, InTasks, InCode, here, top_of, rest_in}
 use Rattle.ev_refine.proofs.Facts.{Facts}
 

@@ -11,7 +11,7 @@ use Rattle.ev_abstract.specs.Machine as abstract
 use Rattle.ev_concrete.specs.ConcreteRun.{System}
 use Rattle.ev_proc.specs.ProcessorStep.{has_fred}
 use Rattle.ev_built.specs.Built.{IsBuilt}
-use Rattle.ev_blocks_fred.specs.Blocks.{Kind, SystemCall}
+use Rattle.ev_activation.specs.Activation.{Kind, SystemCall}
 use Rattle.ev_refine.specs.Relation.{Stands, RunsTask, Chain, rest_in}
 use Rattle.ev_refine.specs.Claims.{Tells}
 use Rattle.ev_refine.proofs.Facts.{Facts}

@@ -37,7 +37,8 @@ use Rattle.ev_built.specs.Built.{IsBuilt}
 use Rattle.ev_built.specs.Program.{begins, leads_to}
 use Rattle.ev_symbolic.specs.Value.{M}
 use Rattle.ev_symbolic.specs.Agrees.{eval, with_words}
-use Rattle.ev_blocks_fred.specs.Blocks.{SystemCall, frame}
+use Rattle.ev_activation.specs.Activation.{SystemCall}
+use Rattle.ev_blocks_fred.specs.Blocks.{frame}
 use Rattle.ev_refine.specs.Relation.{IsFixed, InText, InTables, InTasks, InCode, task_processor, RunsTask, IsContext, Chain, StandsOn, Stands}
 use Rattle.ev_refine.specs.Shown.{shown_by, key_of}
 use Rattle.ev_refine.specs.Claims.{MakesTurn}
