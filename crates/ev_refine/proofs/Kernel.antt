@@ -51,7 +51,8 @@ use Rattle.ev_activation.specs.Activation.{Kind, SystemCall, Spot, AtEntry, AtIt
 use Rattle.ev_blocks_fred.specs.Blocks.{fred_lines, fred_ground, enter, item, leave, block, edges_left}
 use Rattle.ev_blocks_fred.specs.Ends.{enter_end, leave_end, enter_values}
 use Rattle.ev_blocks_fred.proofs.Ends.{enter_run, enter_regs, enter_line, enter_joins, leave_run, leave_rip}
-use Rattle.ev_refine.specs.Relation.{code_table, item_place, address_of_item, RunsTask, here, top_of, rest_in, Entering, InItem, Leaving, Means, Active, IsContext, StandsOver, StandsOn, Stands, Chain}
+use Rattle.ev_table.specs.Table.{code_table}
+use Rattle.ev_refine.specs.Relation.{item_place, address_of_item, RunsTask, here, top_of, rest_in, Entering, InItem, Leaving, Means, Active, IsContext, StandsOver, StandsOn, Stands, Chain}
 use Rattle.ev_refine.specs.Claims.{MakesEdge, MakesTurn}
 use Rattle.ev_refine.specs.Shown.{shown_instruction}
 use Rattle.ev_refine.proofs.Facts.{Facts, RetCell}
@@ -129,7 +130,7 @@ body_at : (o : Option Body) (n : ℕ) (i : Item) → item_at o n ≡ Some i → 
 body_at None n i h = absurd (cc)
 body_at (Some b) n i h = (b, refl, h)
 
-module _ (image : Image) (built : IsBuilt image) (good : IsImage image) (facts : Facts image) (eretu_cell : (next : ℕ) × (code_table Fred image 0xffffffff81000426 ≡ Some (record { ins = Eretu; next = next; mark = true })))
+module _ (image : Image) (built : IsBuilt image) (good : IsImage image) (facts : Facts Fred image) (eretu_cell : (next : ℕ) × (code_table Fred image 0xffffffff81000426 ≡ Some (record { ins = Eretu; next = next; mark = true })))
     (left : NatMap ℕ) (s : System) (m : Machine) (h : Stands Fred image built left s m) (p : ℕ) (hp : p < image.processors) where
   abbrev code : Code
   code = code_table Fred image
@@ -182,7 +183,7 @@ module _ (image : Image) (built : IsBuilt image) (good : IsImage image) (facts :
         → (now : ℕ) → now < left p → Active Fred image built p now SystemCall w b cpu (with_words s.memory words) → Result
     edge v f cell hc hm hr hu cpu words he wrote now fewer act =
         let run : Runs s p cpu words = runs cell hc hu cpu words he in
-        let few : left p ≤ 69 = on.few in
+        let few : left p ≤ 75 = on.few in
         let chain : Chain Fred image built p now x x.bodies cpu (with_words s.memory words) = subst (λ bs. Chain Fred image built p now x bs cpu (with_words s.memory words)) (sym bodies) (w, SystemCall, refl, ctx, r, act) in
         let there : StandsOn Fred image built p now (after_ran s p cpu words) x = stands_on_after image built p (left p) now s x cpu words x.bodies on (omega arith) (leaves_mark image built facts p small hp w b v f top s.memory.words words wrote) (leaves_task image built facts p small hp w b v f top s.memory.words words wrote)
         (ap length (ran_stays s p cpu cell.ins (fetches c.rip cell hc).1 hr) ∙ on.depth) chain in (
@@ -199,7 +200,7 @@ module _ (image : Image) (built : IsBuilt image) (good : IsImage image) (facts :
     visible : (v : ℕ → ℕ) (f : Flags) (cell : Cell) → code c.rip ≡ Some cell → cell.mark ≡ true → is_user c ≡ false
         → (cpu : Processor) (words : NatMap ℕ) → Executes cell.ins cpu words → Within (env b v f) fred_ground.own fred_ground.shared s.memory.words words
         → (bs : List BodyContext) → length (activations_by s p (s.activations p) cpu Stepped.Ran) ≡ length bs
-        → (now : ℕ) → now ≤ 69 → Chain Fred image built p now (record x { bodies = bs }) bs cpu (with_words s.memory words)
+        → (now : ℕ) → now ≤ 75 → Chain Fred image built p now (record x { bodies = bs }) bs cpu (with_words s.memory words)
         → (es : List Entry) → shown_instruction p c (Some cell.ins) ≡ es → turn image m p ≡ (with_processor m p (record x { bodies = bs }), es) → Result
     visible v f cell hc hm hu cpu words he wrote bs depth now few chain es hes ht =
         let run : Runs s p cpu words = runs cell hc hu cpu words he in

@@ -99,11 +99,11 @@ ran_returns s p cpu i hi hr hu hl =
 module _ (image : Image) (built : IsBuilt image) where
   -- of this processor, where only its bodies have changed
   pub stands_on_after : (p left now : ℕ) (s : System) (x : abstract.Processor) (cpu : Processor) (words : NatMap ℕ) (bs : List BodyContext) → StandsOn Fred image built p left s x → now ≤ most_edges Fred image built
-      → words (pcpu p + 0x20) ≡ s.memory.words (pcpu p + 0x20) → words (pcpu p + 0x18) ≡ s.memory.words (pcpu p + 0x18)
+      → words (pcpu p + 0x20) ≡ s.memory.words (pcpu p + 0x20) → words (pcpu p + 0x10) ≡ s.memory.words (pcpu p + 0x10) → words (pcpu p + 0x18) ≡ s.memory.words (pcpu p + 0x18)
       → length (activations_by s p (s.activations p) cpu Stepped.Ran) ≡ length bs
       → Chain Fred image built p now (record x { bodies = bs }) bs cpu (with_words s.memory words)
       → StandsOn Fred image built p now (after_ran s p cpu words) (record x { bodies = bs })
-  stands_on_after p left now s x cpu words bs o few mark task depth chain = record {
+  stands_on_after p left now s x cpu words bs o few mark top task depth chain = record {
     few = few;
     running = o.running;
     waiting = o.waiting;
@@ -113,6 +113,7 @@ module _ (image : Image) (built : IsBuilt image) where
     apic = put_here s.apics p (s.apics p) ∙ o.apic;
     resched = o.resched;
     mark = mark ∙ o.mark;
+    top_is = top ∙ o.top_is;
     task_is = task ∙ o.task_is;
     depth = ap length (put_here s.activations p (activations_by s p (s.activations p) cpu Stepped.Ran)) ∙ depth;
     chain = subst (λ c. Chain Fred image built p now (record x { bodies = bs }) bs c (with_words s.memory words)) (sym (put_here s.cpus p cpu)) chain;

@@ -34,7 +34,8 @@ use Rattle.ev_symbolic.specs.Agrees.{Env, eval, eval_flags, Known, Open, Fits, A
 use Rattle.ev_symbolic.proofs.Blocks.{begins}
 use Rattle.ev_activation.specs.Activation.{SystemCall, Spot, AtEntry}
 use Rattle.ev_blocks_fred.specs.Blocks.{cs_of, ss_of, frame, fixed_words, fred_ground, enter, block}
-use Rattle.ev_refine.specs.Relation.{code_table, task_processor, top_of, rest_in, here, Entering, Active}
+use Rattle.ev_table.specs.Table.{code_table}
+use Rattle.ev_refine.specs.Relation.{task_processor, top_of, rest_in, here, Entering, Active}
 use Rattle.ev_refine.proofs.UserFrame.{next_place, placed_known, places_open, no_event, eight_open, eight_known, word_at_top}
 
 -- ---- sixteen registers, one by one

@@ -28,7 +28,7 @@ module _ (image : Image) (built : IsBuilt image) where
   chain_fred p left x [] c m h = task_fred p x c h
   chain_fred p left x (b ∷ below) c m h = ap has_fred h.5.at.agrees.rest ∙ kind_fred h.1 h.0 ∙ chain_fred p left x below h.0 m h.4
 
-  pub stands_tells : Facts image → (left : NatMap ℕ) (s : System) (m : Machine) → Stands Fred image built left s m → (p : ℕ) → p < image.processors → Tells Fred image s m p
+  pub stands_tells : Facts Fred image → (left : NatMap ℕ) (s : System) (m : Machine) → Stands Fred image built left s m → (p : ℕ) → p < image.processors → Tells Fred image s m p
   stands_tells facts left s m r p lt =
       let on = r.each p lt in
       let task = λ (h : (processor m p).bodies ≡ []). subst (λ bs. Chain Fred image built p (left p) (processor m p) bs (s.cpus p) s.memory) h on.chain in

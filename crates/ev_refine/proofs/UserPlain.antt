@@ -33,7 +33,7 @@ use Rattle.ev_refine.proofs.UserStep.{instruction_next, user_steps, task_turns, 
 low_canonical : (a : ℕ) → a < 0x410000 → is_canonical a ≡ true
 low_canonical a h = ap (λ b. b || (a / 2 ^ 47 == 2 ^ 17 - 1)) (eq-eqb (a / 2 ^ 47) 0 (let e : a / 140737488355328 ≡ 0 = omega arith in e))
 
-module _ (image : Image) (formed : IsImage image) (built : IsBuilt image) (facts : Facts image) where
+module _ (image : Image) (formed : IsImage image) (built : IsBuilt image) (facts : Facts Fred image) where
   -- the instruction of the task that comes next, on both sides
   pub record AtUser (left : NatMap ℕ) (s : System) (m : Machine) (p : ℕ) : Type 0 where
     pub on : StandsOn Fred image built p (left p) s (processor m p)

@@ -22,16 +22,12 @@ use Rattle.ev_concrete.specs.Opening.{listings, code_of, opening_word, opening_a
 use Rattle.ev_concrete.specs.ConcreteRun.{System}
 use Rattle.ev_built.specs.Built.{IsBuilt}
 use Rattle.ev_built.specs.Program.{begins}
-use Rattle.ev_symbolic.specs.Agrees.{Env, Code, untracked, At}
-use Rattle.ev_symbolic.specs.Listed as listed
+use Rattle.ev_symbolic.specs.Agrees.{Env, untracked, At}
+use Rattle.ev_table.specs.Table.{code_table}
 use Rattle.ev_activation.specs.Activation.{Kind, SystemCall, Spot, AtEntry, AtItem, AtExit}
 use Rattle.ev_symbolic.specs.State.{Block}
 use Rattle.ev_blocks_fred.specs.Blocks as fred
 use Rattle.ev_blocks_idt.specs.Blocks as idt
-
--- the code of a mode as a table
-abbrev pub code_table : Mode → Image → Code
-code_table mode image = listed.code_of (listings mode image)
 
 -- the blocks of a mode, and how many edges are left at most until a visible step
 abbrev pub block_of : Mode → Kind → Spot → Block
