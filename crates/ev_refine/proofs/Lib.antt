@@ -1,4 +1,8 @@
 pub mod Facts
+pub mod Maps
+pub mod Runs
+pub mod Opens
+pub mod Tells
 pub mod Fits
 pub mod Standing
 pub mod Return
