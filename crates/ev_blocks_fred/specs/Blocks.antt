@@ -2,10 +2,10 @@
 use Rattle.std.specs.Prelude.{ℕ, ◌+◌, ◌-◌, true, List, [], ◌∷◌, ◌++◌}
 use Rattle.ev_listing.specs.AddressMap.{fred_page, user_table}
 use Rattle.ev_listing.specs.FredCode.{fred_listings}
-use Rattle.ev_symbolic.specs.Value.{M, V, K, P, X, FVar}
-use Rattle.ev_symbolic.specs.State.{Word, SS, Win, Line, Ground, Block, absolute}
+use Rattle.ev_symbolic.specs.Value.{M, V, K, P, X}
+use Rattle.ev_symbolic.specs.State.{Word, Win, Line, Ground, Block, absolute}
 use Rattle.ev_symbolic.specs.Listed.{lines_of}
-use Rattle.ev_symbolic.specs.Openings.{word, at_base, gs_tag, gs_word, win_below, win_at, words_from, all_regs, opening}
+use Rattle.ev_symbolic.specs.Openings.{word, at_base, gs_tag, gs_word, win_below, win_at, words_from, opening}
 
 unfoldable pub fred_lines : List Line
 fred_lines = lines_of fred_listings

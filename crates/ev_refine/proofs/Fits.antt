@@ -5,23 +5,22 @@ use Rattle.ev_isa.specs.Word.{NatMap, is_canonical}
 use Rattle.ev_isa.specs.Flags.{Flags}
 use Rattle.ev_isa.specs.declared.mode.Mode.TheVariants.{Fred}
 use Rattle.ev_body.specs.declared.image.Image.{Image}
-use Rattle.ev_listing.specs.AddressMap.{pcpu, stack_top, user_table, idt_base, fred_page, task_words}
+use Rattle.ev_listing.specs.AddressMap.{pcpu, stack_top}
 use Rattle.ev_state.specs.Processor.{Processor, is_user}
 use Rattle.ev_mem.specs.Memory.{Memory}
 use Rattle.ev_proc.specs.ProcessorStep.{has_fred}
 use Rattle.ev_abstract.specs.Context.{BodyContext}
 use Rattle.ev_concrete.specs.Opening.{regions}
 use Rattle.ev_built.specs.Built.{IsBuilt}
-use Rattle.ev_symbolic.specs.Value.{M}
-use Rattle.ev_symbolic.specs.State.{Loc, Win, in_win, in_text}
+use Rattle.ev_symbolic.specs.State.{Loc, in_win, in_text}
 use Rattle.ev_symbolic.specs.Agrees.{Env, addr, Far, Open, Within, Grounded, Fits}
 use Rattle.ev_symbolic.specs.Agrees as agrees
-use Rattle.ev_distances.specs.Span.{Areas, Tables, Stacks, Codes, Span, start, InSpan, Located, AllLocated}
+use Rattle.ev_distances.specs.Span.{Areas, Tables, Stacks, Codes, Span, InSpan, AllLocated}
 use Rattle.ev_distances.proofs.Places.{InWord, cases}
 use Rattle.ev_distances.proofs.Spans.{far, located_in}
 use Rattle.ev_distances.proofs.Regions.{stack_covered, area_covered, user_table_covered}
 use Rattle.ev_distances.proofs.Windows.{sep, open_ok, text_ok, in_area, on_stack, in_tables, in_code}
-use Rattle.ev_blocks_fred.specs.Blocks.{SystemCall, Spot, AtEntry, AtItem, AtExit, fred_lines, fred_ground, block}
+use Rattle.ev_blocks_fred.specs.Blocks.{SystemCall, Spot, AtEntry, AtItem, AtExit, fred_ground, block}
 use Rattle.ev_refine.specs.Relation.{code_table, IsFixed, InText, InTables, InTasks, InCode, here, top_of, rest_in}
 use Rattle.ev_refine.proofs.Facts.{Facts}
 

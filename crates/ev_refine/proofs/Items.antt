@@ -1,6 +1,6 @@
 -- The items of today's bodies: an item is `log` or `ret`, the one behind a `log` is there, and a register is the local that it stands for.
-use Rattle.std.proofs.Common.{◌≡◌, ℕ, zero, suc, ◌+◌, ◌-◌, ◌<◌, ◌≤◌, Bool, true, false, not, ◌&&◌, ◌||◌, List, [], ◌∷◌, ◌++◌, get_or, map, length, Option, Some, None, refl, sym, ap, ◌∙◌, subst, arith}
-use Rattle.std.specs.Prelude.{slice_get, flat_map, nat_le, nat_lt, ◌==◌}
+use Rattle.std.proofs.Common.{◌≡◌, ℕ, zero, suc, ◌-◌, ◌<◌, ◌≤◌, Bool, true, false, not, ◌&&◌, ◌||◌, List, [], ◌∷◌, ◌++◌, get_or, map, length, Some, refl, sym, ap, ◌∙◌, arith}
+use Rattle.std.specs.Prelude.{slice_get, flat_map, nat_le, ◌==◌}
 use Rattle.std.specs.List.{list_all}
 use Rattle.std.proofs.lemmas.Bool.{leb-true, ltb-true}
 use Rattle.std.proofs.lemmas.List.{append-nil}
@@ -10,7 +10,7 @@ use Rattle.ev_body.specs.declared.body.Part.{Part}
 use Rattle.ev_body.specs.declared.body.Body.{Body}
 use Rattle.ev_body.specs.declared.image.Image.{Image}
 use Rattle.ev_body.specs.Bodies.{key_number, body_items}
-use Rattle.ev_body.specs.WellFormed.{IsImage, is_key, is_user_only, is_user_side, are_parts, has_no_parts, has_operands, ends_with, is_ret, is_local, is_body}
+use Rattle.ev_body.specs.WellFormed.{IsImage, is_key, is_user_only, is_user_side, are_parts, has_no_parts, has_operands, ends_with, is_ret, is_body}
 use Rattle.ev_built.specs.Built.{IsBuilt, is_built_item, is_built_body}
 use Rattle.ev_abstract.specs.Run.{item_at}
 use Rattle.ev_symbolic.specs.Agrees.{Env, eval}

@@ -1,32 +1,28 @@
 -- A step of a processor on which a body stands: an instruction of the kernel's code, an item, or the return.
-use Rattle.std.proofs.Common.{◌≡◌, ◌⊎◌, inl, inr, ⊎_elim, ℕ, zero, suc, ◌+◌, ◌-◌, ◌*◌, ◌%◌, ◌^◌, ◌<◌, ◌≤◌, Bool, true, false, not, ◌&&◌, ◌||◌, List, [], ◌∷◌, get_or, map, length, Option, Some, None, Ok, Err, refl, sym, ap, ◌∙◌, subst, arith}
-use Rattle.std.specs.Prelude.{ℤ, pos, if◌then◌else◌, ◌==◌, slice_get, nat_le}
+use Rattle.std.proofs.Common.{◌≡◌, ◌⊎◌, inl, inr, ℕ, suc, ◌+◌, ◌-◌, ◌%◌, ◌^◌, ◌<◌, ◌≤◌, Bool, true, false, not, ◌&&◌, List, [], ◌∷◌, get_or, length, Option, Some, None, refl, sym, ap, ◌∙◌, subst, arith}
+use Rattle.std.specs.Prelude.{pos, if◌then◌else◌, ◌==◌, slice_get, nat_le}
 use Rattle.std.specs.List.{list_any}
 use Rattle.std.proofs.lemmas.Bool.{leb-true, leb-false}
-use Rattle.ev_isa.specs.Word.{NatMap, put_at, bit, wrap, is_canonical, displaced, greatest_below}
+use Rattle.ev_isa.specs.Word.{NatMap, put_at, bit, is_canonical, displaced, greatest_below}
 use Rattle.ev_isa.specs.Flags.{Flags, flags_word, flags_of}
-use Rattle.ev_isa.specs.Spelling.{spelling}
 use Rattle.ev_isa.specs.declared.instruction.Ins.{Ins}
-use Rattle.ev_isa.specs.declared.instruction.Ins.TheVariants.{GsStore, Jmp, JmpReg, Eretu, Erets, Iretq, Sysretq}
+use Rattle.ev_isa.specs.declared.instruction.Ins.TheVariants.{GsStore, JmpReg, Eretu}
 use Rattle.ev_isa.specs.declared.mode.Mode.TheVariants.{Fred}
 use Rattle.ev_event.specs.declared.boundary.Next.{Next}
-use Rattle.ev_event.specs.Event.{gp, ud}
+use Rattle.ev_event.specs.Event.{ud}
 use Rattle.ev_body.specs.declared.item.Item.{Item}
 use Rattle.ev_body.specs.declared.item.Item.TheVariants.{Log, Ret}
 use Rattle.ev_body.specs.declared.body.Body.{Body}
 use Rattle.ev_body.specs.declared.image.Image.{Image}
 use Rattle.ev_body.specs.WellFormed.{IsImage}
-use Rattle.ev_effect.specs.Task.{Task}
-use Rattle.ev_effect.specs.Effect.{◌>>=◌, effect}
-use Rattle.ev_listing.specs.AddressMap.{pcpu, stack_top, body_code, nlast_entry, repeat_entry}
+use Rattle.ev_listing.specs.AddressMap.{stack_top, body_code, nlast_entry, repeat_entry}
 use Rattle.ev_listing.specs.Expansion.{item_address}
-use Rattle.ev_state.specs.Processor.{Processor, is_user, register, task_of, with_effect}
-use Rattle.ev_state.specs.Outcome.{Outcome, Went}
-use Rattle.ev_mem.specs.Memory.{Memory}
+use Rattle.ev_state.specs.Processor.{Processor, is_user}
+use Rattle.ev_state.specs.Outcome.{Went}
 use Rattle.ev_apic.specs.declared.apic.Apic.{Apic}
-use Rattle.ev_exec.specs.Exec.{Executed, Done, Special, completed, changed, exec}
+use Rattle.ev_exec.specs.Exec.{Done, Special, exec}
 use Rattle.ev_fred.specs.FredDelivery.{eretu}
-use Rattle.ev_proc.specs.ProcessorStep.{has_fred, next_of, step, executed, ran, fault, special, after_return, instruction_at}
+use Rattle.ev_proc.specs.ProcessorStep.{has_fred, next_of, executed, ran, fault, special, after_return}
 use Rattle.ev_proc.specs.declared.stepped.Stepped.{Stepped}
 use Rattle.ev_abstract.specs.Boundary.{Choice, choice, maskable, open_to_interrupts, interrupt_or_next, deliverable, is_nmi_body}
 use Rattle.ev_abstract.specs.Context.{BodyContext, local, onward}
@@ -36,66 +32,31 @@ use Rattle.ev_abstract.specs.declared.entry.Entry.{Entry}
 use Rattle.ev_abstract.specs.Machine.{Machine, processor, with_processor, task}
 use Rattle.ev_abstract.specs.Machine as abstract
 use Rattle.ev_abstract.specs.Run.{item_at, item_or_nothing, next_step, chosen_step, turn}
-use Rattle.ev_concrete.specs.ConcreteRun.{System, Activation, marks_of, is_return, is_repeated, without_last, activations_by, concrete_step}
+use Rattle.ev_concrete.specs.ConcreteRun.{System, Activation, marks_of, is_return, is_repeated, without_last, activations_by}
 use Rattle.ev_concrete.specs.LiveWords.{IsSafeStep}
 use Rattle.ev_built.specs.Built.{IsBuilt}
-use Rattle.ev_symbolic.specs.Value.{M, V, K, P, X}
-use Rattle.ev_symbolic.specs.State.{Loc, SS, Line, Ground, Block, absolute, sreg, all_above}
-use Rattle.ev_symbolic.specs.Run.{moved, line_at, sstep, tidy_if, bstep, bnext, brun}
-use Rattle.ev_symbolic.specs.Openings.{at_base}
-use Rattle.ev_symbolic.specs.Agrees.{Env, untracked, eval, eval_flags, addr, Cell, Code, edge_cell, Open, Fits, Agrees, Within, with_words, Steps, StepsIf, At}
+use Rattle.ev_symbolic.specs.Value.{M, V, K}
+use Rattle.ev_symbolic.specs.State.{SS, absolute}
+use Rattle.ev_symbolic.specs.Run.{moved, brun}
+use Rattle.ev_symbolic.specs.Agrees.{Env, eval, eval_flags, addr, Cell, Code, edge_cell, Agrees, Within, with_words, Steps, At}
 use Rattle.ev_symbolic.specs.Join.{env_after}
 use Rattle.ev_symbolic.specs.Machine.{Fetches, Inside}
 use Rattle.ev_symbolic.proofs.FlagBits.{flags_back}
 use Rattle.ev_symbolic.proofs.Sound.{executes, reg_ok, step_ok}
-use Rattle.ev_symbolic.proofs.Sound as sound
-use Rattle.ev_symbolic.proofs.Blocks.{unsome, LineOk, line_ok, cell_step, earlier, goes_on, at_end, joined}
-use Rattle.ev_blocks_fred.specs.Blocks.{Kind, SystemCall, Spot, AtEntry, AtItem, AtExit, fred_lines, fred_ground, fexit, enter, item, leave, block, edges_left}
+use Rattle.ev_symbolic.proofs.Blocks.{LineOk, line_ok, cell_step, earlier, goes_on, at_end, joined}
+use Rattle.ev_blocks_fred.specs.Blocks.{Kind, SystemCall, Spot, AtEntry, AtItem, AtExit, fred_lines, fred_ground, enter, item, leave, block, edges_left}
 use Rattle.ev_blocks_fred.specs.Ends.{enter_end, leave_end, enter_values}
 use Rattle.ev_blocks_fred.proofs.Ends.{enter_run, enter_regs, enter_line, enter_joins, leave_run, leave_rip}
-use Rattle.ev_refine.specs.Relation.{code_table, item_place, address_of_item, RunsTask, here, top_of, rest_in, Entering, Saved, InItem, Leaving, Means, Active, IsContext, StandsOver, StandsOn, Stands, Chain, most_edges}
+use Rattle.ev_refine.specs.Relation.{code_table, item_place, address_of_item, RunsTask, here, top_of, rest_in, Entering, InItem, Leaving, Means, Active, IsContext, StandsOver, StandsOn, Stands, Chain}
 use Rattle.ev_refine.specs.Claims.{MakesEdge, MakesTurn}
-use Rattle.ev_refine.specs.Shown.{shown, shown_instruction}
+use Rattle.ev_refine.specs.Shown.{shown_instruction}
 use Rattle.ev_refine.proofs.Facts.{Facts, RetCell}
+use Rattle.ev_refine.proofs.Maps.{at_same}
 use Rattle.ev_refine.proofs.Fits.{fits_at, opens_at, leaves_fixed, leaves_mark, leaves_task}
-use Rattle.ev_refine.proofs.Standing.{put_here, instruction_first, hidden, seen, after_ran, Runs, ran_step, ran_safe, ran_shown, ran_stays, ran_returns, stands_on_after, stands_after}
-use Rattle.ev_refine.proofs.Return.{task_canonical, returns}
+use Rattle.ev_refine.proofs.Instructions.{stays_inside, jumped, jump_by_register, jump}
+use Rattle.ev_refine.proofs.Standing.{instruction_first, hidden, seen, after_ran, Runs, ran_step, ran_safe, ran_shown, ran_stays, ran_returns, stands_on_after, stands_after}
+use Rattle.ev_refine.proofs.Return.{returns}
 use Rattle.ev_refine.proofs.Items.{Today, IsLog, IsRet, which, behind_log, local_is}
-
--- ---- instructions by themselves
-
--- no return is inside a block
-not_return : (G : Ground) (i : Ins) (l : Loc) (s t : SS) → tidy_if (sstep G i l s) ≡ Some t → is_return (Some i) ≡ false
-unfolding is_return
-not_return G Sysretq l s t h = absurd (cc)
-not_return G Iretq l s t h = absurd (cc)
-not_return G Eretu l s t h = absurd (cc)
-not_return G Erets l s t h = absurd (cc)
-not_return G _ l s t h = refl
-
-stays_inside : (code : Code) (b : Block) (k : ℕ) (e : Env) (c : Processor) (m : Memory) → At code b k e c m → (t : SS) → brun b (suc k) ≡ Some t → (i : Ins) (next : ℕ) → code c.rip ≡ Some (edge_cell i next) → is_return (Some i) ≡ false
-stays_inside code b k e c m at t h i next hc = go (line_at at.state.rip b.lines) (line_ok code e at.state.rip b.lines at.fits.stands) (ap (bnext b) (sym at.is) ∙ h)
-  where
-    go : (o : Option Line) → LineOk code e at.state.rip o → bstep b o at.state ≡ Some t → is_return (Some i) ≡ false
-    go None q r = absurd (cc)
-    go (Some x) q r =
-        let same : edge_cell x.ins (addr e x.next) ≡ edge_cell i next = unsome _ _ (sym q ∙ ap code (sym at.agrees.rip) ∙ hc) in
-        ap (λ (y : Cell). is_return (Some y.ins)) (sym same) ∙ not_return b.ground x.ins x.next at.state t r
-
--- a jump
-abbrev jumped : Processor → ℕ → Processor
-jumped c a = with_effect (completed c) (record (task_of c) { rip = a })
-
-abbrev jump_if : Processor → ℕ → NatMap ℕ → ℕ → Bool → Executed
-jump_if c next words a b = changed c ((if b then Ok (record (sound.task c next) { rip = a }) else Err (gp 0)) >>= (λ t. Ok (t, words)))
-
-jump_by_register : (c : Processor) (m : Memory) (r next : ℕ) → is_canonical (get_or c.regs r 0) ≡ true → exec c m (JmpReg r) next ≡ Done (jumped c (get_or c.regs r 0)) m.words
-unfolding exec effect
-jump_by_register c m r next h = ap (jump_if c next m.words (get_or c.regs r 0)) h
-
-jump : (c : Processor) (m : Memory) (d : ℤ) (next : ℕ) → is_canonical (displaced next d) ≡ true → exec c m (Jmp d) next ≡ Done (jumped c (displaced next d)) m.words
-unfolding exec effect
-jump c m d next h = ap (jump_if c next m.words (displaced next d)) h
 
 -- ---- numbers
 
@@ -187,14 +148,16 @@ module _ (image : Image) (built : IsBuilt image) (good : IsImage image) (facts :
         let few : left p ≤ 69 = on.few in
         let chain : Chain Fred image built p now x x.bodies cpu (with_words s.memory words) = subst (λ bs. Chain Fred image built p now x bs cpu (with_words s.memory words)) (sym bodies) (w, SystemCall, refl, ctx, r, act) in
         let there : StandsOn Fred image built p now (after_ran s p cpu words) x = stands_on_after image built p (left p) now s x cpu words x.bodies on (omega arith) (leaves_mark image built facts p small hp w b v f top s.memory.words words wrote) (leaves_task image built facts p small hp w b v f top s.memory.words words wrote)
-            (ap length (ran_stays s p cpu cell.ins (fetches c.rip cell hc).1 hr) ∙ on.depth) chain in
-        (inl (record {
-          hidden = hidden (marks_of Fred image) s p first hu (facts.unmarked c.rip cell hc hm);
-          now_left = now;
-          fewer = fewer;
-          stands = subst (λ z. Stands Fred image built (put_at left p now) z.0 m) (sym (ran_step image.processors s p cpu words run))
-              (stands_after image built left s m m p now cpu words h hp (leaves_fixed image built facts p small hp w b v f top s.memory.words words wrote) refl refl there);
-        }), ran_safe image s p cpu words run)
+        (ap length (ran_stays s p cpu cell.ins (fetches c.rip cell hc).1 hr) ∙ on.depth) chain in (
+          inl (record {
+            hidden = hidden (marks_of Fred image) s p first hu (facts.unmarked c.rip cell hc hm);
+            now_left = now;
+            fewer = fewer;
+            stands = subst (λ z. Stands Fred image built (put_at left p now) z.0 m) (sym (ran_step image.processors s p cpu words run))
+                (stands_after image built left s m m p now cpu words h hp (leaves_fixed image built facts p small hp w b v f top s.memory.words words wrote) refl refl there);
+          }),
+          ran_safe image s p cpu words run,
+        )
 
     visible : (v : ℕ → ℕ) (f : Flags) (cell : Cell) → code c.rip ≡ Some cell → cell.mark ≡ true → is_user c ≡ false
         → (cpu : Processor) (words : NatMap ℕ) → Executes cell.ins cpu words → Within (env b v f) fred_ground.own fred_ground.shared s.memory.words words
@@ -204,15 +167,17 @@ module _ (image : Image) (built : IsBuilt image) (good : IsImage image) (facts :
     visible v f cell hc hm hu cpu words he wrote bs depth now few chain es hes ht =
         let run : Runs s p cpu words = runs cell hc hu cpu words he in
         let there : StandsOn Fred image built p now (after_ran s p cpu words) (record x { bodies = bs }) = stands_on_after image built p (left p) now s x cpu words bs on few (leaves_mark image built facts p small hp w b v f top s.memory.words words wrote) (leaves_task image built facts p small hp w b v f top s.memory.words words wrote) depth chain in
-        let placed : StandsOn Fred image built p now (after_ran s p cpu words) (put_at m.processors p (record x { bodies = bs }) p) = subst (StandsOn Fred image built p now (after_ran s p cpu words)) (sym (put_here m.processors p (record x { bodies = bs }))) there in
+        let placed : StandsOn Fred image built p now (after_ran s p cpu words) (put_at m.processors p (record x { bodies = bs }) p) = subst (StandsOn Fred image built p now (after_ran s p cpu words)) (sym (at_same m.processors p p (record x { bodies = bs }) refl)) there in
         let all : Stands Fred image built (put_at left p now) (after_ran s p cpu words) (with_processor m p (record x { bodies = bs })) = stands_after image built left s m (with_processor m p (record x { bodies = bs })) p now cpu words h hp (leaves_fixed image built facts p small hp w b v f top s.memory.words words wrote) refl refl placed in
-        let turned : Stands Fred image built (put_at left p now) (after_ran s p cpu words) (turn image m p).0 = subst (λ z. Stands Fred image built (put_at left p now) (after_ran s p cpu words) z.0) (sym ht) all in
-        (inr (record {
-          seen = seen (marks_of Fred image) s p first hu (facts.marked c.rip cell hc hm);
-          now_left = now;
-          stands = subst (λ z. Stands Fred image built (put_at left p now) z.0 (turn image m p).0) (sym (ran_step image.processors s p cpu words run)) turned;
-          entries = ran_shown s p cpu words cell.ins run hu (fetches c.rip cell hc).1 ∙ hes ∙ sym (ap (λ (y : Step). y.1) ht);
-        }), ran_safe image s p cpu words run)
+        let turned : Stands Fred image built (put_at left p now) (after_ran s p cpu words) (turn image m p).0 = subst (λ z. Stands Fred image built (put_at left p now) (after_ran s p cpu words) z.0) (sym ht) all in (
+          inr (record {
+            seen = seen (marks_of Fred image) s p first hu (facts.marked c.rip cell hc hm);
+            now_left = now;
+            stands = subst (λ z. Stands Fred image built (put_at left p now) z.0 (turn image m p).0) (sym (ran_step image.processors s p cpu words run)) turned;
+            entries = ran_shown s p cpu words cell.ins run hu (fetches c.rip cell hc).1 ∙ hes ∙ sym (ap (λ (y : Step). y.1) ht);
+          }),
+          ran_safe image s p cpu words run,
+        )
 
     -- ---- the abstract machine's step
 
@@ -268,7 +233,7 @@ module _ (image : Image) (built : IsBuilt image) (good : IsImage image) (facts :
         let u : Env = env_after e (enter_values SystemCall) g in
         let open_at = opens_at image built facts p small hp w b u.var g s.memory h.regions_are top in
         let agrees : Agrees u fred_ground (item SystemCall).opening cpu s.memory = joined e (enter_values SystemCall) fred_ground fred_ground (enter_end SystemCall) c s.memory (item SystemCall).opening a (enter_joins SystemCall) cpu g refl refl refl refl refl refl
-            (target ∙ low ∙ ap (λ y. (y + 0) % M) (sym place_is)) refl refl open_at.0 open_at.1 in
+        (target ∙ low ∙ ap (λ y. (y + 0) % M) (sym place_is)) refl refl open_at.0 open_at.1 in
         edge v f cell hc refl refl hu cpu s.memory.words
         (executes c s.memory (JmpReg 0) cell.next (Done cpu s.memory.words) hu (sym (facts.spaced c.rip cell hc)) (jump_by_register c s.memory 0 cell.next (ap is_canonical target ∙ fine.0)))
         (λ y far far'. refl) 23 (omega arith)
@@ -395,9 +360,9 @@ module _ (image : Image) (built : IsBuilt image) (good : IsImage image) (facts :
         let hc : code c.rip ≡ Some cell = ap code rip ∙ eretu_cell.1 in
         let back : eretu c s.memory ≡ Went w s.memory.words 0 = returns image built good p small x on.running w r b v f c s.memory a means.saved in
         let does : Executes Eretu w s.memory.words = λ n nmi.
-            executes c s.memory Eretu cell.next Special hu (sym (facts.spaced c.rip cell hc)) refl n nmi
-            ∙ ap (λ z. if z then after_return n s.memory nmi (eretu c s.memory) else fault c n s.memory nmi ud) (ap has_fred a.rest ∙ fred)
-            ∙ ap (after_return n s.memory nmi) back in
+        executes c s.memory Eretu cell.next Special hu (sym (facts.spaced c.rip cell hc)) refl n nmi
+        ∙ ap (λ z. if z then after_return n s.memory nmi (eretu c s.memory) else fault c n s.memory nmi ud) (ap has_fred a.rest ∙ fred)
+        ∙ ap (after_return n s.memory nmi) back in
         let once : is_repeated c w ≡ false = ap (λ y. (y == nlast_entry + 12) && (w.rip == repeat_entry)) rip in
         visible v f cell hc refl hu w s.memory.words does (λ y far far'. refl) []
         (ap length (ran_returns s p w Eretu (fetches c.rip cell hc).1 refl hu once) ∙ none_left (s.activations p) (on.depth ∙ ap length bodies)) 0 (omega arith)

@@ -7,4 +7,5 @@ pub mod Fits
 pub mod Standing
 pub mod Return
 pub mod Items
+pub mod Instructions
 pub mod Kernel

@@ -1,8 +1,8 @@
 -- The return of an activation to the task: ERETU gives exactly the processor that the activation stands over.
-use Rattle.std.proofs.Common.{◌≡◌, ℕ, ◌+◌, ◌-◌, ◌/◌, ◌%◌, ◌^◌, ◌<◌, ◌≤◌, Bool, true, false, not, ◌&&◌, ◌||◌, List, [], ◌∷◌, ◌++◌, get_or, set, drop, map, length, Option, Some, None, refl, sym, ap, ◌∙◌, subst, arith, length-append}
+use Rattle.std.proofs.Common.{◌≡◌, ℕ, ◌+◌, ◌-◌, ◌/◌, ◌%◌, ◌^◌, ◌<◌, ◌≤◌, Bool, true, false, not, ◌&&◌, ◌||◌, List, [], ◌∷◌, ◌++◌, get_or, set, drop, map, length, Some, None, refl, sym, ap, ◌∙◌, subst, arith, length-append}
 use Rattle.std.specs.Prelude.{if◌then◌else◌, ◌==◌, is_some}
 use Rattle.std.proofs.lemmas.Bool.{eqb-true, eq-eqb}
-use Rattle.ev_isa.specs.Word.{NatMap, wrap, bit, is_canonical}
+use Rattle.ev_isa.specs.Word.{wrap, bit, is_canonical}
 use Rattle.ev_isa.specs.Flags.{Flags, modelled}
 use Rattle.ev_isa.specs.Spelling.{spelling}
 use Rattle.ev_isa.specs.Pages.{text_base}
@@ -24,7 +24,7 @@ use Rattle.ev_abstract.specs.Machine.{task}
 use Rattle.ev_abstract.specs.Machine as abstract
 use Rattle.ev_built.specs.Program.{spelled, instruction_from, begins}
 use Rattle.ev_built.specs.Built.{IsBuilt}
-use Rattle.ev_symbolic.specs.Value.{M, K, P, X}
+use Rattle.ev_symbolic.specs.Value.{M}
 use Rattle.ev_symbolic.specs.State.{Loc, in_win}
 use Rattle.ev_symbolic.specs.Openings.{below}
 use Rattle.ev_symbolic.specs.Agrees.{Env, untracked, eval, addr, Known, Agrees}
