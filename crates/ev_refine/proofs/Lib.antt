@@ -9,3 +9,14 @@ pub mod Return
 pub mod Items
 pub mod Instructions
 pub mod Kernel
+pub mod UserText
+pub mod UserState
+pub mod UserStep
+pub mod UserPlain
+pub mod UserFrame
+pub mod UserBody
+pub mod UserSafe
+pub mod SystemCall
+pub mod User
+pub mod CodeFacts
+pub mod Refine
