@@ -4,7 +4,7 @@ use Rattle.std.specs.Prelude.{ℤ, pos, suc, slice_get}
 use Rattle.ev_isa.specs.Word.{displaced, is_canonical}
 use Rattle.ev_isa.specs.Pages.{text_base}
 use Rattle.ev_isa.specs.Reading.{reading}
-use Rattle.ev_isa.specs.declared.instruction.Ins.TheVariants.{GsStore, Jmp}
+use Rattle.ev_isa.specs.declared.instruction.Ins.TheVariants.{GsStore, JmpReg}
 use Rattle.ev_isa.specs.declared.mode.Mode.{Mode}
 use Rattle.ev_body.specs.declared.item.Item.TheVariants.{Log, Ret}
 use Rattle.ev_body.specs.declared.body.Body.{Body}

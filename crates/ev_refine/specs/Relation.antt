@@ -5,6 +5,7 @@ use Rattle.ev_isa.specs.Word.{NatMap, no_numbers}
 use Rattle.ev_isa.specs.Flags.{Flags, flags_word}
 use Rattle.ev_isa.specs.Pages.{text_base}
 use Rattle.ev_isa.specs.declared.mode.Mode.{Mode}
+use Rattle.ev_isa.specs.declared.mode.Mode.TheVariants.{Idt, Fred}
 use Rattle.ev_body.specs.declared.item.Item.{Item}
 use Rattle.ev_body.specs.declared.item.Item.TheVariants.{Ret}
 use Rattle.ev_body.specs.declared.body.Body.{Body}
