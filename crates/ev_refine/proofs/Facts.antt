@@ -1,7 +1,7 @@
 -- What the proofs of steps use of an image's code: what stands where, its marks, and that memory holds its bytes.
 use Rattle.std.proofs.Common.{◌≡◌, ℕ, ◌+◌, ◌<◌, ◌≤◌, ◌^◌, true, false, length, Some, None}
-use Rattle.std.specs.Prelude.{ℤ, pos, suc, slice_get}
-use Rattle.ev_isa.specs.Word.{displaced, is_canonical}
+use Rattle.std.specs.Prelude.{pos, suc, slice_get}
+use Rattle.ev_isa.specs.Word.{is_canonical}
 use Rattle.ev_isa.specs.Pages.{text_base}
 use Rattle.ev_isa.specs.Reading.{reading}
 use Rattle.ev_isa.specs.declared.instruction.Ins.TheVariants.{GsStore, JmpReg}

@@ -132,5 +132,8 @@ module _ (image : Image) (built : IsBuilt image) (facts : Facts Fred image) (p :
     pub leaves_mark : m' (pcpu p + 0x20) ≡ m (pcpu p + 0x20)
     leaves_mark = alone (pcpu p + 0x20) (λ s. let x = s.from in let y = s.to in absurd (omega arith)) (λ s. let x = s.from in let y = s.to in absurd (omega arith))
 
+    pub leaves_top : m' (pcpu p + 0x10) ≡ m (pcpu p + 0x10)
+    leaves_top = alone (pcpu p + 0x10) (λ s. let x = s.from in let y = s.to in absurd (omega arith)) (λ s. let x = s.from in let y = s.to in absurd (omega arith))
+
     pub leaves_task : m' (pcpu p + 0x18) ≡ m (pcpu p + 0x18)
     leaves_task = alone (pcpu p + 0x18) (λ s. let x = s.from in let y = s.to in absurd (omega arith)) (λ s. let x = s.from in let y = s.to in absurd (omega arith))

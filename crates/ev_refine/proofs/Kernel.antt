@@ -48,13 +48,13 @@ use Rattle.ev_activation.specs.Activation.{Kind, SystemCall, Spot, AtEntry, AtIt
 use Rattle.ev_blocks_fred.specs.Blocks.{fred_lines, fred_ground, enter, item, leave, block, edges_left}
 use Rattle.ev_blocks_fred.specs.Ends.{enter_end, leave_end, enter_values}
 use Rattle.ev_blocks_fred.proofs.Ends.{enter_run, enter_regs, enter_line, enter_joins, leave_run, leave_rip}
-use Rattle.ev_table.specs.Table.{code_table, RetCell}
+use Rattle.ev_table.specs.Table.{code_table, other_exit, RetCell}
 use Rattle.ev_refine.specs.Relation.{item_place, address_of_item, RunsTask, here, top_of, rest_in, Entering, InItem, Leaving, Means, Active, IsContext, StandsOver, StandsOn, Stands, Chain}
 use Rattle.ev_refine.specs.Claims.{MakesEdge, MakesTurn}
 use Rattle.ev_refine.specs.Shown.{shown_instruction}
 use Rattle.ev_refine.proofs.Facts.{Facts}
 use Rattle.ev_refine.proofs.Maps.{at_same}
-use Rattle.ev_refine.proofs.Fits.{fits_at, opens_at, leaves_fixed, leaves_mark, leaves_task}
+use Rattle.ev_refine.proofs.Fits.{fits_at, opens_at, leaves_fixed, leaves_mark, leaves_top, leaves_task}
 use Rattle.ev_refine.proofs.Instructions.{stays_inside, jumped, jump_by_register, jump}
 use Rattle.ev_refine.proofs.Standing.{instruction_first, hidden, seen, after_ran, Runs, ran_step, ran_safe, ran_shown, ran_stays, ran_returns, stands_on_after, stands_after}
 use Rattle.ev_refine.proofs.Return.{returns}
@@ -149,7 +149,7 @@ module _ (image : Image) (built : IsBuilt image) (good : IsImage image) (facts :
         let run : Runs s p cpu words = runs cell hc hu cpu words he in
         let few : left p ≤ 75 = on.few in
         let chain : Chain Fred image built p now x x.bodies cpu (with_words s.memory words) = subst (λ bs. Chain Fred image built p now x bs cpu (with_words s.memory words)) (sym bodies) (w, SystemCall, refl, ctx, r, act) in
-        let there : StandsOn Fred image built p now (after_ran s p cpu words) x = stands_on_after image built p (left p) now s x cpu words x.bodies on (omega arith) (leaves_mark image built facts p small hp w b v f top s.memory.words words wrote) (leaves_task image built facts p small hp w b v f top s.memory.words words wrote)
+        let there : StandsOn Fred image built p now (after_ran s p cpu words) x = stands_on_after image built p (left p) now s x cpu words x.bodies on (omega arith) (leaves_mark image built facts p small hp w b v f top s.memory.words words wrote) (leaves_top image built facts p small hp w b v f top s.memory.words words wrote) (leaves_task image built facts p small hp w b v f top s.memory.words words wrote)
         (ap length (ran_stays s p cpu cell.ins (fetches c.rip cell hc).1 hr) ∙ on.depth) chain in (
           inl (record {
             hidden = hidden (marks_of Fred image) s p first hu (facts.unmarked c.rip cell hc hm);
@@ -168,7 +168,7 @@ module _ (image : Image) (built : IsBuilt image) (good : IsImage image) (facts :
         → (es : List Entry) → shown_instruction p c (Some cell.ins) ≡ es → turn image m p ≡ (with_processor m p (record x { bodies = bs }), es) → Result
     visible v f cell hc hm hu cpu words he wrote bs depth now few chain es hes ht =
         let run : Runs s p cpu words = runs cell hc hu cpu words he in
-        let there : StandsOn Fred image built p now (after_ran s p cpu words) (record x { bodies = bs }) = stands_on_after image built p (left p) now s x cpu words bs on few (leaves_mark image built facts p small hp w b v f top s.memory.words words wrote) (leaves_task image built facts p small hp w b v f top s.memory.words words wrote) depth chain in
+        let there : StandsOn Fred image built p now (after_ran s p cpu words) (record x { bodies = bs }) = stands_on_after image built p (left p) now s x cpu words bs on few (leaves_mark image built facts p small hp w b v f top s.memory.words words wrote) (leaves_top image built facts p small hp w b v f top s.memory.words words wrote) (leaves_task image built facts p small hp w b v f top s.memory.words words wrote) depth chain in
         let placed : StandsOn Fred image built p now (after_ran s p cpu words) (put_at m.processors p (record x { bodies = bs }) p) = subst (StandsOn Fred image built p now (after_ran s p cpu words)) (sym (at_same m.processors p p (record x { bodies = bs }) refl)) there in
         let all : Stands Fred image built (put_at left p now) (after_ran s p cpu words) (with_processor m p (record x { bodies = bs })) = stands_after image built left s m (with_processor m p (record x { bodies = bs })) p now cpu words h hp (leaves_fixed image built facts p small hp w b v f top s.memory.words words wrote) refl refl placed in
         let turned : Stands Fred image built (put_at left p now) (after_ran s p cpu words) (turn image m p).0 = subst (λ z. Stands Fred image built (put_at left p now) (after_ran s p cpu words) z.0) (sym ht) all in (
@@ -315,7 +315,7 @@ module _ (image : Image) (built : IsBuilt image) (good : IsImage image) (facts :
         let e : Env = env b v f in
         let a : Agrees e fred_ground (item SystemCall).opening c s.memory = at_end code (item SystemCall) 0 (item SystemCall).opening refl e c s.memory at in
         let hu : is_user c ≡ false = ap is_user a.rest in
-        let rc : RetCell image (item_address Fred b.body body b.place) = facts.ret_cell b.body b.place body is hi in
+        let rc : RetCell (code_table Fred image) (item_address Fred b.body body b.place) (other_exit Fred) = facts.ret_cell b.body b.place body is hi in
         let hc : code c.rip ≡ Some rc.cell = ap code (at_item v f a body is) ∙ rc.is in
         let cpu : Processor = jumped c (displaced rc.cell.next rc.distance) in
         let run : exec c s.memory rc.cell.ins rc.cell.next ≡ Done cpu s.memory.words = ap (λ i. exec c s.memory i rc.cell.next) rc.jump ∙ jump c s.memory rc.distance rc.cell.next (ap is_canonical rc.leads) in

@@ -123,6 +123,7 @@ module _ (image : Image) (formed : IsImage image) (built : IsBuilt image) (facts
         apic = put_same s.apics p opening_apic;
         resched = u.on.resched;
         mark = u.on.mark;
+        top_is = u.on.top_is;
         task_is = u.on.task_is;
         depth = ap length (put_same s.activations p (activations_by s p (s.activations p) d Stepped.Ran)) ∙ ap length (same_activations s p (s.activations p) d u.at_cpl3) ∙ u.on.depth;
         chain = subst (λ z. Chain Fred image built p 0 y y.bodies z s.memory) (sym (put_same s.cpus p d)) chain;
