@@ -1,10 +1,15 @@
 //! The opening of the machine, built: processors, memory and visible instructions for an image.
 #![tactic(auto)]
 
+mod address;
+mod body;
+mod key;
 mod mark;
 mod opening;
 mod parts;
 mod places;
+mod regions;
+mod words;
 
 pub use mark::Mark;
 pub use opening::build;

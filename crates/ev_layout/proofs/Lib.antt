@@ -1,0 +1,3 @@
+pub mod Bodies
+pub mod Numbered
+pub mod Listed
