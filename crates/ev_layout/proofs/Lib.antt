@@ -1,3 +1,5 @@
 pub mod Bodies
 pub mod Numbered
 pub mod Listed
+pub mod There
+pub mod Filling

@@ -3,6 +3,7 @@
 
 mod address;
 mod body;
+mod fill;
 mod key;
 mod mark;
 mod opening;

@@ -3,8 +3,8 @@
 ghost use Rattle.std.specs.Prelude.{◌≡◌, ◌<◌, ◌≤◌, ◌+◌, ◌*◌, ◌-◌, ◌/◌, ◌%◌, ◌^◌, ◌⊎◌, length, true, MatchOption};
 ghost use Rattle.ev_isa.specs.declared.mode.Mode.{Mode};
 ghost use Rattle.ev_built.specs.Built.{IsBuilt};
-ghost use Rattle.ev_concrete.specs.Opening.{body_address, byte_of, code_word, gate, idt_word, pcpu_word, record_word, table_word, task_word, word_there};
-ghost use Rattle.ev_listing.specs.AddressMap.{task_selector};
+ghost use Rattle.ev_concrete.specs.Opening.{body_address, byte_of, code_word, gate, idt_word, pcpu_word, record_word, table_word, task_word, tasks_of, within, word_there};
+ghost use Rattle.ev_listing.specs.AddressMap.{stack_top, fred_page, task_selector};
 ghost use Rattle.ev_layout.specs.Placed.{placed};
 
 use crate::address::{
@@ -164,4 +164,54 @@ fn task_word(n: u64, p: u64, i: u64, offset: u64) -> u64
         0x10 => task_selector(p, i),
         _ => 0,
     }
+}
+
+/// How many tasks processor p has.
+fn task_count(image: &Image, p: u64) -> u64
+    requires { IsBuilt image.now }
+    ensures is { result ≡ length (tasks_of image.now p) }
+    ensures few { result ≤ 4 }
+{
+    match image.tasks.as_slice().get(p as usize) {
+        Some(tasks) => tasks.len() as u64,
+        None => 0,
+    }
+}
+
+/// Whether an address lies in so many bytes from a base on.
+fn within(base: u64, bytes: u64, a: u64) -> bool
+    ensures { result ≡ within base bytes a }
+{
+    base <= a && a - base < bytes
+}
+
+/// The word at an address of the kernel that is a multiple of 8 and lies in no stack.
+pub fn kernel_word(image: &Image, blocks: &[Block], a: u64) -> u64
+    requires image { IsBuilt image.now }
+    requires upper { 2 ^ 63 ≤ a }
+    requires room { a + 8 ≤ 2 ^ 64 }
+    requires no_stack { (a < stack_top 0 0 - 0x4000) ⊎ (fred_page ≤ a) }
+    ensures { (mode : Mode) → result ≡ word_there (placed blocks.now) mode image.now a }
+{
+    let processors = u64::from(image.processors);
+    if a >= CODE {
+        return code_word(blocks, a);
+    }
+    if within(AREAS, AREA_BYTES * processors, a) {
+        return area_word((a - AREAS) / AREA_BYTES, a % AREA_BYTES);
+    }
+    if within(TASKS, TASKS_BYTES * processors, a) {
+        let i = (a - TASKS) / 0x40;
+        return task_word(task_count(image, i / 4), i / 4, i % 4, a % 0x40);
+    }
+    if within(USER_TABLE, TABLE_BYTES, a) {
+        return table_word(image, Side::User, (a - USER_TABLE) / 8);
+    }
+    if within(KERNEL_TABLE, TABLE_BYTES, a) {
+        return table_word(image, Side::Kernel, (a - KERNEL_TABLE) / 8);
+    }
+    if within(IDT, IDT_BYTES, a) {
+        return idt_word((a - IDT) / 8);
+    }
+    0
 }
