@@ -97,3 +97,31 @@ mapped_in image rs j a base end p e l b h k =
     let w : is_within r a ≡ true = both_true _ _ (le-leb r.base a (omega arith)) (lt-ltb a (r.base + 8 * r.words) (omega arith)) in
     let m = mapped_at (one_regions n) j (region 0 0 Kernel) a (omega (arith, length_one n)) w in
     subst (λ (x : List Region). is_some (slot_in x a) ≡ true) (sym (e ∙ regions_one image p)) m
+
+-- ---- blocks in regions
+
+either : (x y : Bool) → (x || y) ≡ true → (x ≡ true) ⊎ (y ≡ true)
+either true y h = inl refl
+either false y h = inr h
+
+split : (x y : Bool) → (x && y) ≡ true → (x ≡ true) × (y ≡ true)
+split true y h = (refl, h)
+split false y h = absurd cc
+
+abbrev pub LiesIn : ℕ → ℕ → Block → Type 0
+LiesIn low high b = (low ≤ b.address) × (b.address + length b.bytes ≤ high)
+
+lies_in : (low high : ℕ) (b : Block) → (nat_le low b.address && nat_le (b.address + length b.bytes) high) ≡ true → LiesIn low high b
+lies_in low high b h = let k = split (nat_le low b.address) _ h in (leb-true _ _ k.0, leb-true _ _ k.1)
+
+pub placed_by : (n : ℕ) (b : Block) → is_placed n b ≡ true → LiesIn fred_page code_end b ⊎ LiesIn (body_code 0) (body_code n) b
+unfolding is_placed
+placed_by n b h = ⊎_elim (λ k. inl (lies_in fred_page code_end b k)) (λ k. inr (lies_in (body_code 0) (body_code n) b k)) (either (nat_le fred_page b.address && nat_le (b.address + length b.bytes) code_end) _ h)
+
+pub block_mapped : (image : Image) (rs : List Region) (b : Block) (k count : ℕ) → image.processors ≡ 1 → rs ≡ regions image → is_placed (length image.bodies) b ≡ true → count ≡ word_count b → k < count
+    → is_some (slot_in rs (b.address - b.address % 8 + 8 * k)) ≡ true
+block_mapped image rs b k count p e h q l =
+    ⊎_elim
+    (λ m. let m0 = m.0 in let m1 = m.1 in mapped_in image rs 14 (b.address - b.address % 8 + 8 * k) fred_page code_end p e (omega arith) (refl, refl) (omega arith) (omega arith))
+    (λ m. let m0 = m.0 in let m1 = m.1 in mapped_in image rs 15 (b.address - b.address % 8 + 8 * k) (body_code 0) (body_code (length image.bodies)) p e (omega arith) (refl, omega arith) (omega arith) (omega arith))
+    (placed_by (length image.bodies) b h)
