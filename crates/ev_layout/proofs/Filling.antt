@@ -100,11 +100,11 @@ mapped_in image rs j a base end p e l b h k =
 
 -- ---- blocks in regions
 
-either : (x y : Bool) → (x || y) ≡ true → (x ≡ true) ⊎ (y ≡ true)
+pub either : (x y : Bool) → (x || y) ≡ true → (x ≡ true) ⊎ (y ≡ true)
 either true y h = inl refl
 either false y h = inr h
 
-split : (x y : Bool) → (x && y) ≡ true → (x ≡ true) × (y ≡ true)
+pub split : (x y : Bool) → (x && y) ≡ true → (x ≡ true) × (y ≡ true)
 split true y h = (refl, h)
 split false y h = absurd cc
 

@@ -3,3 +3,5 @@ pub mod Numbered
 pub mod Listed
 pub mod There
 pub mod Filling
+pub mod Apart
+pub mod Final
