@@ -5,3 +5,5 @@ pub mod There
 pub mod Filling
 pub mod Apart
 pub mod Final
+pub mod Linkable
+pub mod Results

@@ -3,6 +3,7 @@
 ghost use Rattle.std.specs.Prelude.{◌≡◌, ◌≤◌, ◌<◌, ◌+◌, ◌*◌, ℕ, List, ◌∷◌, [], true, map, length, IfOk};
 ghost use Rattle.std.specs.List.{list_all};
 ghost use Rattle.ev_asm.specs.declared.statement.Stmt.{Stmt};
+ghost use Rattle.ev_asm.specs.Assembled.{is_encoded};
 ghost use Rattle.ev_built.specs.Built.{is_built_item, is_built_body};
 ghost use Rattle.ev_listing.specs.Expansion.{item_label, exit_of, expansion, expansions};
 ghost use Rattle.ev_listing.specs.Marks.{stmts_of};
@@ -46,10 +47,11 @@ fn exit_text(mode: Mode, key: Key) -> &'static str
 }
 
 /// What an item of a body of this key becomes: an item that machines run today becomes one statement.
-#[tactic(auto, unfolding(ev_listing::specs::Expansion::expansion, ev_built::specs::Built::is_built_item))]
+#[tactic(auto, unfolding(ev_listing::specs::Expansion::expansion, ev_built::specs::Built::is_built_item, ev_asm::specs::Assembled::is_encoded, ev_isa::specs::Instruction::is_instruction))]
 pub fn expansion(mode: Mode, key: Key, item: &Item) -> Marked
     requires { is_built_item item.now ≡ true }
-    ensures { (b : ℕ) (f : ℕ → ℕ) (n : ℕ) → marked_of result ∷ [] ≡ expansion mode b key f n item.now }
+    ensures is { (b : ℕ) (f : ℕ → ℕ) (n : ℕ) → marked_of result ∷ [] ≡ expansion mode b key f n item.now }
+    ensures counts { is_encoded result.stmt ≡ true }
 {
     match item {
         Item::Log(s) => Marked {

@@ -3,6 +3,8 @@
 
 mod address;
 mod body;
+mod code;
+mod cpu;
 mod fill;
 mod key;
 mod mark;
@@ -10,6 +12,7 @@ mod opening;
 mod parts;
 mod places;
 mod regions;
+mod visible;
 mod words;
 
 pub use mark::Mark;

@@ -8,7 +8,11 @@ ghost use Rattle.ev_concrete.specs.Opening.{opening_cpu, opening_memory};
 ghost use Rattle.ev_concrete.specs.ConcreteRun.{marks_of};
 ghost use Rattle.ev_layout.specs.Marks.{marks_in};
 
+use crate::code::code;
+use crate::cpu::opening_cpus;
+use crate::fill::opening_memory;
 use crate::parts::Parts;
+use crate::visible::visible_places;
 use ev_body::Image;
 use ev_isa::{Mode, NoMemory};
 use std::alloc::Global;
@@ -22,5 +26,11 @@ pub fn build(alloc: Global, image: &Image, mode: Mode) -> Result<Parts, NoMemory
     ensures memory { IfOk result (λ parts. memory parts.mem ≡ opening_memory mode image.now) }
     ensures places { IfOk result (λ parts. marks_in parts.places ≡ marks_of mode image.now) }
 {
-    Err(NoMemory)
+    let places = visible_places(alloc, image, mode)?;
+    let code = code(alloc, image, mode)?;
+    let mem = opening_memory(alloc, image, code.blocks.as_slice())?;
+    match opening_cpus(alloc, image, mode) {
+        Ok(cpus) => Ok(Parts { cpus, mem, places }),
+        Err(_) => Err(NoMemory),
+    }
 }

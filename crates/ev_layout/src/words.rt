@@ -141,7 +141,7 @@ fn area_word(p: u64, offset: u64) -> u64
 }
 
 /// The selector of the GS of task i of processor p.
-fn task_selector(p: u64, i: u64) -> u64
+pub fn task_selector(p: u64, i: u64) -> u64
     requires p { p < 32 }
     requires i { i < 32 }
     ensures { result ≡ task_selector p i }
