@@ -1,9 +1,8 @@
 -- What the regions of an image keep.
-use Rattle.std.proofs.Common.{◌≡◌, ℕ, ◌+◌, ◌-◌, ◌*◌, ◌/◌, ◌%◌, ◌^◌, ◌<◌, ◌≤◌, ◌⊎◌, ⊎_elim, inl, inr, Bool, true, false, ◌&&◌, ◌==◌, List, [], ◌∷◌, ◌++◌, length, get_or, All, refl, sym, ap, ◌∙◌, arith, eqb-true, subst}
-use Rattle.std.specs.Prelude.{nat_lt, nat_le, if◌then◌else◌, ◌||◌, count_by, Any}
+use Rattle.std.proofs.Common.{◌≡◌, ℕ, ◌+◌, ◌-◌, ◌*◌, ◌/◌, ◌%◌, ◌^◌, ◌<◌, ◌≤◌, ⊎_elim, inl, inr, Bool, true, ◌&&◌, ◌==◌, List, [], ◌∷◌, ◌++◌, length, get_or, All, refl, sym, arith, eqb-true, subst}
+use Rattle.std.specs.Prelude.{nat_lt, nat_le, ◌||◌, count_by, Any}
 use Rattle.std.specs.List.{list_all}
 use Rattle.std.proofs.lemmas.Bool.{leb-true, ltb-true}
-use Rattle.std.proofs.lemmas.Bool.Decides.{nat_tests}
 use Rattle.std.proofs.lemmas.List.Elements.{All-head, All-tail, All-cons}
 use Rattle.ev_isa.specs.Word.{is_canonical}
 use Rattle.ev_body.specs.declared.image.Image.{Image}
@@ -77,7 +76,7 @@ apart n h = apart_swap front (bodies 64) (bodies n) user_regions refl (omega ari
 abbrev is_canonical_region : Region → Bool
 is_canonical_region r = nat_lt (r.base + 8 * r.words) (2 ^ 47) || (nat_le (2 ^ 64 - 2 ^ 47) r.base && nat_lt (r.base + 8 * r.words) (2 ^ 64))
 
-low_canonical : (a : ℕ) → a < 2 ^ 47 → is_canonical a ≡ true
+pub low_canonical : (a : ℕ) → a < 2 ^ 47 → is_canonical a ≡ true
 low_canonical a h = let e : a / 2 ^ 47 ≡ 0 = omega arith in rw e refl
 
 high_canonical : (a : ℕ) → 2 ^ 64 - 2 ^ 47 ≤ a → a < 2 ^ 64 → is_canonical a ≡ true

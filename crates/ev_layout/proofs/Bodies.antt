@@ -1,5 +1,5 @@
 -- The code of bodies, one body further.
-use Rattle.std.proofs.Common.{◌≡◌, ℕ, zero, suc, ◌+◌, ◌<◌, ◌≤◌, Bool, true, false, ◌&&◌, List, [], ◌∷◌, ◌++◌, length, get_or, drop, map, refl, sym, ap, ◌∙◌, arith, drop-cons, append_assoc}
+use Rattle.std.proofs.Common.{◌≡◌, ℕ, zero, suc, ◌<◌, ◌≤◌, Bool, true, false, ◌&&◌, List, [], ◌∷◌, ◌++◌, length, get_or, drop, map, refl, sym, ap, ◌∙◌, arith, drop-cons, append_assoc}
 use Rattle.std.proofs.lemmas.List.{drop_all, append-nil}
 use Rattle.std.specs.List.{list_all}
 use Rattle.ev_isa.specs.declared.mode.Mode.{Mode}
@@ -16,7 +16,7 @@ use Rattle.ev_asm.specs.declared.statement.Stmt.{Stmt}
 use Rattle.ev_built.specs.Built.{is_built_item, is_built_body}
 use Rattle.ev_listing.specs.AddressMap.{body_code}
 use Rattle.ev_listing.specs.Expansion.{expansions, function_address, body_stmts}
-use Rattle.ev_listing.specs.Marks.{Listing, stmts_of}
+use Rattle.ev_listing.specs.Marks.{stmts_of}
 use Rattle.ev_stub_fred.specs.Blocks.{section_of}
 use Rattle.ev_concrete.specs.Opening.{body_listings}
 

@@ -1,8 +1,8 @@
 -- Words that are filled one after another, and regions that hold them.
-use Rattle.std.proofs.Common.{◌≡◌, ◌≢◌, ℕ, zero, suc, ◌+◌, ◌-◌, ◌*◌, ◌/◌, ◌%◌, ◌^◌, ◌<◌, ◌≤◌, ◌⊎◌, ⊎_elim, inl, inr, Bool, true, false, ◌&&◌, ◌==◌, List, [], ◌∷◌, ◌++◌, map, length, get_or, Option, Some, None, refl, sym, ap, ◌∙◌, arith, eqb-true, is_some, subst}
+use Rattle.std.proofs.Common.{◌≡◌, ◌≢◌, ℕ, zero, suc, ◌+◌, ◌-◌, ◌*◌, ◌/◌, ◌%◌, ◌<◌, ◌≤◌, ◌⊎◌, ⊎_elim, inl, inr, Bool, true, false, ◌&&◌, ◌==◌, List, [], ◌∷◌, ◌++◌, length, get_or, Option, Some, None, refl, sym, ap, ◌∙◌, arith, eqb-true, is_some, subst}
 use Rattle.std.specs.Prelude.{nat_lt, nat_le, if◌then◌else◌, ◌||◌, flat_map}
 use Rattle.std.specs.Option.{option_map}
-use Rattle.std.proofs.lemmas.Bool.{le-leb, lt-ltb, leb-true, ltb-true, leb-false, ltb-false}
+use Rattle.std.proofs.lemmas.Bool.{le-leb, lt-ltb, leb-true, ltb-true, ltb-false}
 use Rattle.std.proofs.lemmas.Bool.Decides.{nat_tests}
 use Rattle.ev_isa.specs.Word.{NatMap, is_aligned, put_at, numbers_from}
 use Rattle.ev_body.specs.declared.image.Image.{Image}
@@ -14,7 +14,7 @@ use Rattle.ev_mem.specs.Mapped.{MappedWords, memory, is_within, slot_in}
 use Rattle.ev_mem.specs.Memory.{page_map}
 use Rattle.ev_listing.specs.AddressMap.{user_table, kernel_table, idt_base, cells_base, task_words, fred_page, code_end, body_code}
 use Rattle.ev_concrete.specs.Opening.{within, region, regions, stack_regions}
-use Rattle.ev_layout.specs.Filled.{filled, first_word, word_count, is_placed}
+use Rattle.ev_layout.specs.Filled.{filled, word_count, is_placed}
 use Rattle.ev_layout.proofs.Listed.{areas, user_regions}
 
 -- ---- one word more

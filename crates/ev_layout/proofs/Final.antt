@@ -1,9 +1,9 @@
 -- Memory after the tables and the code are filled is the memory of the opening.
-use Rattle.std.proofs.Common.{◌≡◌, ℕ, suc, ◌+◌, ◌-◌, ◌*◌, ◌/◌, ◌%◌, ◌^◌, ◌<◌, ◌≤◌, ◌⊎◌, ⊎_elim, inl, inr, Bool, true, false, not, ◌&&◌, ◌==◌, List, [], ◌∷◌, ◌++◌, map, length, get_or, drop, refl, sym, ap, ◌∙◌, arith, eqb-true, subst}
+use Rattle.std.proofs.Common.{◌≡◌, ℕ, suc, ◌+◌, ◌-◌, ◌*◌, ◌/◌, ◌%◌, ◌^◌, ◌<◌, ◌≤◌, Bool, true, false, not, ◌&&◌, List, [], ◌∷◌, ◌++◌, map, length, get_or, refl, sym, ap, ◌∙◌, arith, eqb-true, subst}
 use Rattle.std.specs.Prelude.{nat_lt, nat_le, if◌then◌else◌, ◌||◌}
 use Rattle.std.specs.Int.{w64, from_le_bytes}
 use Rattle.std.specs.List.{list_all}
-use Rattle.std.proofs.lemmas.Bool.{leb-true, ltb-true, leb-false, ltb-false, le-leb, lt-ltb, lt-leb}
+use Rattle.std.proofs.lemmas.Bool.{leb-true, ltb-true, ltb-false, le-leb, lt-ltb, lt-leb}
 use Rattle.std.proofs.lemmas.Bool.Decides.{nat_tests}
 use Rattle.ev_isa.specs.Word.{is_aligned, numbers_from}
 use Rattle.ev_isa.specs.Pages.{Place, Lower, Upper, place_of, text_word, word_at_start, words_at_start, text_base, page_base}
@@ -19,12 +19,11 @@ use Rattle.ev_mem.specs.Mapped.{is_within}
 use Rattle.ev_listing.specs.AddressMap.{pcpu, user_table, kernel_table, idt_base, task_words, stack_top, fred_page}
 use Rattle.ev_built.specs.Built.{IsBuilt}
 use Rattle.ev_concrete.specs.Opening.{Placed, byte_of, code_word, within, tasks_of, stack_word, word_there, opening_word, region, regions}
-use Rattle.ev_layout.specs.Filled.{filled, tables_filled, code_filled, first_word, word_count, is_in, is_covered}
+use Rattle.ev_layout.specs.Filled.{tables_filled, code_filled, first_word, word_count, is_in, is_covered}
 use Rattle.ev_layout.specs.Placed.{placed}
-use Rattle.ev_layout.proofs.Listed.{user_regions}
 use Rattle.ev_layout.proofs.Filling.{one_regions, regions_one, split}
 use Rattle.ev_layout.proofs.Apart.{front, bodies}
-use Rattle.ev_layout.proofs.There.{IsBelow, in_areas, in_tasks, there_code, there_none, not_lower}
+use Rattle.ev_layout.proofs.There.{there_code, there_none, not_lower}
 
 -- ---- the words at first
 
@@ -83,7 +82,7 @@ not_text text a false false i = refl
 
 lower_by : (x : Bool) (text : List ℕ) (a : ℕ) → (nat_le text_base a && nat_lt a (text_base + 0x10000)) ≡ x
     → (if x then first_by Text text (a - text_base) else first_in pages text a)
-      ≡ word_at_start text a (if x then Place.Text else (if nat_le page_base a && nat_lt a (page_base + 0x1000 * 256) then Place.Page ((a - page_base) / 0x1000) else (if nat_lt a (2 ^ 63) then Lower else Upper)))
+    ≡ word_at_start text a (if x then Place.Text else (if nat_le page_base a && nat_lt a (page_base + 0x1000 * 256) then Place.Page ((a - page_base) / 0x1000) else (if nat_lt a (2 ^ 63) then Lower else Upper)))
 unfolding word_at_start text_word
 lower_by true text a e = refl
 lower_by false text a e = pages_zero text a ∙ sym (not_text text a (nat_le page_base a && nat_lt a (page_base + 0x1000 * 256)) (nat_lt a (2 ^ 63)) ((a - page_base) / 0x1000))
@@ -129,15 +128,15 @@ unfolding code_word
 code_zero bs a p h =
     let z = λ (x : ℕ) (l : a ≤ x) (g : x < a + 8). byte_zero bs a x p l g h in
     λ i. from_le_bytes w64 (
-      z a (omega arith) (omega arith) i
-      ∷ z (suc a) (omega arith) (omega arith) i
-      ∷ z (suc (suc a)) (omega arith) (omega arith) i
-      ∷ z (suc (suc (suc a))) (omega arith) (omega arith) i
-      ∷ z (suc (suc (suc (suc a)))) (omega arith) (omega arith) i
-      ∷ z (suc (suc (suc (suc (suc a))))) (omega arith) (omega arith) i
-      ∷ z (suc (suc (suc (suc (suc (suc a)))))) (omega arith) (omega arith) i
-      ∷ z (suc (suc (suc (suc (suc (suc (suc a))))))) (omega arith) (omega arith) i
-      ∷ []
+    z a (omega arith) (omega arith) i
+    ∷ z (suc a) (omega arith) (omega arith) i
+    ∷ z (suc (suc a)) (omega arith) (omega arith) i
+    ∷ z (suc (suc (suc a))) (omega arith) (omega arith) i
+    ∷ z (suc (suc (suc (suc a)))) (omega arith) (omega arith) i
+    ∷ z (suc (suc (suc (suc (suc a))))) (omega arith) (omega arith) i
+    ∷ z (suc (suc (suc (suc (suc (suc a)))))) (omega arith) (omega arith) i
+    ∷ z (suc (suc (suc (suc (suc (suc (suc a))))))) (omega arith) (omega arith) i
+    ∷ []
     )
 
 -- ---- stacks

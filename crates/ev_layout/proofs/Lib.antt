@@ -7,3 +7,4 @@ pub mod Apart
 pub mod Final
 pub mod Linkable
 pub mod Results
+pub mod Marked

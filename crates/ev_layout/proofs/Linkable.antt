@@ -1,5 +1,5 @@
 -- The sections of all code can be linked, and their blocks lie in the code's regions.
-use Rattle.std.proofs.Common.{◌≡◌, ℕ, zero, suc, ◌+◌, ◌*◌, ◌^◌, ◌<◌, ◌≤◌, Bool, true, false, not, ◌&&◌, ◌==◌, List, [], ◌∷◌, ◌++◌, map, length, refl, sym, ap, ◌∙◌, arith, append_assoc, length-append, subst}
+use Rattle.std.proofs.Common.{◌≡◌, ℕ, suc, ◌+◌, ◌*◌, ◌^◌, ◌<◌, ◌≤◌, Bool, true, false, not, ◌&&◌, ◌==◌, List, [], ◌∷◌, ◌++◌, map, length, refl, sym, ap, ◌∙◌, arith, append_assoc, length-append, subst}
 use Rattle.std.specs.Prelude.{nat_lt, nat_le, ◌||◌, codes}
 use Rattle.std.specs.List.{list_all}
 use Rattle.std.proofs.lemmas.Bool.{leb-true, le-leb, lt-ltb}
@@ -26,11 +26,11 @@ use Rattle.ev_asm.specs.Linked.{section_places, linked, reaches, all_reach, is_l
 use Rattle.ev_asm.proofs.Statements.{bytes_size}
 use Rattle.ev_built.specs.Built.{is_built_item, is_built_body, mode_is_built}
 use Rattle.ev_listing.specs.AddressMap.{fred_page, code_end, body_code}
-use Rattle.ev_listing.specs.Expansion.{item_label, exit_of, expansion, expansions, function_address, body_stmts}
+use Rattle.ev_listing.specs.Expansion.{exit_of, expansion, expansions, function_address, body_stmts}
 use Rattle.ev_listing.specs.FredCode.{fred_listings}
 use Rattle.ev_listing.specs.Marks.{Listing, Marked, stmts_of, all_places}
-use Rattle.ev_concrete.specs.Opening.{Placed, placed_code, body_listings, kernel_listings, listings, code_of}
-use Rattle.ev_stub_fred.specs.Blocks.{section_of, block_of, blocks_of}
+use Rattle.ev_concrete.specs.Opening.{Placed, placed_code, body_listings, listings, code_of}
+use Rattle.ev_stub_fred.specs.Blocks.{section_of, block_of}
 use Rattle.ev_stub_fred.proofs.Listed.{fred_linkable, linked_is}
 use Rattle.ev_layout.specs.Filled.{is_placed, are_placed}
 use Rattle.ev_layout.specs.Placed.{placed}

@@ -1,5 +1,5 @@
 -- Blocks as bytes at their addresses. Own.
-use Rattle.std.specs.Prelude.{ℕ, List, map}
+use Rattle.std.specs.Prelude.{List, map}
 use Rattle.ev_asm.specs.declared.block.Block.{Block}
 use Rattle.ev_concrete.specs.Opening.{Placed}
 

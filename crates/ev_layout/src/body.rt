@@ -18,7 +18,6 @@ use ev_body::{Body, Image, Item, Key};
 use ev_isa::{Ins, Many, Mode, Name};
 use std::alloc::{AllocError, Global};
 
-
 /// The label of item n of body b.
 fn item_label(alloc: Global, b: usize, n: usize) -> Result<Name, AllocError>
     requires body { b < 1000 }

@@ -19,7 +19,6 @@ fn kernel_sections(alloc: Global, mode: Mode) -> Result<Vec<Section>, NoMemory>
     requires { mode_is_built mode ≡ true }
     ensures { IfOk result (λ v. v.items ≡ map section_of (kernel_listings mode)) }
 {
-    let _ = mode;
     Ok(fred_sections(alloc)?.into_vec())
 }
 
@@ -46,6 +45,7 @@ pub fn code(alloc: Global, image: &Image, mode: Mode) -> Result<Blocks, NoMemory
     ensures is { IfOk result (λ b. placed b.blocks ≡ code_of (listings mode image.now)) }
     ensures placed { IfOk result (λ b. are_placed (length image.now.bodies) b.blocks ≡ true) }
 {
+    // The limits of the image are known where it is read.
     let _ = &image.bodies;
     let sections = sections(alloc, image, mode)?;
     link(alloc, &sections)

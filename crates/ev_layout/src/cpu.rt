@@ -25,13 +25,20 @@ const TSS: u64 = 0x404;
 /// entries under FRED with its redzone of one line of 64 bytes (SDM volume 2, SYSCALL; FRED
 /// specification, "FRED configuration MSRs").
 const STAR: u64 = 0x0023_0010_0000_0000;
+
 const FMASK: u64 = 0x4_0200;
+
 const STACK_LEVELS: u64 = 0x3_0020;
+
 const CONFIG: u64 = 0xffff_ffff_8100_0040;
 
-/// The first task of processor p, or one of zeros where there is none.
+/// The first task of processor p.
 fn first_task(image: &Image, p: u64) -> TaskSpec
-    ensures { result ≡ get_or (tasks_of image.now p) 0 no_task }
+    requires image { IsBuilt image.now }
+    requires p { p < image.now.processors }
+    ensures is { result ≡ get_or (tasks_of image.now p) 0 no_task }
+    ensures start { is_canonical result.start ≡ true }
+    ensures base { result.gs ≡ 0 }
 {
     match image.tasks.as_slice().get(p as usize) {
         Some(tasks) => match tasks.as_slice().get(0) {
@@ -100,8 +107,9 @@ fn opening_cpu(image: &Image, mode: Mode, p: u64) -> Cpu
     ensures { result ≡ opening_cpu mode image.now p }
 {
     let task = first_task(image, p);
+    let regs = task.regs;
     Cpu {
-        regs: task.regs,
+        regs,
         rip: task.start,
         flags: START_FLAGS,
         cr2: 0,

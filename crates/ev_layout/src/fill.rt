@@ -10,7 +10,7 @@ ghost use Rattle.ev_layout.specs.Filled.{filled, tables_filled, code_filled, fir
 ghost use Rattle.ev_layout.specs.Placed.{placed};
 
 use crate::address::{
-    AREAS, AREA_BYTES, IDT, IDT_BYTES, KERNEL_TABLE, TABLE_BYTES, TASKS, TASKS_BYTES, USER_TABLE,
+    AREA_BYTES, AREAS, IDT, IDT_BYTES, KERNEL_TABLE, TABLE_BYTES, TASKS, TASKS_BYTES, USER_TABLE,
 };
 use crate::regions::regions;
 use crate::words::kernel_word;

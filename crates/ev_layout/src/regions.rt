@@ -8,7 +8,7 @@ ghost use Rattle.ev_concrete.specs.Opening.{region, stack_regions, regions};
 
 use crate::address::{
     AREA_BYTES, BODIES, BODY_BYTES, CELLS, CELLS_BYTES, CODE, CODE_BYTES, IDT, IDT_BYTES,
-    KERNEL_TABLE, PAGES, PAGE_BYTES, PAGE_MAP, PAGE_MAP_BYTES, STACK_BYTES, TABLE_BYTES, TASKS,
+    KERNEL_TABLE, PAGE_BYTES, PAGE_MAP, PAGE_MAP_BYTES, PAGES, STACK_BYTES, TABLE_BYTES, TASKS,
     TASKS_BYTES, TEXT, TEXT_BYTES, USER_TABLE, area, stack_top,
 };
 use ev_body::Image;

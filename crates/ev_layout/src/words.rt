@@ -8,7 +8,7 @@ ghost use Rattle.ev_listing.specs.AddressMap.{stack_top, fred_page, task_selecto
 ghost use Rattle.ev_layout.specs.Placed.{placed};
 
 use crate::address::{
-    AREAS, AREA_BYTES, BODIES, BODY_BYTES, CODE, IDT, IDT_BYTES, KERNEL_TABLE, NMI_ENTRY, NO_BODY,
+    AREA_BYTES, AREAS, BODIES, BODY_BYTES, CODE, IDT, IDT_BYTES, KERNEL_TABLE, NMI_ENTRY, NO_BODY,
     TABLE_BYTES, TASKS, TASKS_BYTES, USER_TABLE, call_record, stack_top, stub, task_area,
 };
 use crate::key::first_body;

@@ -1,11 +1,9 @@
-use Rattle.std.proofs.Common.{◌≡◌, ◌+◌, ◌*◌, ◌∙◌, ap, refl, List, get_or, length, arith, sym, subst, ◌<◌}
-use Rattle.std.specs.List.{list_all}
+use Rattle.std.proofs.Common.{◌≡◌, ◌+◌, ◌∙◌, ap, refl, List, get_or, length, arith, subst, ◌<◌}
 use Rattle.ev_body.specs.declared.body.Body.{Body}
 use Rattle.ev_body.specs.declared.image.Image.{Image}
 use Rattle.ev_body.specs.declared.item.Item.{Item}
 use Rattle.ev_listing.specs.Expansion.{expansions}
 use Rattle.ev_listing.specs.Marks.{stmts_of}
-use Rattle.ev_built.specs.Built.{is_built_body}
 use Rattle.ev_layout.proofs.Bodies.{built_at, body_stmts_are, section_is, sections_step}
 use Rattle.ev_layout.proofs.body.body_sections.Goals as goal
 

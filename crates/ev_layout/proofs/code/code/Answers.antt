@@ -1,12 +1,8 @@
-use Rattle.std.proofs.Common.{◌≡◌, ◌∙◌, ◌≤◌, true, ℕ, List, map, length, sym, ap, subst, IfOk}
+use Rattle.std.proofs.Common.{◌≡◌, ◌∙◌, ◌≤◌, true, length, sym, ap, subst}
 use Rattle.std.specs.List.{list_all}
-use Rattle.ev_body.specs.declared.body.Body.{Body}
 use Rattle.ev_body.specs.declared.image.Image.{Image}
 use Rattle.ev_body.specs.WellFormed.{is_body}
-use Rattle.ev_asm.specs.declared.block.Block.{Block}
-use Rattle.ev_asm.specs.declared.linking.Section.{Section}
 use Rattle.ev_asm.specs.Linked.{AreLinkable, linked}
-use Rattle.ev_stub_fred.specs.Blocks.{section_of}
 use Rattle.ev_concrete.specs.Opening.{listings, code_of}
 use Rattle.ev_layout.specs.Filled.{are_placed}
 use Rattle.ev_layout.specs.Placed.{placed}

@@ -1,4 +1,4 @@
-use Rattle.std.proofs.Common.{◌≡◌, ◌∙◌, true, List, map, sym, ap}
+use Rattle.std.proofs.Common.{◌≡◌, ◌∙◌, true, List, map, ap}
 use Rattle.ev_isa.specs.declared.mode.Mode.{Mode}
 use Rattle.ev_isa.specs.declared.mode.Mode.TheVariants.{Idt, Fred}
 use Rattle.ev_built.specs.Built.{mode_is_built}

@@ -1,6 +1,4 @@
-use Rattle.std.proofs.Common.{◌≡◌, ◌++◌, ◌∙◌, List, map, sym, ap}
-use Rattle.ev_asm.specs.declared.linking.Section.{Section}
-use Rattle.ev_stub_fred.specs.Blocks.{section_of}
+use Rattle.std.proofs.Common.{◌++◌, ◌∙◌, sym}
 use Rattle.ev_concrete.specs.Opening.{body_listings, kernel_listings, listings}
 use Rattle.ev_layout.proofs.Linkable.{sections_append}
 use Rattle.ev_layout.proofs.code.sections.Goals as goal

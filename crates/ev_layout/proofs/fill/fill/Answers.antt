@@ -1,4 +1,4 @@
-use Rattle.std.proofs.Common.{◌≡◌, ℕ, ◌+◌, ◌*◌, ◌∙◌}
+use Rattle.std.proofs.Common.{◌∙◌}
 use Rattle.ev_mem.specs.Mapped.{memory}
 use Rattle.ev_concrete.specs.Opening.{word_there}
 use Rattle.ev_layout.specs.Placed.{placed}

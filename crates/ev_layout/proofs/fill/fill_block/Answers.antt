@@ -1,4 +1,4 @@
-use Rattle.std.proofs.Common.{◌⊎◌, ⊎_elim, inl, inr, length, arith}
+use Rattle.std.proofs.Common.{⊎_elim, inr, length, arith}
 use Rattle.ev_layout.proofs.Filling.{placed_by, block_mapped}
 use Rattle.ev_layout.proofs.fill.fill_block.Goals as goal
 

@@ -1,4 +1,4 @@
-use Rattle.std.proofs.Common.{◌≡◌, ◌∙◌, ap, sym, subst, length, List, ℕ, ◌≤◌}
+use Rattle.std.proofs.Common.{◌∙◌, ap, sym, subst, length, List, ℕ, ◌≤◌}
 use Rattle.ev_body.specs.declared.image.Image.{Image}
 use Rattle.ev_mem.specs.declared.region.Region.{Region}
 use Rattle.ev_mem.specs.Mapped.{memory}
@@ -39,7 +39,7 @@ returns c = λ mode.
     let first = λ (a : ℕ). ap (λ (m : Memory). m.words a) c.in_ok-mem.ensures ∙ ap (λ (x : List Region). first_words x c.as_slice.result.now a) r ∙ ap (λ (x : List ℕ). first_words (regions i) x a) t in
     let kept = c.fill_code.ensures.regions ∙ c.fill_tables.ensures.regions ∙ ap (λ (m : Memory). m.regions) c.in_ok-mem.ensures ∙ r in
     let words = λ (a : ℕ).
-        c.fill_code.ensures.words mode a
-        ∙ code_filled_same f (memory c.fill_tables.new.mem).words (tables_filled f (first_words (regions i) i.text)) bs a (c.fill_tables.ensures.words mode a ∙ tables_filled_same f (memory c.in_ok-mem.mem).words (first_words (regions i) i.text) a (first a))
-        ∙ final bs mode i a c.requires.image in
+    c.fill_code.ensures.words mode a
+    ∙ code_filled_same f (memory c.fill_tables.new.mem).words (tables_filled f (first_words (regions i) i.text)) bs a (c.fill_tables.ensures.words mode a ∙ tables_filled_same f (memory c.in_ok-mem.mem).words (first_words (regions i) i.text) a (first a))
+    ∙ final bs mode i a c.requires.image in
     λ j. record { regions = kept j; words = λ a. words a j }

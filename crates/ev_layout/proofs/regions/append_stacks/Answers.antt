@@ -1,4 +1,4 @@
-use Rattle.std.proofs.Common.{◌≡◌, ◌-◌, ◌∙◌, ap, ℕ}
+use Rattle.std.proofs.Common.{◌-◌, ◌∙◌, ap, ℕ}
 use Rattle.ev_mem.specs.declared.region.RegionKind.TheVariants.{Kernel}
 use Rattle.ev_listing.specs.AddressMap.{stack_top}
 use Rattle.ev_concrete.specs.Opening.{region}

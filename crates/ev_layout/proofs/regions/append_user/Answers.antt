@@ -1,4 +1,4 @@
-use Rattle.std.proofs.Common.{◌≡◌, ◌∙◌, ap, ℕ, ◌+◌, ◌*◌, refl}
+use Rattle.std.proofs.Common.{ap, ℕ, ◌+◌, ◌*◌}
 use Rattle.ev_mem.specs.declared.region.RegionKind.TheVariants.{Page}
 use Rattle.ev_concrete.specs.Opening.{region}
 use Rattle.ev_layout.proofs.Numbered.{map_more}

@@ -1,4 +1,4 @@
-use Rattle.std.proofs.Common.{◌≡◌, ◌∙◌, ap, ℕ, length, arith, List, sym}
+use Rattle.std.proofs.Common.{◌≡◌, ◌∙◌, ap, ℕ, length, arith}
 use Rattle.std.specs.Prelude.{flat_map}
 use Rattle.ev_isa.specs.Word.{numbers_from}
 use Rattle.ev_body.specs.declared.image.Image.{Image}

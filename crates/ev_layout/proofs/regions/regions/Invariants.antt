@@ -1,4 +1,4 @@
-use Rattle.std.proofs.Common.{◌≡◌, ◌++◌}
+use Rattle.std.proofs.Common.{◌≡◌}
 use Rattle.std.specs.Prelude.{flat_map}
 use Rattle.ev_isa.specs.Word.{numbers_from}
 use Rattle.ev_concrete.specs.Opening.{stack_regions}
