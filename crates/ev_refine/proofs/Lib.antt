@@ -1,4 +1,14 @@
 pub mod Facts
+pub mod Maps
+pub mod Runs
+pub mod Opens
+pub mod Tells
+pub mod Fits
+pub mod Standing
+pub mod Return
+pub mod Items
+pub mod Instructions
+pub mod Kernel
 pub mod UserText
 pub mod UserState
 pub mod UserStep
@@ -8,3 +18,5 @@ pub mod UserBody
 pub mod UserSafe
 pub mod SystemCall
 pub mod User
+pub mod CodeFacts
+pub mod Refine

@@ -32,8 +32,10 @@ use Rattle.ev_built.specs.Built.{IsBuilt}
 use Rattle.ev_symbolic.specs.Value.{M, K, X}
 use Rattle.ev_symbolic.specs.Agrees.{Env, eval, eval_flags, Known, Open, Fits, Agrees, with_words}
 use Rattle.ev_symbolic.proofs.Blocks.{begins}
-use Rattle.ev_blocks_fred.specs.Blocks.{SystemCall, cs_of, ss_of, Spot, AtEntry, frame, fixed_words, fred_ground, enter, block}
-use Rattle.ev_refine.specs.Relation.{code_table, task_processor, top_of, rest_in, here, Entering, Active, most_edges}
+use Rattle.ev_activation.specs.Activation.{SystemCall, Spot, AtEntry}
+use Rattle.ev_blocks_fred.specs.Blocks.{cs_of, ss_of, frame, fixed_words, fred_ground, enter, block}
+use Rattle.ev_table.specs.Table.{code_table}
+use Rattle.ev_refine.specs.Relation.{task_processor, top_of, rest_in, here, Entering, Active}
 use Rattle.ev_refine.proofs.UserFrame.{next_place, placed_known, places_open, no_event, eight_open, eight_known, word_at_top}
 
 -- ---- sixteen registers, one by one
@@ -185,7 +187,7 @@ module _ (image : Image) (built : IsBuilt image) (p n : ℕ) (t : Task) (cr2 nex
     }
 
     pub begins_call : (m : Memory) → m.regions ≡ regions image → m.words (user_table + 0x800) ≡ body_code body → m.words (pcpu p + 0x20) ≡ 0
-        → Active Fred image built p (most_edges Fred image built) SystemCall over context handler (with_words m (words_after m.words))
+        → Active Fred image built p 69 SystemCall over context handler (with_words m (words_after m.words))
     begins_call m hr ht hm = record {
       spot = AtEntry;
       k = 0;

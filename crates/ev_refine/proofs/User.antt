@@ -1,8 +1,8 @@
 -- The turns of the task: a plain instruction, or a system call, which begins an activation.
 use Rattle.std.proofs.Common.{◌≡◌, ℕ, suc, ◌+◌, ◌-◌, ◌*◌, ◌%◌, ◌<◌, ◌≤◌, Bool, true, false, List, [], ◌∷◌, set, length, map, Option, Some, None, refl, sym, ap, ◌∙◌, subst, arith, ◌⊎◌, inl, inr, ⊎_elim}
 use Rattle.std.specs.Prelude.{◌||◌, if◌then◌else◌, slice_get, is_some}
-use Rattle.std.proofs.lemmas.List.{length-set}
 use Rattle.ev_isa.specs.Word.{NatMap, wrap}
+use Rattle.std.proofs.lemmas.List.{length-set}
 use Rattle.ev_isa.specs.Flags.{flags_word}
 use Rattle.ev_isa.specs.Spelling.{spelling}
 use Rattle.ev_isa.specs.declared.instruction.Ins.{Ins}
@@ -37,8 +37,9 @@ use Rattle.ev_built.specs.Built.{IsBuilt}
 use Rattle.ev_built.specs.Program.{begins, leads_to}
 use Rattle.ev_symbolic.specs.Value.{M}
 use Rattle.ev_symbolic.specs.Agrees.{eval, with_words}
-use Rattle.ev_blocks_fred.specs.Blocks.{SystemCall, frame}
-use Rattle.ev_refine.specs.Relation.{IsFixed, InText, InTables, InTasks, InCode, task_processor, RunsTask, IsContext, Chain, StandsOn, Stands, most_edges}
+use Rattle.ev_activation.specs.Activation.{SystemCall}
+use Rattle.ev_blocks_fred.specs.Blocks.{frame}
+use Rattle.ev_refine.specs.Relation.{IsFixed, InText, InTables, InTasks, InCode, task_processor, RunsTask, IsContext, Chain, StandsOn, Stands}
 use Rattle.ev_refine.specs.Shown.{shown_by, key_of}
 use Rattle.ev_refine.specs.Claims.{MakesTurn}
 use Rattle.ev_refine.proofs.Facts.{Facts}
@@ -113,7 +114,7 @@ not_there a (InTables h k) = inl (omega arith)
 not_there a (InTasks h k) = inl (omega arith)
 not_there a (InCode h) = inr h
 
-module _ (image : Image) (formed : IsImage image) (built : IsBuilt image) (facts : Facts image) where
+module _ (image : Image) (formed : IsImage image) (built : IsBuilt image) (facts : Facts Fred image) where
   -- a system call
   pub call_turn : (left : NatMap ℕ) (s : System) (m : Machine) → Stands Fred image built left s m → (p : ℕ) → p < image.processors → (processor m p).bodies ≡ [] → FitsAt image built p → OpensAt image built p
       → (u : AtUser image formed built facts left s m p) → u.ins ≡ Syscall → TurnsTo image built left s m p
@@ -128,7 +129,6 @@ module _ (image : Image) (formed : IsImage image) (built : IsBuilt image) (facts
       let call : IsSystemCall image body = is_system_call image formed body found.1 in
       let small : p < 32 = omega (arith, built.one_processor) in
       let zero_is : p ≡ 0 = omega (arith, built.one_processor) in
-      let edges : ℕ = most_edges Fred image built in
       let words : NatMap ℕ = s.memory.words in
       let words' : NatMap ℕ = words_after image built p n t c.cr2 next body words in
       let a : ℕ = frame_at image built p n t c.cr2 next body in
@@ -153,8 +153,8 @@ module _ (image : Image) (formed : IsImage image) (built : IsBuilt image) (facts
       } in
       let is_context : IsContext Fred image built b = record { item = call.item; is = call.first; interrupts = refl; service = refl; calls = refl } in
       let active = begins_call image built p n t c.cr2 next body u.on.running small u.runs.long fits opens s.memory h.regions_are table u.on.mark in
-      let chain : Chain Fred image built p edges y (b ∷ []) d (with_words s.memory words') = (w, SystemCall, refl, is_context, runs, active) in
-      let stands_on : StandsOn Fred image built p edges s' y = record {
+      let chain : Chain Fred image built p 69 y (b ∷ []) d (with_words s.memory words') = (w, SystemCall, refl, is_context, runs, active) in
+      let stands_on : StandsOn Fred image built p 69 s' y = record {
         few = omega arith;
         running = u.on.running;
         waiting = u.on.waiting;
@@ -164,9 +164,10 @@ module _ (image : Image) (formed : IsImage image) (built : IsBuilt image) (facts
         apic = put_same s.apics p opening_apic;
         resched = u.on.resched;
         mark = stays (pcpu p + 0x20) (inl (omega arith)) ∙ u.on.mark;
+        top_is = stays (pcpu p + 0x10) (inl (omega arith)) ∙ u.on.top_is;
         task_is = stays (pcpu p + 0x18) (inl (omega arith)) ∙ u.on.task_is;
         depth = ap length (put_same s.activations p (activations_by s p (s.activations p) d r.step)) ∙ ap (λ (as' : List Activation). suc (length (interrupted c as'))) empty;
-        chain = subst (λ q. Chain Fred image built p edges y (b ∷ []) q (with_words s.memory words')) (sym (put_same s.cpus p d)) chain;
+        chain = subst (λ q. Chain Fred image built p 69 y (b ∷ []) q (with_words s.memory words')) (sym (put_same s.cpus p d)) chain;
       } in
       let only : OnlyTask s = record {
         none = subst (λ q. s.activations q ≡ []) zero_is empty;
@@ -184,8 +185,8 @@ module _ (image : Image) (formed : IsImage image) (built : IsBuilt image) (facts
         turns = u.turns ∙ ap (λ i. task_step image m p (user.executed (user_view (user_memory image m)) t (t.rip + length (spelling i)) i)) hi
             ∙ call_steps image m p next body call hb found.1;
         seen = u.seen;
-        now_left = edges;
-        stands = stands_again image built left s m h p lt edges s' m' refl (λ q i. stays q (not_there q i)) refl refl (subst (λ q. StandsOn Fred image built p edges s' q) (sym (put_same m.processors p y)) stands_on);
+        now_left = 69;
+        stands = stands_again image built left s m h p lt 69 s' m' refl (λ q i. stays q (not_there q i)) refl refl (subst (λ q. StandsOn Fred image built p 69 s' q) (sym (put_same m.processors p y)) stands_on);
         shows = shown_is p (length (s.activations p)) c (instruction_at words c.rip) r a next u.at_cpl3 u.shallow (ap has_fred u.runs.is) saved;
         safe = overwrites_none image built s only (acted image.processors (after_step s p r) p r.step).1;
       }
