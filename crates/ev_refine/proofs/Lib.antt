@@ -1,5 +1,6 @@
 pub mod Facts
 pub mod Maps
+pub mod ModeFacts
 pub mod Runs
 pub mod Opens
 pub mod Tells
@@ -17,6 +18,8 @@ pub mod UserFrame
 pub mod UserBody
 pub mod UserSafe
 pub mod SystemCall
+pub mod SystemCallFred
+pub mod SystemCallIdt
 pub mod User
 pub mod CodeFacts
 pub mod Refine
