@@ -1,9 +1,9 @@
 pub mod Facts
 pub mod Maps
-pub mod ModeFacts
 pub mod Runs
 pub mod Opens
 pub mod Tells
+pub mod ModeFacts
 pub mod Fits
 pub mod Standing
 pub mod Return
