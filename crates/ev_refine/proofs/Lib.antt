@@ -3,6 +3,7 @@ pub mod Maps
 pub mod Runs
 pub mod Opens
 pub mod Tells
+pub mod ModeFacts
 pub mod Fits
 pub mod Standing
 pub mod Return
@@ -17,6 +18,8 @@ pub mod UserFrame
 pub mod UserBody
 pub mod UserSafe
 pub mod SystemCall
+pub mod SystemCallFred
+pub mod SystemCallIdt
 pub mod User
 pub mod CodeFacts
 pub mod Refine

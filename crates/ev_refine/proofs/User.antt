@@ -1,13 +1,14 @@
 -- The turns of the task: a plain instruction, or a system call, which begins an activation.
-use Rattle.std.proofs.Common.{◌≡◌, ℕ, suc, ◌+◌, ◌-◌, ◌*◌, ◌%◌, ◌<◌, ◌≤◌, Bool, true, false, List, [], ◌∷◌, set, length, map, Option, Some, None, refl, sym, ap, ◌∙◌, subst, arith, ◌⊎◌, inl, inr, ⊎_elim}
-use Rattle.std.specs.Prelude.{◌||◌, if◌then◌else◌, slice_get, is_some}
-use Rattle.ev_isa.specs.Word.{NatMap, wrap}
+use Rattle.std.proofs.Common.{◌≡◌, ℕ, suc, ◌+◌, ◌<◌, ◌≤◌, true, false, List, [], ◌∷◌, set, length, Option, Some, None, refl, sym, ap, ◌∙◌, subst, arith, ◌⊎◌, inl, inr, ⊎_elim}
+use Rattle.std.specs.Prelude.{if◌then◌else◌, slice_get, is_some}
 use Rattle.std.proofs.lemmas.List.{length-set}
+use Rattle.ev_isa.specs.Word.{NatMap}
 use Rattle.ev_isa.specs.Flags.{flags_word}
 use Rattle.ev_isa.specs.Spelling.{spelling}
 use Rattle.ev_isa.specs.declared.instruction.Ins.{Ins}
 use Rattle.ev_isa.specs.declared.instruction.Ins.TheVariants.{Syscall}
-use Rattle.ev_isa.specs.declared.mode.Mode.TheVariants.{Fred}
+use Rattle.ev_isa.specs.declared.mode.Mode.{Mode}
+use Rattle.ev_isa.specs.declared.mode.Mode.TheVariants.{Idt, Fred}
 use Rattle.ev_event.specs.declared.event.EventType.TheVariants.{Other}
 use Rattle.ev_body.specs.declared.key.Key.TheVariants.{Sys}
 use Rattle.ev_body.specs.declared.key.Side.TheVariants.{User, Kernel}
@@ -16,11 +17,11 @@ use Rattle.ev_body.specs.declared.image.Image.{Image}
 use Rattle.ev_body.specs.Bodies.{first_body}
 use Rattle.ev_body.specs.WellFormed.{IsImage}
 use Rattle.ev_effect.specs.Task.{Task}
-use Rattle.ev_effect.specs.Frame.{placed}
 use Rattle.ev_state.specs.Processor.{Processor, is_user}
-use Rattle.ev_proc.specs.ProcessorStep.{After, executed, has_fred, instruction_at}
+use Rattle.ev_mem.specs.Memory.{Memory}
+use Rattle.ev_proc.specs.ProcessorStep.{After, executed, instruction_at}
 use Rattle.ev_proc.specs.declared.stepped.Stepped.{Stepped}
-use Rattle.ev_listing.specs.AddressMap.{pcpu, user_table, task_words, stack_top, body_code}
+use Rattle.ev_listing.specs.AddressMap.{pcpu, user_table, task_words, body_code}
 use Rattle.ev_abstract.specs.Context.{BodyContext}
 use Rattle.ev_abstract.specs.declared.entry.Entry.{Entry}
 use Rattle.ev_abstract.specs.declared.entry.Entry.TheVariants.{Enter}
@@ -31,25 +32,24 @@ use Rattle.ev_abstract.specs.UserCode.{user_view}
 use Rattle.ev_abstract.specs.UserCode as user
 use Rattle.ev_abstract.specs.Run.{task_step}
 use Rattle.ev_concrete.specs.Opening.{opening_apic}
-use Rattle.ev_concrete.specs.ConcreteRun.{System, Activation, acted, after_step, activations_by, interrupted}
+use Rattle.ev_concrete.specs.ConcreteRun.{System, Activation, after_step, activations_by, interrupted}
 use Rattle.ev_concrete.specs.LiveWords.{IsSafeStep}
 use Rattle.ev_built.specs.Built.{IsBuilt}
 use Rattle.ev_built.specs.Program.{begins, leads_to}
-use Rattle.ev_symbolic.specs.Value.{M}
-use Rattle.ev_symbolic.specs.Agrees.{eval, with_words}
+use Rattle.ev_symbolic.specs.Agrees.{with_words}
 use Rattle.ev_activation.specs.Activation.{SystemCall}
-use Rattle.ev_blocks_fred.specs.Blocks.{frame}
-use Rattle.ev_refine.specs.Relation.{IsFixed, InText, InTables, InTasks, InCode, task_processor, RunsTask, IsContext, Chain, StandsOn, Stands}
-use Rattle.ev_refine.specs.Shown.{shown_by, key_of}
+use Rattle.ev_refine.specs.Relation.{IsFixed, InText, InTables, InTasks, InCode, task_processor, RunsTask, IsContext, Chain, most_edges, StandsOn, Stands}
+use Rattle.ev_refine.specs.Shown.{shown_by, saved_rip, key_of}
 use Rattle.ev_refine.specs.Claims.{MakesTurn}
 use Rattle.ev_refine.proofs.Facts.{Facts}
-use Rattle.ev_refine.proofs.UserState.{put_same, TurnsTo, makes_turn, is_safe, stands_again}
+use Rattle.ev_refine.proofs.UserState.{put_same, TurnsTo, makes_turn, is_safe, stands_again, stands_acted}
 use Rattle.ev_refine.proofs.UserStep.{Makes, makes}
 use Rattle.ev_refine.proofs.UserPlain.{AtUser, at_user, plain_turn}
-use Rattle.ev_refine.proofs.UserFrame.{placed_other}
 use Rattle.ev_refine.proofs.UserBody.{IsSystemCall, is_system_call, table_word_is}
-use Rattle.ev_refine.proofs.UserSafe.{OnlyTask, overwrites_none}
-use Rattle.ev_refine.proofs.SystemCall.{call_event, returning, FitsAt, OpensAt, caller, over, context, env, frame_at, handler, words_after, arrival, call_runs, frame_open, saved_is, begins_call}
+use Rattle.ev_refine.proofs.UserSafe.{OnlyTask}
+use Rattle.ev_refine.proofs.SystemCall.{call_event, returning, FitsAt, OpensAt, arrival, caller, over, context, Ready, Begins}
+use Rattle.ev_refine.proofs.SystemCallFred as fred
+use Rattle.ev_refine.proofs.SystemCallIdt as idt
 
 is_empty : {X : Type 0} (xs : List X) → length xs ≡ 0 → xs ≡ []
 is_empty [] h = refl
@@ -91,22 +91,19 @@ call_steps image m p next body c hb hf =
 
 -- ---- what the processor's step shows of it
 
-shown_is : (p depth : ℕ) (c : Processor) (i : Option Ins) (r : After) (a next : ℕ) → is_user c ≡ true → depth ≡ 0 → has_fred c ≡ true → r.words (wrap (a + 8)) ≡ next
-    → shown_by p depth c i r (Stepped.Delivered call_event (Some a)) ≡ Enter p Sys Other User 1 0 0 (Some next) ∷ []
+shown_is : (p depth : ℕ) (c : Processor) (i : Option Ins) (r : After) (frame : Option ℕ) (next : ℕ) → is_user c ≡ true → depth ≡ 0 → saved_rip c r call_event frame ≡ next
+    → shown_by p depth c i r (Stepped.Delivered call_event frame) ≡ Enter p Sys Other User 1 0 0 (Some next) ∷ []
 unfolding key_of
-shown_is p depth c i r a next hu hd hf hs =
-    let address : Bool → ℕ = λ f. if f || false then wrap (a + 8) else a in
-    ap (λ u. Enter p Sys Other (if u then User else Kernel) (suc depth) 0 0 (if u then Some (r.words (address (has_fred c))) else None) ∷ []) hu
-    ∙ ap (λ d. Enter p Sys Other User (suc d) 0 0 (Some (r.words (address (has_fred c)))) ∷ []) hd
-    ∙ ap (λ f. Enter p Sys Other User 1 0 0 (Some (r.words (address f))) ∷ []) hf
+shown_is p depth c i r frame next hu hd hs =
+    ap (λ u. Enter p Sys Other (if u then User else Kernel) (suc depth) 0 0 (if u then Some (saved_rip c r call_event frame) else None) ∷ []) hu
+    ∙ ap (λ d. Enter p Sys Other User (suc d) 0 0 (Some (saved_rip c r call_event frame)) ∷ []) hd
     ∙ ap (λ n. Enter p Sys Other User 1 0 0 (Some n) ∷ []) hs
 
--- ---- what the call's frame leaves
+-- ---- what the delivery comes to, by the mode
 
--- the frame lies between the areas and the code
-between : (n p : ℕ) → n ≡ 0 → p < 32 → (vs : List ℕ) → length vs ≡ 8 → (words : NatMap ℕ) (a x : ℕ) → a ≡ (stack_top p n + (M - 64)) % M → (x < 0xffffc90000000000) ⊎ (0xffffffff81000000 ≤ x) → placed words a vs x ≡ words x
-between n p hn hp vs hl words a x ha h =
-    placed_other vs words a x (omega arith) (⊎_elim (λ (l : x < 0xffffc90000000000). inl (let z : x < a = omega arith in z)) (λ (l : 0xffffffff81000000 ≤ x). inr (let z : a + 8 * length vs ≤ x = omega arith in z)) h)
+begins_call : (mode : Mode) (image : Image) (built : IsBuilt image) (p n : ℕ) (t : Task) (cr2 next body : ℕ) (m : Memory) → Ready mode image built p n t cr2 next body m → Begins mode image built p n t cr2 next body m
+begins_call Idt image built p n t cr2 next body m ready = idt.begins_call image built p n t cr2 next body m ready
+begins_call Fred image built p n t cr2 next body m ready = fred.begins_call image built p n t cr2 next body m ready
 
 not_there : (a : ℕ) → IsFixed a → (a < 0xffffc90000000000) ⊎ (0xffffffff81000000 ≤ a)
 not_there a (InText h k) = inl (omega arith)
@@ -114,10 +111,10 @@ not_there a (InTables h k) = inl (omega arith)
 not_there a (InTasks h k) = inl (omega arith)
 not_there a (InCode h) = inr h
 
-module _ (image : Image) (formed : IsImage image) (built : IsBuilt image) (facts : Facts Fred image) where
+module _ (mode : Mode) (image : Image) (formed : IsImage image) (built : IsBuilt image) (facts : Facts mode image) where
   -- a system call
-  pub call_turn : (left : NatMap ℕ) (s : System) (m : Machine) → Stands Fred image built left s m → (p : ℕ) → p < image.processors → (processor m p).bodies ≡ [] → FitsAt image built p → OpensAt image built p
-      → (u : AtUser image formed built facts left s m p) → u.ins ≡ Syscall → TurnsTo image built left s m p
+  pub call_turn : (left : NatMap ℕ) (s : System) (m : Machine) → Stands mode image built left s m → (p : ℕ) → p < image.processors → (processor m p).bodies ≡ [] → FitsAt mode image built p → OpensAt mode image built p
+      → (u : AtUser mode image formed built facts left s m p) → u.ins ≡ Syscall → TurnsTo mode image built left s m p
   call_turn left s m h p lt hb fits opens u hi =
       let x : abstract.Processor = processor m p in
       let c : Processor = s.cpus p in
@@ -130,31 +127,41 @@ module _ (image : Image) (formed : IsImage image) (built : IsBuilt image) (facts
       let small : p < 32 = omega (arith, built.one_processor) in
       let zero_is : p ≡ 0 = omega (arith, built.one_processor) in
       let words : NatMap ℕ = s.memory.words in
-      let words' : NatMap ℕ = words_after image built p n t c.cr2 next body words in
-      let a : ℕ = frame_at image built p n t c.cr2 next body in
-      let d : Processor = handler image built p n t c.cr2 next body in
-      let w : Processor = over image built p n t c.cr2 next body in
-      let b : BodyContext = context image built p n t c.cr2 next body in
+      let table : words (user_table + 0x800) ≡ body_code body = h.fixed (user_table + 0x800) (InTables (omega arith) (omega arith)) ∙ table_word_is mode image built body found.1 in
+      let begun : Begins mode image built p n t c.cr2 next body s.memory = begins_call mode image built p n t c.cr2 next body s.memory (record {
+        running = u.on.running;
+        small = small;
+        long = u.runs.long;
+        next_is = refl;
+        fits = fits;
+        opens = opens;
+        regions_are = h.regions_are;
+        table = table;
+        top_is = u.on.top_is;
+        mark = u.on.mark;
+      }) in
+      let most : ℕ = most_edges mode image built in
+      let d : Processor = begun.cpu in
+      let words' : NatMap ℕ = begun.words in
+      let w : Processor = over mode image built p n t c.cr2 next body in
+      let b : BodyContext = context mode image built p n t c.cr2 next body in
       let back : Task = returning t next in
       let z : abstract.Processor = with_task x back in
       let y : abstract.Processor = called x next body in
-      let r : After = arrival image built p n t c.cr2 next body opening_apic s.memory false in
-      let s' : System = (acted image.processors (after_step s p r) p r.step).0 in
+      let r : After = arrival d words' begun.frame opening_apic false in
+      let s' : System = after_step s p r in
       let m' : Machine = with_processor m p y in
       let task_is : task z ≡ back = put_same x.tasks n back in
-      let stays : (q : ℕ) → (q < 0xffffc90000000000) ⊎ (0xffffffff81000000 ≤ q) → words' q ≡ words q = λ q k. between n p u.on.running small (map (eval (env image built p n t c.cr2 next body)) (frame SystemCall)) refl words a q refl k in
-      let table : words (user_table + 0x800) ≡ body_code body = h.fixed (user_table + 0x800) (InTables (omega arith) (omega arith)) ∙ table_word_is image built body found.1 in
       let empty : s.activations p ≡ [] = is_empty (s.activations p) u.shallow in
-      let runs : RunsTask Fred image built p y w = record {
-        is = ap (λ (q : Task). task_processor Fred image p n q c.cr2) (sym task_is);
+      let runs : RunsTask mode image built p y w = record {
+        is = ap (λ (q : Task). task_processor mode image p n q c.cr2) (sym task_is);
         gs = ap (λ (q : Task). q.gs) task_is ∙ u.runs.gs;
         long = ap (λ (q : Task). length q.regs) task_is ∙ length-set (set t.regs 1 next) 11 (flags_word t.flags) ∙ length-set t.regs 1 next ∙ u.runs.long;
         at = ap (λ (q : Task). begins built.program q.rip) task_is ∙ sym (ap (λ i. begins built.program (leads_to t.rip i)) hi) ∙ u.leads;
       } in
-      let is_context : IsContext Fred image built b = record { item = call.item; is = call.first; interrupts = refl; service = refl; calls = refl } in
-      let active = begins_call image built p n t c.cr2 next body u.on.running small u.runs.long fits opens s.memory h.regions_are table u.on.mark in
-      let chain : Chain Fred image built p 69 y (b ∷ []) d (with_words s.memory words') = (w, SystemCall, refl, is_context, runs, active) in
-      let stands_on : StandsOn Fred image built p 69 s' y = record {
+      let is_context : IsContext mode image built b = record { item = call.item; is = call.first; interrupts = refl; service = refl; calls = refl } in
+      let chain : Chain mode image built p most y (b ∷ []) d (with_words s.memory words') = (w, SystemCall, refl, is_context, runs, begun.active) in
+      let stands_on : StandsOn mode image built p most s' y = record {
         few = omega arith;
         running = u.on.running;
         waiting = u.on.waiting;
@@ -163,39 +170,38 @@ module _ (image : Image) (formed : IsImage image) (built : IsBuilt image) (facts
         pending = u.on.pending;
         apic = put_same s.apics p opening_apic;
         resched = u.on.resched;
-        mark = stays (pcpu p + 0x20) (inl (omega arith)) ∙ u.on.mark;
-        top_is = stays (pcpu p + 0x10) (inl (omega arith)) ∙ u.on.top_is;
-        task_is = stays (pcpu p + 0x18) (inl (omega arith)) ∙ u.on.task_is;
+        mark = begun.stays (pcpu p + 0x20) (inl (omega arith)) ∙ u.on.mark;
+        top_is = begun.stays (pcpu p + 0x10) (inl (omega arith)) ∙ u.on.top_is;
+        task_is = begun.stays (pcpu p + 0x18) (inl (omega arith)) ∙ u.on.task_is;
         depth = ap length (put_same s.activations p (activations_by s p (s.activations p) d r.step)) ∙ ap (λ (as' : List Activation). suc (length (interrupted c as'))) empty;
-        chain = subst (λ q. Chain Fred image built p 69 y (b ∷ []) q (with_words s.memory words')) (sym (put_same s.cpus p d)) chain;
+        chain = subst (λ q. Chain mode image built p most y (b ∷ []) q (with_words s.memory words')) (sym (put_same s.cpus p d)) chain;
       } in
       let only : OnlyTask s = record {
         none = subst (λ q. s.activations q ≡ []) zero_is empty;
         user = subst (λ q. is_user (s.cpus q) ≡ true) zero_is u.at_cpl3;
         task_is = subst (λ q. words (pcpu q + 0x18) ≡ task_words q 0) zero_is (u.on.task_is ∙ ap (task_words p) u.on.running);
       } in
-      let saved : words' (wrap (a + 8)) ≡ next = saved_is image built p n t c.cr2 next body u.on.running small u.runs.long fits opens words table u.on.mark in
       let entries : List Entry = Enter p Sys Other User 1 0 0 (Some next) ∷ [] in
       record {
         after = r;
-        steps = u.steps ∙ ap (λ i. executed (caller image built p n t c.cr2 next body) opening_apic s.memory false (Some i)) hi
-            ∙ call_runs image built p n t c.cr2 next body opening_apic s.memory false refl (frame_open image built p n t c.cr2 next body u.on.running small u.runs.long fits opens s.memory h.regions_are);
+        steps = u.steps ∙ ap (λ i. executed (caller mode image built p n t c.cr2 next body) opening_apic s.memory false (Some i)) hi ∙ begun.runs opening_apic false;
         machine = m';
         entries = entries;
         turns = u.turns ∙ ap (λ i. task_step image m p (user.executed (user_view (user_memory image m)) t (t.rip + length (spelling i)) i)) hi
             ∙ call_steps image m p next body call hb found.1;
         seen = u.seen;
-        now_left = 69;
-        stands = stands_again image built left s m h p lt 69 s' m' refl (λ q i. stays q (not_there q i)) refl refl (subst (λ q. StandsOn Fred image built p 69 s' q) (sym (put_same m.processors p y)) stands_on);
-        shows = shown_is p (length (s.activations p)) c (instruction_at words c.rip) r a next u.at_cpl3 u.shallow (ap has_fred u.runs.is) saved;
-        safe = overwrites_none image built s only (acted image.processors (after_step s p r) p r.step).1;
+        now_left = most;
+        stands = stands_acted mode image built _ s' m' image.processors p call_event begun.frame
+            (stands_again mode image built left s m h p lt most s' m' refl (λ q i. begun.stays q (not_there q i)) refl refl (subst (λ q. StandsOn mode image built p most s' q) (sym (put_same m.processors p y)) stands_on));
+        shows = shown_is p (length (s.activations p)) c (instruction_at words c.rip) r begun.frame next u.at_cpl3 u.shallow (ap (λ q. saved_rip q r call_event begun.frame) u.runs.is ∙ begun.saved opening_apic false);
+        safe = begun.safe s only image.processors s';
       }
 
   -- a turn of the task is visible, and the abstract machine makes the same; it writes over no live word
-  pub user_turn : (left : NatMap ℕ) (s : System) (m : Machine) → Stands Fred image built left s m → (p : ℕ) → p < image.processors → (processor m p).bodies ≡ [] → FitsAt image built p → OpensAt image built p
-      → MakesTurn Fred image built left s m p × IsSafeStep Fred image s p
+  pub user_turn : (left : NatMap ℕ) (s : System) (m : Machine) → Stands mode image built left s m → (p : ℕ) → p < image.processors → (processor m p).bodies ≡ [] → FitsAt mode image built p → OpensAt mode image built p
+      → MakesTurn mode image built left s m p × IsSafeStep mode image s p
   user_turn left s m h p lt hb fits opens =
-      let u : AtUser image formed built facts left s m p = at_user image formed built facts left s m h p lt hb in
-      let t : TurnsTo image built left s m p
-      = ⊎_elim (λ (hi : u.ins ≡ Syscall). call_turn left s m h p lt hb fits opens u hi) (λ (k : Makes (task (processor m p)) u.ins). plain_turn image formed built facts left s m h p lt hb u k) (makes (task (processor m p)) u.ins u.is_built u.canonical) in
-      (makes_turn image built left s m p t, is_safe image built left s m p t)
+      let u : AtUser mode image formed built facts left s m p = at_user mode image formed built facts left s m h p lt hb in
+      let t : TurnsTo mode image built left s m p
+      = ⊎_elim (λ (hi : u.ins ≡ Syscall). call_turn left s m h p lt hb fits opens u hi) (λ (k : Makes (task (processor m p)) u.ins). plain_turn mode image formed built facts left s m h p lt hb u k) (makes (task (processor m p)) u.ins u.is_built u.canonical) in
+      (makes_turn mode image built left s m p t, is_safe mode image built left s m p t)

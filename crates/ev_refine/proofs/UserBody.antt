@@ -3,7 +3,7 @@ use Rattle.std.proofs.Common.{◌≡◌, ℕ, zero, suc, ◌+◌, ◌-◌, ◌*�
 use Rattle.std.specs.Prelude.{◌==◌, if◌then◌else◌, nat_lt, nat_le, slice_get, flat_map}
 use Rattle.std.specs.List.{list_all}
 use Rattle.std.proofs.lemmas.Bool.{eqb-true, ltb-true}
-use Rattle.ev_isa.specs.declared.mode.Mode.TheVariants.{Fred}
+use Rattle.ev_isa.specs.declared.mode.Mode.{Mode}
 use Rattle.ev_body.specs.declared.key.Key.{Key}
 use Rattle.ev_body.specs.declared.key.Key.TheVariants.{Sys, Irq}
 use Rattle.ev_body.specs.declared.key.Side.{Side}
@@ -77,9 +77,9 @@ is_system_call image formed n h =
     record { body = b; is = f.is; key = only_key b.key (and_left (is_key b.key) _ (and_left (is_key b.key && _) _ front)) f.key_is; item = i.0; first = ap (λ o. item_at o 0) f.is ∙ i.1 }
 
 -- its address is the word of the table for the event's key
-pub table_word_is : (image : Image) → IsBuilt image → (n : ℕ) → first_body 0 image.bodies 0x100 User ≡ Some n → first_word Fred image (user_table + 0x800) ≡ body_code n
+pub table_word_is : (mode : Mode) (image : Image) → IsBuilt image → (n : ℕ) → first_body 0 image.bodies 0x100 User ≡ Some n → first_word mode image (user_table + 0x800) ≡ body_code n
 unfolding opening_word word_there
-table_word_is image built n h =
+table_word_is mode image built n h =
     ap (λ (processors : ℕ). if nat_lt (user_table + 0x800) (pcpu 0 + 0x10000 * processors) then pcpu_word ((user_table + 0x800 - pcpu 0) / 0x10000) ((user_table + 0x800) % 0x10000)
     else body_address (first_body 0 image.bodies 0x100 User)) built.one_processor
     ∙ ap body_address h

@@ -5,7 +5,7 @@ use Rattle.std.proofs.lemmas.Bool.{eq-eqb}
 use Rattle.ev_isa.specs.Word.{NatMap, is_canonical}
 use Rattle.ev_isa.specs.Spelling.{spelling}
 use Rattle.ev_isa.specs.declared.instruction.Ins.{Ins}
-use Rattle.ev_isa.specs.declared.mode.Mode.TheVariants.{Fred}
+use Rattle.ev_isa.specs.declared.mode.Mode.{Mode}
 use Rattle.ev_body.specs.declared.image.Image.{Image}
 use Rattle.ev_body.specs.WellFormed.{IsImage}
 use Rattle.ev_effect.specs.Task.{Task}
@@ -33,11 +33,11 @@ use Rattle.ev_refine.proofs.UserStep.{instruction_next, user_steps, task_turns, 
 low_canonical : (a : ℕ) → a < 0x410000 → is_canonical a ≡ true
 low_canonical a h = ap (λ b. b || (a / 2 ^ 47 == 2 ^ 17 - 1)) (eq-eqb (a / 2 ^ 47) 0 (let e : a / 140737488355328 ≡ 0 = omega arith in e))
 
-module _ (image : Image) (formed : IsImage image) (built : IsBuilt image) (facts : Facts Fred image) where
+module _ (mode : Mode) (image : Image) (formed : IsImage image) (built : IsBuilt image) (facts : Facts mode image) where
   -- the instruction of the task that comes next, on both sides
   pub record AtUser (left : NatMap ℕ) (s : System) (m : Machine) (p : ℕ) : Type 0 where
-    pub on : StandsOn Fred image built p (left p) s (processor m p)
-    pub runs : RunsTask Fred image built p (processor m p) (s.cpus p)
+    pub on : StandsOn mode image built p (left p) s (processor m p)
+    pub runs : RunsTask mode image built p (processor m p) (s.cpus p)
     pub at_cpl3 : is_user (s.cpus p) ≡ true
     pub shallow : length (s.activations p) ≡ 0
     pub ins : Ins
@@ -45,19 +45,19 @@ module _ (image : Image) (formed : IsImage image) (built : IsBuilt image) (facts
     pub leads : begins built.program (leads_to (task (processor m p)).rip ins) ≡ true
     pub canonical : is_canonical (leads_to (task (processor m p)).rip ins) ≡ true
     pub steps : step (s.cpus p) (s.apics p) s.memory (s.latches p)
-        ≡ executed (task_processor Fred image p (processor m p).running (task (processor m p)) (s.cpus p).cr2) opening_apic s.memory false (Some ins)
+        ≡ executed (task_processor mode image p (processor m p).running (task (processor m p)) (s.cpus p).cr2) opening_apic s.memory false (Some ins)
     pub turns : turn image m p
         ≡ task_step image m p (user.executed (user_view (user_memory image m)) (task (processor m p)) ((task (processor m p)).rip + length (spelling ins)) ins)
-    pub seen : is_visible (marks_of Fred image) s p ≡ true
+    pub seen : is_visible (marks_of mode image) s p ≡ true
 
-  pub at_user : (left : NatMap ℕ) (s : System) (m : Machine) → Stands Fred image built left s m → (p : ℕ) → p < image.processors → (processor m p).bodies ≡ [] → AtUser left s m p
+  pub at_user : (left : NatMap ℕ) (s : System) (m : Machine) → Stands mode image built left s m → (p : ℕ) → p < image.processors → (processor m p).bodies ≡ [] → AtUser left s m p
   unfolding is_visible
   at_user left s m h p lt hb =
       let x : abstract.Processor = processor m p in
       let t : Task = task x in
       let c : Processor = s.cpus p in
-      let on : StandsOn Fred image built p (left p) s x = h.each p lt in
-      let runs : RunsTask Fred image built p x c = subst (λ bs. Chain Fred image built p (left p) x bs c s.memory) hb on.chain in
+      let on : StandsOn mode image built p (left p) s x = h.each p lt in
+      let runs : RunsTask mode image built p x c = subst (λ bs. Chain mode image built p (left p) x bs c s.memory) hb on.chain in
       let reads_it : Reads built.program image.text t.rip = reads image.text built.task.start built.program built.is_program t.rip runs.at in
       let next_one : Reads built.program image.text (leads_to t.rip reads_it.ins) = reads image.text built.task.start built.program built.is_program (leads_to t.rip reads_it.ins) reads_it.leads in
       let rip : c.rip ≡ t.rip = ap (λ (z : Processor). z.rip) runs.is in
@@ -77,11 +77,11 @@ module _ (image : Image) (formed : IsImage image) (built : IsBuilt image) (facts
             (ap (page_fault s.memory (record { user = true; write = false; fetch = true })) rip ∙ fetch.0)
             (ap (instruction_at s.memory.words) rip ∙ fetch.1 ∙ reads_it.is)
             ∙ ap (λ (z : Processor). executed z (s.apics p) s.memory (s.latches p) (Some reads_it.ins)) runs.is
-            ∙ ap (λ a. executed (task_processor Fred image p x.running t c.cr2) a s.memory (s.latches p) (Some reads_it.ins)) on.apic
-            ∙ ap (λ n. executed (task_processor Fred image p x.running t c.cr2) opening_apic s.memory n (Some reads_it.ins)) on.latch;
+            ∙ ap (λ a. executed (task_processor mode image p x.running t c.cr2) a s.memory (s.latches p) (Some reads_it.ins)) on.apic
+            ∙ ap (λ n. executed (task_processor mode image p x.running t c.cr2) opening_apic s.memory n (Some reads_it.ins)) on.latch;
         turns = task_turns image m p on.nmi on.pending hb
             ∙ ap (task_step image m p) (user_reads (user_memory image m) t reads_it.ins reads_it.from (omega (arith, reads_it.to, formed.text_fits)) reads_it.is);
-        seen = ap (is_visible_by (marks_of Fred image) s p c) next ∙ ap (λ b. b || is_seen (mark_at (marks_of Fred image) c.rip) s c) is_it;
+        seen = ap (is_visible_by (marks_of mode image) s p c) next ∙ ap (λ b. b || is_seen (mark_at (marks_of mode image) c.rip) s c) is_it;
       }
 
   -- a step of user code leaves the activations
@@ -95,25 +95,25 @@ module _ (image : Image) (formed : IsImage image) (built : IsBuilt image) (facts
       pick false b = refl
 
   -- a turn that raises no event
-  pub plain_turn : (left : NatMap ℕ) (s : System) (m : Machine) → Stands Fred image built left s m → (p : ℕ) → p < image.processors → (processor m p).bodies ≡ [] → (u : AtUser left s m p) → Makes (task (processor m p)) u.ins
-      → TurnsTo image built left s m p
+  pub plain_turn : (left : NatMap ℕ) (s : System) (m : Machine) → Stands mode image built left s m → (p : ℕ) → p < image.processors → (processor m p).bodies ≡ [] → (u : AtUser left s m p) → Makes (task (processor m p)) u.ins
+      → TurnsTo mode image built left s m p
   plain_turn left s m h p lt hb u k =
       let x : abstract.Processor = processor m p in
       let c : Processor = s.cpus p in
-      let d : Processor = task_processor Fred image p x.running k.task c.cr2 in
+      let d : Processor = task_processor mode image p x.running k.task c.cr2 in
       let y : abstract.Processor = with_task x k.task in
       let r : After = ran d opening_apic s.memory.words false in
       let s' : System = after_step s p r in
       let m' : Machine = with_processor m p y in
       let task_is : task y ≡ k.task = put_same x.tasks x.running k.task in
-      let runs : RunsTask Fred image built p y d = record {
-        is = ap (λ t. task_processor Fred image p x.running t c.cr2) (sym task_is);
+      let runs : RunsTask mode image built p y d = record {
+        is = ap (λ t. task_processor mode image p x.running t c.cr2) (sym task_is);
         gs = ap (λ (t : Task). t.gs) task_is ∙ k.gs ∙ u.runs.gs;
         long = ap (λ (t : Task). length t.regs) task_is ∙ k.long ∙ u.runs.long;
         at = ap (λ (t : Task). begins built.program t.rip) task_is ∙ ap (begins built.program) k.rip ∙ u.leads;
       } in
-      let chain : Chain Fred image built p 0 y y.bodies d s.memory = subst (λ bs. Chain Fred image built p 0 y bs d s.memory) (sym hb) runs in
-      let stands_on : StandsOn Fred image built p 0 s' y = record {
+      let chain : Chain mode image built p 0 y y.bodies d s.memory = subst (λ bs. Chain mode image built p 0 y bs d s.memory) (sym hb) runs in
+      let stands_on : StandsOn mode image built p 0 s' y = record {
         few = omega arith;
         running = u.on.running;
         waiting = u.on.waiting;
@@ -126,17 +126,17 @@ module _ (image : Image) (formed : IsImage image) (built : IsBuilt image) (facts
         top_is = u.on.top_is;
         task_is = u.on.task_is;
         depth = ap length (put_same s.activations p (activations_by s p (s.activations p) d Stepped.Ran)) ∙ ap length (same_activations s p (s.activations p) d u.at_cpl3) ∙ u.on.depth;
-        chain = subst (λ z. Chain Fred image built p 0 y y.bodies z s.memory) (sym (put_same s.cpus p d)) chain;
+        chain = subst (λ z. Chain mode image built p 0 y y.bodies z s.memory) (sym (put_same s.cpus p d)) chain;
       } in
       record {
         after = r;
-        steps = u.steps ∙ plain_runs image p x.running (task x) c.cr2 u.ins k opening_apic s.memory false;
+        steps = u.steps ∙ plain_runs mode image p x.running (task x) c.cr2 u.ins k opening_apic s.memory false;
         machine = m';
         entries = [];
         turns = u.turns ∙ ap (task_step image m p) (k.user (user_view (user_memory image m)) ∙ ap (step_of (task x)) (k.is (user_view (user_memory image m))));
         seen = u.seen;
         now_left = 0;
-        stands = stands_again image built left s m h p lt 0 s' m' refl (λ a i. refl) refl refl (subst (λ z. StandsOn Fred image built p 0 s' z) (sym (put_same m.processors p y)) stands_on);
+        stands = stands_again mode image built left s m h p lt 0 s' m' refl (λ a i. refl) refl refl (subst (λ z. StandsOn mode image built p 0 s' z) (sym (put_same m.processors p y)) stands_on);
         shows = ap (λ b. if b then [] else shown_instruction p c (instruction_at s.memory.words c.rip)) u.at_cpl3;
         safe = refl;
       }

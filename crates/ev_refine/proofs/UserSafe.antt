@@ -1,4 +1,4 @@
--- Where only the task runs, no word is live: no activation stands, and the task's own area is in no use.
+-- Where only the task runs, no word is live under FRED: no activation stands, and the task's own area is in no use. (SYSCALL under IDT writes no frame.)
 use Rattle.std.proofs.Common.{◌≡◌, ℕ, ◌+◌, ◌-◌, Bool, true, false, ◌&&◌, not, List, [], ◌∷◌, length, get_or, map, refl, ap, ◌∙◌}
 use Rattle.std.specs.Prelude.{◌==◌, ◌||◌, nat_lt, nat_le, filter}
 use Rattle.std.specs.List.{list_any}

@@ -1,14 +1,16 @@
 -- A step of the only processor: what it owes for the two machines to stand for each other again.
-use Rattle.std.proofs.Common.{◌≡◌, ℕ, ◌<◌, true, false, List, length, refl, sym, ap, ◌∙◌, subst, arith}
+use Rattle.std.proofs.Common.{◌≡◌, ℕ, ◌<◌, true, false, List, length, Option, Some, None, refl, sym, ap, ◌∙◌, subst, arith}
 use Rattle.std.specs.List.{list_any}
 use Rattle.std.proofs.lemmas.Bool.{eq-eqb}
 use Rattle.ev_isa.specs.Word.{NatMap, put_at}
-use Rattle.ev_isa.specs.declared.mode.Mode.TheVariants.{Fred}
+use Rattle.ev_isa.specs.declared.mode.Mode.{Mode}
+use Rattle.ev_event.specs.declared.event.Event.{Event}
 use Rattle.ev_body.specs.declared.image.Image.{Image}
 use Rattle.ev_abstract.specs.declared.entry.Entry.{Entry}
 use Rattle.ev_abstract.specs.Machine.{Machine, processor}
 use Rattle.ev_abstract.specs.Run.{turn}
 use Rattle.ev_proc.specs.ProcessorStep.{After, step, instruction_at}
+use Rattle.ev_proc.specs.declared.stepped.Stepped.{Stepped}
 use Rattle.ev_concrete.specs.ConcreteRun.{System, marks_of, is_visible, acted, after_step, concrete_step}
 use Rattle.ev_concrete.specs.LiveWords.{overwrites, IsSafeStep}
 use Rattle.ev_built.specs.Built.{IsBuilt}
@@ -20,7 +22,7 @@ use Rattle.ev_refine.specs.Claims.{MakesTurn}
 pub put_same : {X : Type 0} (m : NatMap X) (a : ℕ) (v : X) → put_at m a v a ≡ v
 put_same m a v = ap (λ b. elim b [ true ↦ v | false ↦ m a ]) (eq-eqb a a refl)
 
-module _ (image : Image) (built : IsBuilt image) where
+module _ (mode : Mode) (image : Image) (built : IsBuilt image) where
   -- what a visible step of the one and a step of the other come to
   pub record TurnsTo (left : NatMap ℕ) (s : System) (m : Machine) (p : ℕ) : Type 0 where
     pub after : After
@@ -28,39 +30,64 @@ module _ (image : Image) (built : IsBuilt image) where
     pub machine : Machine
     pub entries : List Entry
     pub turns : turn image m p ≡ (machine, entries)
-    pub seen : is_visible (marks_of Fred image) s p ≡ true
+    pub seen : is_visible (marks_of mode image) s p ≡ true
     pub now_left : ℕ
-    pub stands : Stands Fred image built (put_at left p now_left) (acted image.processors (after_step s p after) p after.step).0 machine
+    pub stands : Stands mode image built (put_at left p now_left) (acted image.processors (after_step s p after) p after.step).0 machine
     pub shows : shown_by p (length (s.activations p)) (s.cpus p) (instruction_at s.memory.words (s.cpus p).rip) after after.step ≡ entries
-    pub safe : list_any (overwrites Fred image s) (acted image.processors (after_step s p after) p after.step).1 ≡ false
+    pub safe : list_any (overwrites mode image s) (acted image.processors (after_step s p after) p after.step).1 ≡ false
 
   concrete_is : (left : NatMap ℕ) (s : System) (m : Machine) (p : ℕ) (t : TurnsTo left s m p) → concrete_step image.processors s p ≡ acted image.processors (after_step s p t.after) p t.after.step
   unfolding concrete_step
   concrete_is left s m p t = ap (λ r. acted image.processors (after_step s p r) p r.step) t.steps
 
-  pub makes_turn : (left : NatMap ℕ) (s : System) (m : Machine) (p : ℕ) → TurnsTo left s m p → MakesTurn Fred image built left s m p
+  pub makes_turn : (left : NatMap ℕ) (s : System) (m : Machine) (p : ℕ) → TurnsTo left s m p → MakesTurn mode image built left s m p
   unfolding shown
   makes_turn left s m p t = record {
     seen = t.seen;
     now_left = t.now_left;
-    stands = subst (λ z. Stands Fred image built (put_at left p t.now_left) z.0 (turn image m p).0) (sym (concrete_is left s m p t))
-        (subst (λ z. Stands Fred image built (put_at left p t.now_left) (acted image.processors (after_step s p t.after) p t.after.step).0 z.0) (sym t.turns) t.stands);
+    stands = subst (λ z. Stands mode image built (put_at left p t.now_left) z.0 (turn image m p).0) (sym (concrete_is left s m p t))
+        (subst (λ z. Stands mode image built (put_at left p t.now_left) (acted image.processors (after_step s p t.after) p t.after.step).0 z.0) (sym t.turns) t.stands);
     entries = ap (λ r. shown_by p (length (s.activations p)) (s.cpus p) (instruction_at s.memory.words (s.cpus p).rip) r r.step) t.steps ∙ t.shows ∙ sym (ap (λ z. z.1) t.turns);
   }
 
-  pub is_safe : (left : NatMap ℕ) (s : System) (m : Machine) (p : ℕ) → TurnsTo left s m p → IsSafeStep Fred image s p
-  is_safe left s m p t = ap (λ z. list_any (overwrites Fred image s) z.1) (concrete_is left s m p t) ∙ t.safe
+  pub is_safe : (left : NatMap ℕ) (s : System) (m : Machine) (p : ℕ) → TurnsTo left s m p → IsSafeStep mode image s p
+  is_safe left s m p t = ap (λ z. list_any (overwrites mode image s) z.1) (concrete_is left s m p t) ∙ t.safe
 
   -- what else stands, where the step leaves the words that nothing writes
-  pub stands_again : (left : NatMap ℕ) (s : System) (m : Machine) → Stands Fred image built left s m → (p : ℕ) → p < image.processors → (now_left : ℕ) (s' : System) (m' : Machine)
+  pub stands_again : (left : NatMap ℕ) (s : System) (m : Machine) → Stands mode image built left s m → (p : ℕ) → p < image.processors → (now_left : ℕ) (s' : System) (m' : Machine)
       → s'.memory.regions ≡ s.memory.regions → ((a : ℕ) → IsFixed a → s'.memory.words a ≡ s.memory.words a) → m'.words ≡ m.words → m'.present ≡ m.present
-      → StandsOn Fred image built p now_left s' (processor m' p) → Stands Fred image built (put_at left p now_left) s' m'
+      → StandsOn mode image built p now_left s' (processor m' p) → Stands mode image built (put_at left p now_left) s' m'
   stands_again left s m h p lt now_left s' m' hr hf hw hp ho = record {
     regions_are = hr ∙ h.regions_are;
     fixed = λ a i. hf a i ∙ h.fixed a i;
     text = hw ∙ h.text;
     present = hp ∙ h.present;
     each = λ q l. let same : p ≡ q = omega (arith, built.one_processor) in
-        subst (λ q. StandsOn Fred image built q (put_at left p now_left q) s' (processor m' q)) same
-        (subst (λ n. StandsOn Fred image built p n s' (processor m' p)) (sym (put_same left p now_left)) ho);
+        subst (λ q. StandsOn mode image built q (put_at left p now_left q) s' (processor m' q)) same
+        (subst (λ n. StandsOn mode image built p n s' (processor m' p)) (sym (put_same left p now_left)) ho);
+  }
+
+  -- a delivery that is counted leaves the rest
+  pub stands_acted : (left : NatMap ℕ) (s : System) (m : Machine) (n p : ℕ) (e : Event) (frame : Option ℕ) → Stands mode image built left s m → Stands mode image built left (acted n s p (Stepped.Delivered e frame)).0 m
+  stands_acted left s m n p e None h = h
+  stands_acted left s m n p e (Some a) h = record {
+    regions_are = h.regions_are;
+    fixed = h.fixed;
+    text = h.text;
+    present = h.present;
+    each = λ q l. let o : StandsOn mode image built q (left q) s (processor m q) = h.each q l in record {
+      few = o.few;
+      running = o.running;
+      waiting = o.waiting;
+      nmi = o.nmi;
+      latch = o.latch;
+      pending = o.pending;
+      apic = o.apic;
+      resched = o.resched;
+      mark = o.mark;
+      top_is = o.top_is;
+      task_is = o.task_is;
+      depth = o.depth;
+      chain = o.chain;
+    };
   }

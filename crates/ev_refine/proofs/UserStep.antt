@@ -13,7 +13,7 @@ use Rattle.ev_isa.specs.Reading.{reading}
 use Rattle.ev_isa.specs.declared.instruction.AluOp.TheVariants.{Add}
 use Rattle.ev_isa.specs.declared.instruction.Ins.{Ins}
 use Rattle.ev_isa.specs.declared.instruction.Ins.TheVariants.{MovImm, Alu, Jmp, Syscall}
-use Rattle.ev_isa.specs.declared.mode.Mode.TheVariants.{Fred}
+use Rattle.ev_isa.specs.declared.mode.Mode.{Mode}
 use Rattle.ev_event.specs.Event.{gp}
 use Rattle.ev_event.specs.Boundary.{first_of, interrupt_or_instruction}
 use Rattle.ev_event.specs.declared.boundary.Next.TheVariants.{Instruction}
@@ -144,18 +144,18 @@ makes t Syscall h k = inl refl
 makes t _ h k = absurd (cc)
 
 -- the processor that runs the task is then the one that runs the task made
-processor_after : (image : Image) (p running : ℕ) (t u : Task) (cr2 : ℕ) → u.gs ≡ t.gs → with_effect (completed (task_processor Fred image p running t cr2)) u ≡ task_processor Fred image p running u cr2
-processor_after image p running t u cr2 h = ap (λ g. task_processor Fred image p running (record u { gs = g }) cr2) (sym h)
+processor_after : (mode : Mode) (image : Image) (p running : ℕ) (t u : Task) (cr2 : ℕ) → u.gs ≡ t.gs → with_effect (completed (task_processor mode image p running t cr2)) u ≡ task_processor mode image p running u cr2
+processor_after mode image p running t u cr2 h = ap (λ g. task_processor mode image p running (record u { gs = g }) cr2) (sym h)
 
-pub task_at : (image : Image) (p running : ℕ) (t : Task) (cr2 next : ℕ) → record (task_of (task_processor Fred image p running t cr2)) { rip = next } ≡ record t { rip = next }
-task_at image p running t cr2 next = ap (λ (f : Flags). record t { rip = next; flags = f }) (flags_of-flags_word t.flags)
+pub task_at : (mode : Mode) (image : Image) (p running : ℕ) (t : Task) (cr2 next : ℕ) → record (task_of (task_processor mode image p running t cr2)) { rip = next } ≡ record t { rip = next }
+task_at mode image p running t cr2 next = ap (λ (f : Flags). record t { rip = next; flags = f }) (flags_of-flags_word t.flags)
 
-pub plain_runs : (image : Image) (p running : ℕ) (t : Task) (cr2 : ℕ) (i : Ins) (k : Makes t i) (a : Apic) (m : Memory) (nmi : Bool)
-    → executed (task_processor Fred image p running t cr2) a m nmi (Some i) ≡ ran (task_processor Fred image p running k.task cr2) a m.words nmi
-plain_runs image p running t cr2 i k a m nmi =
-    let c : Processor = task_processor Fred image p running t cr2 in
+pub plain_runs : (mode : Mode) (image : Image) (p running : ℕ) (t : Task) (cr2 : ℕ) (i : Ins) (k : Makes t i) (a : Apic) (m : Memory) (nmi : Bool)
+    → executed (task_processor mode image p running t cr2) a m nmi (Some i) ≡ ran (task_processor mode image p running k.task cr2) a m.words nmi
+plain_runs mode image p running t cr2 i k a m nmi =
+    let c : Processor = task_processor mode image p running t cr2 in
     let next : ℕ = t.rip + length (spelling i) in
-    let done : exec c m i next ≡ Done (task_processor Fred image p running k.task cr2) m.words
-    = k.on_cpu c m next ∙ ap (λ u. changed c (effect (view m true) u i)) (task_at image p running t cr2 next) ∙ ap (changed c) (k.is (view m true))
-    ∙ ap (λ z. Done z m.words) (processor_after image p running t k.task cr2 k.gs) in
+    let done : exec c m i next ≡ Done (task_processor mode image p running k.task cr2) m.words
+    = k.on_cpu c m next ∙ ap (λ u. changed c (effect (view m true) u i)) (task_at mode image p running t cr2 next) ∙ ap (changed c) (k.is (view m true))
+    ∙ ap (λ z. Done z m.words) (processor_after mode image p running t k.task cr2 k.gs) in
     ap (λ b. if not b then fault c a m nmi ud else after_exec c a m nmi next i (exec c m i next)) k.may ∙ ap (after_exec c a m nmi next i) done
