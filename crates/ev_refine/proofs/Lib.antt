@@ -3,6 +3,8 @@ pub mod Maps
 pub mod Runs
 pub mod Opens
 pub mod Tells
+pub mod ModeFacts
+pub mod Spots
 pub mod Fits
 pub mod Standing
 pub mod Return

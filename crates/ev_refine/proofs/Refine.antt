@@ -8,7 +8,6 @@ use Rattle.ev_abstract.specs.Context.{BodyContext}
 use Rattle.ev_abstract.specs.Machine.{Machine, processor}
 use Rattle.ev_concrete.specs.ConcreteRun.{System}
 use Rattle.ev_built.specs.Built.{IsBuilt, mode_is_built}
-use Rattle.ev_table.proofs.Whole as whole
 use Rattle.ev_refine.specs.Relation.{Stands}
 use Rattle.ev_refine.specs.Claims.{Simulated, Refines, Opens, AllSettle, TurnsFollow, RunsFollow, StandsTells}
 use Rattle.ev_refine.proofs.Facts.{Facts}
@@ -33,10 +32,10 @@ module _ (image : Image) (built : IsBuilt image) (given : IsImage image) where
       by_bodies : (bs : List BodyContext) → (processor m p).bodies ≡ bs → Simulated Fred image built left s m p
       by_bodies [] q =
           let small = few p image.processors built.one_processor lt in
-          let r = user_turn image given built code left s m h p lt q (fits_at image built code p small lt) (opens_at image built code p small lt) in
+          let r = user_turn image given built code left s m h p lt q (fits_at Fred image built code p small lt) (opens_at Fred image built code p small lt) in
           record { safe = r.1; how = inr r.0 }
       by_bodies (b ∷ below) q =
-          let r = kernel_step image built given code (_, whole.task_return_stands Fred image given built) left s m h p lt b below q in
+          let r = kernel_step Fred image built given code left s m h p lt b below q in
           record { safe = r.1; how = r.0 }
 
 pub refines : Refines
