@@ -1,11 +1,12 @@
 -- The windows of an activation on the stack of the processor's task: they lie apart, the kernel has access to them, and what nothing writes lies outside.
-use Rattle.std.proofs.Common.{◌≡◌, ℕ, ◌+◌, ◌-◌, ◌%◌, ◌<◌, ◌≤◌, true, false, ◌&&◌, List, [], ◌∷◌, refl, sym, ap, ◌∙◌, subst, arith, ⊎_elim}
+use Rattle.std.proofs.Common.{◌≡◌, ◌⊎◌, inl, inr, ℕ, ◌+◌, ◌-◌, ◌%◌, ◌<◌, ◌≤◌, true, false, ◌&&◌, List, [], ◌∷◌, refl, sym, ap, ◌∙◌, subst, arith, ⊎_elim}
 use Rattle.std.proofs.lemmas.Bool.{eq-eqb}
 use Rattle.ev_isa.specs.Word.{NatMap, is_canonical}
 use Rattle.ev_isa.specs.Flags.{Flags}
-use Rattle.ev_isa.specs.declared.mode.Mode.TheVariants.{Fred}
+use Rattle.ev_isa.specs.declared.mode.Mode.{Mode}
+use Rattle.ev_isa.specs.declared.mode.Mode.TheVariants.{Idt, Fred}
 use Rattle.ev_body.specs.declared.image.Image.{Image}
-use Rattle.ev_listing.specs.AddressMap.{pcpu, stack_top}
+use Rattle.ev_listing.specs.AddressMap.{pcpu, user_table, stack_top}
 use Rattle.ev_state.specs.Processor.{Processor, is_user}
 use Rattle.ev_mem.specs.Memory.{Memory}
 use Rattle.ev_proc.specs.ProcessorStep.{has_fred}
@@ -13,18 +14,21 @@ use Rattle.ev_abstract.specs.Context.{BodyContext}
 use Rattle.ev_concrete.specs.Opening.{regions}
 use Rattle.ev_built.specs.Built.{IsBuilt}
 use Rattle.ev_symbolic.specs.State.{Loc, in_win, in_text}
-use Rattle.ev_symbolic.specs.Agrees.{Env, addr, Far, Open, Within, Grounded, Fits}
+use Rattle.ev_symbolic.specs.Agrees.{Env, addr, Far, FactsHold, Described, AreTops, Open, Within, Grounded, Fits}
 use Rattle.ev_symbolic.specs.Agrees as agrees
-use Rattle.ev_distances.specs.Span.{Areas, Tables, Stacks, Codes, Span, InSpan, AllLocated}
+use Rattle.ev_symbolic.specs.Openings.{win_at}
+use Rattle.ev_distances.specs.Span.{Areas, Tables, Stacks, Codes, Span, start, InSpan, AllLocated}
 use Rattle.ev_distances.proofs.Places.{InWord, cases}
 use Rattle.ev_distances.proofs.Spans.{far, located_in}
 use Rattle.ev_distances.proofs.Regions.{stack_covered, area_covered, user_table_covered}
 use Rattle.ev_distances.proofs.Windows.{sep, open_ok, text_ok, in_area, on_stack, in_tables, in_code}
 use Rattle.ev_activation.specs.Activation.{SystemCall, Spot, AtEntry, AtItem, AtExit}
-use Rattle.ev_blocks_fred.specs.Blocks.{fred_ground, block}
-use Rattle.ev_table.specs.Table.{code_table}
-use Rattle.ev_refine.specs.Relation.{IsFixed, InText, InTables, InTasks, InCode, here, top_of, rest_in}
+use Rattle.ev_blocks_idt.specs.Blocks.{rsp_window}
+use Rattle.ev_table.specs.Table.{code_table, lines_of_mode}
+use Rattle.ev_refine.specs.Relation.{block_of, IsFixed, InText, InTables, InTasks, InCode, here, top_of, rest_in}
 use Rattle.ev_refine.proofs.Facts.{Facts}
+use Rattle.ev_refine.proofs.ModeFacts.{is_fred}
+use Rattle.ev_refine.proofs.Spots.{ground_of, ground_is}
 
 -- the bases of an activation of processor p on stack n, above which so many bytes are in use
 pub record Bases (e : Env) (p n used : ℕ) : Type 0 where
@@ -32,108 +36,176 @@ pub record Bases (e : Env) (p n used : ℕ) : Type 0 where
   pub area : e.base 17 ≡ pcpu p
   pub zero_base : e.base 1000 ≡ 0
 
+-- so many bytes below the activation's top, and of the processor's area
+abbrev pub stack_span : ℕ → ℕ → ℕ → ℕ → Span
+stack_span p n used len = record { part = Stacks; p = p; n = n; lo = 0x4000 - used - len; len = len }
+
 abbrev pub area_span : ℕ → ℕ → ℕ → Span
-area_span p n used = record { part = Stacks; p = p; n = n; lo = 0x4000 - used - 0xc0; len = 0xc0 }
+area_span p lo len = record { part = Areas; p = p; n = 0; lo = lo; len = len }
 
-abbrev pub port_span : ℕ → Span
-port_span p = record { part = Areas; p = p; n = 0; lo = 0x28; len = 8 }
+abbrev pub table_span : Span
+table_span = record { part = Tables; p = 0; n = 0; lo = 0; len = 0x808 }
 
-abbrev pub known_spans : ℕ → ℕ → ℕ → List Span
-known_spans p n used = area_span p n used ∷ record { part = Areas; p = p; n = 0; lo = 0x20; len = 8 } ∷ record { part = Tables; p = 0; n = 0; lo = 0; len = 0x808 } ∷ []
+abbrev pub known_spans : Mode → ℕ → ℕ → ℕ → List Span
+known_spans Fred p n used = stack_span p n used 0xc0 ∷ area_span p 0x20 8 ∷ table_span ∷ []
+known_spans Idt p n used = stack_span p n used 0xb0 ∷ area_span p 8 0x20 ∷ table_span ∷ []
+
+abbrev pub own_spans : Mode → ℕ → ℕ → ℕ → List Span
+own_spans Fred p n used = stack_span p n used 0xc0 ∷ []
+own_spans Idt p n used = stack_span p n used 0xb0 ∷ area_span p 8 8 ∷ []
+
+-- where an address is none of an interval's
+abbrev pub Misses : Span → ℕ → Type 0
+Misses s a = (a < start s) ⊎ (start s + s.len ≤ a)
+
+misses : (s : Span) (a : ℕ) → Misses s a → InSpan s a → ⊥
+misses s a h i = let from = i.from in let to = i.to in ⊎_elim (λ (x : a < start s). absurd (omega arith)) (λ (x : start s + s.len ≤ a). absurd (omega arith)) h
 
 module _ (e : Env) (p n used : ℕ) (b : Bases e p n used) (hp : p < 32) (hn : n < 7) (hu : used + 0xc0 ≤ 0x4000) where
-  known_located : AllLocated e fred_ground.known (known_spans p n used)
-  known_located = (on_stack e 16 p n used 0xc0 b.top hp hn (omega arith) hu, (in_area e 17 p 0x20 8 b.area hp (omega arith), (in_tables e 0xffff888000800000 0x808 b.zero_base (omega arith) (omega arith), tt)))
+  table_located : AllLocated e (win_at 1000 user_table 0x808 ∷ []) (table_span ∷ [])
+  table_located = (in_tables e 0xffff888000800000 0x808 b.zero_base (omega arith) (omega arith), tt)
 
-  own_located : AllLocated e fred_ground.own (area_span p n used ∷ [])
-  own_located = (on_stack e 16 p n used 0xc0 b.top hp hn (omega arith) hu, tt)
+  known_located : (mode : Mode) → AllLocated e (ground_of mode).known (known_spans mode p n used)
+  known_located Fred = (on_stack e 16 p n used 0xc0 b.top hp hn (omega arith) hu, (in_area e 17 p 0x20 8 b.area hp (omega arith), table_located))
+  known_located Idt = (on_stack e 16 p n used 0xb0 b.top hp hn (omega arith) (omega arith), (in_area e 17 p 8 0x20 b.area hp (omega arith), table_located))
 
-  shared_located : AllLocated e fred_ground.shared (port_span p ∷ [])
-  shared_located = (in_area e 17 p 0x28 8 b.area hp (omega arith), tt)
+  own_located : (mode : Mode) → AllLocated e (ground_of mode).own (own_spans mode p n used)
+  own_located Fred = (on_stack e 16 p n used 0xc0 b.top hp hn (omega arith) hu, tt)
+  own_located Idt = (on_stack e 16 p n used 0xb0 b.top hp hn (omega arith) (omega arith), (in_area e 17 p 8 8 b.area hp (omega arith), tt))
 
-  pub own_apart : agrees.Apart e fred_ground.known fred_ground.own
-  own_apart = sep e fred_ground.known fred_ground.own (known_spans p n used) (area_span p n used ∷ []) known_located own_located ((tt, tt), ((tt, tt), ((tt, tt), tt)))
+  shared_located : (mode : Mode) → AllLocated e (ground_of mode).shared (area_span p 0x28 8 ∷ [])
+  shared_located Fred = (in_area e 17 p 0x28 8 b.area hp (omega arith), tt)
+  shared_located Idt = (in_area e 17 p 0x28 8 b.area hp (omega arith), tt)
 
-  pub port_apart : Far e fred_ground.known e fred_ground.shared
-  port_apart = far e e fred_ground.known fred_ground.shared (known_spans p n used) (port_span p ∷ []) known_located shared_located ((tt, tt), ((tt, tt), ((tt, tt), tt)))
+  pub own_apart : (mode : Mode) → agrees.Apart e (ground_of mode).known (ground_of mode).own
+  own_apart Fred = sep e (ground_of Fred).known (ground_of Fred).own (known_spans Fred p n used) (own_spans Fred p n used) (known_located Fred) (own_located Fred) ((tt, tt), ((tt, tt), ((tt, tt), tt)))
+  own_apart Idt = sep e (ground_of Idt).known (ground_of Idt).own (known_spans Idt p n used) (own_spans Idt p n used) (known_located Idt) (own_located Idt) ((tt, (tt, tt)), ((tt, (tt, tt)), ((tt, (tt, tt)), tt)))
 
-  pub code_canonical : (l : Loc) → in_text fred_ground.text l ≡ true → is_canonical (addr e l) ≡ true
-  code_canonical l h = text_ok e fred_ground.text (record { part = Codes; p = 0; n = 0; lo = 0; len = 0x1000 } ∷ []) (in_code e 1000 0xffffffff81000000 0x1000 0xffffffff81000000 (let z : e.base 1000 + 0xffffffff81000000 ≡ 0xffffffff81000000 = by_zero (e.base 1000) b.zero_base in z) (omega arith) (omega arith) (omega arith) (omega arith), tt) l h
+  pub port_apart : (mode : Mode) → Far e (ground_of mode).known e (ground_of mode).shared
+  port_apart Fred = far e e (ground_of Fred).known (ground_of Fred).shared (known_spans Fred p n used) (area_span p 0x28 8 ∷ []) (known_located Fred) (shared_located Fred) ((tt, tt), ((tt, tt), ((tt, tt), tt)))
+  port_apart Idt = far e e (ground_of Idt).known (ground_of Idt).shared (known_spans Idt p n used) (area_span p 0x28 8 ∷ []) (known_located Idt) (shared_located Idt) ((tt, tt), ((tt, tt), ((tt, tt), tt)))
+
+  code_located : (len : ℕ) → len ≤ 0x6000 → AllLocated e (win_at 1000 0xffffffff81000000 len ∷ []) (record { part = Codes; p = 0; n = 0; lo = 0; len = len } ∷ [])
+  code_located len h = (in_code e 1000 0xffffffff81000000 len 0xffffffff81000000 (let z : e.base 1000 + 0xffffffff81000000 ≡ 0xffffffff81000000 = by_zero (e.base 1000) b.zero_base in z) (omega arith) (omega arith) (omega arith) (omega arith), tt)
     where
       by_zero : (z : ℕ) → z ≡ 0 → z + 0xffffffff81000000 ≡ 0xffffffff81000000
       by_zero z h = omega arith
 
-  pub grounded : is_user e.rest ≡ false → has_fred e.rest ≡ true → Grounded e fred_ground
-  grounded hk hf = record {
+  pub code_canonical : (mode : Mode) (l : Loc) → in_text (ground_of mode).text l ≡ true → is_canonical (addr e l) ≡ true
+  code_canonical Fred l h = text_ok e (ground_of Fred).text (record { part = Codes; p = 0; n = 0; lo = 0; len = 0x1000 } ∷ []) (code_located 0x1000 (omega arith)) l h
+  code_canonical Idt l h = text_ok e (ground_of Idt).text (record { part = Codes; p = 0; n = 0; lo = 0; len = 0x6000 } ∷ []) (code_located 0x6000 (omega arith)) l h
+
+  pub grounded : (mode : Mode) → is_user e.rest ≡ false → has_fred e.rest ≡ is_fred mode → Grounded e (ground_of mode)
+  grounded mode hk hf = record {
     zero_base = b.zero_base;
     kernel = hk;
-    fred = hf;
-    sep = own_apart;
-    across = port_apart;
-    facts = tt;
-    descriptors = tt;
-    tops = tt;
-    text = code_canonical;
+    fred = hf ∙ in_mode mode;
+    sep = own_apart mode;
+    across = port_apart mode;
+    facts = no_facts mode;
+    descriptors = no_descriptors mode;
+    tops = no_tops mode;
+    text = code_canonical mode;
   }
+    where
+      in_mode : (mode : Mode) → is_fred mode ≡ (ground_of mode).fred
+      in_mode Fred = refl
+      in_mode Idt = refl
 
-  -- where the words stand that an activation writes
-  pub own_in : (l : Loc) → in_win fred_ground.own l ≡ true → InSpan (area_span p n used) (addr e l)
-  own_in l i = ⊎_elim (λ (y : InWord _ l). located_in e _ (area_span p n used) l own_located.0 y.place) (λ z. absurd (cc)) (cases _ [] l i)
+      no_facts : (mode : Mode) → FactsHold e (ground_of mode).facts
+      no_facts Fred = tt
+      no_facts Idt = tt
 
-  pub port_in : (l : Loc) → in_win fred_ground.shared l ≡ true → InSpan (port_span p) (addr e l)
-  port_in l i = ⊎_elim (λ (y : InWord _ l). located_in e _ (port_span p) l shared_located.0 y.place) (λ z. absurd (cc)) (cases _ [] l i)
+      no_descriptors : (mode : Mode) → Described e (ground_of mode).descriptors
+      no_descriptors Fred = tt
+      no_descriptors Idt = tt
 
-  -- a word that stands neither in the area nor at the port is left alone
-  pub left_alone : (m m' : NatMap ℕ) → Within e fred_ground.own fred_ground.shared m m' → (a : ℕ) → (InSpan (area_span p n used) a → ⊥) → (InSpan (port_span p) a → ⊥) → m' a ≡ m a
-  left_alone m m' w a h k = w a (λ l i q. h (subst (InSpan (area_span p n used)) (sym q) (own_in l i))) (λ l i q. k (subst (InSpan (port_span p)) (sym q) (port_in l i)))
+      no_tops : (mode : Mode) → AreTops e (ground_of mode).tops
+      no_tops Fred = tt
+      no_tops Idt = tt
+
+  -- where the words stand that an activation writes: below its top, the word for RSP in the processor's area, and the port
+  deeper : (a : ℕ) → InSpan (stack_span p n used 0xb0) a → InSpan (stack_span p n used 0xc0) a
+  deeper a s = let from = s.from in let to = s.to in record { from = omega arith; to = omega arith }
+
+  pub own_in : (mode : Mode) (l : Loc) → in_win (ground_of mode).own l ≡ true → InSpan (stack_span p n used 0xc0) (addr e l) ⊎ InSpan (area_span p 8 8) (addr e l)
+  own_in Fred l i = ⊎_elim (λ (y : InWord _ l). inl (located_in e _ (stack_span p n used 0xc0) l (own_located Fred).0 y.place)) (λ z. absurd (cc)) (cases _ [] l i)
+  own_in Idt l i =
+      ⊎_elim (λ (y : InWord _ l). inl (deeper (addr e l) (located_in e _ (stack_span p n used 0xb0) l (own_located Idt).0 y.place)))
+      (λ z. ⊎_elim (λ (y : InWord _ l). inr (located_in e _ (area_span p 8 8) l (own_located Idt).1.0 y.place)) (λ t. absurd (cc)) (cases _ [] l z)) (cases _ (rsp_window ∷ []) l i)
+
+  pub port_in : (mode : Mode) (l : Loc) → in_win (ground_of mode).shared l ≡ true → InSpan (area_span p 0x28 8) (addr e l)
+  port_in Fred l i = ⊎_elim (λ (y : InWord _ l). located_in e _ (area_span p 0x28 8) l (shared_located Fred).0 y.place) (λ z. absurd (cc)) (cases _ [] l i)
+  port_in Idt l i = ⊎_elim (λ (y : InWord _ l). located_in e _ (area_span p 0x28 8) l (shared_located Idt).0 y.place) (λ z. absurd (cc)) (cases _ [] l i)
+
+  -- a word that stands at none of these is left alone
+  pub left_alone : (mode : Mode) (m m' : NatMap ℕ) → Within e (ground_of mode).own (ground_of mode).shared m m' → (a : ℕ) → Misses (stack_span p n used 0xc0) a → Misses (area_span p 8 8) a → Misses (area_span p 0x28 8) a → m' a ≡ m a
+  left_alone mode m m' w a h j k =
+      w a
+      (λ l i q. ⊎_elim (λ (s : InSpan (stack_span p n used 0xc0) (addr e l)). misses (stack_span p n used 0xc0) a h (subst (InSpan (stack_span p n used 0xc0)) (sym q) s)) (λ (s : InSpan (area_span p 8 8) (addr e l)). misses (area_span p 8 8) a j (subst (InSpan (area_span p 8 8)) (sym q) s)) (own_in mode l i))
+      (λ l i q. misses (area_span p 0x28 8) a k (subst (InSpan (area_span p 0x28 8)) (sym q) (port_in mode l i)))
 
 -- and the kernel reads and writes these windows, by the regions of the opening
 module _ (image : Image) (e : Env) (p n used : ℕ) (b : Bases e p n used) (hp : p < 32) (hi : p < image.processors) (hn : n < 7) (hu : used + 0xc0 ≤ 0x2000) (ha : used % 8 ≡ 0) where
-  pub known_open : Open e fred_ground.known (regions image)
-  known_open = open_ok e (regions image) fred_ground.known (known_spans p n used) (known_located e p n used b hp hn (omega arith)) (ap (λ t. t && true) (eq-eqb ((0x4000 - used - 0xc0) % 8) 0 (omega arith)))
+  pub known_open : (mode : Mode) → Open e (ground_of mode).known (regions image)
+  known_open Fred = open_ok e (regions image) (ground_of Fred).known (known_spans Fred p n used) (known_located e p n used b hp hn (omega arith) Fred) (ap (λ t. t && true) (eq-eqb ((0x4000 - used - 0xc0) % 8) 0 (omega arith)))
       (stack_covered image p n (0x4000 - used - 0xc0) 0xc0 hi hn (omega arith) (omega arith), (area_covered image p 0x20 8 hi (omega arith), (user_table_covered image 0 0x808 (omega arith), tt)))
+  known_open Idt = open_ok e (regions image) (ground_of Idt).known (known_spans Idt p n used) (known_located e p n used b hp hn (omega arith) Idt) (ap (λ t. t && true) (eq-eqb ((0x4000 - used - 0xb0) % 8) 0 (omega arith)))
+      (stack_covered image p n (0x4000 - used - 0xb0) 0xb0 hi hn (omega arith) (omega arith), (area_covered image p 8 0x20 hi (omega arith), (user_table_covered image 0 0x808 (omega arith), tt)))
 
-  pub shared_open : Open e fred_ground.shared (regions image)
-  shared_open = open_ok e (regions image) fred_ground.shared (port_span p ∷ []) (shared_located e p n used b hp hn (omega arith)) refl (area_covered image p 0x28 8 hi (omega arith), tt)
+  pub shared_open : (mode : Mode) → Open e (ground_of mode).shared (regions image)
+  shared_open Fred = open_ok e (regions image) (ground_of Fred).shared (area_span p 0x28 8 ∷ []) (shared_located e p n used b hp hn (omega arith) Fred) refl (area_covered image p 0x28 8 hi (omega arith), tt)
+  shared_open Idt = open_ok e (regions image) (ground_of Idt).shared (area_span p 0x28 8 ∷ []) (shared_located e p n used b hp hn (omega arith) Idt) refl (area_covered image p 0x28 8 hi (omega arith), tt)
 
 -- ---- the activations of today
 
-module _ (image : Image) (built : IsBuilt image) (facts : Facts Fred image) (p : ℕ) (hp : p < 32) (hi : p < image.processors) where
-  pub bases_at : (w : Processor) (b : BodyContext) (v : ℕ → ℕ) (f : Flags) → top_of Fred image built SystemCall w ≡ stack_top p 0 → Bases (here Fred image built p SystemCall w b v f) p 0 0
+-- the lines of a block are the kernel's, or none
+lines_stand : (mode : Mode) (image : Image) (spot : Spot) (e : Env) → agrees.Stands (code_table mode image) e (lines_of_mode mode) → agrees.Stands (code_table mode image) e (block_of mode SystemCall spot).lines
+lines_stand Fred image AtEntry e h = h
+lines_stand Fred image AtItem e h = tt
+lines_stand Fred image AtExit e h = h
+lines_stand Idt image AtEntry e h = h
+lines_stand Idt image AtItem e h = tt
+lines_stand Idt image AtExit e h = h
+
+module _ (mode : Mode) (image : Image) (built : IsBuilt image) (facts : Facts mode image) (p : ℕ) (hp : p < 32) (hi : p < image.processors) where
+  pub bases_at : (w : Processor) (b : BodyContext) (v : ℕ → ℕ) (f : Flags) → top_of mode image built SystemCall w ≡ stack_top p 0 → Bases (here mode image built p SystemCall w b v f) p 0 0
   bases_at w b v f ht = record { top = plus_zero _ ∙ ht; area = refl; zero_base = refl }
     where
       plus_zero : (x : ℕ) → x + 0 ≡ x
       plus_zero x = omega arith
 
-  pub fits_at : (spot : Spot) (w : Processor) (b : BodyContext) (v : ℕ → ℕ) (f : Flags) → top_of Fred image built SystemCall w ≡ stack_top p 0 → is_user (rest_in Fred image built SystemCall w) ≡ false → has_fred (rest_in Fred image built SystemCall w) ≡ true
-      → Fits (code_table Fred image) (here Fred image built p SystemCall w b v f) (block SystemCall spot)
-  fits_at AtEntry w b v f ht hk hf = record { ground = grounded _ p 0 0 (bases_at w b v f ht) hp (omega arith) (omega arith) hk hf; spaced = facts.spaced; stands = facts.stands (here Fred image built p SystemCall w b v f) refl }
-  fits_at AtItem w b v f ht hk hf = record { ground = grounded _ p 0 0 (bases_at w b v f ht) hp (omega arith) (omega arith) hk hf; spaced = facts.spaced; stands = tt }
-  fits_at AtExit w b v f ht hk hf = record { ground = grounded _ p 0 0 (bases_at w b v f ht) hp (omega arith) (omega arith) hk hf; spaced = facts.spaced; stands = facts.stands (here Fred image built p SystemCall w b v f) refl }
+  pub fits_at : (spot : Spot) (w : Processor) (b : BodyContext) (v : ℕ → ℕ) (f : Flags) → top_of mode image built SystemCall w ≡ stack_top p 0 → is_user (rest_in mode image built SystemCall w) ≡ false → has_fred (rest_in mode image built SystemCall w) ≡ is_fred mode
+      → Fits (code_table mode image) (here mode image built p SystemCall w b v f) (block_of mode SystemCall spot)
+  fits_at spot w b v f ht hk hf = record {
+    ground = subst (Grounded (here mode image built p SystemCall w b v f)) (sym (ground_is mode spot)) (grounded _ p 0 0 (bases_at w b v f ht) hp (omega arith) (omega arith) mode hk hf);
+    spaced = facts.spaced;
+    stands = lines_stand mode image spot (here mode image built p SystemCall w b v f) (facts.stands (here mode image built p SystemCall w b v f) refl);
+  }
 
-  pub opens_at : (w : Processor) (b : BodyContext) (v : ℕ → ℕ) (f : Flags) (m : Memory) → m.regions ≡ regions image → top_of Fred image built SystemCall w ≡ stack_top p 0
-      → Open (here Fred image built p SystemCall w b v f) fred_ground.known m.regions × Open (here Fred image built p SystemCall w b v f) fred_ground.shared m.regions
+  pub opens_at : (w : Processor) (b : BodyContext) (v : ℕ → ℕ) (f : Flags) (m : Memory) → m.regions ≡ regions image → top_of mode image built SystemCall w ≡ stack_top p 0
+      → Open (here mode image built p SystemCall w b v f) (ground_of mode).known m.regions × Open (here mode image built p SystemCall w b v f) (ground_of mode).shared m.regions
   opens_at w b v f m hr ht =
-      let e : Env = here Fred image built p SystemCall w b v f in
+      let e : Env = here mode image built p SystemCall w b v f in
       let bs : Bases e p 0 0 = bases_at w b v f ht in
-      (subst (Open e fred_ground.known) (sym hr) (known_open image e p 0 0 bs hp hi (omega arith) (omega arith) (omega arith)), subst (Open e fred_ground.shared) (sym hr) (shared_open image e p 0 0 bs hp hi (omega arith) (omega arith) (omega arith)))
+      (subst (Open e (ground_of mode).known) (sym hr) (known_open image e p 0 0 bs hp hi (omega arith) (omega arith) (omega arith) mode), subst (Open e (ground_of mode).shared) (sym hr) (shared_open image e p 0 0 bs hp hi (omega arith) (omega arith) (omega arith) mode))
 
   -- what an activation writes leaves the words that nothing writes, the mark and the running task's
-  module _ (w : Processor) (b : BodyContext) (v : ℕ → ℕ) (f : Flags) (ht : top_of Fred image built SystemCall w ≡ stack_top p 0) (m m' : NatMap ℕ) (wrote : Within (here Fred image built p SystemCall w b v f) fred_ground.own fred_ground.shared m m') where
-    alone : (a : ℕ) → (InSpan (area_span p 0 0) a → ⊥) → (InSpan (port_span p) a → ⊥) → m' a ≡ m a
-    alone a h k = left_alone _ p 0 0 (bases_at w b v f ht) hp (omega arith) (omega arith) m m' wrote a h k
+  module _ (w : Processor) (b : BodyContext) (v : ℕ → ℕ) (f : Flags) (ht : top_of mode image built SystemCall w ≡ stack_top p 0) (m m' : NatMap ℕ) (wrote : Within (here mode image built p SystemCall w b v f) (ground_of mode).own (ground_of mode).shared m m') where
+    alone : (a : ℕ) → Misses (stack_span p 0 0 0xc0) a → Misses (area_span p 8 8) a → Misses (area_span p 0x28 8) a → m' a ≡ m a
+    alone a h j k = left_alone _ p 0 0 (bases_at w b v f ht) hp (omega arith) (omega arith) mode m m' wrote a h j k
 
     pub leaves_fixed : (a : ℕ) → IsFixed a → m' a ≡ m a
-    leaves_fixed a (InText h k) = alone a (λ s. let x = s.from in let y = s.to in absurd (omega arith)) (λ s. let x = s.from in let y = s.to in absurd (omega arith))
-    leaves_fixed a (InTables h k) = alone a (λ s. let x = s.from in let y = s.to in absurd (omega arith)) (λ s. let x = s.from in let y = s.to in absurd (omega arith))
-    leaves_fixed a (InTasks h k) = alone a (λ s. let x = s.from in let y = s.to in absurd (omega arith)) (λ s. let x = s.from in let y = s.to in absurd (omega arith))
-    leaves_fixed a (InCode h) = alone a (λ s. let x = s.from in let y = s.to in absurd (omega arith)) (λ s. let x = s.from in let y = s.to in absurd (omega arith))
+    leaves_fixed a (InText h k) = alone a (inl (omega arith)) (inl (omega arith)) (inl (omega arith))
+    leaves_fixed a (InTables h k) = alone a (inl (omega arith)) (inr (omega arith)) (inr (omega arith))
+    leaves_fixed a (InTasks h k) = alone a (inl (omega arith)) (inr (omega arith)) (inr (omega arith))
+    leaves_fixed a (InCode h) = alone a (inr (omega arith)) (inr (omega arith)) (inr (omega arith))
 
     pub leaves_mark : m' (pcpu p + 0x20) ≡ m (pcpu p + 0x20)
-    leaves_mark = alone (pcpu p + 0x20) (λ s. let x = s.from in let y = s.to in absurd (omega arith)) (λ s. let x = s.from in let y = s.to in absurd (omega arith))
+    leaves_mark = alone (pcpu p + 0x20) (inl (omega arith)) (inr (omega arith)) (inl (omega arith))
 
     pub leaves_top : m' (pcpu p + 0x10) ≡ m (pcpu p + 0x10)
-    leaves_top = alone (pcpu p + 0x10) (λ s. let x = s.from in let y = s.to in absurd (omega arith)) (λ s. let x = s.from in let y = s.to in absurd (omega arith))
+    leaves_top = alone (pcpu p + 0x10) (inl (omega arith)) (inr (omega arith)) (inl (omega arith))
 
     pub leaves_task : m' (pcpu p + 0x18) ≡ m (pcpu p + 0x18)
-    leaves_task = alone (pcpu p + 0x18) (λ s. let x = s.from in let y = s.to in absurd (omega arith)) (λ s. let x = s.from in let y = s.to in absurd (omega arith))
+    leaves_task = alone (pcpu p + 0x18) (inl (omega arith)) (inr (omega arith)) (inl (omega arith))

@@ -13,10 +13,10 @@ use Rattle.ev_body.specs.Bodies.{key_number, body_items}
 use Rattle.ev_body.specs.WellFormed.{IsImage, is_key, is_user_only, is_user_side, are_parts, has_no_parts, has_operands, ends_with, is_ret, is_body}
 use Rattle.ev_built.specs.Built.{IsBuilt, is_built_item, is_built_body}
 use Rattle.ev_abstract.specs.Run.{item_at}
+use Rattle.ev_symbolic.specs.Value.{V}
 use Rattle.ev_symbolic.specs.Agrees.{Env, eval}
+use Rattle.ev_symbolic.specs.Openings.{all_regs}
 use Rattle.ev_symbolic.proofs.Values.{and_left, and_right}
-use Rattle.ev_activation.specs.Activation.{SystemCall}
-use Rattle.ev_blocks_fred.specs.Blocks.{item}
 
 -- ---- lists
 
@@ -107,10 +107,10 @@ from_six P a b c d e f g i (suc (suc (suc (suc (suc (suc (suc (suc (suc (suc (su
 from_six P a b c d e f g i (suc (suc (suc (suc (suc (suc (suc (suc (suc (suc (suc (suc (suc zero))))))))))))) h k = i
 from_six P a b c d e f g i (suc (suc (suc (suc (suc (suc (suc (suc (suc (suc (suc (suc (suc (suc n)))))))))))))) h k = absurd (omega arith)
 
-pub local_is : (e : Env) (regs locals : List ℕ) → regs ≡ map (eval e) (item SystemCall).opening.regs → locals ≡ e.var 6 ∷ e.var 7 ∷ e.var 8 ∷ e.var 9 ∷ e.var 10 ∷ e.var 11 ∷ e.var 12 ∷ e.var 13 ∷ []
+pub local_is : (e : Env) (rsp : V) (regs locals : List ℕ) → regs ≡ map (eval e) (all_regs rsp) → locals ≡ e.var 6 ∷ e.var 7 ∷ e.var 8 ∷ e.var 9 ∷ e.var 10 ∷ e.var 11 ∷ e.var 12 ∷ e.var 13 ∷ []
     → (s : ℕ) → 6 ≤ s → s < 14 → get_or regs s 0 ≡ get_or locals (s - 6) 0
 unfolding eval
-local_is e regs locals h k s lo hi =
+local_is e rsp regs locals h k s lo hi =
     let r = λ (n : ℕ). ap (λ (xs : List ℕ). get_or xs n 0) h in
     let l = λ (n : ℕ). sym (ap (λ (xs : List ℕ). get_or xs n 0) k) in
     from_six (λ n. get_or regs n 0 ≡ get_or locals (n - 6) 0) (r 6 ∙ l 0) (r 7 ∙ l 1) (r 8 ∙ l 2) (r 9 ∙ l 3) (r 10 ∙ l 4) (r 11 ∙ l 5) (r 12 ∙ l 6) (r 13 ∙ l 7) s lo hi

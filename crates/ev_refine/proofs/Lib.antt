@@ -4,6 +4,7 @@ pub mod Runs
 pub mod Opens
 pub mod Tells
 pub mod ModeFacts
+pub mod Spots
 pub mod Fits
 pub mod Standing
 pub mod Return

@@ -1,4 +1,4 @@
--- The return of an activation to the task: ERETU gives exactly the processor that the activation stands over.
+-- The return of an activation to the task: ERETU and SYSRETQ give exactly the processor that the activation stands over.
 use Rattle.std.proofs.Common.{◌≡◌, ℕ, ◌+◌, ◌-◌, ◌/◌, ◌%◌, ◌^◌, ◌<◌, ◌≤◌, Bool, true, false, not, ◌&&◌, ◌||◌, List, [], ◌∷◌, ◌++◌, get_or, set, drop, map, length, Some, None, refl, sym, ap, ◌∙◌, subst, arith, length-append}
 use Rattle.std.specs.Prelude.{if◌then◌else◌, ◌==◌, is_some}
 use Rattle.std.proofs.lemmas.Bool.{eqb-true, eq-eqb}
@@ -7,18 +7,24 @@ use Rattle.ev_isa.specs.Flags.{Flags, modelled}
 use Rattle.ev_isa.specs.Spelling.{spelling}
 use Rattle.ev_isa.specs.Pages.{text_base}
 use Rattle.ev_isa.specs.declared.instruction.Ins.{Ins}
-use Rattle.ev_isa.specs.declared.mode.Mode.TheVariants.{Fred}
-use Rattle.ev_event.specs.Event.{ss, gp}
+use Rattle.ev_isa.specs.declared.instruction.Ins.TheVariants.{Sysretq, Eretu}
+use Rattle.ev_isa.specs.declared.mode.Mode.{Mode}
+use Rattle.ev_isa.specs.declared.mode.Mode.TheVariants.{Idt, Fred}
+use Rattle.ev_event.specs.Event.{ss, gp, ud}
 use Rattle.ev_body.specs.declared.image.Image.{Image}
 use Rattle.ev_body.specs.WellFormed.{IsImage}
 use Rattle.ev_effect.specs.Effect.{access_event}
 use Rattle.ev_effect.specs.Frame.{addresses, or_else, first_event}
 use Rattle.ev_listing.specs.AddressMap.{pcpu, stack_top}
-use Rattle.ev_state.specs.Processor.{Processor, selector, gs_exchanged}
+use Rattle.ev_state.specs.Processor.{Processor, is_user, selector, gs_exchanged}
 use Rattle.ev_state.specs.Outcome.{Outcome, Went, Met}
 use Rattle.ev_state.proofs.FlagLaws.{kept}
 use Rattle.ev_mem.specs.Memory.{Memory, view}
+use Rattle.ev_apic.specs.declared.apic.Apic.{Apic}
+use Rattle.ev_exec.specs.Exec.{Special, exec}
+use Rattle.ev_idt.specs.IdtDelivery.{sysretq}
 use Rattle.ev_fred.specs.FredDelivery.{fred_returned, eretu_words, frame_read, return_addresses, eretu}
+use Rattle.ev_proc.specs.ProcessorStep.{has_fred, executed, ran, fault, special, after_return}
 use Rattle.ev_abstract.specs.Context.{BodyContext}
 use Rattle.ev_abstract.specs.Machine.{task}
 use Rattle.ev_abstract.specs.Machine as abstract
@@ -30,12 +36,18 @@ use Rattle.ev_symbolic.specs.Openings.{below}
 use Rattle.ev_symbolic.specs.Agrees.{Env, untracked, eval, addr, Known, Agrees}
 use Rattle.ev_symbolic.proofs.Values.{add_shift}
 use Rattle.ev_symbolic.proofs.Words.{found_ok, accessible}
+use Rattle.ev_symbolic.proofs.Sound.{executes}
 use Rattle.ev_symbolic.proofs.Blocks.{levels_split}
-use Rattle.ev_activation.specs.Activation.{SystemCall}
+use Rattle.ev_activation.specs.Activation.{SystemCall, AtExit}
 use Rattle.ev_blocks_fred.specs.Blocks.{fred_ground, frame_words, fixed_words}
-use Rattle.ev_blocks_fred.specs.Ends.{leave_end}
-use Rattle.ev_blocks_fred.proofs.Ends.{leave_regs, leave_words, leave_gs}
-use Rattle.ev_refine.specs.Relation.{RunsTask, Saved, here, top_of}
+use Rattle.ev_blocks_fred.specs.Ends as fred
+use Rattle.ev_blocks_fred.proofs.Ends as fred_ends
+use Rattle.ev_blocks_idt.specs.Blocks.{idt_ground}
+use Rattle.ev_blocks_idt.specs.Ends as idt
+use Rattle.ev_blocks_idt.proofs.Ends as idt_ends
+use Rattle.ev_table.specs.Table.{task_return_cell}
+use Rattle.ev_refine.specs.Relation.{RunsTask, Saved, here, top_of, rest_in}
+use Rattle.ev_refine.proofs.Spots.{ground_of, end_of}
 
 -- ---- where the task's RIP lies
 
@@ -56,6 +68,19 @@ begins_within a (i ∷ is) y h = pick (y == a) refl h (begins_within (a + length
 low_canonical : (a : ℕ) → a < 2 ^ 47 → is_canonical a ≡ true
 low_canonical a h = ap (λ b. b || (a / 2 ^ 47 == 2 ^ 17 - 1)) (eq-eqb (a / 2 ^ 47) 0 (let e : a / 140737488355328 ≡ 0 = omega arith in e))
 
+-- a processor, by all that a symbolic state tells of it and by the rest
+whole : (c d : Processor) → untracked c ≡ untracked d → c.regs ≡ d.regs → c.rip ≡ d.rip → c.flags ≡ d.flags → c.cr2 ≡ d.cr2 → c.gs ≡ d.gs → c.sti_blocked ≡ d.sti_blocked
+    → c.msrs.gs_base ≡ d.msrs.gs_base → c.msrs.kernel_gs_base ≡ d.msrs.kernel_gs_base → c.msrs.rsp ≡ d.msrs.rsp → c ≡ d
+whole c d hu regs rip flags cr2 gs sti base kernel rsp = λ i. record (hu i) {
+  regs = regs i;
+  rip = rip i;
+  flags = flags i;
+  cr2 = cr2 i;
+  gs = gs i;
+  sti_blocked = sti i;
+  msrs = record ((hu i).msrs) { gs_base = base i; kernel_gs_base = kernel i; rsp = rsp i };
+}
+
 module _ (image : Image) (built : IsBuilt image) (good : IsImage image) where
   pub task_canonical : (a : ℕ) → begins built.program a ≡ true → is_canonical a ≡ true
   task_canonical a h =
@@ -64,19 +89,45 @@ module _ (image : Image) (built : IsBuilt image) (good : IsImage image) where
       let small : length (spelled built.program) ≤ 65520 = subst (λ (t : List ℕ). length t ≤ 65520) built.is_program.text_is good.text_fits in
       low_canonical a (omega arith)
 
+  -- ---- the processor to which an activation returns
+
+  module _ (mode : Mode) (p : ℕ) (hp : p < 32) (x : abstract.Processor) (hx : x.running ≡ 0) (w : Processor) (r : RunsTask mode image built p x w) where
+    rip_canonical : is_canonical w.rip ≡ true
+    rip_canonical = ap is_canonical (ap (λ (y : Processor). y.rip) r.is) ∙ task_canonical (task x).rip r.at
+
+    -- at the task's privilege, with the rest as the activation left it
+    returned : (d : Processor) → untracked d ≡ record (rest_in mode image built SystemCall w) { cpl = 3; cs = 0x33; ss = 0x2b } → d.regs ≡ w.regs → d.rip ≡ w.rip → d.flags ≡ modelled w.flags → d.cr2 ≡ w.cr2 → d.gs ≡ w.gs → d.sti_blocked ≡ false
+        → d.msrs.gs_base ≡ w.msrs.gs_base → d.msrs.kernel_gs_base ≡ (pcpu p + 0) % M → d.msrs.rsp ≡ (top_of mode image built SystemCall w + 0) % M ∷ drop 1 w.msrs.rsp → d ≡ w
+    returned d rest regs rip flags cr2 gs sti base kernel levels =
+        let t : w ≡ _ = r.is in
+        let h_cpl : 3 ≡ w.cpl = sym (ap (λ (y : Processor). y.cpl) t) in
+        let h_cs : 0x33 ≡ w.cs = sym (ap (λ (y : Processor). y.cs) t) in
+        let h_ss : 0x2b ≡ w.ss = sym (ap (λ (y : Processor). y.ss) t) in
+        let h_level : 0 ≡ w.level = sym (ap (λ (y : Processor). y.level) t) in
+        let h_rest : untracked d ≡ untracked w = rest ∙ (λ i. record (untracked w) { cpl = h_cpl i; cs = h_cs i; ss = h_ss i; level = h_level i }) in
+        let h_top : get_or w.msrs.rsp 0 0 ≡ stack_top p 0 = ap (λ (y : Processor). get_or y.msrs.rsp 0 0) t ∙ ap (stack_top p) hx in
+        whole d w h_rest regs rip (flags ∙ sym (kept w.flags (task x).flags (ap (λ (y : Processor). y.flags) t))) cr2 gs (sti ∙ sym (ap (λ (y : Processor). y.sti_blocked) t))
+        base (kernel ∙ area_low ∙ sym (ap (λ (y : Processor). y.msrs.kernel_gs_base) t)) (levels ∙ ap (λ n. n ∷ drop 1 w.msrs.rsp) (top_low (get_or w.msrs.rsp 0 0) h_top) ∙ sym (levels_split w.msrs.rsp (ap (λ (y : Processor). length y.msrs.rsp) t)))
+      where
+        area_low : (pcpu p + 0) % M ≡ pcpu p
+        area_low = omega arith
+
+        top_low : (n : ℕ) → n ≡ stack_top p 0 → (n + 0) % M ≡ n
+        top_low n h = omega arith
+
+  -- ---- under FRED: ERETU takes the frame
+
   module _ (p : ℕ) (hp : p < 32) (x : abstract.Processor) (hx : x.running ≡ 0) (w : Processor) (r : RunsTask Fred image built p x w) (b : BodyContext) (v : ℕ → ℕ) (f : Flags) (c : Processor) (m : Memory)
-      (a : Agrees (here Fred image built p SystemCall w b v f) fred_ground (leave_end SystemCall) c m) (saved : Saved Fred image built v w) where
+      (a : Agrees (here Fred image built p SystemCall w b v f) fred_ground (fred.leave_end SystemCall) c m) (saved : Saved Fred image built v w) where
     abbrev e : Env
     e = here Fred image built p SystemCall w b v f
 
     abbrev top : ℕ
     top = top_of Fred image built SystemCall w
 
-    -- ---- the words of the frame
-
     regs : c.regs ≡ v 30 ∷ v 31 ∷ v 32 ∷ v 33 ∷ (top + (M - 64)) % M ∷ v 35 ∷ v 36 ∷ v 37 ∷ v 38 ∷ v 39 ∷ v 40 ∷ v 41 ∷ v 42 ∷ v 43 ∷ v 44 ∷ v 45 ∷ []
     unfolding eval
-    regs = a.regs ∙ ap (map (eval e)) (leave_regs SystemCall)
+    regs = a.regs ∙ ap (map (eval e)) (fred_ends.leave_regs SystemCall)
 
     up : (o : ℕ) → wrap ((top + o) % M + 8) ≡ (top + (o + 8) % M) % M
     up o = sym (add_shift top o 8)
@@ -105,7 +156,7 @@ module _ (image : Image) (built : IsBuilt image) (good : IsImage image) where
         ∙ ap (λ o. or_else o None) (readable (below 24) refl)
 
     known : Known e fred_ground.known m.words (frame_words SystemCall ++ fixed_words)
-    known = subst (Known e fred_ground.known m.words) (leave_words SystemCall) a.words
+    known = subst (Known e fred_ground.known m.words) (fred_ends.leave_words SystemCall) a.words
 
     words : map m.words frame_places ≡ w.rip ∷ 0x33 ∷ v 19 ∷ v 20 ∷ 0x220700010002002b ∷ []
     unfolding eval
@@ -117,75 +168,77 @@ module _ (image : Image) (built : IsBuilt image) (good : IsImage image) where
         let stack : m.words (addr e (below 24)) ≡ 0x220700010002002b = (found_ok e fred_ground.known m.words (below 24) (frame_words SystemCall ++ fixed_words) known).1 in
         λ i. rip i ∷ cs i ∷ flags i ∷ sp i ∷ stack i ∷ []
 
-    -- ---- the processor
+    abbrev by_frame : Processor
+    by_frame = record (gs_exchanged (fred_returned c w.rip (v 19) (v 20) 0x220700010002002b)) { cs = 0x33; ss = 0x2b; cpl = 3 }
 
-    abbrev restored : Processor
-    restored = record (gs_exchanged (fred_returned c w.rip (v 19) (v 20) 0x220700010002002b)) { cs = 0x33; ss = 0x2b; cpl = 3 }
-
-    top_is : top ≡ stack_top p 0
-    top_is = ap (λ (y : Processor). get_or y.msrs.rsp 0 0) r.is ∙ ap (stack_top p) hx
-
-    area_low : (pcpu p + 0) % M ≡ pcpu p
-    area_low = omega arith
-
-    top_low : (top + 0) % M ≡ top
-    top_low = let t = top_is in omega arith
-
-    restored_is : restored ≡ w
+    by_frame_is : by_frame ≡ w
     unfolding eval
-    restored_is =
-        let t : w ≡ _ = r.is in
-        let u : untracked c ≡ e.rest = a.rest in
-        let z = leave_gs SystemCall in
-        let h_regs : set c.regs 4 (v 20) ≡ w.regs = ap (λ xs. set xs 4 (v 20)) regs ∙ sym saved.regs in
-        let h_flags : modelled (v 19) ≡ w.flags = ap modelled saved.framed.flags ∙ sym (kept w.flags (task x).flags (ap (λ (y : Processor). y.flags) t)) in
-        let h_cr2 : c.cr2 ≡ w.cr2 = a.cr2 ∙ ap (eval e) z.3 ∙ saved.framed.cr2 in
-        let h_cr4 : c.cr4 ≡ w.cr4 = ap (λ (y : Processor). y.cr4) u in
-        let h_cpl : 3 ≡ w.cpl = sym (ap (λ (y : Processor). y.cpl) t) in
-        let h_level : c.level ≡ w.level = ap (λ (y : Processor). y.level) u ∙ sym (ap (λ (y : Processor). y.level) t) in
-        let h_cs : 0x33 ≡ w.cs = sym (ap (λ (y : Processor). y.cs) t) in
-        let h_ss : 0x2b ≡ w.ss = sym (ap (λ (y : Processor). y.ss) t) in
-        let h_gs : c.gs ≡ w.gs = a.selector ∙ ap (eval e) z.2 ∙ saved.framed.selector in
-        let h_nmi : (c.nmi_blocked && not (bit 18 0x220700010002002b)) ≡ w.nmi_blocked = ap (λ (y : Processor). y.nmi_blocked && not (bit 18 0x220700010002002b)) u ∙ ap (λ (y : Processor). y.nmi_blocked && not (bit 18 0x220700010002002b)) t ∙ sym (ap (λ (y : Processor). y.nmi_blocked) t) in
-        let h_sti : bit 16 0x220700010002002b ≡ w.sti_blocked = sym (ap (λ (y : Processor). y.sti_blocked) t) in
-        let h_idt : c.idt ≡ w.idt = ap (λ (y : Processor). y.idt) u in
-        let h_tss : c.tss ≡ w.tss = ap (λ (y : Processor). y.tss) u in
-        let h_gdt : c.gdt ≡ w.gdt = ap (λ (y : Processor). y.gdt) u in
-        let h_star : c.msrs.star ≡ w.msrs.star = ap (λ (y : Processor). y.msrs.star) u in
-        let h_lstar : c.msrs.lstar ≡ w.msrs.lstar = ap (λ (y : Processor). y.msrs.lstar) u in
-        let h_fmask : c.msrs.fmask ≡ w.msrs.fmask = ap (λ (y : Processor). y.msrs.fmask) u in
-        let h_stklvls : c.msrs.stklvls ≡ w.msrs.stklvls = ap (λ (y : Processor). y.msrs.stklvls) u in
-        let h_config : c.msrs.config ≡ w.msrs.config = ap (λ (y : Processor). y.msrs.config) u in
-        let h_base : c.msrs.kernel_gs_base ≡ w.msrs.gs_base = a.kernel_gs ∙ ap (eval e) z.1 ∙ saved.framed.gs in
-        let h_kernel : c.msrs.gs_base ≡ w.msrs.kernel_gs_base = a.gs ∙ ap (eval e) z.0 ∙ area_low ∙ sym (ap (λ (y : Processor). y.msrs.kernel_gs_base) t) in
-        let h_rsp : c.msrs.rsp ≡ w.msrs.rsp = a.levels ∙ ap (λ y. eval e y ∷ drop 1 w.msrs.rsp) z.4 ∙ ap (λ y. y ∷ drop 1 w.msrs.rsp) top_low ∙ sym (levels_split w.msrs.rsp (ap (λ (y : Processor). length y.msrs.rsp) t)) in
-        λ i. record {
-          regs = h_regs i;
-          rip = w.rip;
-          flags = h_flags i;
-          cr2 = h_cr2 i;
-          cr4 = h_cr4 i;
-          cpl = h_cpl i;
-          level = h_level i;
-          cs = h_cs i;
-          ss = h_ss i;
-          gs = h_gs i;
-          nmi_blocked = h_nmi i;
-          sti_blocked = h_sti i;
-          idt = h_idt i;
-          tss = h_tss i;
-          msrs = record { star = h_star i; lstar = h_lstar i; fmask = h_fmask i; gs_base = h_base i; kernel_gs_base = h_kernel i; stklvls = h_stklvls i; config = h_config i; rsp = h_rsp i };
-          gdt = h_gdt i;
-        }
+    by_frame_is =
+        let z = fred_ends.leave_gs SystemCall in
+        let nmi : (w.nmi_blocked && not (bit 18 0x220700010002002b)) ≡ w.nmi_blocked = ap (λ (y : Processor). y.nmi_blocked && not (bit 18 0x220700010002002b)) r.is ∙ sym (ap (λ (y : Processor). y.nmi_blocked) r.is) in
+        let rest : untracked by_frame ≡ record (rest_in Fred image built SystemCall w) { cpl = 3; cs = 0x33; ss = 0x2b } =
+        ap {A = Processor} {B = Processor} (λ y. record y { cpl = 3; cs = 0x33; ss = 0x2b; nmi_blocked = y.nmi_blocked && not (bit 18 0x220700010002002b) }) a.rest
+        ∙ ap {A = Bool} {B = Processor} (λ n. record (rest_in Fred image built SystemCall w) { cpl = 3; cs = 0x33; ss = 0x2b; nmi_blocked = n }) nmi in
+        returned Fred p hp x hx w r by_frame rest (ap (λ xs. set xs 4 (v 20)) regs ∙ sym saved.regs) refl (ap modelled saved.framed.flags) (a.cr2 ∙ ap (eval e) z.3 ∙ saved.framed.cr2) (a.selector ∙ ap (eval e) z.2 ∙ saved.framed.selector) refl
+        (a.kernel_gs ∙ ap (eval e) z.1 ∙ saved.framed.gs) (a.gs ∙ ap (eval e) z.0) (a.levels ∙ ap (λ y. eval e y ∷ drop 1 w.msrs.rsp) z.4)
 
-    pub returns : eretu c m ≡ Went w m.words 0
+    eretu_gives : eretu c m ≡ Went w m.words 0
     unfolding eretu
-    returns =
-        let lv : c.level ≡ 0 = ap (λ (y : Processor). y.level) a.rest in
-        let cn : is_canonical w.rip ≡ true = ap is_canonical (ap (λ (y : Processor). y.rip) r.is) ∙ task_canonical (task x).rip r.at in
+    eretu_gives =
+        let level : c.level ≡ 0 = ap (λ (y : Processor). y.level) a.rest in
+        let canonical : is_canonical w.rip ≡ true = rip_canonical Fred p hp x hx w r in
         let met : Outcome = Met c (gp 0) in
         ap (λ as'. frame_read c (eretu_words c m.words) m.words as' (first_event (view m false) false as')) places
         ∙ ap (frame_read c (eretu_words c m.words) m.words frame_places) all_readable
         ∙ ap (eretu_words c m.words) words
-        ∙ (λ i. if (lv i == 0) && cn i && (selector 0x33 == 0x33) && (selector 0x220700010002002b == 0x2b) then Went restored m.words 0 else met)
-        ∙ ap (λ y. Went y m.words 0) restored_is
+        ∙ (λ i. if (level i == 0) && canonical i && (selector 0x33 == 0x33) && (selector 0x220700010002002b == 0x2b) then Went by_frame m.words 0 else met)
+        ∙ ap (λ y. Went y m.words 0) by_frame_is
+
+  -- ---- under IDT: SYSRETQ takes RIP from RCX and the flags from R11
+
+  module _ (p : ℕ) (hp : p < 32) (x : abstract.Processor) (hx : x.running ≡ 0) (w : Processor) (r : RunsTask Idt image built p x w) (b : BodyContext) (v : ℕ → ℕ) (f : Flags) (c : Processor) (m : Memory)
+      (a : Agrees (here Idt image built p SystemCall w b v f) idt_ground (idt.leave_end SystemCall) c m) (saved : Saved Idt image built v w) where
+    abbrev env : Env
+    env = here Idt image built p SystemCall w b v f
+
+    registers : c.regs ≡ w.regs
+    unfolding eval
+    registers = a.regs ∙ ap (map (eval env)) (idt_ends.leave_regs SystemCall) ∙ sym saved.regs
+
+    rcx : get_or c.regs 1 0 ≡ w.rip
+    rcx = ap (λ xs. get_or xs 1 0) (registers ∙ saved.regs) ∙ saved.framed.rip
+
+    r11 : get_or c.regs 11 0 ≡ w.flags
+    r11 = ap (λ xs. get_or xs 11 0) (registers ∙ saved.regs) ∙ saved.framed.flags
+
+    abbrev by_registers : Processor
+    by_registers = record c { rip = get_or c.regs 1 0; flags = modelled (get_or c.regs 11 0); cs = 0x33; ss = 0x2b; cpl = 3; sti_blocked = false }
+
+    by_registers_is : by_registers ≡ w
+    unfolding eval
+    by_registers_is =
+        let z = idt_ends.leave_gs SystemCall in
+        returned Idt p hp x hx w r by_registers (ap {A = Processor} {B = Processor} (λ y. record y { cpl = 3; cs = 0x33; ss = 0x2b }) a.rest) registers rcx (ap modelled r11) (a.cr2 ∙ ap (eval env) z.3 ∙ saved.framed.cr2) (a.selector ∙ ap (eval env) z.2 ∙ saved.framed.selector) refl
+        (a.gs ∙ ap (eval env) z.0 ∙ saved.framed.gs) (a.kernel_gs ∙ ap (eval env) z.1) (a.levels ∙ ap (λ y. eval env y ∷ drop 1 w.msrs.rsp) z.4)
+
+    sysretq_gives : sysretq c m.words ≡ Went w m.words 0
+    unfolding sysretq
+    sysretq_gives =
+        let met : Outcome = Met c (gp 0) in
+        ap (λ t. if t then Went by_registers m.words 0 else met) (ap is_canonical rcx ∙ rip_canonical Idt p hp x hx w r)
+        ∙ ap (λ y. Went y m.words 0) by_registers_is
+
+  -- ---- the step
+
+  pub returns : (mode : Mode) (p : ℕ) → p < 32 → (x : abstract.Processor) → x.running ≡ 0 → (w : Processor) → RunsTask mode image built p x w → (b : BodyContext) (v : ℕ → ℕ) (f : Flags) (c : Processor) (m : Memory)
+      → Agrees (here mode image built p SystemCall w b v f) (ground_of mode) (end_of mode AtExit) c m → Saved mode image built v w → (next : ℕ) → c.rip + length (spelling (task_return_cell mode).ins) ≡ next
+      → (n : Apic) (nmi : Bool) → executed c n m nmi (Some (task_return_cell mode).ins) ≡ ran w n m.words nmi
+  unfolding exec special
+  returns Fred p hp x hx w r b v f c m a saved next hn n nmi =
+      executes c m Eretu next Special (ap is_user a.rest) hn refl n nmi
+      ∙ ap (λ z. if z then after_return n m nmi (eretu c m) else fault c n m nmi ud) (ap has_fred a.rest ∙ ap (λ (y : Processor). bit 32 y.cr4) r.is)
+      ∙ ap (after_return n m nmi) (eretu_gives p hp x hx w r b v f c m a saved)
+  returns Idt p hp x hx w r b v f c m a saved next hn n nmi =
+      executes c m Sysretq next Special (ap is_user a.rest) hn refl n nmi
+      ∙ ap (λ z. if z then fault c n m nmi ud else after_return n m nmi (sysretq c m.words)) (ap has_fred a.rest ∙ ap (λ (y : Processor). bit 32 y.cr4) r.is)
+      ∙ ap (after_return n m nmi) (sysretq_gives p hp x hx w r b v f c m a saved)

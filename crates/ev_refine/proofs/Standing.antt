@@ -4,7 +4,7 @@ use Rattle.std.specs.Prelude.{if◌then◌else◌}
 use Rattle.std.specs.List.{list_any}
 use Rattle.ev_isa.specs.Word.{NatMap, put_at}
 use Rattle.ev_isa.specs.declared.instruction.Ins.{Ins}
-use Rattle.ev_isa.specs.declared.mode.Mode.TheVariants.{Fred}
+use Rattle.ev_isa.specs.declared.mode.Mode.{Mode}
 use Rattle.ev_event.specs.declared.boundary.Next.{Next}
 use Rattle.ev_event.specs.Boundary.{first_of}
 use Rattle.ev_body.specs.declared.image.Image.{Image}
@@ -69,8 +69,8 @@ unfolding concrete_step
 ran_step n s p cpu words h = ap (λ r. acted n (after_step s p r) p r.step) h
 
 -- writes no frame
-pub ran_safe : (image : Image) (s : System) (p : ℕ) (cpu : Processor) (words : NatMap ℕ) → Runs s p cpu words → IsSafeStep Fred image s p
-ran_safe image s p cpu words h = ap (λ (r : System × List FrameNote). list_any (overwrites Fred image s) r.1) (ran_step image.processors s p cpu words h)
+pub ran_safe : (mode : Mode) (image : Image) (s : System) (p : ℕ) (cpu : Processor) (words : NatMap ℕ) → Runs s p cpu words → IsSafeStep mode image s p
+ran_safe mode image s p cpu words h = ap (λ (r : System × List FrameNote). list_any (overwrites mode image s) r.1) (ran_step image.processors s p cpu words h)
 
 pub ran_shown : (s : System) (p : ℕ) (cpu : Processor) (words : NatMap ℕ) (i : Ins) → Runs s p cpu words → is_user (s.cpus p) ≡ false → instruction_at s.memory.words (s.cpus p).rip ≡ Some i → shown s p ≡ shown_instruction p (s.cpus p) (Some i)
 unfolding shown
@@ -91,13 +91,13 @@ ran_returns s p cpu i hi hr hu hl =
 
 -- ---- the relation after it
 
-module _ (image : Image) (built : IsBuilt image) where
+module _ (mode : Mode) (image : Image) (built : IsBuilt image) where
   -- of this processor, where only its bodies have changed
-  pub stands_on_after : (p left now : ℕ) (s : System) (x : abstract.Processor) (cpu : Processor) (words : NatMap ℕ) (bs : List BodyContext) → StandsOn Fred image built p left s x → now ≤ most_edges Fred image built
+  pub stands_on_after : (p left now : ℕ) (s : System) (x : abstract.Processor) (cpu : Processor) (words : NatMap ℕ) (bs : List BodyContext) → StandsOn mode image built p left s x → now ≤ most_edges mode image built
       → words (pcpu p + 0x20) ≡ s.memory.words (pcpu p + 0x20) → words (pcpu p + 0x10) ≡ s.memory.words (pcpu p + 0x10) → words (pcpu p + 0x18) ≡ s.memory.words (pcpu p + 0x18)
       → length (activations_by s p (s.activations p) cpu Stepped.Ran) ≡ length bs
-      → Chain Fred image built p now (record x { bodies = bs }) bs cpu (with_words s.memory words)
-      → StandsOn Fred image built p now (after_ran s p cpu words) (record x { bodies = bs })
+      → Chain mode image built p now (record x { bodies = bs }) bs cpu (with_words s.memory words)
+      → StandsOn mode image built p now (after_ran s p cpu words) (record x { bodies = bs })
   stands_on_after p left now s x cpu words bs o few mark top task depth chain = record {
     few = few;
     running = o.running;
@@ -111,14 +111,14 @@ module _ (image : Image) (built : IsBuilt image) where
     top_is = top ∙ o.top_is;
     task_is = task ∙ o.task_is;
     depth = ap length (at_same s.activations p p (activations_by s p (s.activations p) cpu Stepped.Ran) refl) ∙ depth;
-    chain = subst (λ c. Chain Fred image built p now (record x { bodies = bs }) bs c (with_words s.memory words)) (sym (at_same s.cpus p p cpu refl)) chain;
+    chain = subst (λ c. Chain mode image built p now (record x { bodies = bs }) bs c (with_words s.memory words)) (sym (at_same s.cpus p p cpu refl)) chain;
   }
 
   -- of the whole machine
-  pub stands_after : (left : NatMap ℕ) (s : System) (m m' : Machine) (p now : ℕ) (cpu : Processor) (words : NatMap ℕ) → Stands Fred image built left s m → p < image.processors
+  pub stands_after : (left : NatMap ℕ) (s : System) (m m' : Machine) (p now : ℕ) (cpu : Processor) (words : NatMap ℕ) → Stands mode image built left s m → p < image.processors
       → ((a : ℕ) → IsFixed a → words a ≡ s.memory.words a) → m'.words ≡ m.words → m'.present ≡ m.present
-      → StandsOn Fred image built p now (after_ran s p cpu words) (processor m' p)
-      → Stands Fred image built (put_at left p now) (after_ran s p cpu words) m'
+      → StandsOn mode image built p now (after_ran s p cpu words) (processor m' p)
+      → Stands mode image built (put_at left p now) (after_ran s p cpu words) m'
   stands_after left s m m' p now cpu words h hp fixed same_words same_pages on = record {
     regions_are = h.regions_are;
     fixed = λ a f. fixed a f ∙ h.fixed a f;
@@ -126,8 +126,8 @@ module _ (image : Image) (built : IsBuilt image) where
     present = same_pages ∙ h.present;
     each = λ q hq.
         let same : p ≡ q = only q hq in
-        subst (λ r. StandsOn Fred image built r (put_at left p now r) (after_ran s p cpu words) (processor m' r)) same
-        (subst (λ l. StandsOn Fred image built p l (after_ran s p cpu words) (processor m' p)) (sym (at_same left p p now refl)) on);
+        subst (λ r. StandsOn mode image built r (put_at left p now r) (after_ran s p cpu words) (processor m' r)) same
+        (subst (λ l. StandsOn mode image built p l (after_ran s p cpu words) (processor m' p)) (sym (at_same left p p now refl)) on);
   }
     where
       only : (q : ℕ) → q < image.processors → p ≡ q

@@ -1,7 +1,8 @@
 -- What the relation says to those who make the steps.
-use Rattle.std.proofs.Common.{◌≡◌, ℕ, ◌<◌, true, false, List, [], ◌∷◌, refl, sym, ap, ◌∙◌, subst}
+use Rattle.std.proofs.Common.{◌≡◌, ℕ, ◌+◌, ◌<◌, arith, true, false, List, [], ◌∷◌, refl, sym, ap, ◌∙◌, subst}
 use Rattle.ev_isa.specs.Word.{NatMap}
-use Rattle.ev_isa.specs.declared.mode.Mode.TheVariants.{Fred}
+use Rattle.ev_isa.specs.declared.mode.Mode.{Mode}
+use Rattle.ev_isa.specs.declared.mode.Mode.TheVariants.{Idt, Fred}
 use Rattle.ev_body.specs.declared.image.Image.{Image}
 use Rattle.ev_state.specs.Processor.{Processor}
 use Rattle.ev_mem.specs.Memory.{Memory}
@@ -12,28 +13,50 @@ use Rattle.ev_concrete.specs.ConcreteRun.{System}
 use Rattle.ev_proc.specs.ProcessorStep.{has_fred}
 use Rattle.ev_built.specs.Built.{IsBuilt}
 use Rattle.ev_activation.specs.Activation.{Kind, SystemCall}
-use Rattle.ev_refine.specs.Relation.{Stands, RunsTask, Chain, rest_in}
+use Rattle.ev_refine.specs.Relation.{Stands, Chain, rest_in, InTables}
 use Rattle.ev_refine.specs.Claims.{Tells}
-use Rattle.ev_refine.proofs.Facts.{Facts}
+use Rattle.ev_refine.proofs.Facts.{Facts, HasFixed}
+use Rattle.ev_refine.proofs.ModeFacts.{is_fred}
+use Rattle.ev_tables.proofs.Stand.{stand}
+use Rattle.ev_body.specs.WellFormed.{IsImage}
+use Rattle.ev_listing.specs.AddressMap.{pcpu, idt_base}
+use Rattle.ev_idt.specs.Tables.{HasTables}
+use Rattle.ev_concrete.specs.Opening.{opening_cpu, regions}
+use Rattle.ev_symbolic.specs.Agrees.{untracked}
 
-module _ (image : Image) (built : IsBuilt image) where
-  task_fred : (p : ℕ) (x : abstract.Processor) (c : Processor) → RunsTask Fred image built p x c → has_fred c ≡ true
-  task_fred p x c r = ap has_fred r.is
+module _ (mode : Mode) (image : Image) (built : IsBuilt image) where
+  -- what no activation changes of the processor: whether FRED is on, and where the tables stand
+  pub record Kept (p : ℕ) (c : Processor) : Type 0 where
+    pub fred : has_fred c ≡ is_fred mode
+    pub idt : c.idt ≡ idt_base
+    pub tss : c.tss ≡ pcpu p + 0x404
 
-  kind_fred : (κ : Kind) (w : Processor) → has_fred (rest_in Fred image built κ w) ≡ has_fred w
-  kind_fred SystemCall w = refl
+  mode_fred : (mode : Mode) → has_fred (opening_cpu mode image 0) ≡ is_fred mode
+  mode_fred Fred = refl
+  mode_fred Idt = refl
 
-  -- every processor of a chain has FRED on
-  pub chain_fred : (p left : ℕ) (x : abstract.Processor) (bs : List BodyContext) (c : Processor) (m : Memory) → Chain Fred image built p left x bs c m → has_fred c ≡ true
-  chain_fred p left x [] c m h = task_fred p x c h
-  chain_fred p left x (b ∷ below) c m h = ap has_fred h.5.at.agrees.rest ∙ kind_fred h.1 h.0 ∙ chain_fred p left x below h.0 m h.4
+  kind_kept : (p : ℕ) (κ : Kind) (w : Processor) → Kept p w → Kept p (rest_in mode image built κ w)
+  kind_kept p SystemCall w k = record { fred = k.fred; idt = k.idt; tss = k.tss }
 
-  pub stands_tells : Facts Fred image → (left : NatMap ℕ) (s : System) (m : Machine) → Stands Fred image built left s m → (p : ℕ) → p < image.processors → Tells Fred image s m p
-  stands_tells facts left s m r p lt =
+  pub chain_kept : (p left : ℕ) (x : abstract.Processor) (bs : List BodyContext) (c : Processor) (m : Memory) → Chain mode image built p left x bs c m → Kept p c
+  chain_kept p left x [] c m h = record { fred = ap has_fred h.is ∙ mode_fred mode; idt = ap (λ (c : Processor). c.idt) h.is; tss = ap (λ (c : Processor). c.tss) h.is }
+  chain_kept p left x (b ∷ below) c m h =
+      let k : Kept p (rest_in mode image built h.1 h.0) = kind_kept p h.1 h.0 (chain_kept p left x below h.0 m h.4) in
+      let same : untracked c ≡ rest_in mode image built h.1 h.0 = h.5.at.agrees.rest in
+      record { fred = ap has_fred same ∙ k.fred; idt = ap (λ (c : Processor). c.idt) same ∙ k.idt; tss = ap (λ (c : Processor). c.tss) same ∙ k.tss }
+
+  -- without FRED the tables of a delivery stand
+  tables : (mode' : Mode) → mode' ≡ mode → IsImage image → (p : ℕ) → p < image.processors → (c : Processor) (m : Memory) → Kept p c → m.regions ≡ regions image → HasFixed mode' image m → has_fred c ≡ false → HasTables c m
+  tables Fred e given p lt c m k hr hf h = absurd (let clash : true ≡ false = ap is_fred e ∙ sym k.fred ∙ h in cc)
+  tables Idt e given p lt c m k hr hf h = stand image m c p given lt hr (λ a ha lo hi. hf a (InTables (omega arith) hi)) k.idt k.tss
+
+  pub stands_tells : IsImage image → Facts mode image → (left : NatMap ℕ) (s : System) (m : Machine) → Stands mode image built left s m → (p : ℕ) → p < image.processors → Tells mode image s m p
+  stands_tells given facts left s m r p lt =
       let on = r.each p lt in
-      let task = λ (h : (processor m p).bodies ≡ []). subst (λ bs. Chain Fred image built p (left p) (processor m p) bs (s.cpus p) s.memory) h on.chain in
+      let kept : Kept p (s.cpus p) = chain_kept p (left p) (processor m p) (processor m p).bodies (s.cpus p) s.memory on.chain in
+      let task = λ (h : (processor m p).bodies ≡ []). subst (λ bs. Chain mode image built p (left p) (processor m p) bs (s.cpus p) s.memory) h on.chain in
       record {
-        entries = record { tables = λ h. absurd (let clash : true ≡ false = sym (chain_fred p (left p) (processor m p) (processor m p).bodies (s.cpus p) s.memory on.chain) ∙ h in cc) };
+        entries = record { tables = tables mode refl given p lt (s.cpus p) s.memory kept r.regions_are r.fixed };
         in_code = facts.in_code s.memory r.regions_are (s.cpus p);
         depth = on.depth;
         running = on.running;
