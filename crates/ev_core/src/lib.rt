@@ -1,0 +1,14 @@
+//! The machine that a script drives: processors that turn from one visible step to the next, in
+//! counted processor steps, with the entries and frames that a step shows.
+#![tactic(auto)]
+
+mod entry;
+mod frame;
+mod local;
+mod mail;
+mod steps;
+mod totals;
+mod visible;
+
+pub use steps::Steps;
+pub use totals::Totals;
