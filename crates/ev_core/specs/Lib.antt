@@ -1,3 +1,4 @@
 pub mod Local
 pub mod Step
 pub mod State
+pub mod Run

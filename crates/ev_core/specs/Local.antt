@@ -99,3 +99,10 @@ is_target Others p q = not (q == p)
 -- what belongs to q after p sent this
 abbrev pub after_send : Send → ℕ → ℕ → Local → Local
 after_send m p q l = if is_target m.target p q then record l { inbox = mailed l.inbox m.key } else l
+
+-- what belongs to q after this step of p
+abbrev pub after_act : Stepped → ℕ → ℕ → Local → Local
+after_act (Stepped.Sent m) p q l = after_send m p q l
+after_act (Stepped.Delivered e frame) p q l = l
+after_act Stepped.Ran p q l = l
+after_act Stepped.Shutdown p q l = l

@@ -5,6 +5,7 @@ use Rattle.ev_body.specs.declared.image.Image.{Image}
 use Rattle.ev_state.specs.Processor.{Processor}
 use Rattle.ev_mem.specs.Mapped.{MappedWords, memory}
 use Rattle.ev_trace.specs.FrameText.{Totals}
+use Rattle.ev_proc.specs.Conditions.{HasEntries, IsInCode}
 use Rattle.ev_concrete.specs.ConcreteRun.{System}
 use Rattle.ev_core.specs.declared.local.Local.{Local}
 
@@ -31,3 +32,9 @@ pub record Shows (n : ℕ) (v : Parts) (s : System) : Type 0 where
   pub own : (p : ℕ) → p < n → slice_get v.locals p ≡ Some (local_of s p)
   pub memory : memory v.mem ≡ s.memory
   pub totals : v.totals ≡ s.totals
+
+-- what a step of processor p asks of the parts
+pub record CanStep (v : Parts) (p : ℕ) : Type 0 where
+  pub entries : (c : Processor) → slice_get v.cpus p ≡ Some c → HasEntries c (memory v.mem)
+  pub in_code : (c : Processor) → slice_get v.cpus p ≡ Some c → IsInCode c (memory v.mem)
+  pub depth : (l : Local) → slice_get v.locals p ≡ Some l → l.depth < 255

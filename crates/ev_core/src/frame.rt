@@ -1,6 +1,6 @@
 // The frame that a step wrote.
 
-ghost use Rattle.std.specs.Prelude.{◌≡◌, ◌≤◌, map};
+ghost use Rattle.std.specs.Prelude.{◌≡◌, ◌<◌, ◌≤◌, ◌++◌, map, length};
 ghost use Rattle.ev_effect.specs.Frame.{addresses};
 ghost use Rattle.ev_mem.specs.Mapped.{memory};
 ghost use Rattle.ev_concrete.specs.ConcreteRun.{frame_size};
@@ -54,5 +54,15 @@ pub(crate) fn frame_of(cpu: &Cpu, mem: &Mem, stepped: &Stepped) -> Option<FrameN
             words: words_at(mem, address, frame_size(cpu, &event)),
         }),
         _ => None,
+    }
+}
+
+/// The frame goes behind the others, for which there is room.
+pub(crate) fn keep(frames: &mut ArrayVec<FrameNote, 2>, frame: Option<FrameNote>)
+    requires { length frames.old.items < 2 }
+    ensures { frames.new.items ≡ frames.old.items ++ optional frame }
+{
+    if let Some(frame) = frame {
+        frames.push(frame);
     }
 }

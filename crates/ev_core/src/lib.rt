@@ -6,6 +6,8 @@ mod entry;
 mod frame;
 mod local;
 mod mail;
+mod settle;
+mod state;
 mod steps;
 mod totals;
 mod visible;

@@ -5,7 +5,7 @@ ghost use Rattle.ev_mem.specs.Mapped.{memory};
 ghost use Rattle.ev_proc.specs.ProcessorStep.{has_fred, next_of};
 ghost use Rattle.ev_listing.specs.AddressMap.{stack_top};
 ghost use Rattle.ev_concrete.specs.ConcreteRun.{is_inner_nmi, is_seen, is_visible};
-ghost use Rattle.ev_layout.specs.Places.{mark_of, marks_in};
+ghost use Rattle.ev_layout.specs.Marks.{mark_of, marks_in};
 ghost use Rattle.ev_core.specs.Local.{still};
 
 use crate::local::Local;

@@ -6,6 +6,7 @@ use Rattle.ev_core.proofs.mail.post.Given as goal
 -- those passed have their mail, and the others are as they were
 abbrev pub invariant-loop-q : goal.invariant-loop-q
 invariant-loop-q l = record {
-  passed : (k : ℕ) (x : Local) → k < l.q → slice_get l.fn.locals k ≡ Some x → slice_get l.locals k ≡ Some (after_send l.send l.p k x);
-  left : (k : ℕ) → l.q ≤ k → slice_get l.locals k ≡ slice_get l.fn.locals k;
+  same : length l.locals.items ≡ length l.fn.locals.items;
+  passed : (k : ℕ) (x : Local) → k < l.q → slice_get l.fn.locals.items k ≡ Some x → slice_get l.locals.items k ≡ Some (after_send l.send l.p k x);
+  left : (k : ℕ) → l.q ≤ k → slice_get l.locals.items k ≡ slice_get l.fn.locals.items k;
 }
