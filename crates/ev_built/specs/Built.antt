@@ -4,6 +4,8 @@ use Rattle.std.specs.List.{list_all}
 use Rattle.ev_isa.specs.declared.instruction.Ins.{Ins}
 use Rattle.ev_isa.specs.declared.mode.Mode.{Mode}
 use Rattle.ev_isa.specs.declared.mode.Mode.TheVariants.{Fred}
+use Rattle.ev_body.specs.declared.key.Key.{Key}
+use Rattle.ev_body.specs.declared.key.Key.TheVariants.{Nmi, Irq}
 use Rattle.ev_body.specs.declared.key.Side.TheVariants.{User}
 use Rattle.ev_body.specs.declared.item.Item.{Item}
 use Rattle.ev_body.specs.declared.item.Item.TheVariants.{Log, Ret}
@@ -21,6 +23,12 @@ is_built_item (Log s) = true
 is_built_item Ret = true
 is_built_item _ = false
 
+-- bodies of system calls and exceptions, whose exit is the one of all bodies but those of NMIs
+unfoldable pub is_built_key : Key → Bool
+is_built_key Nmi = false
+is_built_key (Irq v) = false
+is_built_key _ = true
+
 abbrev pub is_built_body : Body → Bool
 is_built_body b = is_user_side b.side && (has_no_parts b.parts && list_all is_built_item b.items)
 
@@ -36,6 +44,7 @@ pub record IsBuilt (image : Image) : Type 0 where
   pub program : List Ins
   pub is_program : IsProgram image.text task.start program
   pub bodies : list_all is_built_body image.bodies ≡ true
+  pub keys : list_all (λ (b : Body). is_built_key b.key) image.bodies ≡ true
   pub system_calls : is_some (first_body 0 image.bodies 0x100 User) ≡ true
 
 -- the modes in which machines run

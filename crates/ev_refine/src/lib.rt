@@ -1,3 +1,18 @@
 //! The concrete machine refines the abstract one: the relation of their states, and the step
 //! theorem, over every step of a processor at any instruction.
 #![tactic(auto)]
+
+ghost use Rattle.ev_refine.specs.Claims.{Refines, Opens, AllSettle, TurnsFollow, RunsFollow, StandsTells};
+
+/// From related states, each step of a processor of the concrete machine writes over no live word, and is an edge, with the
+/// abstract state as it was, or visible, and the abstract machine makes one step with the entries that the concrete one
+/// shows. The openings are related. So are the states after any number of edges, of which few come one after the other,
+/// after a turn, and after a script.
+pub fn refinement()
+    ensures step { Refines }
+    ensures opening { Opens }
+    ensures edges { AllSettle }
+    ensures turns { TurnsFollow }
+    ensures scripts { RunsFollow }
+    ensures tells { StandsTells }
+{}

@@ -1,0 +1,15 @@
+pub mod Bytes
+pub mod Regions
+pub mod Text
+pub mod InCode
+pub mod Spellings
+pub mod Placed
+pub mod Sizes
+pub mod Kernel
+pub mod Encodes
+pub mod Labels
+pub mod Items
+pub mod Bodies
+pub mod AllSpelled
+pub mod Opened
+pub mod Ruled

@@ -1,0 +1,84 @@
+-- The facts on an image's code hold for the images of today.
+use Rattle.std.proofs.Common.{◌≡◌, ℕ, true, List, Some, ap, ◌∙◌}
+use Rattle.std.specs.Prelude.{slice_get}
+use Rattle.std.specs.List.{list_all}
+use Rattle.ev_body.specs.declared.item.Item.{Item}
+use Rattle.ev_body.specs.declared.body.Body.{Body}
+use Rattle.ev_body.specs.declared.image.Image.{Image}
+use Rattle.ev_body.specs.WellFormed.{IsImage, has_no_parts, is_user_side}
+use Rattle.ev_body.specs.Bodies.{key_number}
+use Rattle.ev_body.specs.declared.key.Key.{Key}
+use Rattle.ev_body.specs.declared.key.Key.TheVariants.{Sys, Db, Nmi, Bp, Ud, Ss, Gp, Pf, Ac, Irq}
+use Rattle.ev_body.specs.declared.item.Item.TheVariants.{Log, Ret}
+use Rattle.ev_isa.specs.declared.mode.Mode.TheVariants.{Fred}
+use Rattle.ev_built.specs.Built.{IsBuilt, is_built_item, is_built_body, is_built_key}
+use Rattle.ev_abstract.specs.Run.{item_at}
+use Rattle.ev_listing.specs.Expansion.{item_address}
+use Rattle.ev_listing.specs.Marks.{all_places}
+use Rattle.ev_concrete.specs.Opening.{listings}
+use Rattle.ev_symbolic.proofs.Listed.{spaced_in}
+use Rattle.ev_symbolic.proofs.Values.{and_left, and_right}
+use Rattle.ev_table.proofs.Cells.{mark_by}
+use Rattle.ev_table.specs.Table.{fred_table, exit_address}
+use Rattle.ev_table.specs.Table as table
+use Rattle.ev_table.proofs.Whole as whole
+use Rattle.ev_fetch.proofs.Kernel.{kernel_fetches}
+use Rattle.ev_fetch.proofs.Text.{text_fetches}
+use Rattle.ev_fetch.proofs.InCode.{stays_in_code}
+use Rattle.ev_fetch.proofs.Ruled.{IsLogOrRet, plain_are_spelled}
+use Rattle.ev_fetch.proofs.Opened.{holds_code, holds_text}
+use Rattle.ev_fetch.specs.Spelled.{AreSpelled}
+use Rattle.ev_fetch.specs.Claims.{kernel_cells}
+use Rattle.ev_refine.specs.Relation.{InText, InCode}
+use Rattle.ev_refine.proofs.Facts.{Facts, RetCell}
+use Rattle.ev_refine.proofs.Items.{all_at}
+
+-- no body of today is that of NMIs
+not_nmi : (bs : List Body) (n : ℕ) (b : Body) → list_all (λ (b : Body). is_built_key b.key) bs ≡ true → slice_get bs n ≡ Some b → key_number b.key ≡ 2 → ⊥
+unfolding is_built_key key_number
+not_nmi bs n b h k q = other b.key (all_at (λ (b : Body). is_built_key b.key) bs n b h k) q
+  where
+    other : (key : Key) → is_built_key key ≡ true → key_number key ≡ 2 → ⊥
+    other Sys h q = absurd (cc)
+    other Db h q = absurd (cc)
+    other Nmi h q = absurd (cc)
+    other Bp h q = absurd (cc)
+    other Ud h q = absurd (cc)
+    other Ss h q = absurd (cc)
+    other Gp h q = absurd (cc)
+    other Pf h q = absurd (cc)
+    other Ac h q = absurd (cc)
+    other (Irq v) h q = absurd (cc)
+
+log_or_ret : (item : Item) → is_built_item item ≡ true → IsLogOrRet item
+unfolding is_built_item
+log_or_ret (Log s) h = tt
+log_or_ret Ret h = tt
+log_or_ret _ h = absurd (cc)
+
+body_parts : (b : Body) → is_built_body b ≡ true → (has_no_parts b.parts ≡ true) × (list_all is_built_item b.items ≡ true)
+body_parts b h = let r = and_right (is_user_side b.side) _ h in (and_left (has_no_parts b.parts) _ r, and_right (has_no_parts b.parts) _ r)
+
+module _ (image : Image) (given : IsImage image) (built : IsBuilt image) where
+  spells : AreSpelled (kernel_cells Fred image)
+  spells = plain_are_spelled is_built_item log_or_ret is_built_body body_parts Fred image given built.bodies
+
+  ret : (n i : ℕ) (b : Body) → slice_get image.bodies n ≡ Some b → item_at (Some b) i ≡ Some Ret → RetCell image (item_address Fred n b i)
+  ret n i b h k =
+      let r : table.RetCell (fred_table image) (item_address Fred n b i) (exit_address b.key) = whole.ret_stands image given built n i b h k in
+      record { cell = r.cell; distance = r.distance; is = r.is; jump = r.jump; unmarked = r.unmarked; leads = r.leads ∙ whole.exit_of_others b.key (not_nmi image.bodies n b built.keys h) }
+
+  pub facts : Facts image
+  facts = record {
+    stands = λ e z. whole.lines image given built e z;
+    spaced = spaced_in (all_places (listings Fred image)) (listings Fred image);
+    log_cell = λ n i s b h k. whole.log_stands image given built n i s b h k;
+    ret_cell = ret;
+    first_item = λ n b. whole.first_item n b;
+    item_small = λ n i b h. whole.canonical_items image given built n i b h;
+    unmarked = λ a x h m. whole.mark_is image given built a x h ∙ ap mark_by m;
+    marked = λ a x h m. whole.mark_is image given built a x h ∙ ap mark_by m;
+    fetches = λ m e f. kernel_fetches Fred image m given spells e (holds_code Fred image m.words (λ a l. f a (InCode l)));
+    user_fetch = λ m e f. text_fetches image m given e (holds_text Fred image m.words (λ a l k. f a (InText l k)));
+    in_code = λ m e c. stays_in_code image m c given e;
+  }

@@ -1,0 +1,437 @@
+-- A step of a processor on which a body stands: an instruction of the kernel's code, an item, or the return.
+use Rattle.std.proofs.Common.{◌≡◌, ◌⊎◌, inl, inr, ℕ, suc, ◌+◌, ◌-◌, ◌%◌, ◌^◌, ◌<◌, ◌≤◌, Bool, true, false, not, ◌&&◌, List, [], ◌∷◌, get_or, length, Option, Some, None, Ok, Err, refl, sym, ap, ◌∙◌, subst, arith}
+use Rattle.std.specs.Prelude.{ℤ, pos, if◌then◌else◌, ◌==◌, slice_get, nat_le}
+use Rattle.std.specs.List.{list_any}
+use Rattle.std.proofs.lemmas.Bool.{leb-true, leb-false}
+use Rattle.ev_isa.specs.Word.{NatMap, put_at, bit, is_canonical, displaced, greatest_below}
+use Rattle.ev_isa.specs.Flags.{Flags, flags_word, flags_of}
+use Rattle.ev_isa.specs.declared.instruction.Ins.{Ins}
+use Rattle.ev_isa.specs.declared.instruction.Ins.TheVariants.{GsStore, Jmp, JmpReg, Eretu, Erets, Iretq, Sysretq}
+use Rattle.ev_isa.specs.declared.mode.Mode.TheVariants.{Fred}
+use Rattle.ev_event.specs.declared.boundary.Next.{Next}
+use Rattle.ev_event.specs.Event.{gp, ud}
+use Rattle.ev_body.specs.declared.item.Item.{Item}
+use Rattle.ev_body.specs.declared.item.Item.TheVariants.{Log, Ret}
+use Rattle.ev_body.specs.declared.body.Body.{Body}
+use Rattle.ev_body.specs.declared.image.Image.{Image}
+use Rattle.ev_body.specs.WellFormed.{IsImage}
+use Rattle.ev_effect.specs.Effect.{◌>>=◌, effect}
+use Rattle.ev_listing.specs.AddressMap.{stack_top, body_code, nlast_entry, repeat_entry}
+use Rattle.ev_listing.specs.Expansion.{item_address}
+use Rattle.ev_state.specs.Processor.{Processor, is_user, task_of, with_effect}
+use Rattle.ev_state.specs.Outcome.{Went}
+use Rattle.ev_mem.specs.Memory.{Memory}
+use Rattle.ev_apic.specs.declared.apic.Apic.{Apic}
+use Rattle.ev_exec.specs.Exec.{Executed, Done, Special, completed, changed, exec}
+use Rattle.ev_fred.specs.FredDelivery.{eretu}
+use Rattle.ev_proc.specs.ProcessorStep.{has_fred, next_of, executed, ran, fault, special, after_return}
+use Rattle.ev_proc.specs.declared.stepped.Stepped.{Stepped}
+use Rattle.ev_abstract.specs.Boundary.{Choice, choice, maskable, open_to_interrupts, interrupt_or_next, deliverable, is_nmi_body}
+use Rattle.ev_abstract.specs.Context.{BodyContext, local, onward}
+use Rattle.ev_abstract.specs.Delivery.{dropped, rescheduled}
+use Rattle.ev_abstract.specs.ItemMeaning.{Step, item_step, replace_last, below_last}
+use Rattle.ev_abstract.specs.declared.entry.Entry.{Entry}
+use Rattle.ev_abstract.specs.Machine.{Machine, processor, with_processor, task}
+use Rattle.ev_abstract.specs.Machine as abstract
+use Rattle.ev_abstract.specs.Run.{item_at, item_or_nothing, next_step, chosen_step, turn}
+use Rattle.ev_concrete.specs.ConcreteRun.{System, Activation, marks_of, is_return, is_repeated, without_last, activations_by}
+use Rattle.ev_concrete.specs.LiveWords.{IsSafeStep}
+use Rattle.ev_built.specs.Built.{IsBuilt}
+use Rattle.ev_symbolic.specs.Value.{M, V, K}
+use Rattle.ev_symbolic.specs.State.{Loc, SS, Line, Ground, Block, absolute}
+use Rattle.ev_symbolic.specs.Run.{moved, line_at, sstep, tidy_if, bstep, bnext, brun}
+use Rattle.ev_symbolic.specs.Agrees.{Env, eval, eval_flags, addr, Cell, Code, edge_cell, Agrees, Within, with_words, Steps, At}
+use Rattle.ev_symbolic.specs.Join.{env_after}
+use Rattle.ev_symbolic.specs.Machine.{Fetches, Inside}
+use Rattle.ev_symbolic.proofs.FlagBits.{flags_back}
+use Rattle.ev_symbolic.proofs.Sound.{executes, reg_ok, step_ok}
+use Rattle.ev_symbolic.proofs.Sound as sound
+use Rattle.ev_symbolic.proofs.Blocks.{unsome, LineOk, line_ok, cell_step, earlier, goes_on, at_end, joined}
+use Rattle.ev_blocks_fred.specs.Blocks.{Kind, SystemCall, Spot, AtEntry, AtItem, AtExit, fred_lines, fred_ground, enter, item, leave, block, edges_left}
+use Rattle.ev_blocks_fred.specs.Ends.{enter_end, leave_end, enter_values}
+use Rattle.ev_blocks_fred.proofs.Ends.{enter_run, enter_regs, enter_line, enter_joins, leave_run, leave_rip}
+use Rattle.ev_refine.specs.Relation.{code_table, item_place, address_of_item, RunsTask, here, top_of, rest_in, Entering, InItem, Leaving, Means, Active, IsContext, StandsOver, StandsOn, Stands, Chain}
+use Rattle.ev_refine.specs.Claims.{MakesEdge, MakesTurn}
+use Rattle.ev_refine.specs.Shown.{shown_instruction}
+use Rattle.ev_refine.proofs.Facts.{Facts, RetCell}
+use Rattle.ev_refine.proofs.Fits.{fits_at, opens_at, leaves_fixed, leaves_mark, leaves_task}
+use Rattle.ev_refine.proofs.Standing.{put_here, instruction_first, hidden, seen, after_ran, Runs, ran_step, ran_safe, ran_shown, ran_stays, ran_returns, stands_on_after, stands_after}
+use Rattle.ev_refine.proofs.Return.{returns}
+use Rattle.ev_refine.proofs.Items.{Today, IsLog, IsRet, which, behind_log, local_is}
+
+-- ---- instructions by themselves
+
+-- no return is inside a block
+not_return : (G : Ground) (i : Ins) (l : Loc) (s t : SS) → tidy_if (sstep G i l s) ≡ Some t → is_return (Some i) ≡ false
+unfolding is_return
+not_return G Sysretq l s t h = absurd (cc)
+not_return G Iretq l s t h = absurd (cc)
+not_return G Eretu l s t h = absurd (cc)
+not_return G Erets l s t h = absurd (cc)
+not_return G _ l s t h = refl
+
+stays_inside : (code : Code) (b : Block) (k : ℕ) (e : Env) (c : Processor) (m : Memory) → At code b k e c m → (t : SS) → brun b (suc k) ≡ Some t → (i : Ins) (next : ℕ) → code c.rip ≡ Some (edge_cell i next) → is_return (Some i) ≡ false
+stays_inside code b k e c m at t h i next hc = go (line_at at.state.rip b.lines) (line_ok code e at.state.rip b.lines at.fits.stands) (ap (bnext b) (sym at.is) ∙ h)
+  where
+    go : (o : Option Line) → LineOk code e at.state.rip o → bstep b o at.state ≡ Some t → is_return (Some i) ≡ false
+    go None q r = absurd (cc)
+    go (Some x) q r =
+        let same : edge_cell x.ins (addr e x.next) ≡ edge_cell i next = unsome _ _ (sym q ∙ ap code (sym at.agrees.rip) ∙ hc) in
+        ap (λ (y : Cell). is_return (Some y.ins)) (sym same) ∙ not_return b.ground x.ins x.next at.state t r
+
+-- a jump
+abbrev jumped : Processor → ℕ → Processor
+jumped c a = with_effect (completed c) (record (task_of c) { rip = a })
+
+abbrev jump_if : Processor → ℕ → NatMap ℕ → ℕ → Bool → Executed
+jump_if c next words a b = changed c ((if b then Ok (record (sound.task c next) { rip = a }) else Err (gp 0)) >>= (λ t. Ok (t, words)))
+
+jump_by_register : (c : Processor) (m : Memory) (r next : ℕ) → is_canonical (get_or c.regs r 0) ≡ true → exec c m (JmpReg r) next ≡ Done (jumped c (get_or c.regs r 0)) m.words
+unfolding exec effect
+jump_by_register c m r next h = ap (jump_if c next m.words (get_or c.regs r 0)) h
+
+jump : (c : Processor) (m : Memory) (d : ℤ) (next : ℕ) → is_canonical (displaced next d) ≡ true → exec c m (Jmp d) next ≡ Done (jumped c (displaced next d)) m.words
+unfolding exec effect
+jump c m d next h = ap (jump_if c next m.words (displaced next d)) h
+
+-- ---- numbers
+
+plus_zero : (n : ℕ) → n + 16 < 2 ^ 64 → n ≡ (n + 0) % M
+plus_zero n h = omega arith
+
+zero_plus : (n : ℕ) → n + 16 < 2 ^ 64 → n ≡ (0 + n) % M
+zero_plus n h = omega arith
+
+none_left : (xs : List Activation) → length xs ≡ 1 → length (without_last xs) ≡ 0
+none_left [] h = absurd (omega arith)
+none_left (a ∷ as') h = let e : suc (length as') ≡ 1 = h in omega arith
+
+-- ---- blocks of system calls
+
+ends : (spot : Spot) → (z : SS) × (brun (block SystemCall spot) (block SystemCall spot).steps ≡ Some z)
+ends AtEntry = (enter_end SystemCall, enter_run SystemCall)
+ends AtItem = ((item SystemCall).opening, refl)
+ends AtExit = (leave_end SystemCall, leave_run SystemCall)
+
+one_less : (spot : Spot) (k n : ℕ) → edges_left spot k ≤ n → k < (block SystemCall spot).steps → edges_left spot (suc k) < n
+one_less AtEntry k n h lt = omega arith
+one_less AtItem k n h lt = absurd (omega arith)
+one_less AtExit k n h lt = omega arith
+
+same_ground : (spot : Spot) (e : Env) (m n : NatMap ℕ) → Within e (block SystemCall spot).ground.own (block SystemCall spot).ground.shared m n → Within e fred_ground.own fred_ground.shared m n
+same_ground AtEntry e m n h = h
+same_ground AtItem e m n h = h
+same_ground AtExit e m n h = h
+
+-- the body of a context
+body_at : (o : Option Body) (n : ℕ) (i : Item) → item_at o n ≡ Some i → (body : Body) × (o ≡ Some body) × (item_at (Some body) n ≡ Some i)
+body_at None n i h = absurd (cc)
+body_at (Some b) n i h = (b, refl, h)
+
+module _ (image : Image) (built : IsBuilt image) (good : IsImage image) (facts : Facts image) (eretu_cell : (next : ℕ) × (code_table Fred image 0xffffffff81000426 ≡ Some (record { ins = Eretu; next = next; mark = true })))
+    (left : NatMap ℕ) (s : System) (m : Machine) (h : Stands Fred image built left s m) (p : ℕ) (hp : p < image.processors) where
+  abbrev code : Code
+  code = code_table Fred image
+
+  abbrev c : Processor
+  c = s.cpus p
+
+  abbrev x : abstract.Processor
+  x = processor m p
+
+  abbrev Result : Type 0
+  Result = (MakesEdge Fred image built left s m p ⊎ MakesTurn Fred image built left s m p) × IsSafeStep Fred image s p
+
+  on : StandsOn Fred image built p (left p) s x
+  on = h.each p hp
+
+  small : p < 32
+  small = let n = good.count.1 in omega arith
+
+  first : next_of c (s.apics p) (s.latches p) ≡ Next.Instruction
+  first = instruction_first c (s.apics p) (s.latches p) on.latch on.apic
+
+  fetches : Fetches code s.memory
+  fetches = facts.fetches s.memory h.regions_are h.fixed
+
+  abbrev Executes : Ins → Processor → NatMap ℕ → Type 0
+  Executes i cpu words = (a : Apic) (nmi : Bool) → executed c a s.memory nmi (Some i) ≡ ran cpu a words nmi
+
+  runs : (cell : Cell) → code c.rip ≡ Some cell → is_user c ≡ false → (cpu : Processor) (words : NatMap ℕ) → Executes cell.ins cpu words → Runs s p cpu words
+  runs cell hc hu cpu words he = cell_step code c (s.apics p) s.memory (s.latches p) cell fetches hc first hu ∙ he (s.apics p) (s.latches p)
+
+  -- the same task, whatever bodies stand on it
+  same_task : (bs : List BodyContext) (w : Processor) → RunsTask Fred image built p x w → RunsTask Fred image built p (record x { bodies = bs }) w
+  same_task bs w r = record { is = r.is; gs = r.gs; long = r.long; at = r.at }
+
+  module _ (b : BodyContext) (bodies : x.bodies ≡ b ∷ []) (ctx : IsContext Fred image built b) (w : Processor) (r : RunsTask Fred image built p x w) where
+    abbrev env : BodyContext → (ℕ → ℕ) → Flags → Env
+    env a v f = here Fred image built p SystemCall w a v f
+
+    top : top_of Fred image built SystemCall w ≡ stack_top p 0
+    top = ap (λ (y : Processor). get_or y.msrs.rsp 0 0) r.is ∙ ap (stack_top p) on.running
+
+    fred : has_fred (rest_in Fred image built SystemCall w) ≡ true
+    fred = ap (λ (y : Processor). bit 32 y.cr4) r.is
+
+    -- ---- what a step gives
+
+    edge : (v : ℕ → ℕ) (f : Flags) (cell : Cell) → code c.rip ≡ Some cell → cell.mark ≡ false → is_return (Some cell.ins) ≡ false → is_user c ≡ false
+        → (cpu : Processor) (words : NatMap ℕ) → Executes cell.ins cpu words → Within (env b v f) fred_ground.own fred_ground.shared s.memory.words words
+        → (now : ℕ) → now < left p → Active Fred image built p now SystemCall w b cpu (with_words s.memory words) → Result
+    edge v f cell hc hm hr hu cpu words he wrote now fewer act =
+        let run : Runs s p cpu words = runs cell hc hu cpu words he in
+        let few : left p ≤ 69 = on.few in
+        let chain : Chain Fred image built p now x x.bodies cpu (with_words s.memory words) = subst (λ bs. Chain Fred image built p now x bs cpu (with_words s.memory words)) (sym bodies) (w, SystemCall, refl, ctx, r, act) in
+        let there : StandsOn Fred image built p now (after_ran s p cpu words) x = stands_on_after image built p (left p) now s x cpu words x.bodies on (omega arith) (leaves_mark image built facts p small hp w b v f top s.memory.words words wrote) (leaves_task image built facts p small hp w b v f top s.memory.words words wrote)
+        (ap length (ran_stays s p cpu cell.ins (fetches c.rip cell hc).1 hr) ∙ on.depth) chain in (
+          inl (record {
+            hidden = hidden (marks_of Fred image) s p first hu (facts.unmarked c.rip cell hc hm);
+            now_left = now;
+            fewer = fewer;
+            stands = subst (λ z. Stands Fred image built (put_at left p now) z.0 m) (sym (ran_step image.processors s p cpu words run))
+                (stands_after image built left s m m p now cpu words h hp (leaves_fixed image built facts p small hp w b v f top s.memory.words words wrote) refl refl there);
+          }),
+          ran_safe image s p cpu words run,
+        )
+
+    visible : (v : ℕ → ℕ) (f : Flags) (cell : Cell) → code c.rip ≡ Some cell → cell.mark ≡ true → is_user c ≡ false
+        → (cpu : Processor) (words : NatMap ℕ) → Executes cell.ins cpu words → Within (env b v f) fred_ground.own fred_ground.shared s.memory.words words
+        → (bs : List BodyContext) → length (activations_by s p (s.activations p) cpu Stepped.Ran) ≡ length bs
+        → (now : ℕ) → now ≤ 69 → Chain Fred image built p now (record x { bodies = bs }) bs cpu (with_words s.memory words)
+        → (es : List Entry) → shown_instruction p c (Some cell.ins) ≡ es → turn image m p ≡ (with_processor m p (record x { bodies = bs }), es) → Result
+    visible v f cell hc hm hu cpu words he wrote bs depth now few chain es hes ht =
+        let run : Runs s p cpu words = runs cell hc hu cpu words he in
+        let there : StandsOn Fred image built p now (after_ran s p cpu words) (record x { bodies = bs }) = stands_on_after image built p (left p) now s x cpu words bs on few (leaves_mark image built facts p small hp w b v f top s.memory.words words wrote) (leaves_task image built facts p small hp w b v f top s.memory.words words wrote) depth chain in
+        let placed : StandsOn Fred image built p now (after_ran s p cpu words) (put_at m.processors p (record x { bodies = bs }) p) = subst (StandsOn Fred image built p now (after_ran s p cpu words)) (sym (put_here m.processors p (record x { bodies = bs }))) there in
+        let all : Stands Fred image built (put_at left p now) (after_ran s p cpu words) (with_processor m p (record x { bodies = bs })) = stands_after image built left s m (with_processor m p (record x { bodies = bs })) p now cpu words h hp (leaves_fixed image built facts p small hp w b v f top s.memory.words words wrote) refl refl placed in
+        let turned : Stands Fred image built (put_at left p now) (after_ran s p cpu words) (turn image m p).0 = subst (λ z. Stands Fred image built (put_at left p now) (after_ran s p cpu words) z.0) (sym ht) all in (
+          inr (record {
+            seen = seen (marks_of Fred image) s p first hu (facts.marked c.rip cell hc hm);
+            now_left = now;
+            stands = subst (λ z. Stands Fred image built (put_at left p now) z.0 (turn image m p).0) (sym (ran_step image.processors s p cpu words run)) turned;
+            entries = ran_shown s p cpu words cell.ins run hu (fetches c.rip cell hc).1 ∙ hes ∙ sym (ap (λ (y : Step). y.1) ht);
+          }),
+          ran_safe image s p cpu words run,
+        )
+
+    -- ---- the abstract machine's step
+
+    turns : (i : Item) → item_at (slice_get image.bodies b.body) b.place ≡ Some i → turn image m p ≡ item_step image m p b i
+    unfolding turn choice
+    turns i hi =
+        ap (chosen_step image m p) (ap (λ n. if n && not (list_any (is_nmi_body image) x.bodies) then Choice.Nmi else maskable x) on.nmi
+        ∙ ap (λ bs. if open_to_interrupts bs then interrupt_or_next (greatest_below 256 (deliverable x)) else Choice.Next) bodies
+        ∙ ap (λ z. if z then interrupt_or_next (greatest_below 256 (deliverable x)) else Choice.Next) ctx.interrupts)
+        ∙ ap (next_step image m p) bodies ∙ ap (item_or_nothing image m p b) hi
+
+    log_turn : (q : ℕ) → item_at (slice_get image.bodies b.body) b.place ≡ Some (Log q) → turn image m p ≡ (with_processor m p (record x { bodies = onward b ∷ [] }), Entry.Log p (local b q) ∷ [])
+    unfolding item_step
+    log_turn q hi = turns (Log q) hi ∙ ap (λ bs. (with_processor m p (record x { bodies = replace_last (onward b) bs }), Entry.Log p (local b q) ∷ [])) bodies
+
+    ret_turn : item_at (slice_get image.bodies b.body) b.place ≡ Some Ret → turn image m p ≡ (with_processor m p (record x { bodies = [] }), [])
+    unfolding item_step
+    ret_turn hi =
+        turns Ret hi ∙ ap (λ bs. (with_processor m p (dropped image b x (below_last bs)), [])) bodies
+        ∙ ap (λ z. (with_processor m p (if z && not (is_nmi_body image b) then rescheduled (record x { bodies = [] }) else record x { bodies = [] }), [])) on.resched
+
+    -- ---- inside a block
+
+    inside : (spot : Spot) (k : ℕ) (v : ℕ → ℕ) (f : Flags) → At code (block SystemCall spot) k (env b v f) c s.memory → Means Fred image built SystemCall spot v w b → length c.regs ≡ 16 → edges_left spot k ≤ left p → k < (block SystemCall spot).steps → Result
+    inside spot k v f at means long enough lt =
+        let S : ℕ = (block SystemCall spot).steps in
+        let end = ends spot in
+        let i : Inside code (block SystemCall spot) (suc k) (env b v f) c s.memory = goes_on code (block SystemCall spot) S end.0 end.1 k (env b v f) c s.memory at lt in
+        let next = earlier (block SystemCall spot) (suc k) (S - suc k) end.0 (ap (brun (block SystemCall spot)) (let q : (S - suc k) + suc k ≡ S = omega arith in q) ∙ end.1) in
+        edge v f (edge_cell i.ins i.next) i.stands refl (stays_inside code (block SystemCall spot) k (env b v f) c s.memory at next.0 next.1 i.ins i.next i.stands) (ap is_user at.agrees.rest) i.cpu i.words i.runs
+        (same_ground spot (env b v f) s.memory.words i.words i.within) (edges_left spot (suc k)) (one_less spot k (left p) enough lt)
+        (record { spot = spot; k = suc k; var = v; flags = f; within = lt; enough = omega arith; at = i.there; means = means; long = i.long ∙ long })
+
+    -- ---- the entry's end: the jump to the body's first item
+
+    at_entry : (v : ℕ → ℕ) (f : Flags) → At code (enter SystemCall) 45 (env b v f) c s.memory → Entering Fred image built SystemCall v w b → length c.regs ≡ 16 → 24 ≤ left p
+        → (body : Body) → slice_get image.bodies b.body ≡ Some body → Result
+    unfolding eval is_return
+    at_entry v f at means long enough body is =
+        let e : Env = env b v f in
+        let a : Agrees e fred_ground (enter_end SystemCall) c s.memory = at_end code (enter SystemCall) 45 (enter_end SystemCall) (enter_run SystemCall) e c s.memory at in
+        let hu : is_user c ≡ false = ap is_user a.rest in
+        let cell : Cell = edge_cell (JmpReg 0) 0xffffffff810002bf in
+        let hc : code c.rip ≡ Some cell = ap code a.rip ∙ subst (LineOk code e (enter_end SystemCall).rip) (enter_line SystemCall) (line_ok code e (enter_end SystemCall).rip fred_lines (facts.stands e refl)) in
+        let rax : get_or c.regs 0 0 ≡ v 24 = reg_ok e fred_ground at.fits.ground (enter_end SystemCall) c s.memory a 0 ∙ ap (λ (xs : List V). eval e (get_or xs 0 (K 0))) (enter_regs SystemCall) in
+        let first_is : item_address Fred b.body body b.place ≡ body_code b.body = ap (item_address Fred b.body body) means.place ∙ facts.first_item b.body body in
+        let target : get_or c.regs 0 0 ≡ item_address Fred b.body body b.place = rax ∙ means.code ∙ sym first_is in
+        let fine = facts.item_small b.body b.place body is in
+        let low : item_address Fred b.body body b.place ≡ (item_address Fred b.body body b.place + 0) % M = plus_zero _ fine.1 in
+        let place_is : item_place Fred image b.body b.place ≡ item_address Fred b.body body b.place = ap (address_of_item Fred b.body b.place) is in
+        let cpu : Processor = jumped c (get_or c.regs 0 0) in
+        let g : Flags = flags_of c.flags in
+        let u : Env = env_after e (enter_values SystemCall) g in
+        let open_at = opens_at image built facts p small hp w b u.var g s.memory h.regions_are top in
+        let agrees : Agrees u fred_ground (item SystemCall).opening cpu s.memory = joined e (enter_values SystemCall) fred_ground fred_ground (enter_end SystemCall) c s.memory (item SystemCall).opening a (enter_joins SystemCall) cpu g refl refl refl refl refl refl
+        (target ∙ low ∙ ap (λ y. (y + 0) % M) (sym place_is)) refl refl open_at.0 open_at.1 in
+        edge v f cell hc refl refl hu cpu s.memory.words
+        (executes c s.memory (JmpReg 0) cell.next (Done cpu s.memory.words) hu (sym (facts.spaced c.rip cell hc)) (jump_by_register c s.memory 0 cell.next (ap is_canonical target ∙ fine.0)))
+        (λ y far far'. refl) 23 (omega arith)
+        (record {
+          spot = AtItem;
+          k = 0;
+          var = u.var;
+          flags = g;
+          within = omega arith;
+          enough = omega arith;
+          at = record { fits = fits_at image built facts p small hp AtItem w b u.var g top refl fred; state = (item SystemCall).opening; is = refl; clear = refl; agrees = agrees };
+          means = record {
+            saved = record { framed = record { rip = means.framed.rip; flags = means.framed.flags; gs = means.framed.gs; selector = means.framed.selector; cr2 = means.framed.cr2 }; regs = means.regs };
+            locals = means.locals ∙ (λ i. sym means.error i ∷ 0x100 ∷ sym means.info i ∷ 0 ∷ 0 ∷ 0 ∷ 0 ∷ 0 ∷ []);
+          };
+          long = long;
+        })
+
+    -- ---- an item
+
+    -- the place of the context's item
+    at_item : (v : ℕ → ℕ) (f : Flags) → Agrees (env b v f) fred_ground (item SystemCall).opening c s.memory → (body : Body) → slice_get image.bodies b.body ≡ Some body → c.rip ≡ item_address Fred b.body body b.place
+    at_item v f a body is =
+        a.rip ∙ ap (λ y. (y + 0) % M) (ap (address_of_item Fred b.body b.place) is) ∙ sym (plus_zero _ (facts.item_small b.body b.place body is).1)
+
+    at_log : (v : ℕ → ℕ) (f : Flags) → At code (item SystemCall) 0 (env b v f) c s.memory → InItem Fred image built v w b → length c.regs ≡ 16
+        → (body : Body) → slice_get image.bodies b.body ≡ Some body → (q : ℕ) → item_at (Some body) b.place ≡ Some (Log q) → 6 ≤ q → q < 14 → Result
+    unfolding eval eval_flags is_return shown_instruction
+    at_log v f at means long body is q hi lo hq =
+        let e : Env = env b v f in
+        let a : Agrees e fred_ground (item SystemCall).opening c s.memory = at_end code (item SystemCall) 0 (item SystemCall).opening refl e c s.memory at in
+        let hu : is_user c ≡ false = ap is_user a.rest in
+        let next : ℕ = item_address Fred b.body body (suc b.place) in
+        let cell : Cell = record { ins = GsStore (pos 0x28) q; next = next; mark = true } in
+        let hc : code c.rip ≡ Some cell = ap code (at_item v f a body is) ∙ facts.log_cell b.body b.place q body is hi in
+        let next_small : next + 16 < 2 ^ 64 = (facts.item_small b.body (suc b.place) body is).1 in
+        let st : Steps e fred_ground (GsStore (pos 0x28) q) (moved (item SystemCall).opening (item SystemCall).opening.regs (absolute next)) c s.memory
+        = step_ok e fred_ground at.fits.ground (GsStore (pos 0x28) q) next (absolute next) (item SystemCall).opening c s.memory a (sym (facts.spaced c.rip cell hc)) (zero_plus next next_small) in
+        let behind = behind_log image built good b.body body is b.place q hi in
+        let on_next : IsContext Fred image built (onward b) = record { item = behind.0; is = ap (λ o. item_at o (suc b.place)) is ∙ behind.1; interrupts = ctx.interrupts; service = ctx.service; calls = ctx.calls } in
+        let agrees : Agrees (env (onward b) v f) fred_ground (item SystemCall).opening st.cpu (with_words s.memory st.words) = record {
+          regs = st.agrees.regs;
+          rip = st.agrees.rip ∙ sym (zero_plus next next_small) ∙ plus_zero next next_small ∙ ap (λ y. (y + 0) % M) (sym (ap (address_of_item Fred b.body (suc b.place)) is));
+          flags = st.agrees.flags;
+          gs = st.agrees.gs;
+          kernel_gs = st.agrees.kernel_gs;
+          selector = st.agrees.selector;
+          cr2 = st.agrees.cr2;
+          levels = st.agrees.levels;
+          blocked = st.agrees.blocked;
+          rest = st.agrees.rest;
+          words = st.agrees.words;
+          known_open = (opens_at image built facts p small hp w (onward b) v f s.memory h.regions_are top).0;
+          shared_open = (opens_at image built facts p small hp w (onward b) v f s.memory h.regions_are top).1;
+        } in
+        let act : Active Fred image built p 23 SystemCall w (onward b) st.cpu (with_words s.memory st.words) = record {
+          spot = AtItem;
+          k = 0;
+          var = v;
+          flags = f;
+          within = omega arith;
+          enough = omega arith;
+          at = record { fits = fits_at image built facts p small hp AtItem w (onward b) v f top refl fred; state = (item SystemCall).opening; is = refl; clear = refl; agrees = agrees };
+          means = record { saved = means.saved; locals = means.locals };
+          long = st.long ∙ long;
+        } in
+        visible v f cell hc refl hu st.cpu st.words st.runs st.within (onward b ∷ [])
+        (ap length (ran_stays s p st.cpu cell.ins (fetches c.rip cell hc).1 refl) ∙ on.depth ∙ ap length bodies) 23 (omega arith)
+        (w, SystemCall, refl, on_next, same_task (onward b ∷ []) w r, act)
+        (Entry.Log p (local b q) ∷ []) (ap (λ y. Entry.Log p y ∷ []) (local_is e c.regs b.locals a.regs means.locals q lo hq))
+        (log_turn q (ap (λ o. item_at o b.place) is ∙ hi))
+
+    at_ret : (v : ℕ → ℕ) (f : Flags) → At code (item SystemCall) 0 (env b v f) c s.memory → InItem Fred image built v w b → length c.regs ≡ 16 → 23 ≤ left p
+        → (body : Body) → slice_get image.bodies b.body ≡ Some body → item_at (Some body) b.place ≡ Some Ret → Result
+    unfolding eval eval_flags is_return
+    at_ret v f at means long enough body is hi =
+        let e : Env = env b v f in
+        let a : Agrees e fred_ground (item SystemCall).opening c s.memory = at_end code (item SystemCall) 0 (item SystemCall).opening refl e c s.memory at in
+        let hu : is_user c ≡ false = ap is_user a.rest in
+        let rc : RetCell image (item_address Fred b.body body b.place) = facts.ret_cell b.body b.place body is hi in
+        let hc : code c.rip ≡ Some rc.cell = ap code (at_item v f a body is) ∙ rc.is in
+        let cpu : Processor = jumped c (displaced rc.cell.next rc.distance) in
+        let run : exec c s.memory rc.cell.ins rc.cell.next ≡ Done cpu s.memory.words = ap (λ i. exec c s.memory i rc.cell.next) rc.jump ∙ jump c s.memory rc.distance rc.cell.next (ap is_canonical rc.leads) in
+        let agrees : Agrees e fred_ground (leave SystemCall).opening cpu s.memory = record {
+          regs = a.regs;
+          rip = rc.leads;
+          flags = ap (λ y. flags_word (flags_of y)) a.flags ∙ ap flags_word (flags_back f);
+          gs = a.gs;
+          kernel_gs = a.kernel_gs;
+          selector = a.selector;
+          cr2 = a.cr2;
+          levels = a.levels;
+          blocked = refl;
+          rest = a.rest;
+          words = a.words;
+          known_open = a.known_open;
+          shared_open = a.shared_open;
+        } in
+        edge v f rc.cell hc rc.unmarked (ap (λ i. is_return (Some i)) rc.jump) hu cpu s.memory.words
+        (executes c s.memory rc.cell.ins rc.cell.next (Done cpu s.memory.words) hu (sym (facts.spaced c.rip rc.cell hc)) run)
+        (λ y far far'. refl) 22 (omega arith)
+        (record {
+          spot = AtExit;
+          k = 0;
+          var = v;
+          flags = f;
+          within = omega arith;
+          enough = omega arith;
+          at = record { fits = fits_at image built facts p small hp AtExit w b v f top refl fred; state = (leave SystemCall).opening; is = refl; clear = refl; agrees = agrees };
+          means = record { saved = means.saved; ret = ap (λ o. item_at o b.place) is ∙ hi };
+          long = long;
+        })
+
+    -- ---- the exit's end: the return
+
+    at_exit : (v : ℕ → ℕ) (f : Flags) → At code (leave SystemCall) 22 (env b v f) c s.memory → Leaving Fred image built v w b → Result
+    unfolding exec special is_return shown_instruction
+    at_exit v f at means =
+        let e : Env = env b v f in
+        let a : Agrees e fred_ground (leave_end SystemCall) c s.memory = at_end code (leave SystemCall) 22 (leave_end SystemCall) (leave_run SystemCall) e c s.memory at in
+        let hu : is_user c ≡ false = ap is_user a.rest in
+        let rip : c.rip ≡ 0xffffffff81000426 = a.rip ∙ ap (addr e) (leave_rip SystemCall) in
+        let cell : Cell = record { ins = Eretu; next = eretu_cell.0; mark = true } in
+        let hc : code c.rip ≡ Some cell = ap code rip ∙ eretu_cell.1 in
+        let back : eretu c s.memory ≡ Went w s.memory.words 0 = returns image built good p small x on.running w r b v f c s.memory a means.saved in
+        let does : Executes Eretu w s.memory.words = λ n nmi.
+        executes c s.memory Eretu cell.next Special hu (sym (facts.spaced c.rip cell hc)) refl n nmi
+        ∙ ap (λ z. if z then after_return n s.memory nmi (eretu c s.memory) else fault c n s.memory nmi ud) (ap has_fred a.rest ∙ fred)
+        ∙ ap (after_return n s.memory nmi) back in
+        let once : is_repeated c w ≡ false = ap (λ y. (y == nlast_entry + 12) && (w.rip == repeat_entry)) rip in
+        visible v f cell hc refl hu w s.memory.words does (λ y far far'. refl) []
+        (ap length (ran_returns s p w Eretu (fetches c.rip cell hc).1 refl hu once) ∙ none_left (s.activations p) (on.depth ∙ ap length bodies)) 0 (omega arith)
+        (same_task [] w r) [] refl (ret_turn means.ret)
+
+    -- ---- every step
+
+    by_item : (v : ℕ → ℕ) (f : Flags) → At code (item SystemCall) 0 (env b v f) c s.memory → InItem Fred image built v w b → length c.regs ≡ 16 → 23 ≤ left p
+        → (body : Body) → slice_get image.bodies b.body ≡ Some body → (i : Item) → Today i → item_at (Some body) b.place ≡ Some i → Result
+    by_item v f at means long enough body is i (IsLog q e lo hq) hi = at_log v f at means long body is q (hi ∙ ap (λ j. Some j) e) lo hq
+    by_item v f at means long enough body is i (IsRet e) hi = at_ret v f at means long enough body is (hi ∙ ap (λ j. Some j) e)
+
+    at_the_end : (spot : Spot) (k : ℕ) (v : ℕ → ℕ) (f : Flags) → k ≡ (block SystemCall spot).steps → At code (block SystemCall spot) k (env b v f) c s.memory → Means Fred image built SystemCall spot v w b → length c.regs ≡ 16 → edges_left spot k ≤ left p
+        → (body : Body) → slice_get image.bodies b.body ≡ Some body → item_at (Some body) b.place ≡ Some ctx.item → Result
+    at_the_end AtEntry k v f q at means long enough body is hi = at_entry v f (subst (λ j. At code (enter SystemCall) j (env b v f) c s.memory) q at) means long (subst (λ j. edges_left AtEntry j ≤ left p) q enough) body is
+    at_the_end AtItem k v f q at means long enough body is hi = by_item v f (subst (λ j. At code (item SystemCall) j (env b v f) c s.memory) q at) means long enough body is ctx.item (which image built good b.body body is b.place ctx.item hi) hi
+    at_the_end AtExit k v f q at means long enough body is hi = at_exit v f (subst (λ j. At code (leave SystemCall) j (env b v f) c s.memory) q at) means
+
+    act_step : Active Fred image built p (left p) SystemCall w b c s.memory → Result
+    act_step act =
+        let found = body_at (slice_get image.bodies b.body) b.place ctx.item ctx.is in
+        pick (nat_le (suc act.k) (block SystemCall act.spot).steps) refl found.0 found.1 found.2
+      where
+        pick : (t : Bool) → nat_le (suc act.k) (block SystemCall act.spot).steps ≡ t → (body : Body) → slice_get image.bodies b.body ≡ Some body → item_at (Some body) b.place ≡ Some ctx.item → Result
+        pick true q body is hi = inside act.spot act.k act.var act.flags act.at act.means act.long act.enough (leb-true _ _ q)
+        pick false q body is hi = at_the_end act.spot act.k act.var act.flags (let up = leb-false _ _ q in let down = act.within in omega arith) act.at act.means act.long act.enough body is hi
+
+  -- a step of a processor on which a body stands: an edge or a turn, and it writes no frame
+  pub kernel_step : (b : BodyContext) (below : List BodyContext) → x.bodies ≡ b ∷ below → Result
+  kernel_step b below hb = go chain.0 chain.1 chain.2 chain.3 chain.4 chain.5
+    where
+      chain : Chain Fred image built p (left p) x (b ∷ below) c s.memory
+      chain = subst (λ bs. Chain Fred image built p (left p) x bs c s.memory) hb on.chain
+
+      go : (w : Processor) (κ : Kind) → StandsOver Fred image built κ below → IsContext Fred image built b → Chain Fred image built p (left p) x below w s.memory → Active Fred image built p (left p) κ w b c s.memory → Result
+      go w SystemCall none ctx task act = act_step b (hb ∙ ap (λ bs. b ∷ bs) none) ctx w (subst (λ bs. Chain Fred image built p (left p) x bs w s.memory) none task) act

@@ -1,0 +1,138 @@
+-- Steps of a processor as steps of the whole machine: the choice at the boundary, what a step leaves of the system, and the relation after it.
+use Rattle.std.proofs.Common.{◌≡◌, ℕ, ◌+◌, ◌<◌, ◌≤◌, Bool, true, false, not, ◌&&◌, ◌||◌, List, [], length, Some, None, refl, sym, ap, ◌∙◌, subst, arith}
+use Rattle.std.specs.Prelude.{if◌then◌else◌}
+use Rattle.std.specs.List.{list_any}
+use Rattle.std.proofs.lemmas.Bool.{eq-eqb}
+use Rattle.ev_isa.specs.Word.{NatMap, put_at}
+use Rattle.ev_isa.specs.declared.instruction.Ins.{Ins}
+use Rattle.ev_isa.specs.declared.mode.Mode.TheVariants.{Fred}
+use Rattle.ev_event.specs.declared.boundary.Next.{Next}
+use Rattle.ev_event.specs.Boundary.{first_of}
+use Rattle.ev_body.specs.declared.image.Image.{Image}
+use Rattle.ev_listing.specs.AddressMap.{pcpu}
+use Rattle.ev_listing.specs.Marks.{Never, Always}
+use Rattle.ev_state.specs.Processor.{Processor, is_user, interrupts_on}
+use Rattle.ev_apic.specs.declared.apic.Apic.{Apic}
+use Rattle.ev_apic.specs.Apic.{next_vector}
+use Rattle.ev_proc.specs.ProcessorStep.{ran, next_of, step, instruction_at}
+use Rattle.ev_proc.specs.declared.stepped.Stepped.{Stepped}
+use Rattle.ev_abstract.specs.Context.{BodyContext}
+use Rattle.ev_abstract.specs.Machine.{Machine, processor}
+use Rattle.ev_abstract.specs.Machine as abstract
+use Rattle.ev_concrete.specs.Opening.{opening_apic}
+use Rattle.ev_concrete.specs.ConcreteRun.{System, Marks, mark_at, is_seen, is_visible, is_visible_by, is_return, is_repeated, without_last, acted, activations_by, after_step, concrete_step}
+use Rattle.ev_concrete.specs.LiveWords.{IsSafeStep, overwrites}
+use Rattle.ev_event.specs.declared.frame_note.FrameNote.{FrameNote}
+use Rattle.ev_built.specs.Built.{IsBuilt}
+use Rattle.ev_symbolic.specs.Agrees.{with_words}
+use Rattle.ev_refine.specs.Relation.{IsFixed, Chain, most_edges, StandsOn, Stands}
+use Rattle.ev_refine.specs.Shown.{shown, shown_by, shown_instruction}
+
+-- ---- maps
+
+pub put_here : {X : Type 0} (m : NatMap X) (k : ℕ) (x : X) → put_at m k x k ≡ x
+put_here m k x = ap (λ b. elim b [ true ↦ x | false ↦ m k ]) (eq-eqb k k refl)
+
+-- ---- the boundary
+
+-- an APIC that nothing came to
+idle : next_vector opening_apic ≡ None
+unfolding next_vector
+idle = refl
+
+-- with no NMI and no vector that waits, an instruction comes first
+pub instruction_first : (c : Processor) (a : Apic) (nmi : Bool) → nmi ≡ false → a ≡ opening_apic → next_of c a nmi ≡ Next.Instruction
+unfolding next_of first_of
+instruction_first c a nmi hn ha =
+    ap (λ x. next_of c a x) hn ∙ ap (λ x. next_of c x false) ha ∙ ap (λ v. first_of (record { debug = false; nmi = false; nmi_blocked = c.nmi_blocked; sti_blocked = c.sti_blocked; if_set = interrupts_on c; vector = v })) idle
+    ∙ either (interrupts_on c && not c.sti_blocked)
+  where
+    either : (b : Bool) → (if b then Next.Instruction else Next.Instruction) ≡ Next.Instruction
+    either true = refl
+    either false = refl
+
+-- ---- whether the step is visible
+
+pub hidden : (marks : Marks) (s : System) (p : ℕ) → next_of (s.cpus p) (s.apics p) (s.latches p) ≡ Next.Instruction → is_user (s.cpus p) ≡ false → mark_at marks (s.cpus p).rip ≡ Never → is_visible marks s p ≡ false
+unfolding is_visible
+hidden marks s p hn hu hm = ap (is_visible_by marks s p (s.cpus p)) hn ∙ ap (λ k. is_user (s.cpus p) || is_seen k s (s.cpus p)) hm ∙ ap (λ b. b || false) hu
+
+pub seen : (marks : Marks) (s : System) (p : ℕ) → next_of (s.cpus p) (s.apics p) (s.latches p) ≡ Next.Instruction → is_user (s.cpus p) ≡ false → mark_at marks (s.cpus p).rip ≡ Always → is_visible marks s p ≡ true
+unfolding is_visible
+seen marks s p hn hu hm = ap (is_visible_by marks s p (s.cpus p)) hn ∙ ap (λ k. is_user (s.cpus p) || is_seen k s (s.cpus p)) hm ∙ ap (λ b. b || true) hu
+
+-- ---- a step that ran an instruction
+
+abbrev pub after_ran : System → ℕ → Processor → NatMap ℕ → System
+after_ran s p cpu words = after_step s p (ran cpu (s.apics p) words (s.latches p))
+
+abbrev pub Runs : System → ℕ → Processor → NatMap ℕ → Type 0
+Runs s p cpu words = step (s.cpus p) (s.apics p) s.memory (s.latches p) ≡ ran cpu (s.apics p) words (s.latches p)
+
+pub ran_step : (n : ℕ) (s : System) (p : ℕ) (cpu : Processor) (words : NatMap ℕ) → Runs s p cpu words → concrete_step n s p ≡ (after_ran s p cpu words, [])
+unfolding concrete_step
+ran_step n s p cpu words h = ap (λ r. acted n (after_step s p r) p r.step) h
+
+-- writes no frame
+pub ran_safe : (image : Image) (s : System) (p : ℕ) (cpu : Processor) (words : NatMap ℕ) → Runs s p cpu words → IsSafeStep Fred image s p
+ran_safe image s p cpu words h = ap (λ (r : System × List FrameNote). list_any (overwrites Fred image s) r.1) (ran_step image.processors s p cpu words h)
+
+pub ran_shown : (s : System) (p : ℕ) (cpu : Processor) (words : NatMap ℕ) (i : Ins) → Runs s p cpu words → is_user (s.cpus p) ≡ false → instruction_at s.memory.words (s.cpus p).rip ≡ Some i → shown s p ≡ shown_instruction p (s.cpus p) (Some i)
+unfolding shown
+ran_shown s p cpu words i h hu hi =
+    ap (λ r. shown_by p (length (s.activations p)) (s.cpus p) (instruction_at s.memory.words (s.cpus p).rip) r r.step) h
+    ∙ ap (λ b. if b then [] else shown_instruction p (s.cpus p) (instruction_at s.memory.words (s.cpus p).rip)) hu ∙ ap (shown_instruction p (s.cpus p)) hi
+
+-- ---- its activations
+
+pub ran_stays : (s : System) (p : ℕ) (cpu : Processor) (i : Ins) → instruction_at s.memory.words (s.cpus p).rip ≡ Some i → is_return (Some i) ≡ false → activations_by s p (s.activations p) cpu Stepped.Ran ≡ s.activations p
+ran_stays s p cpu i hi hr = ap (λ b. if b && not (is_user (s.cpus p)) && not (is_repeated (s.cpus p) cpu) then without_last (s.activations p) else s.activations p) (ap is_return hi ∙ hr)
+
+pub ran_returns : (s : System) (p : ℕ) (cpu : Processor) (i : Ins) → instruction_at s.memory.words (s.cpus p).rip ≡ Some i → is_return (Some i) ≡ true → is_user (s.cpus p) ≡ false → is_repeated (s.cpus p) cpu ≡ false → activations_by s p (s.activations p) cpu Stepped.Ran ≡ without_last (s.activations p)
+ran_returns s p cpu i hi hr hu hl =
+    ap (λ b. if b && not (is_user (s.cpus p)) && not (is_repeated (s.cpus p) cpu) then without_last (s.activations p) else s.activations p) (ap is_return hi ∙ hr)
+    ∙ ap (λ b. if not b && not (is_repeated (s.cpus p) cpu) then without_last (s.activations p) else s.activations p) hu
+    ∙ ap (λ b. if not b then without_last (s.activations p) else s.activations p) hl
+
+-- ---- the relation after it
+
+module _ (image : Image) (built : IsBuilt image) where
+  -- of this processor, where only its bodies have changed
+  pub stands_on_after : (p left now : ℕ) (s : System) (x : abstract.Processor) (cpu : Processor) (words : NatMap ℕ) (bs : List BodyContext) → StandsOn Fred image built p left s x → now ≤ most_edges Fred image built
+      → words (pcpu p + 0x20) ≡ s.memory.words (pcpu p + 0x20) → words (pcpu p + 0x18) ≡ s.memory.words (pcpu p + 0x18)
+      → length (activations_by s p (s.activations p) cpu Stepped.Ran) ≡ length bs
+      → Chain Fred image built p now (record x { bodies = bs }) bs cpu (with_words s.memory words)
+      → StandsOn Fred image built p now (after_ran s p cpu words) (record x { bodies = bs })
+  stands_on_after p left now s x cpu words bs o few mark task depth chain = record {
+    few = few;
+    running = o.running;
+    waiting = o.waiting;
+    nmi = o.nmi;
+    latch = put_here s.latches p (s.latches p) ∙ o.latch;
+    pending = o.pending;
+    apic = put_here s.apics p (s.apics p) ∙ o.apic;
+    resched = o.resched;
+    mark = mark ∙ o.mark;
+    task_is = task ∙ o.task_is;
+    depth = ap length (put_here s.activations p (activations_by s p (s.activations p) cpu Stepped.Ran)) ∙ depth;
+    chain = subst (λ c. Chain Fred image built p now (record x { bodies = bs }) bs c (with_words s.memory words)) (sym (put_here s.cpus p cpu)) chain;
+  }
+
+  -- of the whole machine
+  pub stands_after : (left : NatMap ℕ) (s : System) (m m' : Machine) (p now : ℕ) (cpu : Processor) (words : NatMap ℕ) → Stands Fred image built left s m → p < image.processors
+      → ((a : ℕ) → IsFixed a → words a ≡ s.memory.words a) → m'.words ≡ m.words → m'.present ≡ m.present
+      → StandsOn Fred image built p now (after_ran s p cpu words) (processor m' p)
+      → Stands Fred image built (put_at left p now) (after_ran s p cpu words) m'
+  stands_after left s m m' p now cpu words h hp fixed same_words same_pages on = record {
+    regions_are = h.regions_are;
+    fixed = λ a f. fixed a f ∙ h.fixed a f;
+    text = same_words ∙ h.text;
+    present = same_pages ∙ h.present;
+    each = λ q hq.
+        let same : p ≡ q = only q hq in
+        subst (λ r. StandsOn Fred image built r (put_at left p now r) (after_ran s p cpu words) (processor m' r)) same
+        (subst (λ l. StandsOn Fred image built p l (after_ran s p cpu words) (processor m' p)) (sym (put_here left p now)) on);
+  }
+    where
+      only : (q : ℕ) → q < image.processors → p ≡ q
+      only q hq = let one = built.one_processor in omega arith

@@ -1,0 +1,199 @@
+-- The turns of the task: a plain instruction, or a system call, which begins an activation.
+use Rattle.std.proofs.Common.{◌≡◌, ℕ, suc, ◌+◌, ◌-◌, ◌*◌, ◌%◌, ◌<◌, ◌≤◌, Bool, true, false, List, [], ◌∷◌, set, length, map, Option, Some, None, refl, sym, ap, ◌∙◌, subst, arith, ◌⊎◌, inl, inr, ⊎_elim}
+use Rattle.std.specs.Prelude.{◌||◌, if◌then◌else◌, slice_get, is_some}
+use Rattle.ev_isa.specs.Word.{NatMap, wrap}
+use Rattle.std.proofs.lemmas.List.{length-set}
+use Rattle.ev_isa.specs.Flags.{flags_word}
+use Rattle.ev_isa.specs.Spelling.{spelling}
+use Rattle.ev_isa.specs.declared.instruction.Ins.{Ins}
+use Rattle.ev_isa.specs.declared.instruction.Ins.TheVariants.{Syscall}
+use Rattle.ev_isa.specs.declared.mode.Mode.TheVariants.{Fred}
+use Rattle.ev_event.specs.declared.event.EventType.TheVariants.{Other}
+use Rattle.ev_body.specs.declared.key.Key.TheVariants.{Sys}
+use Rattle.ev_body.specs.declared.key.Side.TheVariants.{User, Kernel}
+use Rattle.ev_body.specs.declared.body.Body.{Body}
+use Rattle.ev_body.specs.declared.image.Image.{Image}
+use Rattle.ev_body.specs.Bodies.{first_body}
+use Rattle.ev_body.specs.WellFormed.{IsImage}
+use Rattle.ev_effect.specs.Task.{Task}
+use Rattle.ev_effect.specs.Frame.{placed}
+use Rattle.ev_state.specs.Processor.{Processor, is_user}
+use Rattle.ev_proc.specs.ProcessorStep.{After, executed, has_fred, instruction_at}
+use Rattle.ev_proc.specs.declared.stepped.Stepped.{Stepped}
+use Rattle.ev_listing.specs.AddressMap.{pcpu, user_table, task_words, stack_top, body_code}
+use Rattle.ev_abstract.specs.Context.{BodyContext}
+use Rattle.ev_abstract.specs.declared.entry.Entry.{Entry}
+use Rattle.ev_abstract.specs.declared.entry.Entry.TheVariants.{Enter}
+use Rattle.ev_abstract.specs.Machine.{Machine, processor, with_processor, task, with_task, user_memory}
+use Rattle.ev_abstract.specs.Machine as abstract
+use Rattle.ev_abstract.specs.Delivery.{body_at_start, delivered, entered}
+use Rattle.ev_abstract.specs.UserCode.{user_view}
+use Rattle.ev_abstract.specs.UserCode as user
+use Rattle.ev_abstract.specs.Run.{task_step}
+use Rattle.ev_concrete.specs.Opening.{opening_apic}
+use Rattle.ev_concrete.specs.ConcreteRun.{System, Activation, acted, after_step, activations_by, interrupted}
+use Rattle.ev_concrete.specs.LiveWords.{IsSafeStep}
+use Rattle.ev_built.specs.Built.{IsBuilt}
+use Rattle.ev_built.specs.Program.{begins, leads_to}
+use Rattle.ev_symbolic.specs.Value.{M}
+use Rattle.ev_symbolic.specs.Agrees.{eval, with_words}
+use Rattle.ev_blocks_fred.specs.Blocks.{SystemCall, frame}
+use Rattle.ev_refine.specs.Relation.{IsFixed, InText, InTables, InTasks, InCode, task_processor, RunsTask, IsContext, Chain, StandsOn, Stands}
+use Rattle.ev_refine.specs.Shown.{shown_by, key_of}
+use Rattle.ev_refine.specs.Claims.{MakesTurn}
+use Rattle.ev_refine.proofs.Facts.{Facts}
+use Rattle.ev_refine.proofs.UserState.{put_same, TurnsTo, makes_turn, is_safe, stands_again}
+use Rattle.ev_refine.proofs.UserStep.{Makes, makes}
+use Rattle.ev_refine.proofs.UserPlain.{AtUser, at_user, plain_turn}
+use Rattle.ev_refine.proofs.UserFrame.{placed_other}
+use Rattle.ev_refine.proofs.UserBody.{IsSystemCall, is_system_call, table_word_is}
+use Rattle.ev_refine.proofs.UserSafe.{OnlyTask, overwrites_none}
+use Rattle.ev_refine.proofs.SystemCall.{call_event, returning, FitsAt, OpensAt, caller, over, context, env, frame_at, handler, words_after, arrival, call_runs, frame_open, saved_is, begins_call}
+
+is_empty : {X : Type 0} (xs : List X) → length xs ≡ 0 → xs ≡ []
+is_empty [] h = refl
+is_empty (x ∷ xs) h = absurd (omega arith)
+
+the_some : {X : Type 0} (o : Option X) → is_some o ≡ true → (x : X) × (o ≡ Some x)
+the_some None h = absurd (cc)
+the_some (Some x) h = (x, refl)
+
+-- ---- what the abstract machine makes of the call
+
+entered_is : (p : ℕ) (x : abstract.Processor) (n : ℕ) (bodies : List Body) (b : Body) → slice_get bodies n ≡ Some b
+    → entered p (record x { bodies = [] }) call_event User (Some n) bodies
+    ≡ (record x { bodies = body_at_start n User call_event ∷ [] }, Enter p b.key Other User 1 0 0 (Some (task x).rip) ∷ [])
+entered_is p x n bodies b h = rw h refl
+
+delivered_is : (image : Image) (p : ℕ) (x : abstract.Processor) (n : ℕ) (c : IsSystemCall image n) → x.bodies ≡ [] → first_body 0 image.bodies 0x100 User ≡ Some n
+    → delivered image p x call_event ≡ (record x { bodies = body_at_start n User call_event ∷ [] }, Enter p Sys Other User 1 0 0 (Some (task x).rip) ∷ [])
+unfolding delivered
+delivered_is image p x n c hb hf =
+    ap (λ (bs : List BodyContext). delivered image p (record x { bodies = bs }) call_event) hb
+    ∙ ap (λ o. entered p (record x { bodies = [] }) call_event User o image.bodies) hf
+    ∙ entered_is p x n image.bodies c.body c.is
+    ∙ ap (λ k. (record x { bodies = body_at_start n User call_event ∷ [] }, Enter p k Other User 1 0 0 (Some (task x).rip) ∷ [])) c.key
+
+-- the processor p in the body, over the task that will go on at this address
+abbrev called : abstract.Processor → (next body : ℕ) → abstract.Processor
+called x next body = record (with_task x (returning (task x) next)) { bodies = body_at_start body User call_event ∷ [] }
+
+call_steps : (image : Image) (m : Machine) (p next body : ℕ) (c : IsSystemCall image body) → (processor m p).bodies ≡ [] → first_body 0 image.bodies 0x100 User ≡ Some body
+    → task_step image m p (user.executed (user_view (user_memory image m)) (task (processor m p)) next Syscall)
+    ≡ (with_processor m p (called (processor m p) next body), Enter p Sys Other User 1 0 0 (Some next) ∷ [])
+unfolding user.executed
+call_steps image m p next body c hb hf =
+    let x : abstract.Processor = processor m p in
+    let back : Task = returning (task x) next in
+    ap (λ (q : abstract.Processor × List Entry). (with_processor m p q.0, q.1)) (delivered_is image p (with_task x back) body c hb hf)
+    ∙ ap (λ (t : Task). (with_processor m p (called x next body), Enter p Sys Other User 1 0 0 (Some t.rip) ∷ [])) (put_same x.tasks x.running back)
+
+-- ---- what the processor's step shows of it
+
+shown_is : (p depth : ℕ) (c : Processor) (i : Option Ins) (r : After) (a next : ℕ) → is_user c ≡ true → depth ≡ 0 → has_fred c ≡ true → r.words (wrap (a + 8)) ≡ next
+    → shown_by p depth c i r (Stepped.Delivered call_event (Some a)) ≡ Enter p Sys Other User 1 0 0 (Some next) ∷ []
+unfolding key_of
+shown_is p depth c i r a next hu hd hf hs =
+    let address : Bool → ℕ = λ f. if f || false then wrap (a + 8) else a in
+    ap (λ u. Enter p Sys Other (if u then User else Kernel) (suc depth) 0 0 (if u then Some (r.words (address (has_fred c))) else None) ∷ []) hu
+    ∙ ap (λ d. Enter p Sys Other User (suc d) 0 0 (Some (r.words (address (has_fred c)))) ∷ []) hd
+    ∙ ap (λ f. Enter p Sys Other User 1 0 0 (Some (r.words (address f))) ∷ []) hf
+    ∙ ap (λ n. Enter p Sys Other User 1 0 0 (Some n) ∷ []) hs
+
+-- ---- what the call's frame leaves
+
+-- the frame lies between the areas and the code
+between : (n p : ℕ) → n ≡ 0 → p < 32 → (vs : List ℕ) → length vs ≡ 8 → (words : NatMap ℕ) (a x : ℕ) → a ≡ (stack_top p n + (M - 64)) % M → (x < 0xffffc90000000000) ⊎ (0xffffffff81000000 ≤ x) → placed words a vs x ≡ words x
+between n p hn hp vs hl words a x ha h =
+    placed_other vs words a x (omega arith) (⊎_elim (λ (l : x < 0xffffc90000000000). inl (let z : x < a = omega arith in z)) (λ (l : 0xffffffff81000000 ≤ x). inr (let z : a + 8 * length vs ≤ x = omega arith in z)) h)
+
+not_there : (a : ℕ) → IsFixed a → (a < 0xffffc90000000000) ⊎ (0xffffffff81000000 ≤ a)
+not_there a (InText h k) = inl (omega arith)
+not_there a (InTables h k) = inl (omega arith)
+not_there a (InTasks h k) = inl (omega arith)
+not_there a (InCode h) = inr h
+
+module _ (image : Image) (formed : IsImage image) (built : IsBuilt image) (facts : Facts image) where
+  -- a system call
+  pub call_turn : (left : NatMap ℕ) (s : System) (m : Machine) → Stands Fred image built left s m → (p : ℕ) → p < image.processors → (processor m p).bodies ≡ [] → FitsAt image built p → OpensAt image built p
+      → (u : AtUser image formed built facts left s m p) → u.ins ≡ Syscall → TurnsTo image built left s m p
+  call_turn left s m h p lt hb fits opens u hi =
+      let x : abstract.Processor = processor m p in
+      let c : Processor = s.cpus p in
+      let t : Task = task x in
+      let n : ℕ = x.running in
+      let next : ℕ = t.rip + length (spelling Syscall) in
+      let found = the_some (first_body 0 image.bodies 0x100 User) built.system_calls in
+      let body : ℕ = found.0 in
+      let call : IsSystemCall image body = is_system_call image formed body found.1 in
+      let small : p < 32 = omega (arith, built.one_processor) in
+      let zero_is : p ≡ 0 = omega (arith, built.one_processor) in
+      let words : NatMap ℕ = s.memory.words in
+      let words' : NatMap ℕ = words_after image built p n t c.cr2 next body words in
+      let a : ℕ = frame_at image built p n t c.cr2 next body in
+      let d : Processor = handler image built p n t c.cr2 next body in
+      let w : Processor = over image built p n t c.cr2 next body in
+      let b : BodyContext = context image built p n t c.cr2 next body in
+      let back : Task = returning t next in
+      let z : abstract.Processor = with_task x back in
+      let y : abstract.Processor = called x next body in
+      let r : After = arrival image built p n t c.cr2 next body opening_apic s.memory false in
+      let s' : System = (acted image.processors (after_step s p r) p r.step).0 in
+      let m' : Machine = with_processor m p y in
+      let task_is : task z ≡ back = put_same x.tasks n back in
+      let stays : (q : ℕ) → (q < 0xffffc90000000000) ⊎ (0xffffffff81000000 ≤ q) → words' q ≡ words q = λ q k. between n p u.on.running small (map (eval (env image built p n t c.cr2 next body)) (frame SystemCall)) refl words a q refl k in
+      let table : words (user_table + 0x800) ≡ body_code body = h.fixed (user_table + 0x800) (InTables (omega arith) (omega arith)) ∙ table_word_is image built body found.1 in
+      let empty : s.activations p ≡ [] = is_empty (s.activations p) u.shallow in
+      let runs : RunsTask Fred image built p y w = record {
+        is = ap (λ (q : Task). task_processor Fred image p n q c.cr2) (sym task_is);
+        gs = ap (λ (q : Task). q.gs) task_is ∙ u.runs.gs;
+        long = ap (λ (q : Task). length q.regs) task_is ∙ length-set (set t.regs 1 next) 11 (flags_word t.flags) ∙ length-set t.regs 1 next ∙ u.runs.long;
+        at = ap (λ (q : Task). begins built.program q.rip) task_is ∙ sym (ap (λ i. begins built.program (leads_to t.rip i)) hi) ∙ u.leads;
+      } in
+      let is_context : IsContext Fred image built b = record { item = call.item; is = call.first; interrupts = refl; service = refl; calls = refl } in
+      let active = begins_call image built p n t c.cr2 next body u.on.running small u.runs.long fits opens s.memory h.regions_are table u.on.mark in
+      let chain : Chain Fred image built p 69 y (b ∷ []) d (with_words s.memory words') = (w, SystemCall, refl, is_context, runs, active) in
+      let stands_on : StandsOn Fred image built p 69 s' y = record {
+        few = omega arith;
+        running = u.on.running;
+        waiting = u.on.waiting;
+        nmi = u.on.nmi;
+        latch = put_same s.latches p false;
+        pending = u.on.pending;
+        apic = put_same s.apics p opening_apic;
+        resched = u.on.resched;
+        mark = stays (pcpu p + 0x20) (inl (omega arith)) ∙ u.on.mark;
+        task_is = stays (pcpu p + 0x18) (inl (omega arith)) ∙ u.on.task_is;
+        depth = ap length (put_same s.activations p (activations_by s p (s.activations p) d r.step)) ∙ ap (λ (as' : List Activation). suc (length (interrupted c as'))) empty;
+        chain = subst (λ q. Chain Fred image built p 69 y (b ∷ []) q (with_words s.memory words')) (sym (put_same s.cpus p d)) chain;
+      } in
+      let only : OnlyTask s = record {
+        none = subst (λ q. s.activations q ≡ []) zero_is empty;
+        user = subst (λ q. is_user (s.cpus q) ≡ true) zero_is u.at_cpl3;
+        task_is = subst (λ q. words (pcpu q + 0x18) ≡ task_words q 0) zero_is (u.on.task_is ∙ ap (task_words p) u.on.running);
+      } in
+      let saved : words' (wrap (a + 8)) ≡ next = saved_is image built p n t c.cr2 next body u.on.running small u.runs.long fits opens words table u.on.mark in
+      let entries : List Entry = Enter p Sys Other User 1 0 0 (Some next) ∷ [] in
+      record {
+        after = r;
+        steps = u.steps ∙ ap (λ i. executed (caller image built p n t c.cr2 next body) opening_apic s.memory false (Some i)) hi
+            ∙ call_runs image built p n t c.cr2 next body opening_apic s.memory false refl (frame_open image built p n t c.cr2 next body u.on.running small u.runs.long fits opens s.memory h.regions_are);
+        machine = m';
+        entries = entries;
+        turns = u.turns ∙ ap (λ i. task_step image m p (user.executed (user_view (user_memory image m)) t (t.rip + length (spelling i)) i)) hi
+            ∙ call_steps image m p next body call hb found.1;
+        seen = u.seen;
+        now_left = 69;
+        stands = stands_again image built left s m h p lt 69 s' m' refl (λ q i. stays q (not_there q i)) refl refl (subst (λ q. StandsOn Fred image built p 69 s' q) (sym (put_same m.processors p y)) stands_on);
+        shows = shown_is p (length (s.activations p)) c (instruction_at words c.rip) r a next u.at_cpl3 u.shallow (ap has_fred u.runs.is) saved;
+        safe = overwrites_none image built s only (acted image.processors (after_step s p r) p r.step).1;
+      }
+
+  -- a turn of the task is visible, and the abstract machine makes the same; it writes over no live word
+  pub user_turn : (left : NatMap ℕ) (s : System) (m : Machine) → Stands Fred image built left s m → (p : ℕ) → p < image.processors → (processor m p).bodies ≡ [] → FitsAt image built p → OpensAt image built p
+      → MakesTurn Fred image built left s m p × IsSafeStep Fred image s p
+  user_turn left s m h p lt hb fits opens =
+      let u : AtUser image formed built facts left s m p = at_user image formed built facts left s m h p lt hb in
+      let t : TurnsTo image built left s m p
+      = ⊎_elim (λ (hi : u.ins ≡ Syscall). call_turn left s m h p lt hb fits opens u hi) (λ (k : Makes (task (processor m p)) u.ins). plain_turn image formed built facts left s m h p lt hb u k) (makes (task (processor m p)) u.ins u.is_built u.canonical) in
+      (makes_turn image built left s m p t, is_safe image built left s m p t)

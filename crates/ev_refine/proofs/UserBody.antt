@@ -1,0 +1,85 @@
+-- The body of system calls: it stands in the image, its key is that of SYSCALL, it has an item, and the table has its address.
+use Rattle.std.proofs.Common.{◌≡◌, ℕ, zero, suc, ◌+◌, ◌-◌, ◌*◌, ◌/◌, ◌%◌, ◌<◌, Bool, true, false, ◌&&◌, List, [], ◌∷◌, ◌++◌, length, Some, refl, ap, ◌∙◌, subst, arith}
+use Rattle.std.specs.Prelude.{◌==◌, if◌then◌else◌, nat_lt, nat_le, slice_get, flat_map}
+use Rattle.std.specs.List.{list_all}
+use Rattle.std.proofs.lemmas.Bool.{eqb-true, ltb-true}
+use Rattle.ev_isa.specs.declared.mode.Mode.TheVariants.{Fred}
+use Rattle.ev_body.specs.declared.key.Key.{Key}
+use Rattle.ev_body.specs.declared.key.Key.TheVariants.{Sys, Irq}
+use Rattle.ev_body.specs.declared.key.Side.{Side}
+use Rattle.ev_body.specs.declared.key.Side.TheVariants.{User}
+use Rattle.ev_body.specs.declared.item.Item.{Item}
+use Rattle.ev_body.specs.declared.body.Part.{Part}
+use Rattle.ev_body.specs.declared.body.Body.{Body}
+use Rattle.ev_body.specs.declared.image.Image.{Image}
+use Rattle.ev_body.specs.Bodies.{key_number, covers, first_body}
+use Rattle.ev_body.specs.WellFormed.{IsImage, is_key, is_ret, ends_with, is_body}
+use Rattle.ev_listing.specs.AddressMap.{pcpu, user_table, body_code}
+use Rattle.ev_abstract.specs.Run.{item_at}
+use Rattle.ev_concrete.specs.Opening.{opening_word, word_there, pcpu_word, body_address}
+use Rattle.ev_built.specs.Built.{IsBuilt}
+use Rattle.ev_symbolic.proofs.Values.{and_left, and_right}
+use Rattle.ev_refine.specs.Relation.{first_word}
+
+-- the body that is found by a key
+pub record IsFound (bs : List Body) (key : ℕ) (j : ℕ) : Type 0 where
+  pub body : Body
+  pub is : slice_get bs j ≡ Some body
+  pub key_is : key_number body.key ≡ key
+
+found_from : (k : ℕ) (bs : List Body) (key : ℕ) (side : Side) (n : ℕ) → first_body k bs key side ≡ Some n → (j : ℕ) × (n ≡ k + j) × IsFound bs key j
+found_from k [] key side n h = absurd (cc)
+found_from k (b ∷ bs) key side n h = pick (key_number b.key == key && covers b.side side) refl h (found_from (suc k) bs key side n)
+  where
+    pick : (t : Bool) → (key_number b.key == key && covers b.side side) ≡ t → (if t then Some k else first_body (suc k) bs key side) ≡ Some n
+        → (first_body (suc k) bs key side ≡ Some n → (j : ℕ) × (n ≡ suc k + j) × IsFound bs key j) → (j : ℕ) × (n ≡ k + j) × IsFound (b ∷ bs) key j
+    pick true q r f = (0, (let e : k ≡ n = cc in omega arith), record { body = b; is = refl; key_is = eqb-true (key_number b.key) key (and_left _ _ q) })
+    pick false q r f = let z = f r in (suc z.0, omega (arith, z.1), record { body = z.2.body; is = z.2.is; key_is = z.2.key_is })
+
+pub found : (bs : List Body) (key : ℕ) (side : Side) (n : ℕ) → first_body 0 bs key side ≡ Some n → IsFound bs key n
+found bs key side n h = let z = found_from 0 bs key side n h in subst (IsFound bs key) (let e : z.0 ≡ n = omega (arith, z.1) in e) z.2
+
+all_get : {X : Type 0} (p : X → Bool) (xs : List X) (i : ℕ) (x : X) → list_all p xs ≡ true → slice_get xs i ≡ Some x → p x ≡ true
+all_get p [] i x h k = absurd (cc)
+all_get p (y ∷ ys) zero x h k = ap p (let e : x ≡ y = cc in e) ∙ and_left (p y) (list_all p ys) h
+all_get p (y ∷ ys) (suc i) x h k = all_get p ys i x (and_right (p y) (list_all p ys) h) k
+
+below : (v : ℕ) → v < 0x100 → v ≡ 0x100 → ⊥
+below v h e = omega arith
+
+-- no interrupt has the number of system calls
+only_key : (k : Key) → is_key k ≡ true → key_number k ≡ 0x100 → k ≡ Sys
+unfolding is_key key_number
+only_key Sys h e = refl
+only_key (Irq v) h e = absurd (below v (ltb-true v 0x100 (and_right (nat_le 0x20 v) _ h)) e)
+only_key _ h e = absurd (omega arith)
+
+first_item : (xs ys : List Item) → ends_with is_ret xs ≡ true → (i : Item) × (slice_get (xs ++ ys) 0 ≡ Some i)
+unfolding ends_with
+first_item [] ys h = absurd (cc)
+first_item (x ∷ xs) ys h = (x, refl)
+
+-- the body of system calls, by its number
+pub record IsSystemCall (image : Image) (n : ℕ) : Type 0 where
+  pub body : Body
+  pub is : slice_get image.bodies n ≡ Some body
+  pub key : body.key ≡ Sys
+  pub item : Item
+  pub first : item_at (slice_get image.bodies n) 0 ≡ Some item
+
+pub is_system_call : (image : Image) → IsImage image → (n : ℕ) → first_body 0 image.bodies 0x100 User ≡ Some n → IsSystemCall image n
+is_system_call image formed n h =
+    let f : IsFound image.bodies 0x100 n = found image.bodies 0x100 User n h in
+    let b : Body = f.body in
+    let well = all_get (is_body (length image.text)) image.bodies n b formed.bodies_given.1 f.is in
+    let front = and_left (_ && ends_with is_ret b.items) _ (and_left _ _ (and_left _ _ (and_left _ _ well))) in
+    let i = first_item b.items (flat_map (λ (part : Part). part.items) b.parts) (and_right (is_key b.key && _) (ends_with is_ret b.items) front) in
+    record { body = b; is = f.is; key = only_key b.key (and_left (is_key b.key) _ (and_left (is_key b.key && _) _ front)) f.key_is; item = i.0; first = ap (λ o. item_at o 0) f.is ∙ i.1 }
+
+-- its address is the word of the table for the event's key
+pub table_word_is : (image : Image) → IsBuilt image → (n : ℕ) → first_body 0 image.bodies 0x100 User ≡ Some n → first_word Fred image (user_table + 0x800) ≡ body_code n
+unfolding opening_word word_there
+table_word_is image built n h =
+    ap (λ (processors : ℕ). if nat_lt (user_table + 0x800) (pcpu 0 + 0x10000 * processors) then pcpu_word ((user_table + 0x800 - pcpu 0) / 0x10000) ((user_table + 0x800) % 0x10000)
+    else body_address (first_body 0 image.bodies 0x100 User)) built.one_processor
+    ∙ ap body_address h

@@ -1,0 +1,5 @@
+use Rattle.ev_refine.proofs.Refine.{refines, opens, all_settle, turns_follow, runs_follow, tells}
+use Rattle.ev_refine.proofs.refinement.Goals as goal
+
+pub returns : goal.returns
+returns c = record { step = refines; opening = opens; edges = all_settle; turns = turns_follow; scripts = runs_follow; tells = tells }
