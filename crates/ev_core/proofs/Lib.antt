@@ -2,3 +2,4 @@ pub mod Words
 pub mod Step
 pub mod Acts
 pub mod Parts
+pub mod Edges
