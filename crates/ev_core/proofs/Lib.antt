@@ -3,3 +3,4 @@ pub mod Step
 pub mod Acts
 pub mod Parts
 pub mod Edges
+pub mod Standing

@@ -2,3 +2,4 @@ pub mod Local
 pub mod Step
 pub mod State
 pub mod Run
+pub mod Task

@@ -9,6 +9,7 @@ mod mail;
 mod settle;
 mod state;
 mod steps;
+mod task_view;
 mod totals;
 mod visible;
 
