@@ -6,6 +6,7 @@ ghost use Rattle.ev_mem.specs.Mapped.{memory};
 ghost use Rattle.ev_concrete.specs.ConcreteRun.{frame_size};
 ghost use Rattle.ev_core.specs.Local.{frame_by, optional};
 
+use crate::frames::Frames;
 use crate::visible::has_fred;
 use arrayvec::ArrayVec;
 use ev_event::{Event, FrameNote};
@@ -58,9 +59,9 @@ pub(crate) fn frame_of(cpu: &Cpu, mem: &Mem, stepped: &Stepped) -> Option<FrameN
 }
 
 /// The frame goes behind the others, for which there is room.
-pub(crate) fn keep(frames: &mut ArrayVec<FrameNote, 2>, frame: Option<FrameNote>)
-    requires { length frames.old.items < 2 }
-    ensures { frames.new.items ≡ frames.old.items ++ optional frame }
+pub(crate) fn keep(frames: &mut Frames, frame: Option<FrameNote>)
+    requires { length frames.old < 2 }
+    ensures { frames.new ≡ frames.old ++ optional frame }
 {
     if let Some(frame) = frame {
         frames.push(frame);

@@ -4,7 +4,9 @@
 
 mod entry;
 mod frame;
+mod frames;
 mod local;
+mod machine;
 mod mail;
 mod settle;
 mod state;
@@ -13,5 +15,8 @@ mod task_view;
 mod totals;
 mod visible;
 
+pub use frames::Frames;
+pub use machine::{Machine, Turned};
 pub use steps::Steps;
+pub use task_view::TaskView;
 pub use totals::Totals;

@@ -7,10 +7,9 @@ ghost use Rattle.ev_core.specs.State.{Shows};
 ghost use Rattle.ev_core.specs.Run.{Costs, IsStanding};
 
 use crate::frame::keep;
+use crate::frames::Frames;
 use crate::state::State;
 use crate::steps::Steps;
-use arrayvec::ArrayVec;
-use ev_event::FrameNote;
 use ev_layout::Places;
 use std::sync::ledger::Ledger;
 
@@ -22,15 +21,15 @@ pub(crate) fn settle<L: Ledger>(
     state: &mut State,
     places: &Places,
     p: usize,
-    frames: &mut ArrayVec<FrameNote, 2>,
+    frames: &mut Frames,
     steps: &mut Steps<L>,
 )
     requires place { p < length state.old.cpus }
     requires stands { IsStanding (record { parts = state.old; places = places.now }) }
     requires count { state.old.totals.steps < 2 ^ 62 }
-    requires empty { frames.old.items ≡ [] }
+    requires empty { frames.old ≡ [] }
     ensures settled { (n : ℕ) (s : System) → Shows n state.old s → Shows n state.new (settled (marks_in places.now) n s p).0 }
-    ensures frames { (n : ℕ) (s : System) → Shows n state.old s → frames.new.items ≡ (settled (marks_in places.now) n s p).1 }
+    ensures frames { (n : ℕ) (s : System) → Shows n state.old s → frames.new ≡ (settled (marks_in places.now) n s p).1 }
     ensures cost { Costs 69 steps.old steps.new (record { parts = state.old; places = places.now }) (record { parts = state.new; places = places.now }) }
     ensures same { length state.new.cpus ≡ length state.old.cpus }
 {

@@ -9,7 +9,7 @@ abbrev pub invariant-loop : goal.invariant-loop
 invariant-loop g l = record {
   few : l.counter ≤ 69;
   shows : (n : ℕ) (s : System) → Shows n l.fn.state s → Shows n l.state (edges l.counter (marks_in l.places) n s l.p).0;
-  frames : (n : ℕ) (s : System) → Shows n l.fn.state s → l.frames.items ≡ (edges l.counter (marks_in l.places) n s l.p).1;
+  frames : (n : ℕ) (s : System) → Shows n l.fn.state s → l.frames ≡ (edges l.counter (marks_in l.places) n s l.p).1;
   counted : l.steps ≡ l.fn.steps + l.counter;
   totals : l.state.totals.steps ≡ l.fn.state.totals.steps + l.counter;
   same : length l.state.cpus ≡ length l.fn.state.cpus;
