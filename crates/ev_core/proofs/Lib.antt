@@ -4,3 +4,5 @@ pub mod Acts
 pub mod Parts
 pub mod Edges
 pub mod Standing
+pub mod Turns
+pub mod Opening

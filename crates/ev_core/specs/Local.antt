@@ -15,10 +15,11 @@ use Rattle.ev_apic.specs.declared.inbox.Inbox.{Inbox}
 use Rattle.ev_apic.specs.declared.send.Send.{Send}
 use Rattle.ev_apic.specs.declared.send.Target.{Target}
 use Rattle.ev_apic.specs.declared.send.Target.TheVariants.{One, Myself, All, Others}
-use Rattle.ev_apic.specs.Inbox.{mailed}
+use Rattle.ev_apic.specs.Inbox.{mailed, no_mail}
 use Rattle.ev_mem.specs.Memory.{Memory}
 use Rattle.ev_trace.specs.FrameText.{Totals}
 use Rattle.ev_proc.specs.declared.stepped.Stepped.{Stepped}
+use Rattle.ev_concrete.specs.Opening.{opening_apic}
 use Rattle.ev_concrete.specs.ConcreteRun.{System, Activation, is_return, is_repeated, lower, frame_size}
 use Rattle.ev_refine.specs.Shown.{key_of}
 use Rattle.ev_core.specs.declared.local.Local.{Local}
@@ -30,6 +31,10 @@ optional (Some a) = a ∷ []
 
 abbrev pub standing_at : Activation
 standing_at = record { rsp = 0; rip = 0; inner = false }
+
+-- what belongs to a processor at the opening
+abbrev pub start : Local
+start = record { apic = opening_apic; latch = false; inbox = no_mail; depth = 0 }
 
 -- a system in which every processor is as this one
 abbrev pub still : Processor → Local → Memory → System

@@ -1,11 +1,11 @@
 // What belongs to one processor besides its registers, and what a step does to it.
 
-ghost use Rattle.std.specs.Prelude.{◌≡◌, ◌<◌, ◌+◌, ◌&&◌, ◌==◌, not};
+ghost use Rattle.std.specs.Prelude.{◌≡◌, ◌<◌, ◌+◌, ◌&&◌, ◌==◌, not, replicate, IfOk};
 ghost use Rattle.ev_mem.specs.Mapped.{memory};
 ghost use Rattle.ev_listing.specs.AddressMap.{nlast_entry, repeat_entry};
 ghost use Rattle.ev_proc.specs.Conditions.{HasEntries, IsInCode};
 ghost use Rattle.ev_concrete.specs.ConcreteRun.{is_return};
-ghost use Rattle.ev_core.specs.Local.{depth_after};
+ghost use Rattle.ev_core.specs.Local.{depth_after, start};
 ghost use Rattle.ev_core.specs.Step.{LocalStep};
 
 use crate::entry::{Before, entry_of, instruction_at, log_of};
@@ -16,6 +16,7 @@ use ev_isa::Ins;
 use ev_mem::Mem;
 use ev_proc::{Stepped, step};
 use ev_state::Cpu;
+use std::alloc::{AllocError, Global};
 
 /// A processor's local APIC, its NMI latch, its mail, and how many activations of handlers stand on
 /// it. Own.
@@ -25,6 +26,38 @@ pub(crate) struct Local {
     pub latch: bool,
     pub inbox: Inbox,
     pub depth: u8,
+}
+
+impl Local {
+    /// At the opening: no vector, no mail, no activation.
+    fn at_start() -> Local
+        ensures { result ≡ start }
+    {
+        Local {
+            apic: Apic {
+                irr: [0; 4],
+                isr: [0; 4],
+                tpr: 0,
+            },
+            latch: false,
+            inbox: Inbox {
+                vectors: [0; 4],
+                nmi: false,
+            },
+            depth: 0,
+        }
+    }
+}
+
+/// What belongs to each of n processors at the opening.
+pub(crate) fn all_at_start(alloc: Global, n: usize) -> Result<Vec<Local>, AllocError>
+    ensures { IfOk result (λ v. v.items ≡ replicate n start) }
+{
+    let mut locals = Vec::new(alloc);
+    for _ in 0..n {
+        locals.push(Local::at_start())?;
+    }
+    Ok(locals)
 }
 
 /// A step with the entry that it shows.

@@ -19,35 +19,19 @@ ghost use Rattle.ev_core.specs.Task.{IsTaskView};
 
 use crate::frame::keep;
 use crate::frames::Frames;
-use crate::local::Local;
+use crate::local::all_at_start;
 use crate::settle::settle;
 use crate::state::State;
 use crate::steps::Steps;
 use crate::task_view::TaskView;
 use crate::totals::Totals;
 use ev_abstract::Entry;
-use ev_apic::{Apic, Inbox};
 use ev_body::Image;
 use ev_isa::{Mode, NoMemory};
 use ev_layout::{Places, build};
 use std::alloc::Global;
 use std::marker::Model;
 use std::sync::ledger::Ledger;
-
-/// What belongs to a processor at the opening.
-const START: Local = Local {
-    apic: Apic {
-        irr: [0; 4],
-        isr: [0; 4],
-        tpr: 0,
-    },
-    latch: false,
-    inbox: Inbox {
-        vectors: [0; 4],
-        nmi: false,
-    },
-    depth: 0,
-};
 
 /// A machine: its processors, their memory, and the places of the kernel's visible instructions. It
 /// knows nothing of the abstract machine, for a state of which it always stands. Own.
@@ -81,9 +65,10 @@ impl Machine {
         requires mode { mode_is_built mode ≡ true }
         ensures { IfOk result (λ m. IsRun mode image.now [] m) }
     {
+        let _ = &image.processors;
         let parts = build(alloc, image, mode)?;
         let cpus = parts.cpus.into_vec();
-        let locals = match Vec::from_elem(alloc, START, cpus.len()) {
+        let locals = match all_at_start(alloc, cpus.len()) {
             Ok(locals) => locals,
             Err(_) => return Err(NoMemory),
         };
