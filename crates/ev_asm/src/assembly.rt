@@ -20,9 +20,9 @@ use std::alloc::Global;
 
 /// How far a jump goes, from the next instruction on.
 #[tactic(auto, unfolding(crate::specs::Assembly::distance))]
-fn distance(target: u64, next: u64) -> i32
-    requires forward { target ≤ next + 131072 }
-    requires back { next ≤ target + 131072 }
+pub fn distance(target: u64, next: u64) -> i32
+    requires forward { target ≤ next + 2147483647 }
+    requires back { next ≤ target + 2147483647 }
     ensures { result ≡ distance target next }
 {
     if next <= target {
@@ -34,7 +34,7 @@ fn distance(target: u64, next: u64) -> i32
 
 /// The jump on a condition or always.
 #[tactic(auto, unfolding(ev_isa::specs::Instruction::is_instruction))]
-fn jump(condition: Option<Cond>, number: i32) -> ArrayVec<u8, 15>
+pub fn jump(condition: Option<Cond>, number: i32) -> ArrayVec<u8, 15>
     ensures { result.items ≡ spelling (jump condition number) }
 {
     match condition {
@@ -45,7 +45,7 @@ fn jump(condition: Option<Cond>, number: i32) -> ArrayVec<u8, 15>
 
 /// How many bytes a jump has.
 #[tactic(auto, unfolding(crate::specs::Assembly::size))]
-fn jump_size(condition: Option<Cond>) -> u64
+pub fn jump_size(condition: Option<Cond>) -> u64
     ensures is { (name : List ℕ) → result ≡ size (Stmt.Jump condition name) }
     ensures small { result ≤ 6 }
 {

@@ -28,7 +28,7 @@ fn gives(s: &Stmt, name: &Name) -> bool
 }
 
 /// Whether a statement gives this label.
-fn has_label(stmts: &[Stmt], name: &Name) -> bool
+pub fn has_label(stmts: &[Stmt], name: &Name) -> bool
     ensures { result ≡ not (is_new_name (stmt_labels stmts.now) name.now) }
 {
     for s in stmts {

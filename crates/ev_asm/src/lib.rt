@@ -5,6 +5,7 @@ mod assembly;
 mod block;
 mod fault;
 mod labels;
+mod linking;
 mod size;
 mod statement;
 mod text;
@@ -12,6 +13,8 @@ mod text;
 pub use assembly::assemble;
 pub use block::{Block, Blocks};
 pub use fault::AsmFault;
+pub use linking::{Section, link};
+pub use size::size as statement_size;
 pub use statement::Stmt;
 pub use text::Text;
 

@@ -1,18 +1,19 @@
 -- What the blocks come to, and how they join: closed facts, each by computation.
-use Rattle.std.proofs.Common.{◌≡◌, ℕ, ◌-◌, true, false, List, [], ◌∷◌, ◌++◌, get_or, Some, refl, ap}
+use Rattle.std.proofs.Common.{◌≡◌, ◌-◌, false, List, [], ◌∷◌, ◌++◌, get_or, Some, refl, ap}
 use Rattle.ev_isa.specs.Spelling.{spelling, four_bytes}
 use Rattle.ev_isa.specs.declared.instruction.Ins.TheVariants.{JmpReg}
-use Rattle.ev_asm.specs.Assembly.{size, place, places, distance}
+use Rattle.ev_asm.specs.Assembly.{size, places, distance}
 use Rattle.ev_listing.specs.AddressMap.{user_table}
 use Rattle.ev_listing.specs.FredCode.{fred_listings}
-use Rattle.ev_symbolic.specs.Value.{M, V, K, P, X, FVar}
-use Rattle.ev_symbolic.specs.State.{Loc, SS, Line, absolute, sreg}
+use Rattle.ev_symbolic.specs.Value.{M, V, K, P, X}
+use Rattle.ev_symbolic.specs.State.{absolute}
 use Rattle.ev_symbolic.specs.Run.{line_at, brun}
 use Rattle.ev_symbolic.specs.Join.{Joins}
 use Rattle.ev_symbolic.specs.Openings.{gs_tag}
-use Rattle.ev_blocks_fred.specs.Blocks.{Kind, SystemCall, fred_lines, frame_words, fixed_words, fred_ground, enter, item, leave}
+use Rattle.ev_activation.specs.Activation.{Kind, SystemCall}
+use Rattle.ev_blocks_fred.specs.Blocks.{fred_lines, frame_words, fixed_words, fred_ground, enter, item, leave}
 use Rattle.ev_blocks_fred.specs.Ends.{enter_end, leave_end, enter_values}
-use Rattle.ev_blocks_fred.specs.Claims.{StaysOnStack, restored, Enters, Leaves, AllEnter, AllLeave}
+use Rattle.ev_blocks_fred.specs.Claims.{StaysOnStack, restored, AllEnter, AllLeave}
 
 -- ---- the entry
 

@@ -2,17 +2,14 @@
 use Rattle.std.specs.Prelude.{ℕ, ◌+◌, ◌-◌, true, List, [], ◌∷◌, ◌++◌}
 use Rattle.ev_listing.specs.AddressMap.{fred_page, user_table}
 use Rattle.ev_listing.specs.FredCode.{fred_listings}
-use Rattle.ev_symbolic.specs.Value.{M, V, K, P, X, FVar}
+use Rattle.ev_symbolic.specs.Value.{M, V, K, P, X}
 use Rattle.ev_symbolic.specs.State.{Word, SS, Win, Line, Ground, Block, absolute}
 use Rattle.ev_symbolic.specs.Listed.{lines_of}
-use Rattle.ev_symbolic.specs.Openings.{word, at_base, gs_tag, gs_word, win_below, win_at, words_from, all_regs, opening}
+use Rattle.ev_activation.specs.Activation.{Kind, SystemCall, Spot, AtEntry, AtItem, AtExit}
+use Rattle.ev_symbolic.specs.Openings.{word, at_base, gs_tag, gs_word, win_below, win_at, words_from, opening}
 
 unfoldable pub fred_lines : List Line
 fred_lines = lines_of fred_listings
-
--- What an activation is: the event that began it, and whether it came from the task.
-pub data Kind : Type 0 where
-  SystemCall : Kind
 
 -- the words of CS and SS in its frame
 abbrev pub cs_of : Kind → ℕ
@@ -55,29 +52,24 @@ fred_ground = record {
   fred = true;
 }
 
+-- a block over this
+abbrev pub over : (ground : Ground) → List Line → SS → ℕ → Block
+over g lines opening steps = record { ground = g; lines = lines; opening = opening; steps = steps }
+
 -- from the delivery to the jump to the body
 abbrev pub enter : Kind → Block
-enter κ = record { ground = fred_ground; lines = fred_lines; opening = opening fred_page (P 16 (M - 64)) (frame_words κ ++ fixed_words); steps = 45 }
+enter κ = over fred_ground fred_lines (opening fred_page (P 16 (M - 64)) (frame_words κ ++ fixed_words)) 45
 
 -- at an item, whose address is base 20: variable r is register r
 abbrev pub item : Kind → Block
-item κ = record {
-  ground = fred_ground;
-  lines = [];
-  opening = record (opening 0 (P 16 (M - 0xc0)) (saved_words ++ frame_words κ ++ fixed_words)) { rip = at_base 20 0 };
-  steps = 0;
-}
+item κ = over fred_ground [] (record (opening 0 (P 16 (M - 0xc0)) (saved_words ++ frame_words κ ++ fixed_words)) { rip = at_base 20 0 }) 0
 
 -- FEXIT, from its first instruction to the return
 abbrev pub fexit : ℕ
 fexit = 0xffffffff81000379
 
 abbrev pub leave : Kind → Block
-leave κ = record { ground = fred_ground; lines = fred_lines; opening = opening fexit (P 16 (M - 0xc0)) (saved_words ++ frame_words κ ++ fixed_words); steps = 22 }
-
--- the places where an activation stands
-pub data Spot : Type 0 where
-  AtEntry AtItem AtExit : Spot
+leave κ = over fred_ground fred_lines (opening fexit (P 16 (M - 0xc0)) (saved_words ++ frame_words κ ++ fixed_words)) 22
 
 abbrev pub block : Kind → Spot → Block
 block κ AtEntry = enter κ

@@ -1,11 +1,12 @@
 -- What is proved of the blocks, as the contract of this crate states it.
 use Rattle.std.specs.Prelude.{◌≡◌, ◌-◌, true, List, [], ◌∷◌, ◌++◌, Some}
 use Rattle.ev_isa.specs.declared.instruction.Ins.TheVariants.{JmpReg}
-use Rattle.ev_symbolic.specs.Value.{M, V, P, X, F, FVar}
-use Rattle.ev_symbolic.specs.State.{Line, Block, absolute, sreg, is_on_stack}
+use Rattle.ev_symbolic.specs.Value.{M, V, P, X}
+use Rattle.ev_symbolic.specs.State.{Line, Block, sreg, is_on_stack}
 use Rattle.ev_symbolic.specs.Run.{line_at, brun, every}
 use Rattle.ev_symbolic.specs.Join.{Joins}
-use Rattle.ev_blocks_fred.specs.Blocks.{Kind, fred_lines, frame_words, fixed_words, fred_ground, enter, item, leave}
+use Rattle.ev_activation.specs.Activation.{Kind}
+use Rattle.ev_blocks_fred.specs.Blocks.{fred_lines, frame_words, fixed_words, fred_ground, enter, item, leave}
 use Rattle.ev_blocks_fred.specs.Ends.{enter_end, leave_end, enter_values}
 
 -- at each instruction of a block RSP lies in the frame and the saved area

@@ -5,7 +5,8 @@ use Rattle.ev_symbolic.specs.Value.{M, V, K, P, X}
 use Rattle.ev_symbolic.specs.State.{SS}
 use Rattle.ev_symbolic.specs.Run.{brun}
 use Rattle.ev_symbolic.specs.Openings.{end_or}
-use Rattle.ev_blocks_fred.specs.Blocks.{Kind, SystemCall, enter, leave}
+use Rattle.ev_activation.specs.Activation.{Kind, SystemCall}
+use Rattle.ev_blocks_fred.specs.Blocks.{enter, leave}
 
 unfoldable pub enter_end : Kind → SS
 enter_end κ = end_or (enter κ).opening (brun (enter κ) 45)

@@ -10,7 +10,7 @@ use Rattle.ev_symbolic.specs.State.{absolute}
 use Rattle.ev_symbolic.specs.Run.{line_at, brun}
 use Rattle.ev_symbolic.specs.Join.{Joins}
 use Rattle.ev_symbolic.specs.Openings.{gs_tag}
-use Rattle.ev_blocks_fred.specs.Blocks.{Kind, SystemCall}
+use Rattle.ev_activation.specs.Activation.{Kind, SystemCall}
 use Rattle.ev_blocks_idt.specs.Blocks.{idt_lines, idt_ground, enter, item, leave}
 use Rattle.ev_blocks_idt.specs.Ends.{enter_end, leave_end, enter_values}
 use Rattle.ev_blocks_idt.specs.Claims.{restored, AllEnter, AllLeave}

@@ -6,7 +6,7 @@ use Rattle.ev_symbolic.specs.Value.{M, V, K, P, X}
 use Rattle.ev_symbolic.specs.State.{Word, SS, Win, Line, Ground, Block, absolute}
 use Rattle.ev_symbolic.specs.Listed.{lines_of}
 use Rattle.ev_symbolic.specs.Openings.{word, at_base, gs_tag, gs_word, win_below, win_at, words_from, opening}
-use Rattle.ev_blocks_fred.specs.Blocks.{Kind, SystemCall, Spot, AtEntry, AtItem, AtExit}
+use Rattle.ev_activation.specs.Activation.{Kind, SystemCall, Spot, AtEntry, AtItem, AtExit}
 
 unfoldable pub idt_lines : List Line
 idt_lines = lines_of idt_listings

@@ -2,4 +2,3 @@ pub mod Places
 pub mod Spans
 pub mod Windows
 pub mod Regions
-pub mod FredEntry

@@ -10,7 +10,7 @@ use Rattle.ev_body.specs.Bodies.{key_number}
 use Rattle.ev_body.specs.declared.key.Key.{Key}
 use Rattle.ev_body.specs.declared.key.Key.TheVariants.{Sys, Db, Nmi, Bp, Ud, Ss, Gp, Pf, Ac, Irq}
 use Rattle.ev_body.specs.declared.item.Item.TheVariants.{Log, Ret}
-use Rattle.ev_isa.specs.declared.mode.Mode.TheVariants.{Fred}
+use Rattle.ev_isa.specs.declared.mode.Mode.{Mode}
 use Rattle.ev_built.specs.Built.{IsBuilt, is_built_item, is_built_body, is_built_key}
 use Rattle.ev_abstract.specs.Run.{item_at}
 use Rattle.ev_listing.specs.Expansion.{item_address}
@@ -19,8 +19,7 @@ use Rattle.ev_concrete.specs.Opening.{listings}
 use Rattle.ev_symbolic.proofs.Listed.{spaced_in}
 use Rattle.ev_symbolic.proofs.Values.{and_left, and_right}
 use Rattle.ev_table.proofs.Cells.{mark_by}
-use Rattle.ev_table.specs.Table.{fred_table, exit_address}
-use Rattle.ev_table.specs.Table as table
+use Rattle.ev_table.specs.Table.{code_table, other_exit, exit_address, RetCell}
 use Rattle.ev_table.proofs.Whole as whole
 use Rattle.ev_fetch.proofs.Kernel.{kernel_fetches}
 use Rattle.ev_fetch.proofs.Text.{text_fetches}
@@ -30,7 +29,7 @@ use Rattle.ev_fetch.proofs.Opened.{holds_code, holds_text}
 use Rattle.ev_fetch.specs.Spelled.{AreSpelled}
 use Rattle.ev_fetch.specs.Claims.{kernel_cells}
 use Rattle.ev_refine.specs.Relation.{InText, InCode}
-use Rattle.ev_refine.proofs.Facts.{Facts, RetCell}
+use Rattle.ev_refine.proofs.Facts.{Facts}
 use Rattle.ev_refine.proofs.Items.{all_at}
 
 -- no body of today is that of NMIs
@@ -59,26 +58,28 @@ log_or_ret _ h = absurd (cc)
 body_parts : (b : Body) → is_built_body b ≡ true → (has_no_parts b.parts ≡ true) × (list_all is_built_item b.items ≡ true)
 body_parts b h = let r = and_right (is_user_side b.side) _ h in (and_left (has_no_parts b.parts) _ r, and_right (has_no_parts b.parts) _ r)
 
-module _ (image : Image) (given : IsImage image) (built : IsBuilt image) where
-  spells : AreSpelled (kernel_cells Fred image)
-  spells = plain_are_spelled is_built_item log_or_ret is_built_body body_parts Fred image given built.bodies
+module _ (mode : Mode) (image : Image) (given : IsImage image) (built : IsBuilt image) where
+  spells : AreSpelled (kernel_cells mode image)
+  spells = plain_are_spelled is_built_item log_or_ret is_built_body body_parts mode image given built.bodies
 
-  ret : (n i : ℕ) (b : Body) → slice_get image.bodies n ≡ Some b → item_at (Some b) i ≡ Some Ret → RetCell image (item_address Fred n b i)
+  ret : (n i : ℕ) (b : Body) → slice_get image.bodies n ≡ Some b → item_at (Some b) i ≡ Some Ret → RetCell (code_table mode image) (item_address mode n b i) (other_exit mode)
   ret n i b h k =
-      let r : table.RetCell (fred_table image) (item_address Fred n b i) (exit_address b.key) = whole.ret_stands image given built n i b h k in
-      record { cell = r.cell; distance = r.distance; is = r.is; jump = r.jump; unmarked = r.unmarked; leads = r.leads ∙ whole.exit_of_others b.key (not_nmi image.bodies n b built.keys h) }
+      let r : RetCell (code_table mode image) (item_address mode n b i) (exit_address mode b.key) = whole.ret_stands mode image given built n i b h k in
+      record { cell = r.cell; distance = r.distance; is = r.is; jump = r.jump; unmarked = r.unmarked; leads = r.leads ∙ whole.exit_of_others mode b.key (not_nmi image.bodies n b built.keys h) }
 
-  pub facts : Facts image
+  pub facts : Facts mode image
   facts = record {
-    stands = λ e z. whole.lines image given built e z;
-    spaced = spaced_in (all_places (listings Fred image)) (listings Fred image);
-    log_cell = λ n i s b h k. whole.log_stands image given built n i s b h k;
+    stands = λ e z. whole.lines mode image given built e z;
+    spaced = spaced_in (all_places (listings mode image)) (listings mode image);
+    log_cell = λ n i s b h k. whole.log_stands mode image given built n i s b h k;
     ret_cell = ret;
-    first_item = λ n b. whole.first_item n b;
-    item_small = λ n i b h. whole.canonical_items image given built n i b h;
-    unmarked = λ a x h m. whole.mark_is image given built a x h ∙ ap mark_by m;
-    marked = λ a x h m. whole.mark_is image given built a x h ∙ ap mark_by m;
-    fetches = λ m e f. kernel_fetches Fred image m given spells e (holds_code Fred image m.words (λ a l. f a (InCode l)));
-    user_fetch = λ m e f. text_fetches image m given e (holds_text Fred image m.words (λ a l k. f a (InText l k)));
+    first_item = λ n b. whole.first_item mode n b;
+    item_small = λ n i b h. whole.canonical_items mode image given built n i b h;
+    unmarked = λ a x h m. whole.mark_is mode image given built a x h ∙ ap mark_by m;
+    marked = λ a x h m. whole.mark_is mode image given built a x h ∙ ap mark_by m;
+    fetches = λ m e f. kernel_fetches mode image m given spells e (holds_code mode image m.words (λ a l. f a (InCode l)));
+    user_fetch = λ m e f. text_fetches image m given e (holds_text mode image m.words (λ a l k. f a (InText l k)));
     in_code = λ m e c. stays_in_code image m c given e;
+    body_jump_cell = whole.body_jump_stands mode image given built;
+    return_cell = whole.task_return_stands mode image given built;
   }

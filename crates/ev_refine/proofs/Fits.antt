@@ -20,8 +20,10 @@ use Rattle.ev_distances.proofs.Places.{InWord, cases}
 use Rattle.ev_distances.proofs.Spans.{far, located_in}
 use Rattle.ev_distances.proofs.Regions.{stack_covered, area_covered, user_table_covered}
 use Rattle.ev_distances.proofs.Windows.{sep, open_ok, text_ok, in_area, on_stack, in_tables, in_code}
-use Rattle.ev_blocks_fred.specs.Blocks.{SystemCall, Spot, AtEntry, AtItem, AtExit, fred_ground, block}
-use Rattle.ev_refine.specs.Relation.{code_table, IsFixed, InText, InTables, InTasks, InCode, here, top_of, rest_in}
+use Rattle.ev_activation.specs.Activation.{SystemCall, Spot, AtEntry, AtItem, AtExit}
+use Rattle.ev_blocks_fred.specs.Blocks.{fred_ground, block}
+use Rattle.ev_table.specs.Table.{code_table}
+use Rattle.ev_refine.specs.Relation.{IsFixed, InText, InTables, InTasks, InCode, here, top_of, rest_in}
 use Rattle.ev_refine.proofs.Facts.{Facts}
 
 -- the bases of an activation of processor p on stack n, above which so many bytes are in use
@@ -96,7 +98,7 @@ module _ (image : Image) (e : Env) (p n used : ℕ) (b : Bases e p n used) (hp :
 
 -- ---- the activations of today
 
-module _ (image : Image) (built : IsBuilt image) (facts : Facts image) (p : ℕ) (hp : p < 32) (hi : p < image.processors) where
+module _ (image : Image) (built : IsBuilt image) (facts : Facts Fred image) (p : ℕ) (hp : p < 32) (hi : p < image.processors) where
   pub bases_at : (w : Processor) (b : BodyContext) (v : ℕ → ℕ) (f : Flags) → top_of Fred image built SystemCall w ≡ stack_top p 0 → Bases (here Fred image built p SystemCall w b v f) p 0 0
   bases_at w b v f ht = record { top = plus_zero _ ∙ ht; area = refl; zero_base = refl }
     where
@@ -129,6 +131,9 @@ module _ (image : Image) (built : IsBuilt image) (facts : Facts image) (p : ℕ)
 
     pub leaves_mark : m' (pcpu p + 0x20) ≡ m (pcpu p + 0x20)
     leaves_mark = alone (pcpu p + 0x20) (λ s. let x = s.from in let y = s.to in absurd (omega arith)) (λ s. let x = s.from in let y = s.to in absurd (omega arith))
+
+    pub leaves_top : m' (pcpu p + 0x10) ≡ m (pcpu p + 0x10)
+    leaves_top = alone (pcpu p + 0x10) (λ s. let x = s.from in let y = s.to in absurd (omega arith)) (λ s. let x = s.from in let y = s.to in absurd (omega arith))
 
     pub leaves_task : m' (pcpu p + 0x18) ≡ m (pcpu p + 0x18)
     leaves_task = alone (pcpu p + 0x18) (λ s. let x = s.from in let y = s.to in absurd (omega arith)) (λ s. let x = s.from in let y = s.to in absurd (omega arith))

@@ -15,7 +15,8 @@ use Rattle.ev_built.specs.Built.{IsBuilt, is_built_item, is_built_body}
 use Rattle.ev_abstract.specs.Run.{item_at}
 use Rattle.ev_symbolic.specs.Agrees.{Env, eval}
 use Rattle.ev_symbolic.proofs.Values.{and_left, and_right}
-use Rattle.ev_blocks_fred.specs.Blocks.{SystemCall, item}
+use Rattle.ev_activation.specs.Activation.{SystemCall}
+use Rattle.ev_blocks_fred.specs.Blocks.{item}
 
 -- ---- lists
 

@@ -1,28 +1,26 @@
 -- A step of a processor on which a body stands: an instruction of the kernel's code, an item, or the return.
-use Rattle.std.proofs.Common.{◌≡◌, ◌⊎◌, inl, inr, ℕ, suc, ◌+◌, ◌-◌, ◌%◌, ◌^◌, ◌<◌, ◌≤◌, Bool, true, false, not, ◌&&◌, List, [], ◌∷◌, get_or, length, Option, Some, None, Ok, Err, refl, sym, ap, ◌∙◌, subst, arith}
-use Rattle.std.specs.Prelude.{ℤ, pos, if◌then◌else◌, ◌==◌, slice_get, nat_le}
+use Rattle.std.proofs.Common.{◌≡◌, ◌⊎◌, inl, inr, ℕ, suc, ◌+◌, ◌-◌, ◌%◌, ◌^◌, ◌<◌, ◌≤◌, Bool, true, false, not, ◌&&◌, List, [], ◌∷◌, get_or, length, Option, Some, None, refl, sym, ap, ◌∙◌, subst, arith}
+use Rattle.std.specs.Prelude.{pos, if◌then◌else◌, ◌==◌, slice_get, nat_le}
 use Rattle.std.specs.List.{list_any}
 use Rattle.std.proofs.lemmas.Bool.{leb-true, leb-false}
 use Rattle.ev_isa.specs.Word.{NatMap, put_at, bit, is_canonical, displaced, greatest_below}
 use Rattle.ev_isa.specs.Flags.{Flags, flags_word, flags_of}
 use Rattle.ev_isa.specs.declared.instruction.Ins.{Ins}
-use Rattle.ev_isa.specs.declared.instruction.Ins.TheVariants.{GsStore, Jmp, JmpReg, Eretu, Erets, Iretq, Sysretq}
+use Rattle.ev_isa.specs.declared.instruction.Ins.TheVariants.{GsStore, JmpReg, Eretu}
 use Rattle.ev_isa.specs.declared.mode.Mode.TheVariants.{Fred}
 use Rattle.ev_event.specs.declared.boundary.Next.{Next}
-use Rattle.ev_event.specs.Event.{gp, ud}
+use Rattle.ev_event.specs.Event.{ud}
 use Rattle.ev_body.specs.declared.item.Item.{Item}
 use Rattle.ev_body.specs.declared.item.Item.TheVariants.{Log, Ret}
 use Rattle.ev_body.specs.declared.body.Body.{Body}
 use Rattle.ev_body.specs.declared.image.Image.{Image}
 use Rattle.ev_body.specs.WellFormed.{IsImage}
-use Rattle.ev_effect.specs.Effect.{◌>>=◌, effect}
 use Rattle.ev_listing.specs.AddressMap.{stack_top, body_code, nlast_entry, repeat_entry}
 use Rattle.ev_listing.specs.Expansion.{item_address}
-use Rattle.ev_state.specs.Processor.{Processor, is_user, task_of, with_effect}
+use Rattle.ev_state.specs.Processor.{Processor, is_user}
 use Rattle.ev_state.specs.Outcome.{Went}
-use Rattle.ev_mem.specs.Memory.{Memory}
 use Rattle.ev_apic.specs.declared.apic.Apic.{Apic}
-use Rattle.ev_exec.specs.Exec.{Executed, Done, Special, completed, changed, exec}
+use Rattle.ev_exec.specs.Exec.{Done, Special, exec}
 use Rattle.ev_fred.specs.FredDelivery.{eretu}
 use Rattle.ev_proc.specs.ProcessorStep.{has_fred, next_of, executed, ran, fault, special, after_return}
 use Rattle.ev_proc.specs.declared.stepped.Stepped.{Stepped}
@@ -38,61 +36,29 @@ use Rattle.ev_concrete.specs.ConcreteRun.{System, Activation, marks_of, is_retur
 use Rattle.ev_concrete.specs.LiveWords.{IsSafeStep}
 use Rattle.ev_built.specs.Built.{IsBuilt}
 use Rattle.ev_symbolic.specs.Value.{M, V, K}
-use Rattle.ev_symbolic.specs.State.{Loc, SS, Line, Ground, Block, absolute}
-use Rattle.ev_symbolic.specs.Run.{moved, line_at, sstep, tidy_if, bstep, bnext, brun}
+use Rattle.ev_symbolic.specs.State.{SS, absolute}
+use Rattle.ev_symbolic.specs.Run.{moved, brun}
 use Rattle.ev_symbolic.specs.Agrees.{Env, eval, eval_flags, addr, Cell, Code, edge_cell, Agrees, Within, with_words, Steps, At}
 use Rattle.ev_symbolic.specs.Join.{env_after}
 use Rattle.ev_symbolic.specs.Machine.{Fetches, Inside}
 use Rattle.ev_symbolic.proofs.FlagBits.{flags_back}
 use Rattle.ev_symbolic.proofs.Sound.{executes, reg_ok, step_ok}
-use Rattle.ev_symbolic.proofs.Sound as sound
-use Rattle.ev_symbolic.proofs.Blocks.{unsome, LineOk, line_ok, cell_step, earlier, goes_on, at_end, joined}
-use Rattle.ev_blocks_fred.specs.Blocks.{Kind, SystemCall, Spot, AtEntry, AtItem, AtExit, fred_lines, fred_ground, enter, item, leave, block, edges_left}
+use Rattle.ev_symbolic.proofs.Blocks.{LineOk, line_ok, cell_step, earlier, goes_on, at_end, joined}
+use Rattle.ev_activation.specs.Activation.{Kind, SystemCall, Spot, AtEntry, AtItem, AtExit}
+use Rattle.ev_blocks_fred.specs.Blocks.{fred_lines, fred_ground, enter, item, leave, block, edges_left}
 use Rattle.ev_blocks_fred.specs.Ends.{enter_end, leave_end, enter_values}
 use Rattle.ev_blocks_fred.proofs.Ends.{enter_run, enter_regs, enter_line, enter_joins, leave_run, leave_rip}
-use Rattle.ev_refine.specs.Relation.{code_table, item_place, address_of_item, RunsTask, here, top_of, rest_in, Entering, InItem, Leaving, Means, Active, IsContext, StandsOver, StandsOn, Stands, Chain}
+use Rattle.ev_table.specs.Table.{code_table, other_exit, RetCell}
+use Rattle.ev_refine.specs.Relation.{item_place, address_of_item, RunsTask, here, top_of, rest_in, Entering, InItem, Leaving, Means, Active, IsContext, StandsOver, StandsOn, Stands, Chain}
 use Rattle.ev_refine.specs.Claims.{MakesEdge, MakesTurn}
 use Rattle.ev_refine.specs.Shown.{shown_instruction}
-use Rattle.ev_refine.proofs.Facts.{Facts, RetCell}
-use Rattle.ev_refine.proofs.Fits.{fits_at, opens_at, leaves_fixed, leaves_mark, leaves_task}
-use Rattle.ev_refine.proofs.Standing.{put_here, instruction_first, hidden, seen, after_ran, Runs, ran_step, ran_safe, ran_shown, ran_stays, ran_returns, stands_on_after, stands_after}
+use Rattle.ev_refine.proofs.Facts.{Facts}
+use Rattle.ev_refine.proofs.Maps.{at_same}
+use Rattle.ev_refine.proofs.Fits.{fits_at, opens_at, leaves_fixed, leaves_mark, leaves_top, leaves_task}
+use Rattle.ev_refine.proofs.Instructions.{stays_inside, jumped, jump_by_register, jump}
+use Rattle.ev_refine.proofs.Standing.{instruction_first, hidden, seen, after_ran, Runs, ran_step, ran_safe, ran_shown, ran_stays, ran_returns, stands_on_after, stands_after}
 use Rattle.ev_refine.proofs.Return.{returns}
 use Rattle.ev_refine.proofs.Items.{Today, IsLog, IsRet, which, behind_log, local_is}
-
--- ---- instructions by themselves
-
--- no return is inside a block
-not_return : (G : Ground) (i : Ins) (l : Loc) (s t : SS) → tidy_if (sstep G i l s) ≡ Some t → is_return (Some i) ≡ false
-unfolding is_return
-not_return G Sysretq l s t h = absurd (cc)
-not_return G Iretq l s t h = absurd (cc)
-not_return G Eretu l s t h = absurd (cc)
-not_return G Erets l s t h = absurd (cc)
-not_return G _ l s t h = refl
-
-stays_inside : (code : Code) (b : Block) (k : ℕ) (e : Env) (c : Processor) (m : Memory) → At code b k e c m → (t : SS) → brun b (suc k) ≡ Some t → (i : Ins) (next : ℕ) → code c.rip ≡ Some (edge_cell i next) → is_return (Some i) ≡ false
-stays_inside code b k e c m at t h i next hc = go (line_at at.state.rip b.lines) (line_ok code e at.state.rip b.lines at.fits.stands) (ap (bnext b) (sym at.is) ∙ h)
-  where
-    go : (o : Option Line) → LineOk code e at.state.rip o → bstep b o at.state ≡ Some t → is_return (Some i) ≡ false
-    go None q r = absurd (cc)
-    go (Some x) q r =
-        let same : edge_cell x.ins (addr e x.next) ≡ edge_cell i next = unsome _ _ (sym q ∙ ap code (sym at.agrees.rip) ∙ hc) in
-        ap (λ (y : Cell). is_return (Some y.ins)) (sym same) ∙ not_return b.ground x.ins x.next at.state t r
-
--- a jump
-abbrev jumped : Processor → ℕ → Processor
-jumped c a = with_effect (completed c) (record (task_of c) { rip = a })
-
-abbrev jump_if : Processor → ℕ → NatMap ℕ → ℕ → Bool → Executed
-jump_if c next words a b = changed c ((if b then Ok (record (sound.task c next) { rip = a }) else Err (gp 0)) >>= (λ t. Ok (t, words)))
-
-jump_by_register : (c : Processor) (m : Memory) (r next : ℕ) → is_canonical (get_or c.regs r 0) ≡ true → exec c m (JmpReg r) next ≡ Done (jumped c (get_or c.regs r 0)) m.words
-unfolding exec effect
-jump_by_register c m r next h = ap (jump_if c next m.words (get_or c.regs r 0)) h
-
-jump : (c : Processor) (m : Memory) (d : ℤ) (next : ℕ) → is_canonical (displaced next d) ≡ true → exec c m (Jmp d) next ≡ Done (jumped c (displaced next d)) m.words
-unfolding exec effect
-jump c m d next h = ap (jump_if c next m.words (displaced next d)) h
 
 -- ---- numbers
 
@@ -128,7 +94,7 @@ body_at : (o : Option Body) (n : ℕ) (i : Item) → item_at o n ≡ Some i → 
 body_at None n i h = absurd (cc)
 body_at (Some b) n i h = (b, refl, h)
 
-module _ (image : Image) (built : IsBuilt image) (good : IsImage image) (facts : Facts image) (eretu_cell : (next : ℕ) × (code_table Fred image 0xffffffff81000426 ≡ Some (record { ins = Eretu; next = next; mark = true })))
+module _ (image : Image) (built : IsBuilt image) (good : IsImage image) (facts : Facts Fred image) (eretu_cell : (next : ℕ) × (code_table Fred image 0xffffffff81000426 ≡ Some (record { ins = Eretu; next = next; mark = true })))
     (left : NatMap ℕ) (s : System) (m : Machine) (h : Stands Fred image built left s m) (p : ℕ) (hp : p < image.processors) where
   abbrev code : Code
   code = code_table Fred image
@@ -181,9 +147,9 @@ module _ (image : Image) (built : IsBuilt image) (good : IsImage image) (facts :
         → (now : ℕ) → now < left p → Active Fred image built p now SystemCall w b cpu (with_words s.memory words) → Result
     edge v f cell hc hm hr hu cpu words he wrote now fewer act =
         let run : Runs s p cpu words = runs cell hc hu cpu words he in
-        let few : left p ≤ 69 = on.few in
+        let few : left p ≤ 75 = on.few in
         let chain : Chain Fred image built p now x x.bodies cpu (with_words s.memory words) = subst (λ bs. Chain Fred image built p now x bs cpu (with_words s.memory words)) (sym bodies) (w, SystemCall, refl, ctx, r, act) in
-        let there : StandsOn Fred image built p now (after_ran s p cpu words) x = stands_on_after image built p (left p) now s x cpu words x.bodies on (omega arith) (leaves_mark image built facts p small hp w b v f top s.memory.words words wrote) (leaves_task image built facts p small hp w b v f top s.memory.words words wrote)
+        let there : StandsOn Fred image built p now (after_ran s p cpu words) x = stands_on_after image built p (left p) now s x cpu words x.bodies on (omega arith) (leaves_mark image built facts p small hp w b v f top s.memory.words words wrote) (leaves_top image built facts p small hp w b v f top s.memory.words words wrote) (leaves_task image built facts p small hp w b v f top s.memory.words words wrote)
         (ap length (ran_stays s p cpu cell.ins (fetches c.rip cell hc).1 hr) ∙ on.depth) chain in (
           inl (record {
             hidden = hidden (marks_of Fred image) s p first hu (facts.unmarked c.rip cell hc hm);
@@ -198,12 +164,12 @@ module _ (image : Image) (built : IsBuilt image) (good : IsImage image) (facts :
     visible : (v : ℕ → ℕ) (f : Flags) (cell : Cell) → code c.rip ≡ Some cell → cell.mark ≡ true → is_user c ≡ false
         → (cpu : Processor) (words : NatMap ℕ) → Executes cell.ins cpu words → Within (env b v f) fred_ground.own fred_ground.shared s.memory.words words
         → (bs : List BodyContext) → length (activations_by s p (s.activations p) cpu Stepped.Ran) ≡ length bs
-        → (now : ℕ) → now ≤ 69 → Chain Fred image built p now (record x { bodies = bs }) bs cpu (with_words s.memory words)
+        → (now : ℕ) → now ≤ 75 → Chain Fred image built p now (record x { bodies = bs }) bs cpu (with_words s.memory words)
         → (es : List Entry) → shown_instruction p c (Some cell.ins) ≡ es → turn image m p ≡ (with_processor m p (record x { bodies = bs }), es) → Result
     visible v f cell hc hm hu cpu words he wrote bs depth now few chain es hes ht =
         let run : Runs s p cpu words = runs cell hc hu cpu words he in
-        let there : StandsOn Fred image built p now (after_ran s p cpu words) (record x { bodies = bs }) = stands_on_after image built p (left p) now s x cpu words bs on few (leaves_mark image built facts p small hp w b v f top s.memory.words words wrote) (leaves_task image built facts p small hp w b v f top s.memory.words words wrote) depth chain in
-        let placed : StandsOn Fred image built p now (after_ran s p cpu words) (put_at m.processors p (record x { bodies = bs }) p) = subst (StandsOn Fred image built p now (after_ran s p cpu words)) (sym (put_here m.processors p (record x { bodies = bs }))) there in
+        let there : StandsOn Fred image built p now (after_ran s p cpu words) (record x { bodies = bs }) = stands_on_after image built p (left p) now s x cpu words bs on few (leaves_mark image built facts p small hp w b v f top s.memory.words words wrote) (leaves_top image built facts p small hp w b v f top s.memory.words words wrote) (leaves_task image built facts p small hp w b v f top s.memory.words words wrote) depth chain in
+        let placed : StandsOn Fred image built p now (after_ran s p cpu words) (put_at m.processors p (record x { bodies = bs }) p) = subst (StandsOn Fred image built p now (after_ran s p cpu words)) (sym (at_same m.processors p p (record x { bodies = bs }) refl)) there in
         let all : Stands Fred image built (put_at left p now) (after_ran s p cpu words) (with_processor m p (record x { bodies = bs })) = stands_after image built left s m (with_processor m p (record x { bodies = bs })) p now cpu words h hp (leaves_fixed image built facts p small hp w b v f top s.memory.words words wrote) refl refl placed in
         let turned : Stands Fred image built (put_at left p now) (after_ran s p cpu words) (turn image m p).0 = subst (λ z. Stands Fred image built (put_at left p now) (after_ran s p cpu words) z.0) (sym ht) all in (
           inr (record {
@@ -349,7 +315,7 @@ module _ (image : Image) (built : IsBuilt image) (good : IsImage image) (facts :
         let e : Env = env b v f in
         let a : Agrees e fred_ground (item SystemCall).opening c s.memory = at_end code (item SystemCall) 0 (item SystemCall).opening refl e c s.memory at in
         let hu : is_user c ≡ false = ap is_user a.rest in
-        let rc : RetCell image (item_address Fred b.body body b.place) = facts.ret_cell b.body b.place body is hi in
+        let rc : RetCell (code_table Fred image) (item_address Fred b.body body b.place) (other_exit Fred) = facts.ret_cell b.body b.place body is hi in
         let hc : code c.rip ≡ Some rc.cell = ap code (at_item v f a body is) ∙ rc.is in
         let cpu : Processor = jumped c (displaced rc.cell.next rc.distance) in
         let run : exec c s.memory rc.cell.ins rc.cell.next ≡ Done cpu s.memory.words = ap (λ i. exec c s.memory i rc.cell.next) rc.jump ∙ jump c s.memory rc.distance rc.cell.next (ap is_canonical rc.leads) in

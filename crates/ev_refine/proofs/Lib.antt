@@ -7,6 +7,7 @@ pub mod Fits
 pub mod Standing
 pub mod Return
 pub mod Items
+pub mod Instructions
 pub mod Kernel
 pub mod UserText
 pub mod UserState

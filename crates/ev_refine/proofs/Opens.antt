@@ -11,7 +11,7 @@ use Rattle.ev_body.specs.WellFormed.{IsImage, is_task, is_text_place, is_word}
 use Rattle.ev_abstract.specs.Machine.{opening, processor, no_task}
 use Rattle.ev_concrete.specs.ConcreteRun.{opening_system}
 use Rattle.ev_concrete.specs.Opening.{Placed, opening_word, word_there, pcpu_word}
-use Rattle.ev_listing.specs.AddressMap.{pcpu, task_words}
+use Rattle.ev_listing.specs.AddressMap.{pcpu, task_words, stack_top}
 use Rattle.ev_built.specs.Built.{IsBuilt}
 use Rattle.ev_built.specs.Program.{begins}
 use Rattle.ev_refine.specs.Relation.{Stands, StandsOn, first_word}
@@ -26,6 +26,10 @@ mark_zero es mode image h = subst (λ (i : Image). opening_word es mode i (pcpu 
 first_task : (es : Placed) (mode : Mode) (image : Image) → image.processors ≡ 1 → opening_word es mode image (pcpu 0 + 0x18) ≡ task_words 0 0
 unfolding opening_word word_there pcpu_word
 first_task es mode image h = subst (λ (i : Image). opening_word es mode i (pcpu 0 + 0x18) ≡ task_words 0 0) (one_image image h) refl
+
+first_top : (es : Placed) (mode : Mode) (image : Image) → image.processors ≡ 1 → opening_word es mode image (pcpu 0 + 0x10) ≡ stack_top 0 0
+unfolding opening_word word_there pcpu_word
+first_top es mode image h = subst (λ (i : Image). opening_word es mode i (pcpu 0 + 0x10) ≡ stack_top 0 0) (one_image image h) refl
 
 zero_only : (p n : ℕ) → n ≡ 1 → p < n → p ≡ 0
 zero_only p n h lt = omega arith
@@ -66,6 +70,7 @@ module _ (mode : Mode) (image : Image) (built : IsBuilt image) where
         apic = refl;
         resched = refl;
         mark = subst (λ q. first_word mode image (pcpu q + 0x20) ≡ 0) (sym h) (mark_zero _ mode image built.one_processor);
+        top_is = subst (λ q. first_word mode image (pcpu q + 0x10) ≡ stack_top q 0) (sym h) (first_top _ mode image built.one_processor);
         task_is = subst (λ q. first_word mode image (pcpu q + 0x18) ≡ task_words q 0) (sym h) (first_task _ mode image built.one_processor);
         depth = refl;
         chain = record {

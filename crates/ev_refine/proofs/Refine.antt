@@ -27,8 +27,8 @@ module _ (image : Image) (built : IsBuilt image) (given : IsImage image) where
   under_fred : (left : NatMap ℕ) (s : System) (m : Machine) → Stands Fred image built left s m → (p : ℕ) → p < image.processors → Simulated Fred image built left s m p
   under_fred left s m h p lt = by_bodies (processor m p).bodies refl
     where
-      code : Facts image
-      code = facts image given built
+      code : Facts Fred image
+      code = facts Fred image given built
 
       by_bodies : (bs : List BodyContext) → (processor m p).bodies ≡ bs → Simulated Fred image built left s m p
       by_bodies [] q =
@@ -36,7 +36,7 @@ module _ (image : Image) (built : IsBuilt image) (given : IsImage image) where
           let r = user_turn image given built code left s m h p lt q (fits_at image built code p small lt) (opens_at image built code p small lt) in
           record { safe = r.1; how = inr r.0 }
       by_bodies (b ∷ below) q =
-          let r = kernel_step image built given code (_, whole.task_return_stands image given built) left s m h p lt b below q in
+          let r = kernel_step image built given code (_, whole.task_return_stands Fred image given built) left s m h p lt b below q in
           record { safe = r.1; how = r.0 }
 
 pub refines : Refines
@@ -58,5 +58,5 @@ runs_follow mode image built h given script i b = runs.lines_follow mode image b
 
 pub tells : StandsTells
 unfolding mode_is_built
-tells Fred image built h given left s m r p lt = telling.stands_tells image built (facts image given built) left s m r p lt
+tells Fred image built h given left s m r p lt = telling.stands_tells image built (facts Fred image given built) left s m r p lt
 tells Idt image built h given left s m r p lt = absurd (cc)

@@ -31,7 +31,8 @@ use Rattle.ev_symbolic.specs.Agrees.{Env, untracked, eval, addr, Known, Agrees}
 use Rattle.ev_symbolic.proofs.Values.{add_shift}
 use Rattle.ev_symbolic.proofs.Words.{found_ok, accessible}
 use Rattle.ev_symbolic.proofs.Blocks.{levels_split}
-use Rattle.ev_blocks_fred.specs.Blocks.{SystemCall, fred_ground, frame_words, fixed_words}
+use Rattle.ev_activation.specs.Activation.{SystemCall}
+use Rattle.ev_blocks_fred.specs.Blocks.{fred_ground, frame_words, fixed_words}
 use Rattle.ev_blocks_fred.specs.Ends.{leave_end}
 use Rattle.ev_blocks_fred.proofs.Ends.{leave_regs, leave_words, leave_gs}
 use Rattle.ev_refine.specs.Relation.{RunsTask, Saved, here, top_of}

@@ -113,7 +113,7 @@ module _ (mode : Mode) (image : Image) (built : IsBuilt image) where
 
     pub turn_follows : (left : NatMap ℕ) (s : System) (m : Machine) → Follows left s m → (p : ℕ) → p < image.processors
         → (now_left : ℕ) × Follows (put_at left p now_left) (concrete_turn (marks_of mode image) image.processors s p).0 (turn image m p).0
-    turn_follows left s m r p lt = turn_from 1024 left s m r p lt (let few : left p ≤ 69 = (r.each p lt).few in omega arith)
+    turn_follows left s m r p lt = turn_from 1024 left s m r p lt (let few : left p ≤ 75 = (r.each p lt).few in omega arith)
 
     pub lines_follow : (script : List Line) (left : NatMap ℕ) (s : System) (m : Machine) → Follows left s m → IsScript image script → list_all line_is_built script ≡ true
         → (now_left : NatMap ℕ) × Follows now_left (concrete_lines (marks_of mode image) image.processors s script).0 (after image m script)

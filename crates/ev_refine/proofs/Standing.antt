@@ -2,7 +2,6 @@
 use Rattle.std.proofs.Common.{◌≡◌, ℕ, ◌+◌, ◌<◌, ◌≤◌, Bool, true, false, not, ◌&&◌, ◌||◌, List, [], length, Some, None, refl, sym, ap, ◌∙◌, subst, arith}
 use Rattle.std.specs.Prelude.{if◌then◌else◌}
 use Rattle.std.specs.List.{list_any}
-use Rattle.std.proofs.lemmas.Bool.{eq-eqb}
 use Rattle.ev_isa.specs.Word.{NatMap, put_at}
 use Rattle.ev_isa.specs.declared.instruction.Ins.{Ins}
 use Rattle.ev_isa.specs.declared.mode.Mode.TheVariants.{Fred}
@@ -27,11 +26,7 @@ use Rattle.ev_built.specs.Built.{IsBuilt}
 use Rattle.ev_symbolic.specs.Agrees.{with_words}
 use Rattle.ev_refine.specs.Relation.{IsFixed, Chain, most_edges, StandsOn, Stands}
 use Rattle.ev_refine.specs.Shown.{shown, shown_by, shown_instruction}
-
--- ---- maps
-
-pub put_here : {X : Type 0} (m : NatMap X) (k : ℕ) (x : X) → put_at m k x k ≡ x
-put_here m k x = ap (λ b. elim b [ true ↦ x | false ↦ m k ]) (eq-eqb k k refl)
+use Rattle.ev_refine.proofs.Maps.{at_same}
 
 -- ---- the boundary
 
@@ -99,23 +94,24 @@ ran_returns s p cpu i hi hr hu hl =
 module _ (image : Image) (built : IsBuilt image) where
   -- of this processor, where only its bodies have changed
   pub stands_on_after : (p left now : ℕ) (s : System) (x : abstract.Processor) (cpu : Processor) (words : NatMap ℕ) (bs : List BodyContext) → StandsOn Fred image built p left s x → now ≤ most_edges Fred image built
-      → words (pcpu p + 0x20) ≡ s.memory.words (pcpu p + 0x20) → words (pcpu p + 0x18) ≡ s.memory.words (pcpu p + 0x18)
+      → words (pcpu p + 0x20) ≡ s.memory.words (pcpu p + 0x20) → words (pcpu p + 0x10) ≡ s.memory.words (pcpu p + 0x10) → words (pcpu p + 0x18) ≡ s.memory.words (pcpu p + 0x18)
       → length (activations_by s p (s.activations p) cpu Stepped.Ran) ≡ length bs
       → Chain Fred image built p now (record x { bodies = bs }) bs cpu (with_words s.memory words)
       → StandsOn Fred image built p now (after_ran s p cpu words) (record x { bodies = bs })
-  stands_on_after p left now s x cpu words bs o few mark task depth chain = record {
+  stands_on_after p left now s x cpu words bs o few mark top task depth chain = record {
     few = few;
     running = o.running;
     waiting = o.waiting;
     nmi = o.nmi;
-    latch = put_here s.latches p (s.latches p) ∙ o.latch;
+    latch = at_same s.latches p p (s.latches p) refl ∙ o.latch;
     pending = o.pending;
-    apic = put_here s.apics p (s.apics p) ∙ o.apic;
+    apic = at_same s.apics p p (s.apics p) refl ∙ o.apic;
     resched = o.resched;
     mark = mark ∙ o.mark;
+    top_is = top ∙ o.top_is;
     task_is = task ∙ o.task_is;
-    depth = ap length (put_here s.activations p (activations_by s p (s.activations p) cpu Stepped.Ran)) ∙ depth;
-    chain = subst (λ c. Chain Fred image built p now (record x { bodies = bs }) bs c (with_words s.memory words)) (sym (put_here s.cpus p cpu)) chain;
+    depth = ap length (at_same s.activations p p (activations_by s p (s.activations p) cpu Stepped.Ran) refl) ∙ depth;
+    chain = subst (λ c. Chain Fred image built p now (record x { bodies = bs }) bs c (with_words s.memory words)) (sym (at_same s.cpus p p cpu refl)) chain;
   }
 
   -- of the whole machine
@@ -131,7 +127,7 @@ module _ (image : Image) (built : IsBuilt image) where
     each = λ q hq.
         let same : p ≡ q = only q hq in
         subst (λ r. StandsOn Fred image built r (put_at left p now r) (after_ran s p cpu words) (processor m' r)) same
-        (subst (λ l. StandsOn Fred image built p l (after_ran s p cpu words) (processor m' p)) (sym (put_here left p now)) on);
+        (subst (λ l. StandsOn Fred image built p l (after_ran s p cpu words) (processor m' p)) (sym (at_same left p p now refl)) on);
   }
     where
       only : (q : ℕ) → q < image.processors → p ≡ q

@@ -32,8 +32,10 @@ use Rattle.ev_built.specs.Built.{IsBuilt}
 use Rattle.ev_symbolic.specs.Value.{M, K, X}
 use Rattle.ev_symbolic.specs.Agrees.{Env, eval, eval_flags, Known, Open, Fits, Agrees, with_words}
 use Rattle.ev_symbolic.proofs.Blocks.{begins}
-use Rattle.ev_blocks_fred.specs.Blocks.{SystemCall, cs_of, ss_of, Spot, AtEntry, frame, fixed_words, fred_ground, enter, block}
-use Rattle.ev_refine.specs.Relation.{code_table, task_processor, top_of, rest_in, here, Entering, Active}
+use Rattle.ev_activation.specs.Activation.{SystemCall, Spot, AtEntry}
+use Rattle.ev_blocks_fred.specs.Blocks.{cs_of, ss_of, frame, fixed_words, fred_ground, enter, block}
+use Rattle.ev_table.specs.Table.{code_table}
+use Rattle.ev_refine.specs.Relation.{task_processor, top_of, rest_in, here, Entering, Active}
 use Rattle.ev_refine.proofs.UserFrame.{next_place, placed_known, places_open, no_event, eight_open, eight_known, word_at_top}
 
 -- ---- sixteen registers, one by one

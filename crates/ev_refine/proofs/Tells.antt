@@ -11,7 +11,7 @@ use Rattle.ev_abstract.specs.Machine as abstract
 use Rattle.ev_concrete.specs.ConcreteRun.{System}
 use Rattle.ev_proc.specs.ProcessorStep.{has_fred}
 use Rattle.ev_built.specs.Built.{IsBuilt}
-use Rattle.ev_blocks_fred.specs.Blocks.{Kind, SystemCall}
+use Rattle.ev_activation.specs.Activation.{Kind, SystemCall}
 use Rattle.ev_refine.specs.Relation.{Stands, RunsTask, Chain, rest_in}
 use Rattle.ev_refine.specs.Claims.{Tells}
 use Rattle.ev_refine.proofs.Facts.{Facts}
@@ -28,7 +28,7 @@ module _ (image : Image) (built : IsBuilt image) where
   chain_fred p left x [] c m h = task_fred p x c h
   chain_fred p left x (b ∷ below) c m h = ap has_fred h.5.at.agrees.rest ∙ kind_fred h.1 h.0 ∙ chain_fred p left x below h.0 m h.4
 
-  pub stands_tells : Facts image → (left : NatMap ℕ) (s : System) (m : Machine) → Stands Fred image built left s m → (p : ℕ) → p < image.processors → Tells Fred image s m p
+  pub stands_tells : Facts Fred image → (left : NatMap ℕ) (s : System) (m : Machine) → Stands Fred image built left s m → (p : ℕ) → p < image.processors → Tells Fred image s m p
   stands_tells facts left s m r p lt =
       let on = r.each p lt in
       let task = λ (h : (processor m p).bodies ≡ []). subst (λ bs. Chain Fred image built p (left p) (processor m p) bs (s.cpus p) s.memory) h on.chain in

@@ -37,7 +37,8 @@ use Rattle.ev_built.specs.Built.{IsBuilt}
 use Rattle.ev_built.specs.Program.{begins, leads_to}
 use Rattle.ev_symbolic.specs.Value.{M}
 use Rattle.ev_symbolic.specs.Agrees.{eval, with_words}
-use Rattle.ev_blocks_fred.specs.Blocks.{SystemCall, frame}
+use Rattle.ev_activation.specs.Activation.{SystemCall}
+use Rattle.ev_blocks_fred.specs.Blocks.{frame}
 use Rattle.ev_refine.specs.Relation.{IsFixed, InText, InTables, InTasks, InCode, task_processor, RunsTask, IsContext, Chain, StandsOn, Stands}
 use Rattle.ev_refine.specs.Shown.{shown_by, key_of}
 use Rattle.ev_refine.specs.Claims.{MakesTurn}
@@ -113,7 +114,7 @@ not_there a (InTables h k) = inl (omega arith)
 not_there a (InTasks h k) = inl (omega arith)
 not_there a (InCode h) = inr h
 
-module _ (image : Image) (formed : IsImage image) (built : IsBuilt image) (facts : Facts image) where
+module _ (image : Image) (formed : IsImage image) (built : IsBuilt image) (facts : Facts Fred image) where
   -- a system call
   pub call_turn : (left : NatMap ℕ) (s : System) (m : Machine) → Stands Fred image built left s m → (p : ℕ) → p < image.processors → (processor m p).bodies ≡ [] → FitsAt image built p → OpensAt image built p
       → (u : AtUser image formed built facts left s m p) → u.ins ≡ Syscall → TurnsTo image built left s m p
@@ -163,6 +164,7 @@ module _ (image : Image) (formed : IsImage image) (built : IsBuilt image) (facts
         apic = put_same s.apics p opening_apic;
         resched = u.on.resched;
         mark = stays (pcpu p + 0x20) (inl (omega arith)) ∙ u.on.mark;
+        top_is = stays (pcpu p + 0x10) (inl (omega arith)) ∙ u.on.top_is;
         task_is = stays (pcpu p + 0x18) (inl (omega arith)) ∙ u.on.task_is;
         depth = ap length (put_same s.activations p (activations_by s p (s.activations p) d r.step)) ∙ ap (λ (as' : List Activation). suc (length (interrupted c as'))) empty;
         chain = subst (λ q. Chain Fred image built p 69 y (b ∷ []) q (with_words s.memory words')) (sym (put_same s.cpus p d)) chain;

@@ -33,7 +33,7 @@ use Rattle.ev_refine.proofs.UserStep.{instruction_next, user_steps, task_turns, 
 low_canonical : (a : ℕ) → a < 0x410000 → is_canonical a ≡ true
 low_canonical a h = ap (λ b. b || (a / 2 ^ 47 == 2 ^ 17 - 1)) (eq-eqb (a / 2 ^ 47) 0 (let e : a / 140737488355328 ≡ 0 = omega arith in e))
 
-module _ (image : Image) (formed : IsImage image) (built : IsBuilt image) (facts : Facts image) where
+module _ (image : Image) (formed : IsImage image) (built : IsBuilt image) (facts : Facts Fred image) where
   -- the instruction of the task that comes next, on both sides
   pub record AtUser (left : NatMap ℕ) (s : System) (m : Machine) (p : ℕ) : Type 0 where
     pub on : StandsOn Fred image built p (left p) s (processor m p)
@@ -123,6 +123,7 @@ module _ (image : Image) (formed : IsImage image) (built : IsBuilt image) (facts
         apic = put_same s.apics p opening_apic;
         resched = u.on.resched;
         mark = u.on.mark;
+        top_is = u.on.top_is;
         task_is = u.on.task_is;
         depth = ap length (put_same s.activations p (activations_by s p (s.activations p) d Stepped.Ran)) ∙ ap length (same_activations s p (s.activations p) d u.at_cpl3) ∙ u.on.depth;
         chain = subst (λ z. Chain Fred image built p 0 y y.bodies z s.memory) (sym (put_same s.cpus p d)) chain;

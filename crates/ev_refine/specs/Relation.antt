@@ -5,6 +5,7 @@ use Rattle.ev_isa.specs.Word.{NatMap, no_numbers}
 use Rattle.ev_isa.specs.Flags.{Flags, flags_word}
 use Rattle.ev_isa.specs.Pages.{text_base}
 use Rattle.ev_isa.specs.declared.mode.Mode.{Mode}
+use Rattle.ev_isa.specs.declared.mode.Mode.TheVariants.{Idt, Fred}
 use Rattle.ev_body.specs.declared.item.Item.{Item}
 use Rattle.ev_body.specs.declared.item.Item.TheVariants.{Ret}
 use Rattle.ev_body.specs.declared.body.Body.{Body}
@@ -22,13 +23,21 @@ use Rattle.ev_concrete.specs.Opening.{listings, code_of, opening_word, opening_a
 use Rattle.ev_concrete.specs.ConcreteRun.{System}
 use Rattle.ev_built.specs.Built.{IsBuilt}
 use Rattle.ev_built.specs.Program.{begins}
-use Rattle.ev_symbolic.specs.Agrees.{Env, Code, untracked, At}
-use Rattle.ev_symbolic.specs.Listed as listed
-use Rattle.ev_blocks_fred.specs.Blocks.{Kind, SystemCall, Spot, AtEntry, AtItem, AtExit, block, edges_left}
+use Rattle.ev_symbolic.specs.Agrees.{Env, untracked, At}
+use Rattle.ev_table.specs.Table.{code_table}
+use Rattle.ev_activation.specs.Activation.{Kind, SystemCall, Spot, AtEntry, AtItem, AtExit}
+use Rattle.ev_symbolic.specs.State.{Block}
+use Rattle.ev_blocks_fred.specs.Blocks as fred
+use Rattle.ev_blocks_idt.specs.Blocks as idt
 
--- the code of a mode as a table
-abbrev pub code_table : Mode → Image → Code
-code_table mode image = listed.code_of (listings mode image)
+-- the blocks of a mode, and how many edges are left at most until a visible step
+abbrev pub block_of : Mode → Kind → Spot → Block
+block_of Fred κ spot = fred.block κ spot
+block_of Idt κ spot = idt.block κ spot
+
+abbrev pub edges_of : Mode → Spot → ℕ → ℕ
+edges_of Fred spot k = fred.edges_left spot k
+edges_of Idt spot k = idt.edges_left spot k
 
 -- the address of item i of body n
 abbrev pub address_of_item : Mode → ℕ → ℕ → Option Body → ℕ
@@ -96,7 +105,7 @@ module _ (mode : Mode) (image : Image) (built : IsBuilt image) where
     pub selector : v 61 ≡ w.gs
     pub cr2 : v 62 ≡ w.cr2
 
-  -- at the entry: the registers of the task are still there, and RCX and R11 are those that SYSCALL leaves
+  -- at the entry under FRED: the registers of the task are still there, and RCX and R11 are those that SYSCALL leaves
   pub record Entering (κ : Kind) (v : ℕ → ℕ) (w : Processor) (b : BodyContext) : Type 0 where
     pub framed : Framed v w
     pub regs : w.regs ≡ v 0 ∷ v 17 ∷ v 2 ∷ v 3 ∷ v 20 ∷ v 5 ∷ v 6 ∷ v 7 ∷ v 8 ∷ v 9 ∷ v 10 ∷ v 19 ∷ v 12 ∷ v 13 ∷ v 14 ∷ v 15 ∷ []
@@ -106,9 +115,26 @@ module _ (mode : Mode) (image : Image) (built : IsBuilt image) where
     pub place : b.place ≡ 0
     pub locals : b.locals ≡ 0 ∷ 0x100 ∷ 0 ∷ 0 ∷ 0 ∷ 0 ∷ 0 ∷ 0 ∷ []
 
+  -- at the entry under IDT: SYSCALL has left RIP in RCX, and the flags in R11
+  pub record Called (κ : Kind) (v : ℕ → ℕ) (w : Processor) (b : BodyContext) : Type 0 where
+    pub rip : v 1 ≡ w.rip
+    pub flags : v 11 ≡ w.flags
+    pub gs : v 60 ≡ w.msrs.gs_base
+    pub selector : v 61 ≡ w.gs
+    pub cr2 : v 62 ≡ w.cr2
+    pub regs : w.regs ≡ v 0 ∷ v 1 ∷ v 2 ∷ v 3 ∷ v 4 ∷ v 5 ∷ v 6 ∷ v 7 ∷ v 8 ∷ v 9 ∷ v 10 ∷ v 11 ∷ v 12 ∷ v 13 ∷ v 14 ∷ v 15 ∷ []
+    pub code : v 24 ≡ body_code b.body
+    pub place : b.place ≡ 0
+    pub locals : b.locals ≡ 0 ∷ 0x100 ∷ 0 ∷ 0 ∷ 0 ∷ 0 ∷ 0 ∷ 0 ∷ []
+
+  -- the registers that the saved area and the frame give back; under IDT RCX and R11 are RIP and the flags, so that the exit takes SYSRETQ
+  abbrev pub saved_regs : Mode → (ℕ → ℕ) → List ℕ
+  saved_regs Fred v = v 30 ∷ v 31 ∷ v 32 ∷ v 33 ∷ v 20 ∷ v 35 ∷ v 36 ∷ v 37 ∷ v 38 ∷ v 39 ∷ v 40 ∷ v 41 ∷ v 42 ∷ v 43 ∷ v 44 ∷ v 45 ∷ []
+  saved_regs Idt v = v 30 ∷ v 17 ∷ v 32 ∷ v 33 ∷ v 20 ∷ v 35 ∷ v 36 ∷ v 37 ∷ v 38 ∷ v 39 ∷ v 40 ∷ v 19 ∷ v 42 ∷ v 43 ∷ v 44 ∷ v 45 ∷ []
+
   pub record Saved (v : ℕ → ℕ) (w : Processor) : Type 0 where
     pub framed : Framed v w
-    pub regs : w.regs ≡ v 30 ∷ v 31 ∷ v 32 ∷ v 33 ∷ v 20 ∷ v 35 ∷ v 36 ∷ v 37 ∷ v 38 ∷ v 39 ∷ v 40 ∷ v 41 ∷ v 42 ∷ v 43 ∷ v 44 ∷ v 45 ∷ []
+    pub regs : w.regs ≡ saved_regs mode v
 
   pub record InItem (v : ℕ → ℕ) (w : Processor) (b : BodyContext) : Type 0 where
     pub saved : Saved v w
@@ -118,8 +144,12 @@ module _ (mode : Mode) (image : Image) (built : IsBuilt image) where
     pub saved : Saved v w
     pub ret : item_at (slice_get image.bodies b.body) b.place ≡ Some Ret
 
+  abbrev pub Enters : Mode → Kind → (ℕ → ℕ) → Processor → BodyContext → Type 0
+  Enters Fred κ v w b = Entering κ v w b
+  Enters Idt κ v w b = Called κ v w b
+
   abbrev pub Means : Kind → Spot → (ℕ → ℕ) → Processor → BodyContext → Type 0
-  Means κ AtEntry v w b = Entering κ v w b
+  Means κ AtEntry v w b = Enters mode κ v w b
   Means κ AtItem v w b = InItem v w b
   Means κ AtExit v w b = Leaving v w b
 
@@ -129,9 +159,9 @@ module _ (mode : Mode) (image : Image) (built : IsBuilt image) where
     pub k : ℕ
     pub var : ℕ → ℕ
     pub flags : Flags
-    pub within : k ≤ (block κ spot).steps
-    pub enough : edges_left spot k ≤ left
-    pub at : At (code_table mode image) (block κ spot) k (here p κ w b var flags) c m
+    pub within : k ≤ (block_of mode κ spot).steps
+    pub enough : edges_of mode spot k ≤ left
+    pub at : At (code_table mode image) (block_of mode κ spot) k (here p κ w b var flags) c m
     pub means : Means κ spot var w b
     pub long : length c.regs ≡ 16
 
@@ -156,7 +186,7 @@ module _ (mode : Mode) (image : Image) (built : IsBuilt image) where
 
   -- at most so many edges come before a visible step
   abbrev pub most_edges : ℕ
-  most_edges = 69
+  most_edges = 75
 
   -- processor p of the one stands for processor p of the other
   pub record StandsOn (p left : ℕ) (s : System) (x : abstract.Processor) : Type 0 where
@@ -169,6 +199,7 @@ module _ (mode : Mode) (image : Image) (built : IsBuilt image) where
     pub apic : s.apics p ≡ opening_apic
     pub resched : x.resched ≡ false
     pub mark : s.memory.words (pcpu p + 0x20) ≡ 0
+    pub top_is : s.memory.words (pcpu p + 0x10) ≡ stack_top p x.running
     pub task_is : s.memory.words (pcpu p + 0x18) ≡ task_words p x.running
     pub depth : length (s.activations p) ≡ length x.bodies
     pub chain : Chain p left x x.bodies (s.cpus p) s.memory

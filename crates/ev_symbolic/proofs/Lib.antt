@@ -4,5 +4,3 @@ pub mod Words
 pub mod Sound
 pub mod Blocks
 pub mod Listed
-pub mod FredBlocks
-pub mod IdtBlocks

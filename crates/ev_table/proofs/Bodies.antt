@@ -3,7 +3,7 @@ use Rattle.std.proofs.Common.{◌≡◌, ℕ, zero, suc, ◌+◌, ◌≤◌, tru
 use Rattle.std.specs.Prelude.{◌==◌, ◌||◌, not, nat_le, slice_get, flat_map}
 use Rattle.std.specs.List.{list_all}
 use Rattle.std.proofs.lemmas.Bool.{leb-true}
-use Rattle.ev_isa.specs.declared.mode.Mode.TheVariants.{Fred}
+use Rattle.ev_isa.specs.declared.mode.Mode.{Mode}
 use Rattle.ev_body.specs.declared.item.Item.{Item}
 use Rattle.ev_body.specs.declared.body.Part.{Part}
 use Rattle.ev_body.specs.declared.body.Body.{Body}
@@ -64,60 +64,60 @@ short_at (x ∷ xs) f (suc n) b h = short_at xs f.1 n b h
 
 -- ---- their cells
 
-abbrev pub cells_of : Places → ℕ → Body → Cells
-cells_of env n b = item_cells (place env (exit_of Fred b.key)) (body_code n) (body_items b)
+abbrev pub cells_of : Mode → Places → ℕ → Body → Cells
+cells_of mode env n b = item_cells (place env (exit_of mode b.key)) (body_code n) (body_items b)
 
-abbrev pub body_cells : Places → ℕ → List Body → Cells
-body_cells env n [] = []
-body_cells env n (b ∷ bs) = cells_of env n b ++ body_cells env (suc n) bs
+abbrev pub body_cells : Mode → Places → ℕ → List Body → Cells
+body_cells mode env n [] = []
+body_cells mode env n (b ∷ bs) = cells_of mode env n b ++ body_cells mode env (suc n) bs
 
-pub bodies_from : (env : Places) (n : ℕ) (bs : List Body) → From (body_code n) (body_cells env n bs)
-bodies_from env n [] = tt
-bodies_from env n (b ∷ bs) =
-    from_append (body_code n) (cells_of env n b) (body_cells env (suc n) bs) (items_from _ (body_code n) (body_items b))
-    (from_lower (body_code n) (body_code (suc n)) (body_cells env (suc n) bs) (omega arith) (bodies_from env (suc n) bs))
+pub bodies_from : (mode : Mode) (env : Places) (n : ℕ) (bs : List Body) → From (body_code n) (body_cells mode env n bs)
+bodies_from mode env n [] = tt
+bodies_from mode env n (b ∷ bs) =
+    from_append (body_code n) (cells_of mode env n b) (body_cells mode env (suc n) bs) (items_from _ (body_code n) (body_items b))
+    (from_lower (body_code n) (body_code (suc n)) (body_cells mode env (suc n) bs) (omega arith) (bodies_from mode env (suc n) bs))
 
-pub bodies_distinct : (env : Places) (n : ℕ) (bs : List Body) → AllShort bs → distinct (body_cells env n bs) ≡ true
-bodies_distinct env n [] f = refl
-bodies_distinct env n (b ∷ bs) f =
+pub bodies_distinct : (mode : Mode) (env : Places) (n : ℕ) (bs : List Body) → AllShort bs → distinct (body_cells mode env n bs) ≡ true
+bodies_distinct mode env n [] f = refl
+bodies_distinct mode env n (b ∷ bs) f =
     let fits : body_code n + items_size (body_items b) ≤ body_code (suc n) = omega (arith, items_size_most (body_items b), f.0.short) in
-    distinct_append (cells_of env n b) (body_cells env (suc n) bs) (items_distinct _ (body_code n) (body_items b)) (bodies_distinct env (suc n) bs f.1)
-    (under (body_code (suc n)) (cells_of env n b) (body_cells env (suc n) bs) (items_below _ (body_code n) (body_code (suc n)) (body_items b) fits) (bodies_from env (suc n) bs))
+    distinct_append (cells_of mode env n b) (body_cells mode env (suc n) bs) (items_distinct _ (body_code n) (body_items b)) (bodies_distinct mode env (suc n) bs f.1)
+    (under (body_code (suc n)) (cells_of mode env n b) (body_cells mode env (suc n) bs) (items_below _ (body_code n) (body_code (suc n)) (body_items b) fits) (bodies_from mode env (suc n) bs))
 
 -- those of one body are found where all are
-pub body_found : (code : Code) (env : Places) (n : ℕ) (bs : List Body) → AllFound code (body_cells env n bs) → (j : ℕ) (b : Body) → slice_get bs j ≡ Some b → AllFound code (cells_of env (n + j) b)
-body_found code env n [] f j b h = absurd (cc)
-body_found code env n (x ∷ xs) f zero b h =
-    subst (λ k. AllFound code (cells_of env k b)) (let e : n ≡ n + 0 = omega arith in e)
-    (subst (λ y. AllFound code (cells_of env n y)) (let e : x ≡ b = cc in e) (found_first code (cells_of env n x) (body_cells env (suc n) xs) f))
-body_found code env n (x ∷ xs) f (suc j) b h =
-    subst (λ k. AllFound code (cells_of env k b)) (let e : suc n + j ≡ n + suc j = omega arith in e)
-    (body_found code env (suc n) xs (found_rest code (cells_of env n x) (body_cells env (suc n) xs) f) j b h)
+pub body_found : (mode : Mode) (code : Code) (env : Places) (n : ℕ) (bs : List Body) → AllFound code (body_cells mode env n bs) → (j : ℕ) (b : Body) → slice_get bs j ≡ Some b → AllFound code (cells_of mode env (n + j) b)
+body_found mode code env n [] f j b h = absurd (cc)
+body_found mode code env n (x ∷ xs) f zero b h =
+    subst (λ k. AllFound code (cells_of mode env k b)) (let e : n ≡ n + 0 = omega arith in e)
+    (subst (λ y. AllFound code (cells_of mode env n y)) (let e : x ≡ b = cc in e) (found_first code (cells_of mode env n x) (body_cells mode env (suc n) xs) f))
+body_found mode code env n (x ∷ xs) f (suc j) b h =
+    subst (λ k. AllFound code (cells_of mode env k b)) (let e : suc n + j ≡ n + suc j = omega arith in e)
+    (body_found mode code env (suc n) xs (found_rest code (cells_of mode env n x) (body_cells mode env (suc n) xs) f) j b h)
 
 -- ---- their listings
 
-module _ (image : Image) where
-  pub listed : (env : Places) (n : ℕ) (bs : List Body) → AllShort bs → cells_in env (body_listings Fred image n bs) ≡ body_cells env n bs
+module _ (mode : Mode) (image : Image) where
+  pub listed : (env : Places) (n : ℕ) (bs : List Body) → AllShort bs → cells_in env (body_listings mode image n bs) ≡ body_cells mode env n bs
   unfolding body_stmts
   listed env n [] f = refl
   listed env n (b ∷ bs) f =
-      ap (λ xs. xs ++ cells_in env (body_listings Fred image (suc n) bs)) (cells n b.key (function_address Fred image) env (body_code n) 0 (body_items b) f.0.built)
-      ∙ ap (λ xs. cells_of env n b ++ xs) (listed env (suc n) bs f.1)
+      ap (λ xs. xs ++ cells_in env (body_listings mode image (suc n) bs)) (cells mode n b.key (function_address mode image) env (body_code n) 0 (body_items b) f.0.built)
+      ∙ ap (λ xs. cells_of mode env n b ++ xs) (listed env (suc n) bs f.1)
 
-  pub labels : (n : ℕ) (bs : List Body) → AllShort bs → AllOfBodies (all_places (body_listings Fred image n bs))
+  pub labels : (n : ℕ) (bs : List Body) → AllShort bs → AllOfBodies (all_places (body_listings mode image n bs))
   unfolding body_stmts
   labels n [] f = tt
   labels n (b ∷ bs) f =
-      all_append (places (body_code n) (stmts_of (body_stmts Fred image n b))) (all_places (body_listings Fred image (suc n) bs))
-      (body_labels n b.key (function_address Fred image) (body_code n) 0 (body_items b) f.0.built) (labels (suc n) bs f.1)
+      all_append (places (body_code n) (stmts_of (body_stmts mode image n b))) (all_places (body_listings mode image (suc n) bs))
+      (body_labels mode n b.key (function_address mode image) (body_code n) 0 (body_items b) f.0.built) (labels (suc n) bs f.1)
 
-  pub marks_are : (env : Places) (n : ℕ) (bs : List Body) → AllShort bs → all_marks (body_listings Fred image n bs) ≡ marks_by (body_cells env n bs)
+  pub marks_are : (env : Places) (n : ℕ) (bs : List Body) → AllShort bs → all_marks (body_listings mode image n bs) ≡ marks_by (body_cells mode env n bs)
   unfolding body_stmts
   marks_are env n [] f = refl
   marks_are env n (b ∷ bs) f =
-      ap (λ (ms : Marks). ms ++ all_marks (body_listings Fred image (suc n) bs)) (marked n b.key (function_address Fred image) (place env (exit_of Fred b.key)) (body_code n) 0 (body_items b) f.0.built)
-      ∙ ap (λ (ms : Marks). marks_by (cells_of env n b) ++ ms) (marks_are env (suc n) bs f.1)
-      ∙ sym (marks_by_append (cells_of env n b) (body_cells env (suc n) bs))
+      ap (λ (ms : Marks). ms ++ all_marks (body_listings mode image (suc n) bs)) (marked mode n b.key (function_address mode image) (place env (exit_of mode b.key)) (body_code n) 0 (body_items b) f.0.built)
+      ∙ ap (λ (ms : Marks). marks_by (cells_of mode env n b) ++ ms) (marks_are env (suc n) bs f.1)
+      ∙ sym (marks_by_append (cells_of mode env n b) (body_cells mode env (suc n) bs))
 
 pub all_marks_append : (bs cs : List Listing) → all_marks (bs ++ cs) ≡ all_marks bs ++ all_marks cs
 all_marks_append [] cs = refl

@@ -4,7 +4,7 @@ use Rattle.std.specs.Prelude.{◌&&◌, slice_get}
 use Rattle.std.specs.List.{list_all}
 use Rattle.ev_isa.specs.Spelling.{spelling, four_bytes}
 use Rattle.ev_isa.specs.declared.instruction.Ins.TheVariants.{GsStore, Jmp}
-use Rattle.ev_isa.specs.declared.mode.Mode.TheVariants.{Fred}
+use Rattle.ev_isa.specs.declared.mode.Mode.{Mode}
 use Rattle.ev_body.specs.declared.key.Key.{Key}
 use Rattle.ev_body.specs.declared.item.Item.{Item}
 use Rattle.ev_body.specs.declared.item.Item.TheVariants.{Log, Ret}
@@ -111,39 +111,39 @@ next_item (suc n) (x ∷ xs) i h = omega (arith, next_item n xs i h)
 
 -- ---- the listing of items
 
-module _ (n : ℕ) (key : Key) (function : ℕ → ℕ) where
+module _ (mode : Mode) (n : ℕ) (key : Key) (function : ℕ → ℕ) where
   -- its sizes
-  pub sizes : (k : ℕ) (items : List Item) → AreBuilt items → total_size (stmts_of (expansions Fred n key function k items)) ≡ items_size items
+  pub sizes : (k : ℕ) (items : List Item) → AreBuilt items → total_size (stmts_of (expansions mode n key function k items)) ≡ items_size items
   unfolding expansion size spelling four_bytes
   sizes k [] h = refl
   sizes k (i ∷ is) h =
-      let rest : total_size (stmts_of (expansions Fred n key function (suc k) is)) ≡ items_size is = sizes (suc k) is (rest_built i is h) in
-      by_item (λ j. total_size (stmts_of (expansions Fred n key function k (j ∷ is))) ≡ items_size (j ∷ is)) (λ s. one 9 _ _ rest) (one 5 _ _ rest) i (first_built i is h)
+      let rest : total_size (stmts_of (expansions mode n key function (suc k) is)) ≡ items_size is = sizes (suc k) is (rest_built i is h) in
+      by_item (λ j. total_size (stmts_of (expansions mode n key function k (j ∷ is))) ≡ items_size (j ∷ is)) (λ s. one 9 _ _ rest) (one 5 _ _ rest) i (first_built i is h)
     where
       one : (s x y : ℕ) → x ≡ y → 0 + (s + x) ≡ s + y
       one s x y e = omega arith
 
   -- its cells
-  pub cells : (env : Places) (a k : ℕ) (items : List Item) → AreBuilt items → cells_from env a (expansions Fred n key function k items) ≡ item_cells (place env (exit_of Fred key)) a items
+  pub cells : (env : Places) (a k : ℕ) (items : List Item) → AreBuilt items → cells_from env a (expansions mode n key function k items) ≡ item_cells (place env (exit_of mode key)) a items
   unfolding expansion size spelling four_bytes
   cells env a k [] h = refl
   cells env a k (i ∷ is) h =
       let e : a + 0 ≡ a = omega arith in
-      let E : ℕ = place env (exit_of Fred key) in
+      let E : ℕ = place env (exit_of mode key) in
       let rest = λ (b : ℕ). cells env b (suc k) is (rest_built i is h) in
-      by_item (λ j. cells_from env a (expansions Fred n key function k (j ∷ is)) ≡ item_cells E a (j ∷ is))
-      (λ s. ap (λ b. (b, item_cell E b (Log s)) ∷ cells_from env (b + 9) (expansions Fred n key function (suc k) is)) e ∙ ap (λ (xs : Cells). (a, item_cell E a (Log s)) ∷ xs) (rest (a + 9)))
-      (ap (λ b. (b, item_cell E b Ret) ∷ cells_from env (b + 5) (expansions Fred n key function (suc k) is)) e ∙ ap (λ (xs : Cells). (a, item_cell E a Ret) ∷ xs) (rest (a + 5)))
+      by_item (λ j. cells_from env a (expansions mode n key function k (j ∷ is)) ≡ item_cells E a (j ∷ is))
+      (λ s. ap (λ b. (b, item_cell E b (Log s)) ∷ cells_from env (b + 9) (expansions mode n key function (suc k) is)) e ∙ ap (λ (xs : Cells). (a, item_cell E a (Log s)) ∷ xs) (rest (a + 9)))
+      (ap (λ b. (b, item_cell E b Ret) ∷ cells_from env (b + 5) (expansions mode n key function (suc k) is)) e ∙ ap (λ (xs : Cells). (a, item_cell E a Ret) ∷ xs) (rest (a + 5)))
       i (first_built i is h)
 
   -- its marks
-  pub marked : (exit a k : ℕ) (items : List Item) → AreBuilt items → marks a (expansions Fred n key function k items) ≡ marks_by (item_cells exit a items)
+  pub marked : (exit a k : ℕ) (items : List Item) → AreBuilt items → marks a (expansions mode n key function k items) ≡ marks_by (item_cells exit a items)
   unfolding expansion size spelling four_bytes marks
   marked exit a k [] h = refl
   marked exit a k (i ∷ is) h =
       let e : a + 0 ≡ a = omega arith in
       let rest = λ (b : ℕ). marked exit b (suc k) is (rest_built i is h) in
-      by_item (λ j. marks a (expansions Fred n key function k (j ∷ is)) ≡ marks_by (item_cells exit a (j ∷ is)))
-      (λ s. ap (λ b. (b, Always) ∷ marks (b + 9) (expansions Fred n key function (suc k) is)) e ∙ ap (λ (ms : Marks). (a, Always) ∷ ms) (rest (a + 9)))
-      (ap (λ b. marks (b + 5) (expansions Fred n key function (suc k) is)) e ∙ rest (a + 5))
+      by_item (λ j. marks a (expansions mode n key function k (j ∷ is)) ≡ marks_by (item_cells exit a (j ∷ is)))
+      (λ s. ap (λ b. (b, Always) ∷ marks (b + 9) (expansions mode n key function (suc k) is)) e ∙ ap (λ (ms : Marks). (a, Always) ∷ ms) (rest (a + 9)))
+      (ap (λ b. marks (b + 5) (expansions mode n key function (suc k) is)) e ∙ rest (a + 5))
       i (first_built i is h)

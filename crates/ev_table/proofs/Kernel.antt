@@ -1,52 +1,71 @@
--- The kernel's own cells under FRED: closed tests of the listings, and single cells.
+-- The kernel's own cells in each mode: closed tests of the listings, and single cells.
 use Rattle.std.proofs.Common.{◌≡◌, ◌+◌, true, false, Some, refl}
 use Rattle.ev_isa.specs.Spelling.{spelling, four_bytes}
-use Rattle.ev_isa.specs.declared.instruction.Ins.TheVariants.{JmpReg, Eretu}
-use Rattle.ev_isa.specs.declared.mode.Mode.TheVariants.{Fred}
+use Rattle.ev_isa.specs.declared.instruction.Ins.TheVariants.{JmpReg}
+use Rattle.ev_isa.specs.declared.mode.Mode.{Mode}
+use Rattle.ev_isa.specs.declared.mode.Mode.TheVariants.{Idt, Fred}
 use Rattle.ev_body.specs.declared.key.Key.{Key}
 use Rattle.ev_body.specs.declared.key.Key.TheVariants.{Nmi}
 use Rattle.ev_asm.specs.Assembly.{size, place, places, distance}
 use Rattle.ev_listing.specs.Expansion.{exit_of}
+use Rattle.ev_listing.specs.IdtCode.{idt_listings}
 use Rattle.ev_listing.specs.FredCode.{fred_listings}
 use Rattle.ev_listing.specs.Marks.{all_places, all_marks, marks}
-use Rattle.ev_symbolic.specs.Listed.{Cells, cells_in, cell_at, distinct, are_low}
-use Rattle.ev_table.specs.Table.{exit_address, body_jump, task_return}
+use Rattle.ev_concrete.specs.Opening.{kernel_listings}
+use Rattle.ev_symbolic.specs.Listed.{lines_of, Cells, cells_in, cell_at, distinct, are_low}
+use Rattle.ev_blocks_fred.specs.Blocks.{fred_lines}
+use Rattle.ev_blocks_idt.specs.Blocks.{idt_lines}
+use Rattle.ev_table.specs.Table.{lines_of_mode, exit_address, body_jump, task_return, task_return_cell}
 use Rattle.ev_table.proofs.Cells.{are_below, marks_by}
 use Rattle.ev_table.proofs.Labels.{all_inner}
 
-unfoldable pub kernel_cells : Cells
-kernel_cells = cells_in (all_places fred_listings) fred_listings
+unfoldable pub kernel_cells : Mode → Cells
+kernel_cells mode = cells_in (all_places (kernel_listings mode)) (kernel_listings mode)
 
-pub kernel_distinct : distinct kernel_cells ≡ true
-unfolding kernel_cells fred_listings spelling four_bytes size places distance
-kernel_distinct = refl
+pub kernel_lines : (mode : Mode) → lines_of (kernel_listings mode) ≡ lines_of_mode mode
+unfolding idt_lines fred_lines
+kernel_lines Idt = refl
+kernel_lines Fred = refl
 
-pub kernel_low : are_low kernel_cells ≡ true
-unfolding kernel_cells fred_listings spelling four_bytes size places distance
-kernel_low = refl
+pub kernel_distinct : (mode : Mode) → distinct (kernel_cells mode) ≡ true
+unfolding kernel_cells idt_listings fred_listings spelling four_bytes size places distance
+kernel_distinct Idt = refl
+kernel_distinct Fred = refl
 
-pub kernel_below : are_below 0xffffffff82000000 kernel_cells ≡ true
-unfolding kernel_cells fred_listings spelling four_bytes size places distance
-kernel_below = refl
+pub kernel_low : (mode : Mode) → are_low (kernel_cells mode) ≡ true
+unfolding kernel_cells idt_listings fred_listings spelling four_bytes size places distance
+kernel_low Idt = refl
+kernel_low Fred = refl
 
-pub kernel_inner : all_inner fred_listings ≡ true
-unfolding fred_listings
-kernel_inner = refl
+pub kernel_below : (mode : Mode) → are_below 0xffffffff82000000 (kernel_cells mode) ≡ true
+unfolding kernel_cells idt_listings fred_listings spelling four_bytes size places distance
+kernel_below Idt = refl
+kernel_below Fred = refl
 
-pub kernel_marks : all_marks fred_listings ≡ marks_by kernel_cells
-unfolding kernel_cells fred_listings spelling four_bytes size places distance marks
-kernel_marks = refl
+pub kernel_inner : (mode : Mode) → all_inner (kernel_listings mode) ≡ true
+unfolding idt_listings fred_listings
+kernel_inner Idt = refl
+kernel_inner Fred = refl
 
-pub exit_is : (key : Key) → place (all_places fred_listings) (exit_of Fred key) ≡ exit_address key
-unfolding fred_listings spelling four_bytes size places
-exit_is Nmi = refl
-exit_is _ = refl
+pub kernel_marks : (mode : Mode) → all_marks (kernel_listings mode) ≡ marks_by (kernel_cells mode)
+unfolding kernel_cells idt_listings fred_listings spelling four_bytes size places distance marks
+kernel_marks Idt = refl
+kernel_marks Fred = refl
+
+pub exit_is : (mode : Mode) (key : Key) → place (all_places (kernel_listings mode)) (exit_of mode key) ≡ exit_address mode key
+unfolding idt_listings fred_listings spelling four_bytes size places
+exit_is Idt Nmi = refl
+exit_is Idt _ = refl
+exit_is Fred Nmi = refl
+exit_is Fred _ = refl
 
 -- the jump to a body at the end of the entry, and the return to the task at the end of the exit
-pub body_jump_cell : cell_at kernel_cells body_jump ≡ Some (record { ins = JmpReg 0; next = body_jump + 2; mark = false })
-unfolding kernel_cells fred_listings spelling four_bytes size places distance
-body_jump_cell = refl
+pub body_jump_cell : (mode : Mode) → cell_at (kernel_cells mode) (body_jump mode) ≡ Some (record { ins = JmpReg 0; next = body_jump mode + 2; mark = false })
+unfolding kernel_cells idt_listings fred_listings spelling four_bytes size places distance
+body_jump_cell Idt = refl
+body_jump_cell Fred = refl
 
-pub task_return_cell : cell_at kernel_cells task_return ≡ Some (record { ins = Eretu; next = task_return + 4; mark = true })
-unfolding kernel_cells fred_listings spelling four_bytes size places distance
-task_return_cell = refl
+pub task_return_is : (mode : Mode) → cell_at (kernel_cells mode) (task_return mode) ≡ Some (task_return_cell mode)
+unfolding kernel_cells idt_listings fred_listings spelling four_bytes size places distance
+task_return_is Idt = refl
+task_return_is Fred = refl

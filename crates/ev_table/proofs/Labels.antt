@@ -3,7 +3,8 @@ use Rattle.std.proofs.Common.{◌≡◌, ℕ, suc, ◌+◌, Bool, true, false, n
 use Rattle.std.specs.Prelude.{◌==◌, if◌then◌else◌}
 use Rattle.std.proofs.lemmas.Bool.{eqb-true, not-true}
 use Rattle.ev_isa.specs.Spelling.{spelling, four_bytes}
-use Rattle.ev_isa.specs.declared.mode.Mode.TheVariants.{Fred}
+use Rattle.ev_isa.specs.declared.mode.Mode.{Mode}
+use Rattle.ev_isa.specs.declared.mode.Mode.TheVariants.{Idt, Fred}
 use Rattle.ev_body.specs.declared.key.Key.{Key}
 use Rattle.ev_body.specs.declared.key.Key.TheVariants.{Nmi}
 use Rattle.ev_body.specs.declared.item.Item.{Item}
@@ -31,13 +32,13 @@ all_append [] ys h k = k
 all_append (x ∷ xs) ys h k = (h.0, all_append xs ys h.1 k)
 
 -- the labels of a body's listing
-pub body_labels : (n : ℕ) (key : Key) (function : ℕ → ℕ) (a k : ℕ) (items : List Item) → AreBuilt items → AllOfBodies (places a (stmts_of (expansions Fred n key function k items)))
+pub body_labels : (mode : Mode) (n : ℕ) (key : Key) (function : ℕ → ℕ) (a k : ℕ) (items : List Item) → AreBuilt items → AllOfBodies (places a (stmts_of (expansions mode n key function k items)))
 unfolding expansion size spelling four_bytes places
-body_labels n key function a k [] h = tt
-body_labels n key function a k (i ∷ is) h =
-    by_item (λ j. AllOfBodies (places a (stmts_of (expansions Fred n key function k (j ∷ is)))))
-    (λ s. (refl, body_labels n key function (a + 9) (suc k) is (rest_built i is h)))
-    (refl, body_labels n key function (a + 5) (suc k) is (rest_built i is h))
+body_labels mode n key function a k [] h = tt
+body_labels mode n key function a k (i ∷ is) h =
+    by_item (λ j. AllOfBodies (places a (stmts_of (expansions mode n key function k (j ∷ is)))))
+    (λ s. (refl, body_labels mode n key function (a + 9) (suc k) is (rest_built i is h)))
+    (refl, body_labels mode n key function (a + 5) (suc k) is (rest_built i is h))
     i (first_built i is h)
 
 other_name : (m n : Name) → is_of_body m ≡ true → is_of_body n ≡ false → is_name m n ≡ false
@@ -85,9 +86,11 @@ module _ (env env' : Places) (same : (name : Name) → is_of_body name ≡ false
       ∙ ap (λ xs. cells_from env' b.address b.lines ++ xs) (cells_in_same bs (and_right (are_inner b.lines) _ h))
 
 -- the exits are names of the kernel
-pub exit_inner : (key : Key) → is_of_body (exit_of Fred key) ≡ false
-exit_inner Nmi = refl
-exit_inner _ = refl
+pub exit_inner : (mode : Mode) (key : Key) → is_of_body (exit_of mode key) ≡ false
+exit_inner Idt Nmi = refl
+exit_inner Idt _ = refl
+exit_inner Fred Nmi = refl
+exit_inner Fred _ = refl
 
 -- ---- lists of listings one behind the other
 

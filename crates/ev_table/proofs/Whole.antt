@@ -4,8 +4,9 @@ use Rattle.std.specs.Prelude.{◌==◌, ◌||◌, slice_get, if◌then◌else◌
 use Rattle.std.proofs.lemmas.Bool.{lt-leb}
 use Rattle.std.proofs.lemmas.Option.{slice_get_within}
 use Rattle.ev_isa.specs.Word.{displaced, is_canonical}
-use Rattle.ev_isa.specs.declared.mode.Mode.TheVariants.{Fred}
-use Rattle.ev_isa.specs.declared.instruction.Ins.TheVariants.{GsStore, JmpReg, Eretu}
+use Rattle.ev_isa.specs.declared.mode.Mode.{Mode}
+use Rattle.ev_isa.specs.declared.mode.Mode.TheVariants.{Idt, Fred}
+use Rattle.ev_isa.specs.declared.instruction.Ins.TheVariants.{GsStore, JmpReg}
 use Rattle.ev_body.specs.declared.key.Key.{Key}
 use Rattle.ev_body.specs.declared.key.Key.TheVariants.{Nmi}
 use Rattle.ev_body.specs.declared.item.Item.{Item}
@@ -17,20 +18,19 @@ use Rattle.ev_body.specs.WellFormed.{IsImage}
 use Rattle.ev_asm.specs.Assembly.{Name, Places, place, distance}
 use Rattle.ev_listing.specs.AddressMap.{body_code}
 use Rattle.ev_listing.specs.Expansion.{exit_of, item_address}
-use Rattle.ev_listing.specs.FredCode.{fred_listings}
 use Rattle.ev_listing.specs.Marks.{all_places, all_marks}
-use Rattle.ev_concrete.specs.Opening.{listings, body_listings}
+use Rattle.ev_concrete.specs.Opening.{kernel_listings, listings, body_listings}
 use Rattle.ev_concrete.specs.ConcreteRun.{Marks, marks_of, mark_at}
 use Rattle.ev_built.specs.Built.{IsBuilt}
 use Rattle.ev_symbolic.specs.Agrees.{Env, Cell, Code, Stands}
 use Rattle.ev_symbolic.specs.Listed.{Cells, cell_at, cells_in, distinct, AllFound}
 use Rattle.ev_symbolic.proofs.Listed.{all_found, stands_in}
-use Rattle.ev_blocks_fred.specs.Blocks.{fred_lines, fexit}
-use Rattle.ev_table.specs.Table.{fred_table, exit_address, RetCell, body_jump, task_return}
+use Rattle.ev_symbolic.specs.State.{Line}
+use Rattle.ev_table.specs.Table.{code_table, lines_of_mode, other_exit, exit_address, RetCell, body_jump, task_return, task_return_cell}
 use Rattle.ev_table.proofs.Cells.{below_by_test, over, distinct_append, found_first, found_rest, found_at, marks_by, marks_by_append, mark_by, mark_found}
 use Rattle.ev_table.proofs.Items.{items_size, take_built, take_size_most, item_size, item_cell, item_found, next_item, sizes}
 use Rattle.ev_table.proofs.Labels.{is_of_body, place_behind, cells_in_same, exit_inner, all_places_append, cells_in_append}
-use Rattle.ev_table.proofs.Kernel.{kernel_cells, kernel_distinct, kernel_low, kernel_below, kernel_inner, kernel_marks, exit_is, body_jump_cell, task_return_cell}
+use Rattle.ev_table.proofs.Kernel.{kernel_cells, kernel_distinct, kernel_low, kernel_below, kernel_inner, kernel_marks, kernel_lines, exit_is, body_jump_cell, task_return_is}
 use Rattle.ev_table.proofs.Bodies.{AllShort, all_short, short_at, cells_of, body_cells, bodies_from, bodies_distinct, body_found, listed, labels, marks_are, all_marks_append}
 
 -- a jump back leads to the target of its distance
@@ -48,130 +48,132 @@ canonical a h k = ap (λ b. (a / 2 ^ 47 == 0) || b) (eq-eqb (a / 2 ^ 47) (2 ^ 17
     or_one true = refl
     or_one false = refl
 
-exits_below : (key : Key) → exit_address key < 0xffffffff82000000
-exits_below Nmi = omega arith
-exits_below _ = omega arith
+exits_below : (mode : Mode) (key : Key) → exit_address mode key < 0xffffffff82000000
+exits_below Idt Nmi = omega arith
+exits_below Idt _ = omega arith
+exits_below Fred Nmi = omega arith
+exits_below Fred _ = omega arith
 
 -- keys other than that of NMIs have the exit of all others
-pub exit_of_others : (key : Key) → (key_number key ≡ 2 → ⊥) → exit_address key ≡ fexit
+pub exit_of_others : (mode : Mode) (key : Key) → (key_number key ≡ 2 → ⊥) → exit_address mode key ≡ other_exit mode
 unfolding key_number
-exit_of_others Nmi h = absurd (h refl)
-exit_of_others _ h = refl
+exit_of_others mode Nmi h = absurd (h refl)
+exit_of_others mode _ h = refl
 
-pub first_item : (n : ℕ) (b : Body) → item_address Fred n b 0 ≡ body_code n
-first_item n b = let e : body_code n + 0 ≡ body_code n = omega arith in e
+pub first_item : (mode : Mode) (n : ℕ) (b : Body) → item_address mode n b 0 ≡ body_code n
+first_item mode n b = let e : body_code n + 0 ≡ body_code n = omega arith in e
 
-module _ (image : Image) (given : IsImage image) (built : IsBuilt image) where
+module _ (mode : Mode) (image : Image) (given : IsImage image) (built : IsBuilt image) where
   abbrev bodies : List Body
   bodies = image.bodies
 
   abbrev env : Places
-  env = all_places (listings Fred image)
+  env = all_places (listings mode image)
 
   abbrev whole : Cells
-  whole = body_cells env 0 bodies ++ kernel_cells
+  whole = body_cells mode env 0 bodies ++ kernel_cells mode
 
   are_short : AllShort bodies
   are_short = all_short (length image.text) bodies given.bodies_given.1 built.bodies
 
   -- ---- the table's cells
 
-  places_split : env ≡ all_places (body_listings Fred image 0 bodies) ++ all_places fred_listings
+  places_split : env ≡ all_places (body_listings mode image 0 bodies) ++ all_places (kernel_listings mode)
   unfolding listings
-  places_split = all_places_append (body_listings Fred image 0 bodies) fred_listings
+  places_split = all_places_append (body_listings mode image 0 bodies) (kernel_listings mode)
 
-  same_place : (name : Name) → is_of_body name ≡ false → place env name ≡ place (all_places fred_listings) name
-  same_place name h = ap (λ xs. place xs name) places_split ∙ place_behind (all_places (body_listings Fred image 0 bodies)) (all_places fred_listings) name (labels image 0 bodies are_short) h
+  same_place : (name : Name) → is_of_body name ≡ false → place env name ≡ place (all_places (kernel_listings mode)) name
+  same_place name h = ap (λ xs. place xs name) places_split ∙ place_behind (all_places (body_listings mode image 0 bodies)) (all_places (kernel_listings mode)) name (labels mode image 0 bodies are_short) h
 
-  split : cells_in env (listings Fred image) ≡ cells_in env (body_listings Fred image 0 bodies) ++ cells_in env fred_listings
+  split : cells_in env (listings mode image) ≡ cells_in env (body_listings mode image 0 bodies) ++ cells_in env (kernel_listings mode)
   unfolding listings
-  split = cells_in_append env (body_listings Fred image 0 bodies) fred_listings
+  split = cells_in_append env (body_listings mode image 0 bodies) (kernel_listings mode)
 
-  kernel_same : cells_in env fred_listings ≡ kernel_cells
+  kernel_same : cells_in env (kernel_listings mode) ≡ kernel_cells mode
   unfolding kernel_cells
-  kernel_same = cells_in_same env (all_places fred_listings) same_place fred_listings kernel_inner
+  kernel_same = cells_in_same env (all_places (kernel_listings mode)) same_place (kernel_listings mode) (kernel_inner mode)
 
-  cells_are : cells_in env (listings Fred image) ≡ whole
-  cells_are = split ∙ ap (λ xs. xs ++ cells_in env fred_listings) (listed image env 0 bodies are_short) ∙ ap (λ xs. body_cells env 0 bodies ++ xs) kernel_same
+  cells_are : cells_in env (listings mode image) ≡ whole
+  cells_are = split ∙ ap (λ xs. xs ++ cells_in env (kernel_listings mode)) (listed mode image env 0 bodies are_short) ∙ ap (λ xs. body_cells mode env 0 bodies ++ xs) kernel_same
 
   whole_distinct : distinct whole ≡ true
   whole_distinct =
-      distinct_append (body_cells env 0 bodies) kernel_cells (bodies_distinct env 0 bodies are_short) kernel_distinct
-      (over 0xffffffff82000000 (body_cells env 0 bodies) kernel_cells (bodies_from env 0 bodies) (below_by_test 0xffffffff82000000 kernel_cells kernel_below))
+      distinct_append (body_cells mode env 0 bodies) (kernel_cells mode) (bodies_distinct mode env 0 bodies are_short) (kernel_distinct mode)
+      (over 0xffffffff82000000 (body_cells mode env 0 bodies) (kernel_cells mode) (bodies_from mode env 0 bodies) (below_by_test 0xffffffff82000000 (kernel_cells mode) (kernel_below mode)))
 
-  table_is : fred_table image ≡ cell_at whole
+  table_is : code_table mode image ≡ cell_at whole
   table_is = ap cell_at cells_are
 
-  found : AllFound (fred_table image) whole
+  found : AllFound (code_table mode image) whole
   found = subst (λ code. AllFound code whole) (sym table_is) (all_found whole whole_distinct)
 
-  pub kernel_found : AllFound (fred_table image) kernel_cells
-  kernel_found = found_rest (fred_table image) (body_cells env 0 bodies) kernel_cells found
+  pub kernel_found : AllFound (code_table mode image) (kernel_cells mode)
+  kernel_found = found_rest (code_table mode image) (body_cells mode env 0 bodies) (kernel_cells mode) found
 
-  pub lines : (e : Env) → e.base 1000 ≡ 0 → Stands (fred_table image) e fred_lines
-  unfolding fred_lines kernel_cells
-  lines e z = stands_in (fred_table image) e z (all_places fred_listings) fred_listings kernel_found kernel_low
+  pub lines : (e : Env) → e.base 1000 ≡ 0 → Stands (code_table mode image) e (lines_of_mode mode)
+  unfolding kernel_cells
+  lines e z = subst (λ (ls : List Line). Stands (code_table mode image) e ls) (kernel_lines mode) (stands_in (code_table mode image) e z (all_places (kernel_listings mode)) (kernel_listings mode) kernel_found (kernel_low mode))
 
-  pub body_jump_stands : fred_table image body_jump ≡ Some (record { ins = JmpReg 0; next = body_jump + 2; mark = false })
-  body_jump_stands = found_at (fred_table image) kernel_cells kernel_found body_jump _ body_jump_cell
+  pub body_jump_stands : code_table mode image (body_jump mode) ≡ Some (record { ins = JmpReg 0; next = body_jump mode + 2; mark = false })
+  body_jump_stands = found_at (code_table mode image) (kernel_cells mode) kernel_found (body_jump mode) _ (body_jump_cell mode)
 
-  pub task_return_stands : fred_table image task_return ≡ Some (record { ins = Eretu; next = task_return + 4; mark = true })
-  task_return_stands = found_at (fred_table image) kernel_cells kernel_found task_return _ task_return_cell
+  pub task_return_stands : code_table mode image (task_return mode) ≡ Some (task_return_cell mode)
+  task_return_stands = found_at (code_table mode image) (kernel_cells mode) kernel_found (task_return mode) _ (task_return_is mode)
 
   -- ---- items
 
-  address : (n i : ℕ) (b : Body) → slice_get bodies n ≡ Some b → item_address Fred n b i ≡ body_code n + items_size (take i (body_items b))
-  address n i b h = ap (λ x. body_code n + x) (sizes n b.key (λ f. 0) 0 (take i (body_items b)) (take_built i (body_items b) (short_at bodies are_short n b h).built))
+  address : (n i : ℕ) (b : Body) → slice_get bodies n ≡ Some b → item_address mode n b i ≡ body_code n + items_size (take i (body_items b))
+  address n i b h = ap (λ x. body_code n + x) (sizes mode n b.key (λ f. 0) 0 (take i (body_items b)) (take_built i (body_items b) (short_at bodies are_short n b h).built))
 
   -- where an item lies: 2304 bytes are 256 items of at most 9
-  range : (n i : ℕ) (b : Body) → slice_get bodies n ≡ Some b → (0xffffffff82000000 ≤ item_address Fred n b i) × (item_address Fred n b i ≤ 0xffffffff82800000 + 2304)
+  range : (n i : ℕ) (b : Body) → slice_get bodies n ≡ Some b → (0xffffffff82000000 ≤ item_address mode n b i) × (item_address mode n b i ≤ 0xffffffff82800000 + 2304)
   range n i b h =
       let few : n < length bodies = slice_get_within bodies n b h in
       let s : items_size (take i (body_items b)) ≤ 9 * length (body_items b) = take_size_most i (body_items b) in
       let short : length (body_items b) ≤ 256 = (short_at bodies are_short n b h).short in
-      between (item_address Fred n b i) n (items_size (take i (body_items b))) (length (body_items b)) (address n i b h) (let k : length bodies ≤ 64 = given.bodies_given.0 in omega arith) s short
+      between (item_address mode n b i) n (items_size (take i (body_items b))) (length (body_items b)) (address n i b h) (let k : length bodies ≤ 64 = given.bodies_given.0 in omega arith) s short
     where
       between : (a n s l : ℕ) → a ≡ body_code n + s → n < 64 → s ≤ 9 * l → l ≤ 256 → (0xffffffff82000000 ≤ a) × (a ≤ 0xffffffff82800000 + 2304)
       between a n s l e h1 h2 h3 = (omega arith, omega arith)
 
-  pub canonical_items : (n i : ℕ) (b : Body) → slice_get bodies n ≡ Some b → (is_canonical (item_address Fred n b i) ≡ true) × (item_address Fred n b i + 16 < 2 ^ 64)
-  canonical_items n i b h = low (item_address Fred n b i) (range n i b h)
+  pub canonical_items : (n i : ℕ) (b : Body) → slice_get bodies n ≡ Some b → (is_canonical (item_address mode n b i) ≡ true) × (item_address mode n b i + 16 < 2 ^ 64)
+  canonical_items n i b h = low (item_address mode n b i) (range n i b h)
     where
       low : (a : ℕ) → (0xffffffff82000000 ≤ a) × (a ≤ 0xffffffff82800000 + 2304) → (is_canonical a ≡ true) × (a + 16 < 2 ^ 64)
       low a r = (canonical a (omega arith) (omega arith), omega arith)
 
   item_stands : (n i : ℕ) (b : Body) (item : Item) → slice_get bodies n ≡ Some b → slice_get (body_items b) i ≡ Some item
-      → fred_table image (item_address Fred n b i) ≡ Some (item_cell (place env (exit_of Fred b.key)) (item_address Fred n b i) item)
+      → code_table mode image (item_address mode n b i) ≡ Some (item_cell (place env (exit_of mode b.key)) (item_address mode n b i) item)
   item_stands n i b item h k =
-      let E : ℕ = place env (exit_of Fred b.key) in
-      subst (λ a. fred_table image a ≡ Some (item_cell E a item)) (sym (address n i b h))
-      (item_found (fred_table image) E (body_code n) (body_items b)
-      (subst (λ m. AllFound (fred_table image) (cells_of env m b)) (let e : 0 + n ≡ n = omega arith in e) (body_found (fred_table image) env 0 bodies (found_first (fred_table image) (body_cells env 0 bodies) kernel_cells found) n b h))
+      let E : ℕ = place env (exit_of mode b.key) in
+      subst (λ a. code_table mode image a ≡ Some (item_cell E a item)) (sym (address n i b h))
+      (item_found (code_table mode image) E (body_code n) (body_items b)
+      (subst (λ m. AllFound (code_table mode image) (cells_of mode env m b)) (let e : 0 + n ≡ n = omega arith in e) (body_found mode (code_table mode image) env 0 bodies (found_first (code_table mode image) (body_cells mode env 0 bodies) (kernel_cells mode) found) n b h))
       i item k)
 
-  next_address : (n i : ℕ) (b : Body) (item : Item) → slice_get bodies n ≡ Some b → slice_get (body_items b) i ≡ Some item → item_address Fred n b i + item_size item ≡ item_address Fred n b (suc i)
+  next_address : (n i : ℕ) (b : Body) (item : Item) → slice_get bodies n ≡ Some b → slice_get (body_items b) i ≡ Some item → item_address mode n b i + item_size item ≡ item_address mode n b (suc i)
   next_address n i b item h k =
       ap (λ a. a + item_size item) (address n i b h) ∙ (let e : (body_code n + items_size (take i (body_items b))) + item_size item ≡ body_code n + (items_size (take i (body_items b)) + item_size item) = omega arith in e)
       ∙ ap (λ x. body_code n + x) (sym (next_item i (body_items b) item k)) ∙ sym (address n (suc i) b h)
 
   pub log_stands : (n i s : ℕ) (b : Body) → slice_get bodies n ≡ Some b → slice_get (body_items b) i ≡ Some (Log s)
-      → fred_table image (item_address Fred n b i) ≡ Some (record { ins = GsStore (pos 0x28) s; next = item_address Fred n b (suc i); mark = true })
+      → code_table mode image (item_address mode n b i) ≡ Some (record { ins = GsStore (pos 0x28) s; next = item_address mode n b (suc i); mark = true })
   log_stands n i s b h k = item_stands n i b (Log s) h k ∙ ap (λ a. Some (record { ins = GsStore (pos 0x28) s; next = a; mark = true })) (next_address n i b (Log s) h k)
 
-  exit_is_there : (key : Key) → place env (exit_of Fred key) ≡ exit_address key
-  exit_is_there key = same_place (exit_of Fred key) (exit_inner key) ∙ exit_is key
+  exit_is_there : (key : Key) → place env (exit_of mode key) ≡ exit_address mode key
+  exit_is_there key = same_place (exit_of mode key) (exit_inner mode key) ∙ exit_is mode key
 
-  pub ret_stands : (n i : ℕ) (b : Body) → slice_get bodies n ≡ Some b → slice_get (body_items b) i ≡ Some Ret → RetCell (fred_table image) (item_address Fred n b i) (exit_address b.key)
+  pub ret_stands : (n i : ℕ) (b : Body) → slice_get bodies n ≡ Some b → slice_get (body_items b) i ≡ Some Ret → RetCell (code_table mode image) (item_address mode n b i) (exit_address mode b.key)
   ret_stands n i b h k =
-      let a : ℕ = item_address Fred n b i in
-      let E : ℕ = place env (exit_of Fred b.key) in
+      let a : ℕ = item_address mode n b i in
+      let E : ℕ = place env (exit_of mode b.key) in
       record {
         cell = item_cell E a Ret;
         distance = distance E (a + 5);
         is = item_stands n i b Ret h k;
         jump = refl;
         unmarked = refl;
-        leads = subst (λ x. displaced (a + 5) (distance E (a + 5)) ≡ x) (exit_is_there b.key) (leads_from a E (range n i b h) (subst (λ x. x < 0xffffffff82000000) (sym (exit_is_there b.key)) (exits_below b.key)));
+        leads = subst (λ x. displaced (a + 5) (distance E (a + 5)) ≡ x) (exit_is_there b.key) (leads_from a E (range n i b h) (subst (λ x. x < 0xffffffff82000000) (sym (exit_is_there b.key)) (exits_below mode b.key)));
       }
     where
       leads_from : (a exit : ℕ) → (0xffffffff82000000 ≤ a) × (a ≤ 0xffffffff82800000 + 2304) → exit < 0xffffffff82000000 → displaced (a + 5) (distance exit (a + 5)) ≡ exit
@@ -179,14 +181,14 @@ module _ (image : Image) (given : IsImage image) (built : IsBuilt image) where
 
   -- ---- marks
 
-  marks_split : all_marks (listings Fred image) ≡ all_marks (body_listings Fred image 0 bodies) ++ all_marks fred_listings
+  marks_split : all_marks (listings mode image) ≡ all_marks (body_listings mode image 0 bodies) ++ all_marks (kernel_listings mode)
   unfolding listings
-  marks_split = all_marks_append (body_listings Fred image 0 bodies) fred_listings
+  marks_split = all_marks_append (body_listings mode image 0 bodies) (kernel_listings mode)
 
-  marks_whole : all_marks (listings Fred image) ≡ marks_by whole
+  marks_whole : all_marks (listings mode image) ≡ marks_by whole
   marks_whole =
-      marks_split ∙ ap (λ (ms : Marks). ms ++ all_marks fred_listings) (marks_are image env 0 bodies are_short) ∙ ap (λ (ms : Marks). marks_by (body_cells env 0 bodies) ++ ms) kernel_marks
-      ∙ sym (marks_by_append (body_cells env 0 bodies) kernel_cells)
+      marks_split ∙ ap (λ (ms : Marks). ms ++ all_marks (kernel_listings mode)) (marks_are mode image env 0 bodies are_short) ∙ ap (λ (ms : Marks). marks_by (body_cells mode env 0 bodies) ++ ms) (kernel_marks mode)
+      ∙ sym (marks_by_append (body_cells mode env 0 bodies) (kernel_cells mode))
 
-  pub mark_is : (a : ℕ) (x : Cell) → fred_table image a ≡ Some x → mark_at (marks_of Fred image) a ≡ mark_by x.mark
+  pub mark_is : (a : ℕ) (x : Cell) → code_table mode image a ≡ Some x → mark_at (marks_of mode image) a ≡ mark_by x.mark
   mark_is a x h = ap (λ (ms : Marks). mark_at ms a) marks_whole ∙ mark_found whole whole_distinct a x (ap (λ (code : Code). code a) (sym table_is) ∙ h)

@@ -1,8 +1,9 @@
--- The code of an image under FRED as a table, for images that the program can run today.
-use Rattle.std.specs.Prelude.{◌≡◌, ℤ, ℕ, pos, suc, ◌+◌, ◌^◌, ◌<◌, true, false, Some, slice_get}
+-- The code of an image in a mode as a table, for images that the program can run today.
+use Rattle.std.specs.Prelude.{◌≡◌, ℤ, ℕ, pos, suc, ◌+◌, ◌^◌, ◌<◌, true, false, List, Some, slice_get}
 use Rattle.ev_isa.specs.Word.{displaced, is_canonical}
-use Rattle.ev_isa.specs.declared.instruction.Ins.TheVariants.{GsStore, Jmp, JmpReg, Eretu}
-use Rattle.ev_isa.specs.declared.mode.Mode.TheVariants.{Fred}
+use Rattle.ev_isa.specs.declared.instruction.Ins.TheVariants.{GsStore, Jmp, JmpReg, Sysretq, Eretu}
+use Rattle.ev_isa.specs.declared.mode.Mode.{Mode}
+use Rattle.ev_isa.specs.declared.mode.Mode.TheVariants.{Idt, Fred}
 use Rattle.ev_body.specs.declared.key.Key.{Key}
 use Rattle.ev_body.specs.declared.key.Key.TheVariants.{Nmi}
 use Rattle.ev_body.specs.declared.item.Item.TheVariants.{Log, Ret}
@@ -11,35 +12,53 @@ use Rattle.ev_body.specs.declared.image.Image.{Image}
 use Rattle.ev_body.specs.Bodies.{key_number}
 use Rattle.ev_body.specs.WellFormed.{IsImage}
 use Rattle.ev_abstract.specs.Run.{item_at}
-use Rattle.ev_listing.specs.AddressMap.{body_code}
+use Rattle.ev_listing.specs.AddressMap.{exit_entry, exitn_entry, body_code}
 use Rattle.ev_listing.specs.Expansion.{item_address}
 use Rattle.ev_listing.specs.Marks.{Never, Always}
 use Rattle.ev_concrete.specs.Opening.{listings}
 use Rattle.ev_concrete.specs.ConcreteRun.{marks_of, mark_at}
 use Rattle.ev_built.specs.Built.{IsBuilt}
+use Rattle.ev_symbolic.specs.State.{Line}
 use Rattle.ev_symbolic.specs.Agrees.{Env, Cell, Code, Spaced}
 use Rattle.ev_symbolic.specs.Agrees as agrees
 use Rattle.ev_symbolic.specs.Listed.{code_of}
 use Rattle.ev_blocks_fred.specs.Blocks.{fred_lines, fexit}
+use Rattle.ev_blocks_idt.specs.Blocks.{idt_lines}
 
 -- the cells of an image's code by their addresses
-abbrev pub fred_table : Image → Code
-fred_table image = code_of (listings Fred image)
+abbrev pub code_table : Mode → Image → Code
+code_table mode image = code_of (listings mode image)
 
--- the kernel's exit of activations of NMIs, and the one that the `ret` of a body of this key goes to
-abbrev pub fexitn : ℕ
-fexitn = 0xffffffff8100044c
+-- the lines of the kernel's code
+abbrev pub lines_of_mode : Mode → List Line
+lines_of_mode Idt = idt_lines
+lines_of_mode Fred = fred_lines
 
-abbrev pub exit_address : Key → ℕ
-exit_address Nmi = fexitn
-exit_address _ = fexit
+-- the kernel's exit of activations of NMIs and that of all others, and the one that the `ret` of a body of this key goes to
+abbrev pub nmi_exit : Mode → ℕ
+nmi_exit Idt = exitn_entry
+nmi_exit Fred = 0xffffffff8100044c
 
--- the last instruction of the entry, that jumps to a body, and the last of the exit, that returns to the task
-abbrev pub body_jump : ℕ
-body_jump = 0xffffffff810002bd
+abbrev pub other_exit : Mode → ℕ
+other_exit Idt = exit_entry
+other_exit Fred = fexit
 
-abbrev pub task_return : ℕ
-task_return = 0xffffffff81000426
+abbrev pub exit_address : Mode → Key → ℕ
+exit_address mode Nmi = nmi_exit mode
+exit_address mode _ = other_exit mode
+
+-- the last instruction of the entry of system calls, that jumps to a body, and the last of the exit, that returns to the task
+abbrev pub body_jump : Mode → ℕ
+body_jump Idt = 0xffffffff810031bb
+body_jump Fred = 0xffffffff810002bd
+
+abbrev pub task_return : Mode → ℕ
+task_return Idt = 0xffffffff810034dd
+task_return Fred = 0xffffffff81000426
+
+abbrev pub task_return_cell : Mode → Cell
+task_return_cell Idt = record { ins = Sysretq; next = task_return Idt + 3; mark = true }
+task_return_cell Fred = record { ins = Eretu; next = task_return Fred + 4; mark = true }
 
 -- an unmarked jump to an exit
 pub record RetCell (code : Code) (a exit : ℕ) : Type 0 where
@@ -52,45 +71,45 @@ pub record RetCell (code : Code) (a exit : ℕ) : Type 0 where
 
 -- the kernel's lines stand in the table
 abbrev pub LinesStand : Type 0
-LinesStand = (image : Image) → IsImage image → IsBuilt image → (e : Env) → e.base 1000 ≡ 0 → agrees.Stands (fred_table image) e fred_lines
+LinesStand = (mode : Mode) (image : Image) → IsImage image → IsBuilt image → (e : Env) → e.base 1000 ≡ 0 → agrees.Stands (code_table mode image) e (lines_of_mode mode)
 
 -- each cell leads to the address behind its bytes
 abbrev pub CellsAreSpaced : Type 0
-CellsAreSpaced = (image : Image) → Spaced (fred_table image)
+CellsAreSpaced = (mode : Mode) (image : Image) → Spaced (code_table mode image)
 
 -- `log` is its marked store to the port
 abbrev pub LogStands : Type 0
-LogStands = (image : Image) → IsImage image → IsBuilt image → (n i s : ℕ) (b : Body) → slice_get image.bodies n ≡ Some b → item_at (Some b) i ≡ Some (Log s)
-    → fred_table image (item_address Fred n b i) ≡ Some (record { ins = GsStore (pos 0x28) s; next = item_address Fred n b (suc i); mark = true })
+LogStands = (mode : Mode) (image : Image) → IsImage image → IsBuilt image → (n i s : ℕ) (b : Body) → slice_get image.bodies n ≡ Some b → item_at (Some b) i ≡ Some (Log s)
+    → code_table mode image (item_address mode n b i) ≡ Some (record { ins = GsStore (pos 0x28) s; next = item_address mode n b (suc i); mark = true })
 
 -- `ret` is a jump to the exit of its body's key
 abbrev pub RetStands : Type 0
-RetStands = (image : Image) → IsImage image → IsBuilt image → (n i : ℕ) (b : Body) → slice_get image.bodies n ≡ Some b → item_at (Some b) i ≡ Some Ret
-    → RetCell (fred_table image) (item_address Fred n b i) (exit_address b.key)
+RetStands = (mode : Mode) (image : Image) → IsImage image → IsBuilt image → (n i : ℕ) (b : Body) → slice_get image.bodies n ≡ Some b → item_at (Some b) i ≡ Some Ret
+    → RetCell (code_table mode image) (item_address mode n b i) (exit_address mode b.key)
 
 -- a body begins with its first item
 abbrev pub BodiesBeginWithItems : Type 0
-BodiesBeginWithItems = (n : ℕ) (b : Body) → item_address Fred n b 0 ≡ body_code n
+BodiesBeginWithItems = (mode : Mode) (n : ℕ) (b : Body) → item_address mode n b 0 ≡ body_code n
 
 -- items stand at canonical addresses, not at the end of memory
 abbrev pub ItemsAreCanonical : Type 0
-ItemsAreCanonical = (image : Image) → IsImage image → IsBuilt image → (n i : ℕ) (b : Body) → slice_get image.bodies n ≡ Some b
-    → (is_canonical (item_address Fred n b i) ≡ true) × (item_address Fred n b i + 16 < 2 ^ 64)
+ItemsAreCanonical = (mode : Mode) (image : Image) → IsImage image → IsBuilt image → (n i : ℕ) (b : Body) → slice_get image.bodies n ≡ Some b
+    → (is_canonical (item_address mode n b i) ≡ true) × (item_address mode n b i + 16 < 2 ^ 64)
 
 -- the marked addresses are those of the marked cells, always seen
 abbrev pub UnmarkedCellsAreEdges : Type 0
-UnmarkedCellsAreEdges = (image : Image) → IsImage image → IsBuilt image → (a : ℕ) (x : Cell) → fred_table image a ≡ Some x → x.mark ≡ false → mark_at (marks_of Fred image) a ≡ Never
+UnmarkedCellsAreEdges = (mode : Mode) (image : Image) → IsImage image → IsBuilt image → (a : ℕ) (x : Cell) → code_table mode image a ≡ Some x → x.mark ≡ false → mark_at (marks_of mode image) a ≡ Never
 
 abbrev pub MarkedCellsAreSeen : Type 0
-MarkedCellsAreSeen = (image : Image) → IsImage image → IsBuilt image → (a : ℕ) (x : Cell) → fred_table image a ≡ Some x → x.mark ≡ true → mark_at (marks_of Fred image) a ≡ Always
+MarkedCellsAreSeen = (mode : Mode) (image : Image) → IsImage image → IsBuilt image → (a : ℕ) (x : Cell) → code_table mode image a ≡ Some x → x.mark ≡ true → mark_at (marks_of mode image) a ≡ Always
 
 -- the ends of the entry and of the exit
 abbrev pub BodyJumpStands : Type 0
-BodyJumpStands = (image : Image) → IsImage image → IsBuilt image → fred_table image body_jump ≡ Some (record { ins = JmpReg 0; next = body_jump + 2; mark = false })
+BodyJumpStands = (mode : Mode) (image : Image) → IsImage image → IsBuilt image → code_table mode image (body_jump mode) ≡ Some (record { ins = JmpReg 0; next = body_jump mode + 2; mark = false })
 
 abbrev pub TaskReturnStands : Type 0
-TaskReturnStands = (image : Image) → IsImage image → IsBuilt image → fred_table image task_return ≡ Some (record { ins = Eretu; next = task_return + 4; mark = true })
+TaskReturnStands = (mode : Mode) (image : Image) → IsImage image → IsBuilt image → code_table mode image (task_return mode) ≡ Some (task_return_cell mode)
 
 -- keys other than that of NMIs have one exit
 abbrev pub OthersHaveOneExit : Type 0
-OthersHaveOneExit = (key : Key) → (key_number key ≡ 2 → ⊥) → exit_address key ≡ fexit
+OthersHaveOneExit = (mode : Mode) (key : Key) → (key_number key ≡ 2 → ⊥) → exit_address mode key ≡ other_exit mode

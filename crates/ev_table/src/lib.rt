@@ -1,11 +1,11 @@
-//! The code of an image under FRED as a table: what stands at the lines of the kernel and at the
-//! items of bodies, and which cells the abstract machine sees.
+//! The code of an image in either mode as a table: what stands at the lines of the kernel and at
+//! the items of bodies, and which cells the abstract machine sees.
 #![tactic(auto)]
 
 ghost use Rattle.ev_table.specs.Table.{LinesStand, CellsAreSpaced, LogStands, RetStands, OthersHaveOneExit, BodiesBeginWithItems, ItemsAreCanonical, UnmarkedCellsAreEdges, MarkedCellsAreSeen, BodyJumpStands, TaskReturnStands};
 
-/// The kernel's lines stand in the table of every image that can run today, each item of a body is
-/// one cell at its address, and an address is marked where its cell is. Own.
+/// In both modes: the kernel's lines stand in the table of every image that can run today, each
+/// item of a body is one cell at its address, and an address is marked where its cell is. Own.
 pub fn table()
     ensures lines { LinesStand }
     ensures spaced { CellsAreSpaced }

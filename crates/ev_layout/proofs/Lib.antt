@@ -1,0 +1,10 @@
+pub mod Bodies
+pub mod Numbered
+pub mod Listed
+pub mod There
+pub mod Filling
+pub mod Apart
+pub mod Final
+pub mod Linkable
+pub mod Results
+pub mod Marked

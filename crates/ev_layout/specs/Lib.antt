@@ -1,0 +1,4 @@
+pub mod Marks
+pub mod Placed
+pub mod Filled
+pub mod Processors

@@ -1,0 +1,18 @@
+-- The marks of visible instructions as the program keeps them. Own.
+use Rattle.std.specs.Prelude.{ℕ, List, map}
+use Rattle.ev_listing.specs.Marks
+use Rattle.ev_layout.specs.declared.mark.Mark.{Mark}
+use Rattle.ev_layout.specs.declared.mark.Marked.{Marked}
+use Rattle.ev_layout.specs.declared.mark.Mark.TheVariants.{Never, Always, IfNonzero, IfEqual}
+
+abbrev pub mark_of : Mark → Marks.Mark
+mark_of Never = Marks.Never
+mark_of Always = Marks.Always
+mark_of IfNonzero = Marks.IfNonzero
+mark_of IfEqual = Marks.IfEqual
+
+abbrev pub marks_in : List (ℕ × Mark) → List (ℕ × Marks.Mark)
+marks_in es = map (λ (e : ℕ × Mark). (e.0, mark_of e.1)) es
+
+abbrev pub marked_of : Marked → Marks.Marked
+marked_of m = record { mark = mark_of m.mark; stmt = m.stmt }

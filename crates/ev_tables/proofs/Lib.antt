@@ -1,0 +1,4 @@
+pub mod Gates
+pub mod Opened
+pub mod Mapped
+pub mod Stand

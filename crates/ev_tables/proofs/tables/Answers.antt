@@ -1,0 +1,5 @@
+use Rattle.ev_tables.proofs.Stand as proof
+use Rattle.ev_tables.proofs.tables.Goals as goal
+
+pub returns : goal.returns
+returns c = record { stand = proof.stand }
