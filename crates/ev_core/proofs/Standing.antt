@@ -14,7 +14,7 @@ use Rattle.ev_mem.specs.Mapped.{memory}
 use Rattle.ev_proc.specs.Conditions.{HasEntries, IsInCode}
 use Rattle.ev_concrete.specs.ConcreteRun.{System, Marks, marks_of, is_visible, concrete_step, edges, with_frames}
 use Rattle.ev_built.specs.Built.{IsBuilt}
-use Rattle.ev_blocks_fred.specs.Blocks.{Kind, SystemCall}
+use Rattle.ev_activation.specs.Activation.{Kind, SystemCall}
 use Rattle.ev_refine.specs.Relation.{Stands, StandsOver, Chain}
 use Rattle.ev_refine.specs.Claims.{Settles, Tells}
 use Rattle.ev_refine.proofs.Refine.{all_settle, tells}
