@@ -1,0 +1,2 @@
+//! The first form of document: its definition and its reader. Own.
+#![tactic(auto)]
