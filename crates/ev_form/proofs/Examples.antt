@@ -8,7 +8,7 @@ use Rattle.ev_body.specs.KernelImage.{KernelImage}
 use Rattle.ev_abstract.specs.declared.script_line.Line.TheVariants.{Turn}
 use Rattle.ev_form.specs.FirstForm.{FirstForm, Label, Mov, Add, Jmp, Syscall, register_of, is_name, is_target, text_of}
 use Rattle.ev_form.specs.FormImage.{image_of, image_from, script_of}
-use Rattle.ev_form.specs.Parse.{draft, one_word, two_words, three_words, label_in}
+use Rattle.ev_form.specs.Parse.{draft, one_word, two_words, three_words, four_words, label_in}
 
 abbrev small : FirstForm
 small = record {
@@ -32,5 +32,5 @@ small_script : script_of small ≡ Turn 0 ∷ Turn 0 ∷ []
 small_script = refl
 
 small_read : draft (text_of small) ≡ Some small
-unfolding draft register_of is_name is_target number_of is_decimal is_hexadecimal is_digits digit value below_word one_word two_words three_words label_in
+unfolding draft register_of is_name is_target number_of is_decimal is_hexadecimal is_digits digit value below_word one_word two_words three_words four_words label_in
 small_read = refl

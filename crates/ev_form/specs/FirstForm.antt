@@ -1,5 +1,5 @@
 -- The first form of document: what it says, and its bytes. Own.
-use Rattle.std.specs.Prelude.{◌≡◌, ℕ, zero, suc, ◌+◌, ◌-◌, ◌≤◌, Bool, true, false, ◌&&◌, ◌||◌, not, nat_lt, nat_le, ◌==◌, List, [], ◌∷◌, ◌++◌, length, map, flat_map, replicate, slice_index_or, Option, Some, None, is_some, is_none, codes}
+use Rattle.std.specs.Prelude.{◌≡◌, ℕ, zero, suc, ◌+◌, ◌-◌, ◌≤◌, Bool, true, false, ◌&&◌, ◌||◌, not, nat_lt, nat_le, ◌==◌, List, [], ◌∷◌, ◌++◌, length, map, flat_map, replicate, slice_index, slice_index_or, Option, Some, None, is_some, is_none, codes}
 use Rattle.std.specs.List.{list_all, join_with_byte}
 use Rattle.std.specs.Str.{bytes_eq}
 use Rattle.ev_io.specs.Number.{is_between, number_of}
@@ -48,8 +48,7 @@ is_name_byte b = is_letter b || (is_between 0x30 0x39 b || (b == 0x5f))
 
 -- a letter and up to 30 letters, digits or `_`
 unfoldable pub is_name : List ℕ → Bool
-is_name [] = false
-is_name (b ∷ bs) = is_letter b && (list_all is_name_byte bs && nat_le (length bs) 30)
+is_name word = is_letter (slice_index word 0) && (nat_le (length word) 31 && list_all is_name_byte word)
 
 -- a name that is no register's
 unfoldable pub is_target : List ℕ → Bool

@@ -65,8 +65,12 @@ log_of_words _ = None
 abbrev pub log_in : List ℕ → Option ℕ
 log_in line = log_of_words (parts 0x20 line)
 
+unfoldable pub four_words : (verb processor name base : List ℕ) → Option (List ℕ)
+four_words verb processor name base =
+    some_if (bytes_eq verb (codes "task") && (bytes_eq processor (codes "0") && (bytes_eq base (codes "0") && is_name name))) name
+
 abbrev pub task_of_words : List (List ℕ) → Option (List ℕ)
-task_of_words (verb ∷ processor ∷ name ∷ base ∷ []) = some_if (bytes_eq verb (codes "task") && (bytes_eq processor (codes "0") && (bytes_eq base (codes "0") && is_name name))) name
+task_of_words (verb ∷ processor ∷ name ∷ base ∷ []) = four_words verb processor name base
 task_of_words _ = None
 
 abbrev pub task_in : List ℕ → Option (List ℕ)

@@ -1,2 +1,6 @@
 //! The first form of document: its definition and its reader. Own.
 #![tactic(auto)]
+
+mod words;
+mod lines;
+mod order;
