@@ -19,15 +19,14 @@ use std::alloc::{AllocError, Global};
 fn behind<'a, 'b>(lines: &'a [&'b [u8]], first: &[&str]) -> Option<&'a [&'b [u8]]>
     ensures { option_map (λ rest. map (λ x. x.now) rest.now) result ≡ behind (map (λ x. x.now) first.now) (map (λ x. x.now) lines.now) }
 {
-    let mut rest = lines;
-    for text in first {
-        let (line, lines) = rest.split_first()?;
-        if !is(line, text) {
-            return None;
-        }
-        rest = lines;
+    let Some((text, others)) = first.split_first() else {
+        return Some(lines);
+    };
+    let (line, rest) = lines.split_first()?;
+    if !is(line, text) {
+        return None;
     }
-    Some(rest)
+    behind(rest, others)
 }
 
 /// The statements of the first lines, up to one that is none.
