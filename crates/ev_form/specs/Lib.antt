@@ -1,3 +1,4 @@
 pub mod FirstForm
 pub mod FormImage
 pub mod Parse
+pub mod Draft

@@ -4,3 +4,4 @@
 mod words;
 mod lines;
 mod order;
+mod draft;

@@ -16,7 +16,7 @@ use ev_isa::Name;
 use std::alloc::{AllocError, Global};
 
 /// What stands behind these lines, where they come first.
-fn behind<'a, 'b>(lines: &'a [&'b [u8]], first: &[&str]) -> Option<&'a [&'b [u8]]>
+pub fn behind<'a, 'b>(lines: &'a [&'b [u8]], first: &[&str]) -> Option<&'a [&'b [u8]]>
     ensures { option_map (λ rest. map (λ x. x.now) rest.now) result ≡ behind (map (λ x. x.now) first.now) (map (λ x. x.now) lines.now) }
 {
     let Some((text, others)) = first.split_first() else {
@@ -30,7 +30,7 @@ fn behind<'a, 'b>(lines: &'a [&'b [u8]], first: &[&str]) -> Option<&'a [&'b [u8]
 }
 
 /// The statements of the first lines, up to one that is none.
-fn code(alloc: Global, lines: &[&[u8]]) -> Result<Vec<Stmt>, AllocError>
+pub fn code(alloc: Global, lines: &[&[u8]]) -> Result<Vec<Stmt>, AllocError>
     ensures { IfOk result (λ v. v.items ≡ map statement_of (series code_in (map (λ x. x.now) lines.now)).0) }
 {
     let mut stmts = Vec::new(alloc);
@@ -44,7 +44,7 @@ fn code(alloc: Global, lines: &[&[u8]]) -> Result<Vec<Stmt>, AllocError>
 }
 
 /// The items of the first lines, up to one that logs nothing.
-fn logs(alloc: Global, lines: &[&[u8]]) -> Result<Vec<Item>, AllocError>
+pub fn logs(alloc: Global, lines: &[&[u8]]) -> Result<Vec<Item>, AllocError>
     ensures { IfOk result (λ v. v.items ≡ map Item.Log (series log_in (map (λ x. x.now) lines.now)).0) }
 {
     let mut items = Vec::new(alloc);
@@ -58,7 +58,7 @@ fn logs(alloc: Global, lines: &[&[u8]]) -> Result<Vec<Item>, AllocError>
 }
 
 /// The turns of the first lines, up to one that is none.
-fn turns(alloc: Global, lines: &[&[u8]]) -> Result<Vec<Line>, AllocError>
+pub fn turns(alloc: Global, lines: &[&[u8]]) -> Result<Vec<Line>, AllocError>
     ensures { IfOk result (λ v. v.items ≡ map (λ _. Line.Turn 0) (series turn_in (map (λ x. x.now) lines.now)).0) }
 {
     let mut script = Vec::new(alloc);
@@ -72,7 +72,7 @@ fn turns(alloc: Global, lines: &[&[u8]]) -> Result<Vec<Line>, AllocError>
 }
 
 /// Whether the last line and nothing behind it is left.
-fn is_end(lines: &[&[u8]]) -> bool
+pub fn is_end(lines: &[&[u8]]) -> bool
     ensures { result ≡ is_end (map (λ x. x.now) lines.now) }
 {
     match lines {
