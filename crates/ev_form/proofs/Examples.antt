@@ -7,7 +7,7 @@ use Rattle.ev_asm.specs.Assembly.{size, places, distance, stmt_bytes, code}
 use Rattle.ev_body.specs.KernelImage.{KernelImage}
 use Rattle.ev_abstract.specs.declared.script_line.Line.TheVariants.{Turn}
 use Rattle.ev_form.specs.FirstForm.{FirstForm, Label, Mov, Add, Jmp, Syscall, register_of, is_name, is_target, text_of}
-use Rattle.ev_form.specs.FormImage.{image_of, image_from, script_of}
+use Rattle.ev_form.specs.FormImage.{image_of, image_with, script_of}
 use Rattle.ev_form.specs.Parse.{draft, one_word, two_words, three_words, four_words, label_in}
 
 abbrev small : FirstForm
@@ -25,7 +25,7 @@ small_text : text_of small ≡
 small_text = refl
 
 small_code : (image_of small).text ≡ 0x48 ∷ 0xb8 ∷ 5 ∷ 0 ∷ 0 ∷ 0 ∷ 0 ∷ 0 ∷ 0 ∷ 0 ∷ 0x0f ∷ 0x05 ∷ 0x48 ∷ 0x01 ∷ 0xc0 ∷ 0xe9 ∷ 0xec ∷ 0xff ∷ 0xff ∷ 0xff ∷ []
-unfolding spelling four_bytes number_of is_decimal is_hexadecimal is_digits digit value below_word size places distance stmt_bytes code image_from
+unfolding spelling four_bytes number_of is_decimal is_hexadecimal is_digits digit value below_word size places distance stmt_bytes code image_with
 small_code = refl
 
 small_script : script_of small ≡ Turn 0 ∷ Turn 0 ∷ []

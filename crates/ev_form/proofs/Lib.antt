@@ -1,3 +1,4 @@
 pub mod Examples
 pub mod Names
 pub mod Series
+pub mod Starts

@@ -15,7 +15,6 @@ use Rattle.ev_body.specs.declared.key.Key.TheVariants.{Sys}
 use Rattle.ev_body.specs.declared.key.Side.TheVariants.{User}
 use Rattle.ev_body.specs.declared.item.Item.{Item}
 use Rattle.ev_body.specs.declared.item.Item.TheVariants.{Log, Ret}
-use Rattle.ev_body.specs.declared.image.TaskSpec.{TaskSpec}
 use Rattle.ev_body.specs.Bodies.{fill}
 use Rattle.ev_body.specs.WellFormed.{is_local}
 use Rattle.ev_body.specs.KernelImage.{KernelImage}
@@ -38,26 +37,20 @@ statements d = map statement_of d.code
 abbrev pub text_bytes : List Stmt → List ℕ
 text_bytes stmts = code (places text_base stmts) text_base stmts
 
--- the one task of an image: it starts at the label with GS base 0 and registers 0
-abbrev pub task_at : List Stmt → List ℕ → TaskSpec
-task_at stmts label = record { start = place (places text_base stmts) label; gs = 0; regs = replicate 16 0 }
-
-abbrev pub items_of : List ℕ → List Item
-items_of logged = map Log logged ++ Ret ∷ []
-
-unfoldable pub image_from : List Stmt → List ℕ → List ℕ → KernelImage
-image_from stmts label logged = record {
+-- one processor with one task, which starts there with GS base 0 and registers 0, and one body of system calls that ends with `ret`
+unfoldable pub image_with : (text : List ℕ) (start : ℕ) (logs : List Item) → KernelImage
+image_with text start logs = record {
   processors = 1;
   nest = 1;
   pages = [];
   cells = [];
-  text = text_bytes stmts;
-  tasks = (task_at stmts label ∷ []) ∷ [];
-  bodies = fill (record { key = Sys; side = User; items = items_of logged; parts = [] } ∷ [])
+  text = text;
+  tasks = (record { start = start; gs = 0; regs = replicate 16 0 } ∷ []) ∷ [];
+  bodies = fill (record { key = Sys; side = User; items = logs ++ Ret ∷ []; parts = [] } ∷ [])
 }
 
 abbrev pub image_of : FirstForm → KernelImage
-image_of d = image_from (statements d) d.task d.logged
+image_of d = image_with (text_bytes (statements d)) (place (places text_base (statements d)) d.task) (map Log d.logged)
 
 abbrev pub script_of : FirstForm → List Line
 script_of d = replicate d.turns (Turn 0)

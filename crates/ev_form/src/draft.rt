@@ -4,7 +4,7 @@ ghost use Rattle.std.specs.Prelude.{◌≡◌, ◌≤◌, ℕ, List, map, length
 ghost use Rattle.std.specs.Option.{option_map};
 ghost use Rattle.ev_form.specs.FirstForm.{CodeLine, head_lines};
 ghost use Rattle.ev_form.specs.FormImage.{statement_of};
-ghost use Rattle.ev_form.specs.Parse.{draft, series, first_in, code_in, task_in, log_in, turn_in, with_turns, with_logs, with_task, with_code, with_head, behind};
+ghost use Rattle.ev_form.specs.Parse.{series, first_in, code_in, task_in, log_in, turn_in, with_turns, with_logs, with_task, with_code, with_head, behind};
 ghost use Rattle.ev_body.specs.declared.item.Item.TheVariants as Item;
 ghost use Rattle.ev_form.specs.Draft.{draft_of};
 
@@ -90,20 +90,11 @@ fn with_code(alloc: Global, lines: &[&[u8]]) -> Result<Option<Draft>, AllocError
 }
 
 /// The draft that stands in these lines.
-fn in_lines(alloc: Global, lines: &[&[u8]]) -> Result<Option<Draft>, AllocError>
+pub fn in_lines(alloc: Global, lines: &[&[u8]]) -> Result<Option<Draft>, AllocError>
     ensures { IfOk result (λ o. o ≡ option_map draft_of (with_head (behind head_lines (map (λ x. x.now) lines.now)))) }
 {
     match behind(lines, &["image 1", "processors 1", "nest 1", "text"]) {
         None => Ok(None),
         Some(rest) => with_code(alloc, rest),
     }
-}
-
-/// The draft that these bytes are.
-#[tactic(auto, unfolding(crate::specs::Parse::draft))]
-pub fn draft_in(alloc: Global, bytes: &[u8]) -> Result<Option<Draft>, AllocError>
-    ensures { IfOk result (λ o. o ≡ option_map draft_of (draft bytes.now)) }
-{
-    let lines = parts(alloc, bytes, b'\n')?;
-    in_lines(alloc, &lines)
 }

@@ -5,3 +5,4 @@ mod words;
 mod lines;
 mod order;
 mod draft;
+mod document;
