@@ -4,3 +4,4 @@ pub mod Series
 pub mod Starts
 pub mod Splitting
 pub mod LineLaws
+pub mod DraftLaws

@@ -24,7 +24,7 @@ IsSoFar f g lines n kept = kept ++ map g (series f (texts (drop n lines))).0 ≡
 
 -- ---- what stands behind a series
 
-abbrev by_first : {A : Type 0} → (List ℕ → Option A) → List ℕ → List (List ℕ) → Option A → List A × List (List ℕ)
+abbrev pub by_first : {A : Type 0} → (List ℕ → Option A) → List ℕ → List (List ℕ) → Option A → List A × List (List ℕ)
 by_first f line ls (Some x) = onto x (series f ls)
 by_first f line ls None = ([], line ∷ ls)
 
