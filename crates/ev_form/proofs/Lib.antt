@@ -5,3 +5,5 @@ pub mod Starts
 pub mod Splitting
 pub mod LineLaws
 pub mod DraftLaws
+pub mod ImageLaws
+pub mod WholeLaws

@@ -45,7 +45,7 @@ pub splits : {A : Type 0} (f : List ℕ → Option A) (ls : List (List ℕ)) →
 splits f [] = record { within = omega arith; behind = refl }
 splits {A} f (line ∷ ls) = subst (λ (p : List A × List (List ℕ)). Splits (line ∷ ls) p) (sym (series_first f line ls (f line) refl)) (splits_by f line ls (f line) (splits f ls))
 
-length-mapped : {A B : Type 0} (g : A → B) (xs : List A) → length (map g xs) ≡ length xs
+pub length-mapped : {A B : Type 0} (g : A → B) (xs : List A) → length (map g xs) ≡ length xs
 length-mapped g [] = refl
 length-mapped g (x ∷ xs) = ap suc (length-mapped g xs)
 

@@ -2,3 +2,4 @@ pub mod FirstForm
 pub mod FormImage
 pub mod Parse
 pub mod Draft
+pub mod Documents

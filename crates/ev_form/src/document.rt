@@ -1,22 +1,35 @@
 // Documents: a kernel image and a script.
 
-ghost use Rattle.std.specs.Prelude.{◌≡◌, ◌≤◌, ◌++◌, ◌∷◌, [], ℕ, length, map, IfOk, Some};
+ghost use Rattle.std.specs.Prelude.{◌≡◌, ◌≤◌, ◌++◌, ◌∷◌, [], ℕ, true, length, map, IfOk, Some};
 ghost use Rattle.ev_body.specs.WellFormed.{IsImage};
 ghost use Rattle.ev_body.specs.declared.item.Item.TheVariants as Item;
 ghost use Rattle.ev_asm.specs.Assembly.{is_name};
-ghost use Rattle.ev_asm.specs.Assembled.{gives_label};
+ghost use Rattle.ev_isa.specs.Pages.{text_base};
+ghost use Rattle.ev_asm.specs.Assembled.{gives_label, are_instructions, assembled};
 ghost use Rattle.ev_body.specs.declared.key.Key.TheVariants as Key;
 ghost use Rattle.ev_body.specs.declared.key.Side.TheVariants as Side;
 ghost use Rattle.ev_body.specs.Bodies.{fill};
 ghost use Rattle.ev_form.specs.FirstForm.{FirstForm};
 ghost use Rattle.ev_form.specs.FormImage.{image_with};
-ghost use Rattle.ev_form.specs.Draft.{is_jump, jumps_last, start_in, plain_body};
+ghost use Rattle.ev_form.specs.Draft.{is_jump, jumps_last, start_in, plain_body, IsDraftOf, ok_text, is_small_draft, is_whole};
+ghost use Rattle.ev_form.specs.Documents.{document_of};
+ghost use Rattle.ev_form.specs.Parse.{some_if};
 
 use ev_abstract::Line;
-use ev_asm::Stmt;
+use crate::draft::Draft;
+use ev_asm::{AsmFault, Stmt, Text, assemble};
 use ev_body::{Body, Image, Item, Key, Side, TaskSpec};
-use ev_isa::{Many, Name};
+use ev_isa::{Many, Name, NoMemory};
 use std::alloc::{AllocError, Global};
+
+/// The first address of the text.
+const TEXT_BASE: u64 = 0x400000;
+/// How many bytes the text has at most.
+const TEXT_LIMIT: usize = 65_520;
+/// How many items a body has at most.
+const ITEM_LIMIT: usize = 256;
+/// How many lines a script has at most.
+const LINE_LIMIT: usize = 200_000;
 
 /// What a document says: a kernel image and a script. Own.
 #[derive(Debug, Drop)]
@@ -138,4 +151,47 @@ fn image(alloc: Global, text: Many<u8>, start: u64, logs: Many<Item>) -> Result<
         tasks: one(alloc, one(alloc, task)?)?,
         bodies: bodies(alloc, logs)?,
     })
+}
+
+/// The text that the statements assemble to, where they do.
+fn text_in(alloc: Global, stmts: &[Stmt]) -> Result<Option<Text>, NoMemory>
+    requires { are_instructions stmts.now ≡ true }
+    ensures { IfOk result (λ o. o ≡ ok_text (assembled stmts.now text_base 65520)) }
+{
+    match assemble(alloc, stmts, TEXT_BASE, TEXT_LIMIT) {
+        Ok(text) => Ok(Some(text)),
+        Err(AsmFault::NoMemory) => Err(NoMemory),
+        Err(_) => Ok(None),
+    }
+}
+
+/// Whether the last statement is a jump, and items and lines of the script are few enough.
+fn is_small(draft: &Draft) -> bool
+    ensures { result ≡ is_small_draft draft.now }
+{
+    jumps_last(draft.stmts.as_slice()) && draft.logs.len() < ITEM_LIMIT && draft.script.len() <= LINE_LIMIT
+}
+
+/// The document of a draft, where its labels and limits are as they should be.
+pub fn whole_document(alloc: Global, draft: Draft) -> Result<Option<Document>, NoMemory>
+    requires { (d : FirstForm) × IsDraftOf draft d }
+    ensures { (d : FirstForm) → IsDraftOf draft d → IfOk result (λ o. o ≡ some_if (is_whole d) (document_of d)) }
+{
+    if !is_small(&draft) {
+        return Ok(None);
+    }
+    let stmts = draft.stmts.as_slice();
+    let Some(text) = text_in(alloc, stmts)? else {
+        return Ok(None);
+    };
+    let Some(start) = start(stmts, text.places.as_slice(), &draft.task) else {
+        return Ok(None);
+    };
+    match image(alloc, text.bytes, start, draft.logs) {
+        Ok(image) => Ok(Some(Document {
+            image,
+            script: draft.script,
+        })),
+        Err(_) => Err(NoMemory),
+    }
 }
