@@ -7,3 +7,4 @@ pub mod LineLaws
 pub mod DraftLaws
 pub mod ImageLaws
 pub mod WholeLaws
+pub mod ReadLaws

@@ -6,3 +6,7 @@ mod lines;
 mod order;
 mod draft;
 mod document;
+mod read;
+
+pub use document::Document;
+pub use read::read_form;
