@@ -8,3 +8,4 @@ pub mod DraftLaws
 pub mod ImageLaws
 pub mod WholeLaws
 pub mod ReadLaws
+pub mod FormLaws

@@ -3,3 +3,4 @@ pub mod FormImage
 pub mod Parse
 pub mod Draft
 pub mod Documents
+pub mod Laws

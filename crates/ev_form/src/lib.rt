@@ -10,3 +10,5 @@ mod read;
 
 pub use document::Document;
 pub use read::read_form;
+mod laws;
+pub use laws::first_form;

@@ -1,0 +1,11 @@
+// Laws of the first form.
+
+ghost use Rattle.ev_form.specs.Laws.{IsOneDocument, GivesImage, GivesScript};
+
+/// No bytes are the document of two forms, and the image and the script of a form are an image and
+/// a script of it.
+pub fn first_form()
+    ensures one { IsOneDocument }
+    ensures image { GivesImage }
+    ensures script { GivesScript }
+{}
