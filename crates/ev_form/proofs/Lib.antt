@@ -9,3 +9,4 @@ pub mod ImageLaws
 pub mod WholeLaws
 pub mod ReadLaws
 pub mod FormLaws
+pub mod BuiltLaws
