@@ -1,6 +1,6 @@
 -- The image of a form can run today: its text is the spellings of instructions, and user code never leaves them.
 use Rattle.std.proofs.Common.{◌≡◌, ℕ, ℤ, pos, negsuc, zero, suc, ◌+◌, ◌-◌, ◌*◌, ◌/◌, ◌%◌, ◌^◌, ◌<◌, ◌≤◌, Bool, true, false, ◌&&◌, not, eqb, ltb, leb, List, [], ◌∷◌, ◌++◌, length, map, drop, subst, Option, Some, None, refl, sym, ap, ◌∙◌, arith, append_assoc}
-use Rattle.std.specs.Prelude.{is_some, unwrap_or, ◌==◌, if◌then◌else◌}
+use Rattle.std.specs.Prelude.{is_some, unwrap_or, replicate, ◌||◌, ◌==◌, if◌then◌else◌}
 use Rattle.std.specs.List.{list_all, list_any}
 use Rattle.std.specs.Int.{w32, w64, cast_unsigned}
 use Rattle.std.specs.Int.RustNames.{FitsSigned}
@@ -144,3 +144,167 @@ later env a x (Add d s) cs h = some_if_at a x (Ins.Alu AluOp.Add d s) _ h
 later env a x (Jmp name) cs h =
     some_if_at a x (jump_to env a name) _ (subst (λ (k : ℕ). is_some (instruction_from (a + k) (program_of env (after a (Jmp name)) cs) x) ≡ true) (sym (jump_size env a name)) h)
 later env a x Syscall cs h = some_if_at a x Ins.Syscall _ h
+
+abbrev labels_of : List CodeLine → List (List ℕ)
+labels_of cs = stmt_labels (map statement_of cs)
+
+abbrev place_in : ℕ → List CodeLine → List ℕ → ℕ
+place_in a cs name = place (places a (map statement_of cs)) name
+
+abbrev BeginsIn : Places → ℕ → List CodeLine → ℕ → Type 0
+BeginsIn env a cs x = is_some (instruction_from a (program_of env a cs) x) ≡ true
+
+label_by : (env : Places) (a : ℕ) (n name : List ℕ) (k : CodeLine) (cs : List CodeLine) (b : Bool) → is_name n name ≡ b → ends_in_jump (k ∷ cs) ≡ true → is_new_name (labels_of (Label n ∷ k ∷ cs)) name ≡ false
+    → (is_new_name (labels_of (k ∷ cs)) name ≡ false → BeginsIn env (after a (Label n)) (k ∷ cs) (place_in (after a (Label n)) (k ∷ cs) name)) → BeginsIn env a (Label n ∷ k ∷ cs) (place_in a (Label n ∷ k ∷ cs) name)
+unfolding places
+label_by env a n name k cs true e h t more =
+    ap (λ (b : Bool). is_some (instruction_from a (program_of env a (Label n ∷ k ∷ cs)) (if b then a else place_in a (k ∷ cs) name))) e ∙ first_begins env a (Label n) (k ∷ cs) h
+label_by env a n name k cs false e h t more =
+    let new : is_new_name (labels_of (k ∷ cs)) name ≡ false = sym (ap (λ (b : Bool). not (b || list_any (λ m. is_name m name) (labels_of (k ∷ cs)))) e) ∙ t in
+    ap (λ (b : Bool). is_some (instruction_from a (program_of env a (Label n ∷ k ∷ cs)) (if b then a else place_in a (k ∷ cs) name))) e
+    ∙ later env a (place_in a (k ∷ cs) name) (Label n) (k ∷ cs)
+        (sym (ap (λ (y : ℕ). is_some (instruction_from (after a (Label n)) (program_of env (after a (Label n)) (k ∷ cs)) (place_in y (k ∷ cs) name))) (label_after a n)) ∙ more new)
+
+-- an instruction begins at each label
+label_begins : (env : Places) (a : ℕ) (name : List ℕ) (cs : List CodeLine) → ends_in_jump cs ≡ true → is_new_name (labels_of cs) name ≡ false → BeginsIn env a cs (place_in a cs name)
+unfolding places
+label_begins env a name [] h t = absurd cc
+label_begins env a name (Label n ∷ []) h t = absurd cc
+label_begins env a name (Label n ∷ k ∷ cs) h t = label_by env a n name k cs (is_name n name) refl h t (λ u. label_begins env (after a (Label n)) name (k ∷ cs) h u)
+label_begins env a name (Mov d n ∷ []) h t = absurd cc
+label_begins env a name (Mov d n ∷ k ∷ cs) h t = later env a _ (Mov d n) (k ∷ cs) (label_begins env (after a (Mov d n)) name (k ∷ cs) h t)
+label_begins env a name (Add d s ∷ []) h t = absurd cc
+label_begins env a name (Add d s ∷ k ∷ cs) h t = later env a _ (Add d s) (k ∷ cs) (label_begins env (after a (Add d s)) name (k ∷ cs) h t)
+label_begins env a name (Jmp n ∷ []) h t = absurd cc
+label_begins env a name (Jmp n ∷ k ∷ cs) h t = later env a _ (Jmp n) (k ∷ cs) (label_begins env (after a (Jmp n)) name (k ∷ cs) h t)
+label_begins env a name (Syscall ∷ []) h t = absurd cc
+label_begins env a name (Syscall ∷ k ∷ cs) h t = later env a _ Syscall (k ∷ cs) (label_begins env (after a Syscall) name (k ∷ cs) h t)
+
+-- ---- each instruction leads to the beginning of one
+
+unnegated : (a : Bool) → not a ≡ true → a ≡ false
+unnegated true h = absurd cc
+unnegated false h = refl
+
+-- where the label of a jump is
+pub record IsTarget (program : List Ins) (target : ℕ) : Type 0 where
+  pub begun : begins program target ≡ true
+  pub low : 0x400000 ≤ target
+  pub high : target ≤ 0x400000 + 65520
+
+pub record Leads (program : List Ins) (a : ℕ) (is : List Ins) : Type 0 where
+  pub lead : all_lead program a is ≡ true
+  pub encodable : AllEncodable is
+
+-- the lines at an address within the text
+pub record IsWithin (a : ℕ) (cs : List CodeLine) : Type 0 where
+  pub low : 0x400000 ≤ a
+  pub high : a + total_size (map statement_of cs) ≤ 0x400000 + 65520
+
+within_next : (a : ℕ) (c : CodeLine) (cs : List CodeLine) → IsWithin a (c ∷ cs) → IsWithin (after a c) cs
+within_next a c cs w = record { low = omega (arith, w.low); high = omega (arith, w.high) }
+
+jump_near : (env : Places) (program : List Ins) (a : ℕ) (name : List ℕ) (cs : List CodeLine) → IsWithin a (Jmp name ∷ cs) → IsTarget program (place env name) → IsNear (place env name) (after a (Jmp name))
+jump_near env program a name cs w t = record { ahead = omega (arith, w.low, w.high, t.low, t.high); behind = omega (arith, w.low, w.high, t.low, t.high); small = omega (arith, w.low, w.high, t.low, t.high) }
+
+jump_leads : (env : Places) (program : List Ins) (a : ℕ) (name : List ℕ) (cs : List CodeLine) → IsWithin a (Jmp name ∷ cs) → IsTarget program (place env name)
+    → Leads program (after a (Jmp name)) (program_of env (after a (Jmp name)) cs) → Leads program a (program_of env a (Jmp name ∷ cs))
+unfolding is_instruction
+jump_leads env program a name cs w t l =
+    let d = distance_is (place env name) (after a (Jmp name)) (jump_near env program a name cs w t) in
+    let next : a + length (spelling (jump_to env a name)) ≡ after a (Jmp name) = ap (λ k. a + k) (jump_size env a name) in
+    let to : leads_to a (jump_to env a name) ≡ place env name = ap (λ k. displaced k (distance (place env name) (after a (Jmp name)))) next ∙ d.1 in
+    record {
+      lead = and _ _ (ap (begins program) to ∙ t.begun) (ap (λ k. all_lead program k (program_of env (after a (Jmp name)) cs)) next ∙ l.lead);
+      encodable = (record { fields = d.0; counts = refl }, l.encodable);
+    }
+
+leads : (env : Places) (program : List Ins) (labels : List (List ℕ)) → ((name : List ℕ) → is_new_name labels name ≡ false → IsTarget program (place env name))
+    → (a : ℕ) (cs : List CodeLine) → IsWithin a cs → ends_in_jump cs ≡ true → list_all is_code_line cs ≡ true → list_all (λ c. not (leads_nowhere labels (statement_of c))) cs ≡ true
+    → ((x : ℕ) → BeginsIn env a cs x → begins program x ≡ true) → Leads program a (program_of env a cs)
+unfolding leads_nowhere size is_instruction
+leads env program labels t a [] w h i j H = absurd cc
+leads env program labels t a (Label n ∷ []) w h i j H = absurd cc
+leads env program labels t a (Label n ∷ k ∷ cs) w h i j H =
+    let l = leads env program labels t (after a (Label n)) (k ∷ cs) (within_next a (Label n) (k ∷ cs) w) h (both _ (list_all is_code_line (k ∷ cs)) i).1 j (λ x b. H x (later env a x (Label n) (k ∷ cs) b)) in
+    record { lead = subst (λ (y : ℕ). all_lead program y (program_of env (after a (Label n)) (k ∷ cs)) ≡ true) (label_after a n) l.lead; encodable = l.encodable }
+leads env program labels t a (Mov d n ∷ []) w h i j H = absurd cc
+leads env program labels t a (Mov d n ∷ k ∷ cs) w h i j H =
+    let p = both (is_code_line (Mov d n)) (list_all is_code_line (k ∷ cs)) i in
+    let l = leads env program labels t (after a (Mov d n)) (k ∷ cs) (within_next a (Mov d n) (k ∷ cs) w) h p.1 j (λ x b. H x (later env a x (Mov d n) (k ∷ cs) b)) in
+    record {
+      lead = and _ _ (H (after a (Mov d n)) (later env a (after a (Mov d n)) (Mov d n) (k ∷ cs) (first_begins env (after a (Mov d n)) k cs h))) l.lead;
+      encodable = (record { fields = (ltb-true d 16 (both (ltb d 16) (is_some (number_of n)) p.0).0, number_small n); counts = refl }, l.encodable);
+    }
+leads env program labels t a (Add d s ∷ []) w h i j H = absurd cc
+leads env program labels t a (Add d s ∷ k ∷ cs) w h i j H =
+    let p = both (is_code_line (Add d s)) (list_all is_code_line (k ∷ cs)) i in
+    let r = both (ltb d 16) (ltb s 16) p.0 in
+    let l = leads env program labels t (after a (Add d s)) (k ∷ cs) (within_next a (Add d s) (k ∷ cs) w) h p.1 j (λ x b. H x (later env a x (Add d s) (k ∷ cs) b)) in
+    record {
+      lead = and _ _ (H (after a (Add d s)) (later env a (after a (Add d s)) (Add d s) (k ∷ cs) (first_begins env (after a (Add d s)) k cs h))) l.lead;
+      encodable = (record { fields = (ltb-true d 16 r.0, ltb-true s 16 r.1); counts = refl }, l.encodable);
+    }
+leads env program labels t a (Jmp n ∷ []) w h i j H =
+    jump_leads env program a n [] w (t n (unnegated (is_new_name labels n) (both (not (is_new_name labels n)) true j).0)) (record { lead = refl; encodable = tt })
+leads env program labels t a (Jmp n ∷ k ∷ cs) w h i j H =
+    let q = both (not (is_new_name labels n)) (list_all (λ c. not (leads_nowhere labels (statement_of c))) (k ∷ cs)) j in
+    jump_leads env program a n (k ∷ cs) w (t n (unnegated (is_new_name labels n) q.0))
+    (leads env program labels t (after a (Jmp n)) (k ∷ cs) (within_next a (Jmp n) (k ∷ cs) w) h (both _ (list_all is_code_line (k ∷ cs)) i).1 q.1 (λ x b. H x (later env a x (Jmp n) (k ∷ cs) b)))
+leads env program labels t a (Syscall ∷ []) w h i j H = absurd cc
+leads env program labels t a (Syscall ∷ k ∷ cs) w h i j H =
+    let l = leads env program labels t (after a Syscall) (k ∷ cs) (within_next a Syscall (k ∷ cs) w) h i j (λ x b. H x (later env a x Syscall (k ∷ cs) b)) in
+    record {
+      lead = and _ _ (H (after a Syscall) (later env a (after a Syscall) Syscall (k ∷ cs) (first_begins env (after a Syscall) k cs h))) l.lead;
+      encodable = (record { fields = tt; counts = refl }, l.encodable);
+    }
+
+-- ---- labels of jumps are there
+
+all_there : (labels : List (List ℕ)) (cs : List CodeLine) (n : ℕ) (before : List Stmt) → first_at (λ x s. leads_nowhere labels s) n before (map statement_of cs) ≡ None
+    → list_all (λ c. not (leads_nowhere labels (statement_of c))) cs ≡ true
+unfolding first_at
+all_there labels [] n before h = refl
+all_there labels (c ∷ cs) n before h =
+    let k = none_lost_by (λ x s. leads_nowhere labels s) n before (statement_of c) (map statement_of cs) (leads_nowhere labels (statement_of c)) refl h in
+    and _ _ (ap not k.0) (all_there labels cs (suc n) (before ++ statement_of c ∷ []) k.1)
+
+-- ---- the image
+
+bodies_built : (logged : List ℕ) → list_all is_built_item (map Log logged ++ Ret ∷ []) ≡ true
+unfolding is_built_item
+bodies_built [] = refl
+bodies_built (x ∷ logged) = bodies_built logged
+
+pub is_program : (d : FirstForm) → IsForm d → IsProgram (text_bytes (statements d)) (place (places text_base (statements d)) d.task) (program_of (places text_base (statements d)) text_base d.code)
+is_program d f =
+    let env : Places = places text_base (statements d) in
+    let program : List Ins = program_of (places text_base (statements d)) text_base d.code in
+    let k = assembles (statements d) text_base 65520 f.assembles in
+    let few = total_fits (statements d) 0 65520 k.fits in
+    let target : (name : List ℕ) → is_new_name (labels_of d.code) name ≡ false → IsTarget program (place env name) = λ name t.
+        let b = place_bounds (statements d) text_base name t in
+        record { begun = label_begins env text_base name d.code f.last t; low = b.0; high = omega (arith, b.1, few) } in
+    let l = leads env program (labels_of d.code) target text_base d.code (record { low = omega arith; high = omega (arith, few) }) f.last f.lines.code (all_there (labels_of d.code) d.code 0 [] k.labels_there) (λ x b. b) in
+    record {
+      text_is = spelled_is env text_base d.code;
+      built = built_is env text_base d.code;
+      encodable = l.encodable;
+      starts = (target d.task f.task_there).begun;
+      closed = l.lead;
+    }
+
+pub is_built : (d : FirstForm) → IsForm d → IsBuilt (image_of d)
+unfolding image_with key_number covers is_user_side is_built_item
+is_built d f = record {
+  one_processor = refl;
+  no_pages = refl;
+  no_cells = refl;
+  task = record { start = place (places text_base (statements d)) d.task; gs = 0; regs = replicate 16 0 };
+  one_task = refl;
+  no_base = refl;
+  program = program_of (places text_base (statements d)) text_base d.code;
+  is_program = is_program d f;
+  bodies = ap (λ (b : Bool). b && true) (bodies_built d.logged);
+  system_calls = refl;
+}
