@@ -1,35 +1,32 @@
 -- The image of a form can run today: its text is the spellings of instructions, and user code never leaves them.
-use Rattle.std.proofs.Common.{◌≡◌, ℕ, ℤ, pos, negsuc, zero, suc, ◌+◌, ◌-◌, ◌*◌, ◌/◌, ◌%◌, ◌^◌, ◌<◌, ◌≤◌, Bool, true, false, ◌&&◌, not, eqb, ltb, leb, List, [], ◌∷◌, ◌++◌, length, map, drop, subst, Option, Some, None, refl, sym, ap, ◌∙◌, arith, append_assoc}
+use Rattle.std.proofs.Common.{◌≡◌, ℕ, ℤ, pos, negsuc, suc, ◌+◌, ◌-◌, ◌%◌, ◌^◌, ◌<◌, ◌≤◌, Bool, true, false, ◌&&◌, not, ltb, leb, List, [], ◌∷◌, ◌++◌, length, map, drop, subst, Option, Some, None, refl, sym, ap, ◌∙◌, arith}
 use Rattle.std.specs.Prelude.{is_some, unwrap_or, replicate, ◌||◌, ◌==◌, if◌then◌else◌}
 use Rattle.std.specs.List.{list_all, list_any}
-use Rattle.std.specs.Int.{w32, w64, cast_unsigned}
+use Rattle.std.specs.Int.{w32}
 use Rattle.std.specs.Int.RustNames.{FitsSigned}
-use Rattle.std.proofs.lemmas.Bool.{ltb-true, eq-eqb, lt-ltb, leb-true, leb-false}
+use Rattle.std.proofs.lemmas.Bool.{ltb-true, eq-eqb, leb-true, leb-false}
 use Rattle.ev_isa.specs.Pages.{text_base}
-use Rattle.ev_isa.specs.Word.{wrap, sign_extend, displaced}
+use Rattle.ev_isa.specs.Word.{displaced}
 use Rattle.ev_isa.specs.Spelling.{spelling}
 use Rattle.ev_isa.specs.Instruction.{is_instruction}
 use Rattle.ev_isa.specs.declared.instruction.Ins.{Ins}
-use Rattle.ev_isa.specs.declared.instruction.Ins.TheVariants as Ins
 use Rattle.ev_isa.specs.declared.instruction.AluOp.TheVariants as AluOp
-use Rattle.ev_code.specs.Coding.{IsEncodable}
 use Rattle.ev_io.specs.Number.{number_of, is_decimal, is_hexadecimal, below_word}
 use Rattle.ev_io.specs.Number as number
 use Rattle.ev_asm.specs.declared.statement.Stmt.{Stmt}
-use Rattle.ev_asm.specs.declared.statement.Stmt.TheVariants as Stmt
 use Rattle.ev_asm.specs.Assembly.{Places, is_name, size, total_size, places, place, distance, stmt_bytes, code}
-use Rattle.ev_asm.specs.Assembled.{stmt_labels, is_new_name, leads_nowhere, first_at, assembled}
+use Rattle.ev_asm.specs.Assembled.{stmt_labels, is_new_name, leads_nowhere, first_at}
 use Rattle.ev_asm.proofs.Statements.{bytes_size, total_fits, place_bounds, none_lost_by}
 use Rattle.ev_built.specs.Program.{spelled, instruction_from, begins, leads_to, all_lead, is_built_instruction, all_built, AllEncodable, IsProgram}
-use Rattle.ev_built.specs.Built.{is_built_item, is_built_body, IsBuilt}
+use Rattle.ev_built.specs.Built.{is_built_item, IsBuilt}
 use Rattle.ev_body.specs.declared.item.Item.TheVariants.{Log, Ret}
 use Rattle.ev_body.specs.Bodies.{key_number, covers}
 use Rattle.ev_body.specs.WellFormed.{is_user_side}
 use Rattle.ev_form.specs.FirstForm.{FirstForm, CodeLine, Label, Mov, Add, Jmp, Syscall}
-use Rattle.ev_form.specs.FormImage.{statement_of, statements, text_bytes, image_with, image_of, is_code_line, is_jump_line, ends_in_jump, is_assembled, HasLines, IsForm}
+use Rattle.ev_form.specs.FormImage.{statement_of, statements, text_bytes, image_with, image_of, is_code_line, ends_in_jump, IsForm}
 use Rattle.ev_form.proofs.Names.{both}
 use Rattle.ev_form.proofs.Splitting.{and}
-use Rattle.ev_form.proofs.ImageLaws.{Assembles, assembles}
+use Rattle.ev_form.proofs.ImageLaws.{assembles}
 
 -- ---- the instructions of lines at an address, where jumps lead to these places
 
@@ -163,7 +160,7 @@ label_by env a n name k cs false e h t more =
     let new : is_new_name (labels_of (k ∷ cs)) name ≡ false = sym (ap (λ (b : Bool). not (b || list_any (λ m. is_name m name) (labels_of (k ∷ cs)))) e) ∙ t in
     ap (λ (b : Bool). is_some (instruction_from a (program_of env a (Label n ∷ k ∷ cs)) (if b then a else place_in a (k ∷ cs) name))) e
     ∙ later env a (place_in a (k ∷ cs) name) (Label n) (k ∷ cs)
-        (sym (ap (λ (y : ℕ). is_some (instruction_from (after a (Label n)) (program_of env (after a (Label n)) (k ∷ cs)) (place_in y (k ∷ cs) name))) (label_after a n)) ∙ more new)
+    (sym (ap (λ (y : ℕ). is_some (instruction_from (after a (Label n)) (program_of env (after a (Label n)) (k ∷ cs)) (place_in y (k ∷ cs) name))) (label_after a n)) ∙ more new)
 
 -- an instruction begins at each label
 label_begins : (env : Places) (a : ℕ) (name : List ℕ) (cs : List CodeLine) → ends_in_jump cs ≡ true → is_new_name (labels_of cs) name ≡ false → BeginsIn env a cs (place_in a cs name)
@@ -283,8 +280,8 @@ is_program d f =
     let k = assembles (statements d) text_base 65520 f.assembles in
     let few = total_fits (statements d) 0 65520 k.fits in
     let target : (name : List ℕ) → is_new_name (labels_of d.code) name ≡ false → IsTarget program (place env name) = λ name t.
-        let b = place_bounds (statements d) text_base name t in
-        record { begun = label_begins env text_base name d.code f.last t; low = b.0; high = omega (arith, b.1, few) } in
+    let b = place_bounds (statements d) text_base name t in
+    record { begun = label_begins env text_base name d.code f.last t; low = b.0; high = omega (arith, b.1, few) } in
     let l = leads env program (labels_of d.code) target text_base d.code (record { low = omega arith; high = omega (arith, few) }) f.last f.lines.code (all_there (labels_of d.code) d.code 0 [] k.labels_there) (λ x b. b) in
     record {
       text_is = spelled_is env text_base d.code;

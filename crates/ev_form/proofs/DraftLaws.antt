@@ -1,5 +1,5 @@
 -- A document's bytes are read as what they were written from, and what is read makes up the bytes.
-use Rattle.std.proofs.Common.{◌≡◌, ℕ, zero, suc, ◌+◌, Bool, true, false, ◌&&◌, not, List, [], ◌∷◌, ◌++◌, length, map, subst, Option, Some, None, refl, sym, ap, ◌∙◌, arith, append_assoc}
+use Rattle.std.proofs.Common.{◌≡◌, ℕ, zero, suc, Bool, true, false, ◌&&◌, List, [], ◌∷◌, ◌++◌, length, map, subst, Option, Some, None, refl, sym, ap, ◌∙◌, append_assoc}
 use Rattle.std.specs.Prelude.{codes, replicate}
 use Rattle.std.specs.List.{list_all}
 use Rattle.std.specs.Option.{option_map}
@@ -9,10 +9,10 @@ use Rattle.std.proofs.lemmas.List.Folds.{list_all-append}
 use Rattle.ev_body.specs.WellFormed.{is_local}
 use Rattle.ev_form.specs.FirstForm.{FirstForm, CodeLine, is_name, head_lines, code_line, task_line, log_line, body_end_lines, turn_line, lines_of, text_of}
 use Rattle.ev_form.specs.FormImage.{is_code_line, HasLines}
-use Rattle.ev_form.specs.Parse.{parts, some_if, behind, first_in, series, onto, is_end, code_in, task_in, log_in, turn_in, with_turns, with_script, with_logs, with_body, with_task, with_text, with_code, with_head, draft, one_word, label_in}
+use Rattle.ev_form.specs.Parse.{parts, behind, first_in, series, onto, is_end, code_in, task_in, log_in, turn_in, with_turns, with_script, with_logs, with_body, with_task, with_text, with_code, with_head, draft, one_word, label_in}
 use Rattle.ev_form.proofs.Names.{both}
 use Rattle.ev_form.proofs.Series.{by_first, series_first}
-use Rattle.ev_form.proofs.Splitting.{lacks, all_lack, and, with_feeds, parts_lines, lines_joined}
+use Rattle.ev_form.proofs.Splitting.{lacks, all_lack, and, parts_lines, lines_joined}
 use Rattle.ev_form.proofs.LineLaws.{IsReader, code_reader, log_reader, task_reader, turn_reader, same_bytes, if_some}
 
 -- ---- lines in order
@@ -68,10 +68,6 @@ log_lines logged n = map log_line logged ++ (body_end_lines ++ turn_lines n)
 abbrev all_lines : FirstForm → List (List ℕ)
 all_lines d = head_lines ++ (map code_line d.code ++ (codes "endtext" ∷ task_line d.task ∷ codes "body sys user" ∷ log_lines d.logged d.turns))
 
--- a part of the lines with nothing behind it
-abbrev closed : List (List ℕ) → List (List ℕ)
-closed ls = ls ++ [] ∷ []
-
 lines_closed : (d : FirstForm) → lines_of d ++ [] ∷ [] ≡ all_lines d
 lines_closed d = simp append_assoc
 
@@ -125,7 +121,6 @@ draft_again d h =
 
 -- ---- what is read makes up the bytes
 
-
 end_is_by : (a b : List ℕ) → (bytes_eq a (codes "end") && bytes_eq b []) ≡ true → a ∷ b ∷ [] ≡ codes "end" ∷ [] ∷ []
 end_is_by a b h =
     let k = both (bytes_eq a (codes "end")) (bytes_eq b []) h in
@@ -154,8 +149,12 @@ turns_sound code task logged ls d h =
     let s = series_sound turn_in (λ _. true) (λ _. turn_line) turn_reader ls in
     let k = if_some (is_end (series turn_in ls).1) (let e : FirstForm = record { code = code; task = task; logged = logged; turns = length (series turn_in ls).0 } in e) d h in
     subst (λ (e : FirstForm). HasTurns code task logged ls e) k.1
-    (record { code_is = refl; task_is = refl; logged_is = refl;
-        lines = s.lines ∙ ap (λ (r : List (List ℕ)). r ++ (series turn_in ls).1) (turned (series turn_in ls).0) ∙ ap (λ (r : List (List ℕ)). replicate (length (series turn_in ls).0) turn_line ++ r) (end_is (series turn_in ls).1 k.0) })
+    (record {
+      code_is = refl;
+      task_is = refl;
+      logged_is = refl;
+      lines = s.lines ∙ ap (λ (r : List (List ℕ)). r ++ (series turn_in ls).1) (turned (series turn_in ls).0) ∙ ap (λ (r : List (List ℕ)). replicate (length (series turn_in ls).0) turn_line ++ r) (end_is (series turn_in ls).1 k.0);
+    })
 
 pub record HasLogs (code : List CodeLine) (task : List ℕ) (ls : List (List ℕ)) (d : FirstForm) : Type 0 where
   pub code_is : d.code ≡ code
@@ -168,9 +167,13 @@ script_sound : (code : List CodeLine) (task : List ℕ) (ls : List (List ℕ)) (
 script_sound code task ls p d None e s h = absurd cc
 script_sound code task ls p d (Some r) e s h =
     let t = turns_sound code task p.0 r d h in
-    record { code_is = t.code_is; task_is = t.task_is; are_local = ap (list_all is_local) t.logged_is ∙ s.are;
-        lines = s.lines ∙ ap (λ (x : List (List ℕ)). map log_line p.0 ++ x) (behind_sound body_end_lines p.1 r e ∙ ap (λ (x : List (List ℕ)). body_end_lines ++ x) t.lines)
-            ∙ ap (λ (x : List ℕ). log_lines x d.turns) (sym t.logged_is) }
+    record {
+      code_is = t.code_is;
+      task_is = t.task_is;
+      are_local = ap (list_all is_local) t.logged_is ∙ s.are;
+      lines = s.lines ∙ ap (λ (x : List (List ℕ)). map log_line p.0 ++ x) (behind_sound body_end_lines p.1 r e ∙ ap (λ (x : List (List ℕ)). body_end_lines ++ x) t.lines)
+          ∙ ap (λ (x : List ℕ). log_lines x d.turns) (sym t.logged_is);
+    }
 
 pub record HasTask (code : List CodeLine) (ls : List (List ℕ)) (d : FirstForm) : Type 0 where
   pub code_is : d.code ≡ code
@@ -183,9 +186,13 @@ body_sound : (code : List CodeLine) (task l : List ℕ) (ls : List (List ℕ)) (
 body_sound code task l ls d None e n t h = absurd cc
 body_sound code task l ls d (Some r) e n t h =
     let k = script_sound code task r (series log_in r) d (behind body_end_lines (series log_in r).1) refl (series_sound log_in is_local log_line log_reader r) h in
-    record { code_is = k.code_is; task_named = ap is_name k.task_is ∙ n; are_local = k.are_local;
-        lines = ap (λ (x : List ℕ). x ∷ ls) (t ∙ ap task_line (sym k.task_is)) ∙ ap (λ (x : List (List ℕ)). task_line d.task ∷ x) (behind_sound (codes "body sys user" ∷ []) ls r e)
-            ∙ ap (λ (x : List (List ℕ)). task_line d.task ∷ codes "body sys user" ∷ x) k.lines }
+    record {
+      code_is = k.code_is;
+      task_named = ap is_name k.task_is ∙ n;
+      are_local = k.are_local;
+      lines = ap (λ (x : List ℕ). x ∷ ls) (t ∙ ap task_line (sym k.task_is)) ∙ ap (λ (x : List (List ℕ)). task_line d.task ∷ x) (behind_sound (codes "body sys user" ∷ []) ls r e)
+          ∙ ap (λ (x : List (List ℕ)). task_line d.task ∷ codes "body sys user" ∷ x) k.lines;
+    }
 
 task_sound_by : (code : List CodeLine) (l : List ℕ) (ls : List (List ℕ)) (d : FirstForm) (o : Option (List ℕ)) → task_in l ≡ o → with_task code (option_map (λ x. (x, ls)) o) ≡ Some d → HasTask code (l ∷ ls) d
 task_sound_by code l ls d None e h = absurd cc
@@ -205,9 +212,11 @@ text_sound : (ls : List (List ℕ)) (p : List CodeLine × List (List ℕ)) (d : 
 text_sound ls p d None e s h = absurd cc
 text_sound ls p d (Some r) e s h =
     let t = task_sound p.0 r d h in
-    record { own = record { code = ap (list_all is_code_line) t.code_is ∙ s.are; task = t.task_named; logged = t.are_local };
-        lines = ap (λ (x : List (List ℕ)). head_lines ++ x) (s.lines ∙ ap (λ (x : List (List ℕ)). map code_line p.0 ++ x) (behind_sound (codes "endtext" ∷ []) p.1 r e ∙ ap (λ (x : List (List ℕ)). codes "endtext" ∷ x) t.lines)
-            ∙ ap (λ (x : List CodeLine). map code_line x ++ (codes "endtext" ∷ task_line d.task ∷ codes "body sys user" ∷ log_lines d.logged d.turns)) (sym t.code_is)) }
+    record {
+      own = record { code = ap (list_all is_code_line) t.code_is ∙ s.are; task = t.task_named; logged = t.are_local };
+      lines = ap (λ (x : List (List ℕ)). head_lines ++ x) (s.lines ∙ ap (λ (x : List (List ℕ)). map code_line p.0 ++ x) (behind_sound (codes "endtext" ∷ []) p.1 r e ∙ ap (λ (x : List (List ℕ)). codes "endtext" ∷ x) t.lines)
+          ∙ ap (λ (x : List CodeLine). map code_line x ++ (codes "endtext" ∷ task_line d.task ∷ codes "body sys user" ∷ log_lines d.logged d.turns)) (sym t.code_is));
+    }
 
 head_sound : (ls : List (List ℕ)) (d : FirstForm) (o : Option (List (List ℕ))) → behind head_lines ls ≡ o → with_head o ≡ Some d → HasLines d × (ls ≡ all_lines d)
 head_sound ls d None e h = absurd cc

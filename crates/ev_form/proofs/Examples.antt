@@ -1,10 +1,9 @@
 -- A small document: its bytes, its text and its script.
-use Rattle.std.proofs.Common.{◌≡◌, ℕ, List, [], ◌∷◌, ◌++◌, Some, refl}
+use Rattle.std.proofs.Common.{◌≡◌, [], ◌∷◌, ◌++◌, Some, refl}
 use Rattle.std.specs.Prelude.{codes}
 use Rattle.ev_isa.specs.Spelling.{spelling, four_bytes}
 use Rattle.ev_io.specs.Number.{number_of, is_decimal, is_hexadecimal, is_digits, digit, value, below_word}
 use Rattle.ev_asm.specs.Assembly.{size, places, distance, stmt_bytes, code}
-use Rattle.ev_body.specs.KernelImage.{KernelImage}
 use Rattle.ev_abstract.specs.declared.script_line.Line.TheVariants.{Turn}
 use Rattle.ev_form.specs.FirstForm.{FirstForm, Label, Mov, Add, Jmp, Syscall, register_of, is_name, is_target, text_of}
 use Rattle.ev_form.specs.FormImage.{image_of, image_with, script_of}
@@ -15,7 +14,7 @@ small = record {
   code = Label (codes "start") ∷ Mov 0 (codes "5") ∷ Syscall ∷ Add 0 0 ∷ Jmp (codes "start") ∷ [];
   task = codes "start";
   logged = 6 ∷ [];
-  turns = 2
+  turns = 2;
 }
 
 small_text : text_of small ≡

@@ -1,14 +1,13 @@
 -- The laws of the first form.
-use Rattle.std.proofs.Common.{◌≡◌, ℕ, zero, suc, Bool, true, false, ◌&&◌, List, [], ◌∷◌, Option, Some, refl, sym, ap, ◌∙◌}
+use Rattle.std.proofs.Common.{◌≡◌, ℕ, zero, suc, Bool, true, ◌&&◌, Some, refl, sym, ap, ◌∙◌}
 use Rattle.std.specs.Prelude.{replicate}
 use Rattle.std.specs.List.{list_all}
-use Rattle.ev_body.specs.WellFormed.{IsImage}
 use Rattle.ev_body.specs.declared.image.Image.{Image}
 use Rattle.ev_abstract.specs.declared.script_line.Line.TheVariants.{Turn}
 use Rattle.ev_abstract.specs.Script.{is_line}
 use Rattle.ev_built.specs.Built.{line_is_built}
-use Rattle.ev_form.specs.FirstForm.{FirstForm, text_of}
-use Rattle.ev_form.specs.FormImage.{IsForm, image_of, image_with}
+use Rattle.ev_form.specs.FirstForm.{FirstForm}
+use Rattle.ev_form.specs.FormImage.{image_of, image_with}
 use Rattle.ev_form.specs.Parse.{draft}
 use Rattle.ev_form.specs.Laws.{IsOneDocument, GivesImage, GivesScript}
 use Rattle.ev_form.proofs.ImageLaws.{form_image}

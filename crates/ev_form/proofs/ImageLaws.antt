@@ -1,34 +1,29 @@
 -- The image of a form is an image.
-use Rattle.std.proofs.Common.{◌≡◌, ℕ, ℤ, zero, suc, ◌+◌, ◌-◌, ◌*◌, ◌/◌, ◌%◌, ◌<◌, ◌≤◌, Bool, true, false, ◌&&◌, not, eqb, ltb, leb, List, [], ◌∷◌, ◌++◌, length, map, Option, Some, None, Result, Ok, Err, refl, sym, ap, ◌∙◌, arith, length-append, append_assoc}
-use Rattle.std.specs.Prelude.{is_some, unwrap_or, replicate}
+use Rattle.std.proofs.Common.{◌≡◌, ℕ, zero, suc, ◌+◌, ◌%◌, ◌<◌, ◌≤◌, Bool, true, false, ltb, leb, List, [], ◌∷◌, ◌++◌, length, map, Option, Some, None, Ok, refl, ◌∙◌, arith, length-append}
+use Rattle.std.specs.Prelude.{is_some, unwrap_or}
 use Rattle.std.specs.List.{list_all}
-use Rattle.std.specs.Int.{w32, w64, byte_at, bytes_low_first, to_le_bytes, cast_unsigned}
-use Rattle.std.proofs.lemmas.List.{append-nil}
+use Rattle.std.specs.Int.{w32, byte_at, bytes_low_first, cast_unsigned}
 use Rattle.std.proofs.lemmas.List.Folds.{list_all-append}
 use Rattle.std.proofs.lemmas.Bool.{lt-ltb, ltb-true, le-leb}
 use Rattle.ev_isa.specs.Pages.{text_base}
 use Rattle.ev_isa.specs.Spelling.{spelling, four_bytes, rex, modrm}
-use Rattle.ev_isa.specs.declared.instruction.Ins.{Ins}
 use Rattle.ev_isa.specs.Instruction.{is_instruction}
 use Rattle.ev_io.specs.Number.{number_of}
 use Rattle.ev_asm.specs.declared.statement.Stmt.{Stmt}
 use Rattle.ev_asm.specs.declared.statement.Stmt.TheVariants.{Jump}
-use Rattle.ev_asm.specs.declared.text.Text.{Text}
-use Rattle.ev_asm.specs.declared.fault.AsmFault.{AsmFault}
 use Rattle.ev_asm.specs.Assembly.{Places, size, total_size, places, place, distance, stmt_bytes, code}
 use Rattle.ev_asm.specs.Assembled.{is_encoded, are_instructions, stmt_labels, is_new_name, is_second_label, leads_nowhere, first_at, first_too_large, text_of as text_at, assembled}
 use Rattle.ev_asm.proofs.Statements.{bytes_size, total_fits, place_bounds}
 use Rattle.ev_body.specs.declared.key.Key.TheVariants.{Sys}
 use Rattle.ev_body.specs.declared.key.Side.TheVariants.{User}
-use Rattle.ev_body.specs.declared.item.Item.{Item}
 use Rattle.ev_body.specs.declared.item.Item.TheVariants.{Log, Ret}
 use Rattle.ev_body.specs.declared.body.Body.{Body}
-use Rattle.ev_body.specs.Bodies.{key_number, covers, fill}
-use Rattle.ev_body.specs.WellFormed.{IsImage, is_local, is_text_place, has_operands, is_finish, is_ret, ends_with, is_user_only, is_user_side, is_key, is_body}
+use Rattle.ev_body.specs.Bodies.{key_number, covers}
+use Rattle.ev_body.specs.WellFormed.{IsImage, is_local, has_operands, is_finish, is_ret, ends_with, is_user_only, is_user_side, is_key, is_body}
 use Rattle.ev_form.specs.FirstForm.{FirstForm, CodeLine, Label, Mov, Add, Jmp, Syscall}
-use Rattle.ev_form.specs.FormImage.{statement_of, statements, text_bytes, image_with, image_of, is_code_line, is_assembled, HasLines, IsForm}
+use Rattle.ev_form.specs.FormImage.{statement_of, statements, text_bytes, image_with, image_of, is_code_line, is_assembled, HasLines}
 use Rattle.ev_form.proofs.Names.{both}
-use Rattle.ev_form.proofs.Splitting.{and, negated}
+use Rattle.ev_form.proofs.Splitting.{and}
 
 -- ---- assembling finds no fault
 
@@ -69,9 +64,6 @@ byte_small (suc i) n = omega arith
 low_bytes : (i k n : ℕ) → are_bytes (bytes_low_first i k n) ≡ true
 low_bytes i zero n = refl
 low_bytes i (suc k) n = and (is_byte (byte_at i n)) _ (lt-ltb (byte_at i n) 256 (byte_small i n)) (low_bytes (suc i) k n)
-
-abbrev word_bytes : ℕ → List ℕ
-word_bytes n = to_le_bytes w64 n
 
 line_bytes : (env : Places) (a : ℕ) (c : CodeLine) → is_code_line c ≡ true → are_bytes (stmt_bytes env a (statement_of c)) ≡ true
 unfolding stmt_bytes spelling four_bytes

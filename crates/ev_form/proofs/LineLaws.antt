@@ -1,11 +1,11 @@
 -- What is said by a line is read from it, and what is read from a line makes up the line.
-use Rattle.std.proofs.Common.{◌≡◌, ◌≢◌, ℕ, zero, suc, ◌+◌, ◌-◌, ◌<◌, ◌≤◌, Bool, true, false, ◌&&◌, not, eqb, ltb, leb, List, [], ◌∷◌, ◌++◌, length, get_or, map, take, drop, subst, Option, Some, None, refl, sym, ap, ◌∙◌, arith, append_assoc, length-append, add-one}
+use Rattle.std.proofs.Common.{◌≡◌, ℕ, suc, ◌+◌, ◌-◌, ◌<◌, Bool, true, false, ◌&&◌, not, eqb, ltb, leb, List, [], ◌∷◌, ◌++◌, length, get_or, take, drop, subst, Option, Some, None, refl, sym, ap, ◌∙◌, arith, add-one}
 use Rattle.std.specs.Prelude.{codes, is_some, is_none, ◌==◌}
-use Rattle.std.specs.List.{list_all, join_with_byte}
+use Rattle.std.specs.List.{list_all}
 use Rattle.std.specs.Str.{bytes_eq}
 use Rattle.std.proofs.lemmas.List.Folds.{list_all-append}
 use Rattle.std.proofs.lemmas.Slice.Eq.{bytes_eq-Decides}
-use Rattle.std.proofs.lemmas.Bool.{eq-eqb, eqb-true, eqb-false, ltb-true, lt-ltb, leb-true}
+use Rattle.std.proofs.lemmas.Bool.{eq-eqb, eqb-true, ltb-true, lt-ltb}
 use Rattle.std.proofs.Math.Seq.{take-suc, take-append_seam, take-length}
 use Rattle.ev_io.specs.Number.{number_of, is_decimal, is_hexadecimal, is_digits, digit}
 use Rattle.ev_body.specs.WellFormed.{is_local}
@@ -40,9 +40,6 @@ register_lacks r lt = both (lacks 10 (register_name r)) (lacks 0x20 (register_na
 
 pub same_bytes : (a b : List ℕ) → bytes_eq a b ≡ true → a ≡ b
 same_bytes a b h = (bytes_eq-Decides a b).0 h
-
-pub bytes_same : (a b : List ℕ) → a ≡ b → bytes_eq a b ≡ true
-bytes_same a b h = (bytes_eq-Decides a b).1 h
 
 pub record IsPlace (n : ℕ) (ws : List (List ℕ)) (w : List ℕ) (r : ℕ) : Type 0 where
   pub at : ℕ
@@ -343,8 +340,11 @@ four_sound v p n b name h =
     let u = both (bytes_eq p (codes "0")) (bytes_eq b (codes "0") && is_name n) t.1 in
     let x = both (bytes_eq b (codes "0")) (is_name n) u.1 in
     subst (λ (y : List ℕ). IsRead is_name task_words (v ∷ p ∷ n ∷ b ∷ []) y) k.1
-    (record { is = x.1; words_are = ap (λ (y : List ℕ). y ∷ p ∷ n ∷ b ∷ []) (same_bytes v (codes "task") t.0) ∙ ap (λ (y : List ℕ). codes "task" ∷ y ∷ n ∷ b ∷ []) (same_bytes p (codes "0") u.0)
-        ∙ ap (λ (y : List ℕ). codes "task" ∷ codes "0" ∷ n ∷ y ∷ []) (same_bytes b (codes "0") x.0) })
+    (record {
+      is = x.1;
+      words_are = ap (λ (y : List ℕ). y ∷ p ∷ n ∷ b ∷ []) (same_bytes v (codes "task") t.0) ∙ ap (λ (y : List ℕ). codes "task" ∷ y ∷ n ∷ b ∷ []) (same_bytes p (codes "0") u.0)
+          ∙ ap (λ (y : List ℕ). codes "task" ∷ codes "0" ∷ n ∷ y ∷ []) (same_bytes b (codes "0") x.0);
+    })
 
 task_words_sound : (ws : List (List ℕ)) (name : List ℕ) → task_of_words ws ≡ Some name → IsRead is_name task_words ws name
 task_words_sound [] name h = absurd cc

@@ -1,5 +1,5 @@
 -- What is read of a document's bytes, and of which bytes a document is read.
-use Rattle.std.proofs.Common.{◌≡◌, ℕ, ◌+◌, ◌<◌, ◌≤◌, Bool, true, false, ◌&&◌, not, leb, List, [], ◌∷◌, ◌++◌, length, subst, Option, Some, None, Result, Ok, Err, refl, sym, ap, ◌∙◌, arith}
+use Rattle.std.proofs.Common.{◌≡◌, ℕ, ◌+◌, ◌<◌, ◌≤◌, Bool, true, false, ◌&&◌, not, leb, List, [], ◌∷◌, length, Option, Some, None, Result, Ok, Err, refl, sym, ap, ◌∙◌}
 use Rattle.std.specs.Prelude.{IfOk}
 use Rattle.std.specs.List.{list_all}
 use Rattle.std.proofs.lemmas.List.Folds.{list_all-append, list_all-map}
@@ -8,7 +8,7 @@ use Rattle.ev_isa.specs.Pages.{text_base}
 use Rattle.ev_isa.specs.declared.fault.NoMemory.{NoMemory}
 use Rattle.ev_asm.specs.Assembled.{stmt_labels, is_new_name, assembled}
 use Rattle.ev_form.specs.FirstForm.{FirstForm, head_lines, lines_of, text_of}
-use Rattle.ev_form.specs.FormImage.{statements, ends_in_jump, is_assembled, HasLines, IsForm, image_of, script_of}
+use Rattle.ev_form.specs.FormImage.{statements, ends_in_jump, is_assembled, HasLines, IsForm}
 use Rattle.ev_form.specs.Parse.{parts, some_if, behind, with_head, draft}
 use Rattle.ev_form.specs.declared.document.Document.{Document}
 use denote.Ref.{Bor}
@@ -136,6 +136,6 @@ pub too_long : (bytes : List ℕ) (lines : List (Bor (List ℕ))) → texts line
 too_long bytes lines e s =
     let f : list_all is_short (parts 10 bytes) ≡ false = sym (ap (list_all is_short) e) ∙ list_all-map is_short (λ (x : Bor (List ℕ)). x.now) lines ∙ s in
     not_input bytes (ap (λ (b : Bool). leb (length bytes) 8388608 && b) f ∙ never (leb (length bytes) 8388608)) where
-  never : (a : Bool) → (a && false) ≡ false
-  never true = refl
-  never false = refl
+      never : (a : Bool) → (a && false) ≡ false
+      never true = refl
+      never false = refl

@@ -1,19 +1,18 @@
 -- What the first lines of a list say, one line further, and the parts of a document from what stands behind them.
 use Rattle.std.proofs.lemmas.List.{take_rest, drop-map}
-use Rattle.std.proofs.Common.{◌≡◌, ℕ, zero, suc, ◌+◌, ◌-◌, ◌<◌, ◌≤◌, Bool, true, false, List, [], ◌∷◌, ◌++◌, length, map, take, drop, subst, Option, Some, None, Result, Ok, Err, IfOk, refl, sym, ap, ◌∙◌, arith}
+use Rattle.std.proofs.Common.{◌≡◌, ℕ, suc, ◌-◌, ◌≤◌, Bool, true, false, List, [], ◌∷◌, ◌++◌, length, map, take, drop, subst, Option, Some, None, Result, Ok, Err, IfOk, refl, sym, ap, ◌∙◌, arith}
 use Rattle.std.specs.Prelude.{codes, replicate}
 use Rattle.std.specs.Option.{option_map}
 use denote.Ref.{Bor}
-use Rattle.ev_abstract.specs.declared.script_line.Line.TheVariants as Line
 use Rattle.ev_abstract.specs.declared.script_line.Line.{Line}
 use Rattle.ev_asm.specs.declared.statement.Stmt.{Stmt}
 use Rattle.ev_body.specs.declared.item.Item.{Item}
 use Rattle.ev_body.specs.declared.item.Item.TheVariants.{Log}
-use Rattle.ev_form.specs.FirstForm.{FirstForm, CodeLine, head_lines, body_end_lines}
+use Rattle.ev_form.specs.FirstForm.{CodeLine, body_end_lines}
 use Rattle.ev_form.specs.FormImage.{statement_of}
 use Rattle.ev_form.specs.declared.draft.Draft.{Draft}
 use Rattle.ev_form.specs.Draft.{draft_of}
-use Rattle.ev_form.specs.Parse.{behind, series, onto, first_in, code_in, task_in, log_in, turn_in, is_end, some_if, with_turns, with_script, with_logs, with_body, with_task, with_text, with_code, with_head}
+use Rattle.ev_form.specs.Parse.{behind, series, onto, first_in, task_in, turn_in, is_end, some_if, with_turns, with_script, with_logs, with_task, with_text, with_code}
 
 abbrev pub texts : List (Bor (List ℕ)) → List (List ℕ)
 texts lines = map (λ x. x.now) lines
@@ -60,10 +59,6 @@ pub series_behind : {A B : Type 0} (f : List ℕ → Option A) (g : A → B) (ls
 series_behind f g ls n v e k = ap (λ (m : ℕ). drop m ls) (k ∙ ap length e ∙ length-mapped g (series f ls).0) ∙ (splits f ls).behind
 
 -- ---- the stages
-
--- what stands behind the lines of a slice
-pub behind_is : (ws : List (List ℕ)) (ls : List (List ℕ)) (o : Option (Bor (List (Bor (List ℕ))))) → option_map (λ r. texts r.now) o ≡ behind ws ls → (r : Option (Bor (List (Bor (List ℕ))))) → o ≡ r → behind ws ls ≡ option_map (λ r. texts r.now) r
-behind_is ws ls o e r h = sym e ∙ ap (option_map (λ r. texts r.now)) h
 
 mapped-same : {A B : Type 0} (x : B) (us : List A) → map (λ _. x) us ≡ replicate (length us) x
 mapped-same x [] = refl

@@ -1,9 +1,7 @@
 -- The place of a label among the places of the statements, and the bodies that an image has.
-use Rattle.std.proofs.Common.{◌≡◌, ℕ, zero, suc, ◌+◌, ◌-◌, ◌<◌, ◌≤◌, Bool, true, false, not, List, [], ◌∷◌, ◌++◌, length, get_or, map, take, drop, subst, Option, Some, None, refl, sym, ap, ◌∙◌, arith, drop-cons}
-use Rattle.ev_isa.specs.Pages.{text_base}
+use Rattle.std.proofs.Common.{◌≡◌, ℕ, suc, ◌<◌, ◌≤◌, Bool, false, List, ◌∷◌, length, get_or, drop, Option, refl, sym, ap, ◌∙◌, arith, drop-cons}
 use Rattle.ev_asm.specs.declared.statement.Stmt.{Stmt}
-use Rattle.ev_asm.specs.Assembly.{places, place, code, size}
-use Rattle.ev_asm.specs.Assembled.{gives_label, stmt_labels, is_new_name, addresses_of}
+use Rattle.ev_asm.specs.Assembled.{gives_label}
 use Rattle.ev_asm.proofs.Statements.{split_at}
 use Rattle.ev_form.specs.Draft.{start_in}
 
@@ -17,4 +15,4 @@ start_step stmts ps name n m s W lt le k e g w =
     let d : drop n stmts ≡ s ∷ drop (suc n) stmts = split_at stmts n s lt e in
     let f : drop n ps ≡ get_or ps n 0 ∷ drop (suc n) ps = drop-cons ps n 0 here in
     rw k (sym (start_not s (drop (suc n) stmts) (get_or ps n 0) (drop (suc n) ps) name false g refl)
-        ∙ ap (λ (x : List Stmt). start_in x (get_or ps n 0 ∷ drop (suc n) ps) name) (sym d) ∙ ap (λ (x : List ℕ). start_in (drop n stmts) x name) (sym f) ∙ w)
+    ∙ ap (λ (x : List Stmt). start_in x (get_or ps n 0 ∷ drop (suc n) ps) name) (sym d) ∙ ap (λ (x : List ℕ). start_in (drop n stmts) x name) (sym f) ∙ w)

@@ -1,26 +1,21 @@
 -- Whether a draft is a document, from the tests that the reader makes.
-use Rattle.std.proofs.Common.{◌≡◌, ℕ, zero, suc, ◌+◌, ◌-◌, ◌<◌, ◌≤◌, Bool, true, false, ◌&&◌, not, leb, List, [], ◌∷◌, ◌++◌, length, map, subst, Option, Some, None, Result, Ok, Err, refl, sym, ap, ◌∙◌, arith}
-use Rattle.std.specs.Prelude.{replicate, slice_get, if◌then◌else◌, ◌||◌}
-use Rattle.std.specs.List.{list_any}
-use Rattle.std.specs.Option.{option_map}
+use Rattle.std.proofs.Common.{◌≡◌, ℕ, suc, ◌+◌, ◌-◌, ◌≤◌, Bool, true, false, ◌&&◌, not, leb, List, [], ◌∷◌, length, map, subst, Option, Some, None, Result, Ok, Err, refl, sym, ap, ◌∙◌, arith}
+use Rattle.std.specs.Prelude.{replicate, slice_get}
 use Rattle.std.proofs.lemmas.List.{length-replicate}
 use Rattle.std.proofs.lemmas.Bool.{leb-true}
 use Rattle.ev_isa.specs.Pages.{text_base}
 use Rattle.ev_asm.specs.declared.statement.Stmt.{Stmt}
 use Rattle.ev_asm.specs.declared.statement.Stmt.TheVariants.{Plain, Jump}
-use Rattle.ev_asm.specs.declared.statement.Stmt.TheVariants as Stmt
 use Rattle.ev_asm.specs.declared.text.Text.{Text}
 use Rattle.ev_asm.specs.declared.fault.AsmFault.{AsmFault}
-use Rattle.ev_asm.specs.Assembly.{is_name, size, places, place, code}
+use Rattle.ev_asm.specs.Assembly.{is_name, size, places, place}
 use Rattle.ev_asm.specs.Assembled.{gives_label, stmt_labels, is_new_name, addresses_of, text_of as text_at, assembled}
 use Rattle.ev_body.specs.WellFormed.{IsImage}
 use Rattle.ev_body.specs.KernelImage.{KernelImage}
-use Rattle.ev_body.specs.declared.item.Item.{Item}
 use Rattle.ev_body.specs.declared.item.Item.TheVariants.{Log}
-use Rattle.ev_abstract.specs.declared.script_line.Line.{Line}
 use Rattle.ev_abstract.specs.declared.script_line.Line.TheVariants.{Turn}
 use Rattle.ev_form.specs.FirstForm.{FirstForm, CodeLine, Label, Mov, Add, Jmp, Syscall}
-use Rattle.ev_form.specs.FormImage.{statement_of, statements, text_bytes, image_with, image_of, script_of, is_jump_line, ends_in_jump, is_assembled, HasLines, IsForm}
+use Rattle.ev_form.specs.FormImage.{statement_of, statements, text_bytes, image_with, image_of, is_jump_line, ends_in_jump, is_assembled}
 use Rattle.ev_form.specs.Parse.{some_if}
 use Rattle.ev_form.specs.declared.draft.Draft.{Draft}
 use Rattle.ev_form.specs.declared.document.Document.{Document}
@@ -49,7 +44,7 @@ jumps_same (c ∷ []) = jump_same c
 jumps_same (c ∷ k ∷ cs) =
     let s : List Stmt = map statement_of cs in
     ap is_some_jump (last_at (statement_of c) (statement_of k ∷ map statement_of cs) (length (map statement_of (c ∷ k ∷ cs))) refl
-        ∙ sym (last_at (statement_of k) (map statement_of cs) (length (map statement_of (k ∷ cs))) refl)) ∙ jumps_same (k ∷ cs)
+    ∙ sym (last_at (statement_of k) (map statement_of cs) (length (map statement_of (k ∷ cs))) refl)) ∙ jumps_same (k ∷ cs)
 
 small_same : (d : FirstForm) → is_small_draft (draft_of d) ≡ is_small d
 small_same d =
@@ -132,10 +127,10 @@ not_named draft d text h t e =
     let n : is_new_name (stmt_labels draft.stmts) draft.task ≡ true = subst (NamedAt draft.stmts draft.task) (sym e) (start_named draft.stmts text draft.task t) in
     let m : is_new_name (stmt_labels (statements d)) d.task ≡ true = sym (ap (λ (x : Draft). is_new_name (stmt_labels x.stmts) x.task) h.is) ∙ n in
     none_by (is_small d) (is_assembled (assembled (statements d) text_base 65520)) (is_new_name (stmt_labels (statements d)) d.task) (document_of d) m where
-  none_by : (a b c : Bool) (x : Document) → c ≡ true → None ≡ some_if (a && (b && not c)) x
-  none_by true true c x e = ap (λ k. some_if (not k) x) (sym e)
-  none_by true false c x e = refl
-  none_by false b c x e = refl
+      none_by : (a b c : Bool) (x : Document) → c ≡ true → None ≡ some_if (a && (b && not c)) x
+      none_by true true c x e = ap (λ k. some_if (not k) x) (sym e)
+      none_by true false c x e = refl
+      none_by false b c x e = refl
 
 -- ---- the image
 
@@ -151,10 +146,11 @@ whole draft d text start h s t e =
     let small : is_small d ≡ true = sym (small_is draft d h) ∙ s in
     let asm : is_assembled (assembled (statements d) text_base 65520) ≡ true = sym (ap (λ (x : Draft). is_assembled (assembled x.stmts text_base 65520)) h.is) ∙ ap is_assembled k.0.is in
     let there : is_new_name (stmt_labels (statements d)) d.task ≡ false = sym (ap (λ (x : Draft). is_new_name (stmt_labels x.stmts) x.task) h.is) ∙ n.0 in
-    let few = leb-true _ _ (both (leb (length d.logged + 1) 256) (leb d.turns 200000) (both (ends_in_jump d.code) (leb (length d.logged + 1) 256 && leb d.turns 200000) small).1).0 in
-    (record { test = and (is_small d) (rest_of d) small (and _ _ asm (ap not there)); image = form_image d h.lines asm there few },
-        ap (λ (x : Text). image_with x.bytes start draft.logs) k.1 ∙ ap (λ (p : ℕ). image_with (text_bytes draft.stmts) p draft.logs) n.1
-        ∙ ap (λ (x : Draft). image_with (text_bytes x.stmts) (place (places text_base x.stmts) x.task) x.logs) h.is)
+    let few = leb-true _ _ (both (leb (length d.logged + 1) 256) (leb d.turns 200000) (both (ends_in_jump d.code) (leb (length d.logged + 1) 256 && leb d.turns 200000) small).1).0 in (
+      record { test = and (is_small d) (rest_of d) small (and _ _ asm (ap not there)); image = form_image d h.lines asm there few },
+      ap (λ (x : Text). image_with x.bytes start draft.logs) k.1 ∙ ap (λ (p : ℕ). image_with (text_bytes draft.stmts) p draft.logs) n.1
+          ∙ ap (λ (x : Draft). image_with (text_bytes x.stmts) (place (places text_base x.stmts) x.task) x.logs) h.is,
+    )
 
 pub taken : (draft : Draft) (d : FirstForm) (i : KernelImage) → IsDraftOf draft d → is_whole d ≡ true → i ≡ image_of d → Some (let x : Document = record { image = i; script = draft.script } in x) ≡ some_if (is_whole d) (document_of d)
 taken draft d i h w e =

@@ -1,5 +1,5 @@
 -- What the reader of documents answers. Own.
-use Rattle.std.specs.Prelude.{◌≡◌, ℕ, Bool, true, false, ◌&&◌, nat_le, List, length, Option, Some, None, Result, Ok, Err}
+use Rattle.std.specs.Prelude.{◌≡◌, ℕ, Bool, ◌&&◌, nat_le, List, length, Option, Some, None, Result, Ok, Err}
 use Rattle.std.specs.List.{list_all}
 use Rattle.ev_isa.specs.declared.fault.NoMemory.{NoMemory}
 use Rattle.ev_form.specs.FirstForm.{FirstForm, text_of}

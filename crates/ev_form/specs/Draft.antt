@@ -2,7 +2,6 @@
 use Rattle.std.specs.Prelude.{◌≡◌, ℕ, ◌+◌, ◌-◌, slice_get, Bool, true, false, ◌&&◌, not, nat_le, List, [], ◌∷◌, length, map, Option, Some, None, Result, Ok, Err}
 use Rattle.ev_isa.specs.Pages.{text_base}
 use Rattle.ev_asm.specs.declared.statement.Stmt.{Stmt}
-use Rattle.ev_asm.specs.declared.statement.Stmt.TheVariants as Stmt
 use Rattle.ev_asm.specs.Assembled.{gives_label, stmt_labels, is_new_name, assembled}
 use Rattle.ev_asm.specs.declared.text.Text.{Text}
 use Rattle.ev_asm.specs.declared.fault.AsmFault.{AsmFault}

@@ -1,9 +1,8 @@
 -- The first form of document: what it says, and its bytes. Own.
-use Rattle.std.specs.Prelude.{◌≡◌, ℕ, zero, suc, ◌+◌, ◌-◌, ◌≤◌, Bool, true, false, ◌&&◌, ◌||◌, not, nat_lt, nat_le, ◌==◌, List, [], ◌∷◌, ◌++◌, length, map, flat_map, replicate, slice_index, slice_index_or, Option, Some, None, is_some, is_none, codes}
+use Rattle.std.specs.Prelude.{ℕ, suc, Bool, true, false, ◌&&◌, ◌||◌, nat_le, ◌==◌, List, [], ◌∷◌, ◌++◌, length, map, flat_map, replicate, slice_index, slice_index_or, Option, Some, None, is_none, codes}
 use Rattle.std.specs.List.{list_all, join_with_byte}
 use Rattle.std.specs.Str.{bytes_eq}
-use Rattle.ev_io.specs.Number.{is_between, number_of}
-use Rattle.ev_body.specs.WellFormed.{is_local}
+use Rattle.ev_io.specs.Number.{is_between}
 
 -- a line of user code; a number stands as it is written
 pub data CodeLine : Type 0 where

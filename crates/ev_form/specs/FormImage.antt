@@ -6,7 +6,6 @@ use Rattle.ev_isa.specs.declared.instruction.AluOp.TheVariants as AluOp
 use Rattle.ev_isa.specs.declared.instruction.Ins.TheVariants as Ins
 use Rattle.ev_io.specs.Number.{number_of}
 use Rattle.ev_asm.specs.declared.statement.Stmt.{Stmt}
-use Rattle.ev_asm.specs.declared.statement.Stmt.TheVariants as Stmt
 use Rattle.ev_asm.specs.Assembly.{places, place, code}
 use Rattle.ev_asm.specs.Assembled.{assembled, stmt_labels, is_new_name}
 use Rattle.ev_asm.specs.declared.text.Text.{Text}
@@ -46,7 +45,7 @@ image_with text start logs = record {
   cells = [];
   text = text;
   tasks = (record { start = start; gs = 0; regs = replicate 16 0 } ∷ []) ∷ [];
-  bodies = fill (record { key = Sys; side = User; items = logs ++ Ret ∷ []; parts = [] } ∷ [])
+  bodies = fill (record { key = Sys; side = User; items = logs ++ Ret ∷ []; parts = [] } ∷ []);
 }
 
 abbrev pub image_of : FirstForm → KernelImage

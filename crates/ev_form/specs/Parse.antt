@@ -1,7 +1,7 @@
 -- Reading the first form: bytes to lines, a line to its words, words to what they say, and the order of the lines. Own.
-use Rattle.std.specs.Prelude.{◌≡◌, ℕ, zero, suc, ◌+◌, ◌-◌, ◌≤◌, Bool, true, false, ◌&&◌, ◌||◌, not, nat_lt, nat_le, ◌==◌, List, [], ◌∷◌, ◌++◌, length, map, take, slice_index, Option, Some, None, is_some, codes, eqb}
-use Rattle.std.specs.List.{list_all, slice_split}
-use Rattle.std.specs.Option.{option_map, option_and_then}
+use Rattle.std.specs.Prelude.{ℕ, ◌-◌, Bool, true, false, ◌&&◌, nat_lt, ◌==◌, List, [], ◌∷◌, length, take, slice_index, Option, Some, None, is_some, codes, eqb}
+use Rattle.std.specs.List.{slice_split}
+use Rattle.std.specs.Option.{option_map}
 use Rattle.std.specs.Str.{bytes_eq}
 use Rattle.ev_io.specs.Number.{number_of}
 use Rattle.ev_body.specs.WellFormed.{is_local}

@@ -15,8 +15,8 @@ ghost use Rattle.ev_form.specs.Draft.{is_jump, jumps_last, start_in, plain_body,
 ghost use Rattle.ev_form.specs.Documents.{document_of};
 ghost use Rattle.ev_form.specs.Parse.{some_if};
 
-use ev_abstract::Line;
 use crate::draft::Draft;
+use ev_abstract::Line;
 use ev_asm::{AsmFault, Stmt, Text, assemble};
 use ev_body::{Body, Image, Item, Key, Side, TaskSpec};
 use ev_isa::{Many, Name, NoMemory};
@@ -34,7 +34,9 @@ const LINE_LIMIT: usize = 200_000;
 /// What a document says: a kernel image and a script. Own.
 #[derive(Debug, Drop)]
 pub struct Document {
+    /// The kernel image.
     pub image: Image,
+    /// The lines of the script.
     pub script: Many<Line>,
 }
 
@@ -127,7 +129,15 @@ fn bodies(alloc: Global, mut items: Many<Item>) -> Result<Many<Body>, AllocError
 {
     items.push(Item::Ret)?;
     let first = body(alloc, Key::Sys, items);
-    let keys = [Key::Db, Key::Bp, Key::Ud, Key::Ss, Key::Gp, Key::Pf, Key::Ac];
+    let keys = [
+        Key::Db,
+        Key::Bp,
+        Key::Ud,
+        Key::Ss,
+        Key::Gp,
+        Key::Pf,
+        Key::Ac,
+    ];
     plain_bodies(alloc, first, &keys)
 }
 
@@ -169,7 +179,9 @@ fn text_in(alloc: Global, stmts: &[Stmt]) -> Result<Option<Text>, NoMemory>
 fn is_small(draft: &Draft) -> bool
     ensures { result ≡ is_small_draft draft.now }
 {
-    jumps_last(draft.stmts.as_slice()) && draft.logs.len() < ITEM_LIMIT && draft.script.len() <= LINE_LIMIT
+    jumps_last(draft.stmts.as_slice())
+        && draft.logs.len() < ITEM_LIMIT
+        && draft.script.len() <= LINE_LIMIT
 }
 
 /// The document of a draft, where its labels and limits are as they should be.

@@ -36,7 +36,13 @@ fn from<'a, 'b>(lines: &'a [&'b [u8]], at: usize) -> &'a [&'b [u8]]
 }
 
 /// The draft whose turns stand in these lines.
-fn with_turns(alloc: Global, stmts: Vec<Stmt>, task: Name, logs: Vec<Item>, lines: &[&[u8]]) -> Result<Option<Draft>, AllocError>
+fn with_turns(
+    alloc: Global,
+    stmts: Vec<Stmt>,
+    task: Name,
+    logs: Vec<Item>,
+    lines: &[&[u8]],
+) -> Result<Option<Draft>, AllocError>
     ensures { IfOk result (λ o. (code : List CodeLine) (logged : List ℕ) → stmts.items ≡ map statement_of code → logs.items ≡ map Item.Log logged → o ≡ option_map draft_of (with_turns code task logged (series turn_in (map (λ x. x.now) lines.now)))) }
 {
     let script = turns(alloc, lines)?;
@@ -52,11 +58,19 @@ fn with_turns(alloc: Global, stmts: Vec<Stmt>, task: Name, logs: Vec<Item>, line
 }
 
 /// The draft whose body and script stand in these lines.
-fn with_logs(alloc: Global, stmts: Vec<Stmt>, task: Name, lines: &[&[u8]]) -> Result<Option<Draft>, AllocError>
+fn with_logs(
+    alloc: Global,
+    stmts: Vec<Stmt>,
+    task: Name,
+    lines: &[&[u8]],
+) -> Result<Option<Draft>, AllocError>
     ensures { IfOk result (λ o. (code : List CodeLine) → stmts.items ≡ map statement_of code → o ≡ option_map draft_of (with_logs code task (series log_in (map (λ x. x.now) lines.now)))) }
 {
     let logs = logs(alloc, lines)?;
-    match behind(from(lines, logs.len()), &["ret", "endbody", "fill", "script"]) {
+    match behind(
+        from(lines, logs.len()),
+        &["ret", "endbody", "fill", "script"],
+    ) {
         None => Ok(None),
         Some(rest) => with_turns(alloc, stmts, task, logs, rest),
     }

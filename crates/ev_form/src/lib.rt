@@ -1,14 +1,17 @@
 //! The first form of document: its definition and its reader. Own.
 #![tactic(auto)]
 
-mod words;
+mod document;
+mod draft;
+mod laws;
 mod lines;
 mod order;
-mod draft;
-mod document;
 mod read;
+mod words;
 
 pub use document::Document;
-pub use read::read_form;
-mod laws;
 pub use laws::first_form;
+pub use read::read_form;
+
+#[cfg(test)]
+mod tests;

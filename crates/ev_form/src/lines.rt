@@ -25,6 +25,7 @@ fn label(word: &[u8]) -> Option<Stmt>
     Some(Stmt::Label(name(before)?))
 }
 
+/// What one word says.
 #[tactic(auto, unfolding(crate::specs::Parse::one_word))]
 fn one_word(word: &[u8]) -> Option<Stmt>
     ensures { result ≡ option_map statement_of (one_word word.now) }
@@ -35,6 +36,7 @@ fn one_word(word: &[u8]) -> Option<Stmt>
     label(word)
 }
 
+/// What two words say.
 #[tactic(auto, unfolding(crate::specs::Parse::two_words, crate::specs::FirstForm::is_target))]
 fn two_words(verb: &[u8], target: &[u8]) -> Option<Stmt>
     ensures { result ≡ option_map statement_of (two_words verb.now target.now) }
@@ -45,6 +47,7 @@ fn two_words(verb: &[u8], target: &[u8]) -> Option<Stmt>
     Some(Stmt::Jump(None, name(target)?))
 }
 
+/// What three words say.
 #[tactic(auto, unfolding(crate::specs::Parse::three_words))]
 fn three_words(verb: &[u8], d: &[u8], s: &[u8]) -> Option<Stmt>
     ensures { result ≡ option_map statement_of (three_words verb.now d.now s.now) }
@@ -93,6 +96,7 @@ pub fn log_in(alloc: Global, line: &[u8]) -> Result<Option<Reg>, AllocError>
     })
 }
 
+/// The label that the words of a task's line name.
 #[tactic(auto, unfolding(crate::specs::Parse::four_words))]
 fn four_words(verb: &[u8], processor: &[u8], label: &[u8], base: &[u8]) -> Option<Name>
     ensures { result ≡ four_words verb.now processor.now label.now base.now }

@@ -1,4 +1,4 @@
-use Rattle.std.proofs.Common.{sym, ◌∙◌, ap, ◌+◌, arith}
+use Rattle.std.proofs.Common.{sym, ◌+◌, arith}
 use Rattle.ev_form.proofs.Starts.{start_step}
 use Rattle.ev_form.proofs.document.start.Goals as goal
 

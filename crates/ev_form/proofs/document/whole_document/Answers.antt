@@ -1,10 +1,9 @@
-use Rattle.std.proofs.Common.{◌≡◌, sym, ap, ◌∙◌, subst, List, ℕ, length, arith}
+use Rattle.std.proofs.Common.{sym, ap, ◌∙◌, subst, List, ℕ, length, arith}
 use Rattle.ev_isa.specs.Pages.{text_base}
 use Rattle.ev_asm.specs.declared.statement.Stmt.{Stmt}
 use Rattle.ev_asm.specs.Assembled.{are_instructions, assembled}
 use Rattle.ev_body.specs.WellFormed.{IsImage}
-use Rattle.ev_form.specs.FormImage.{image_of, statements}
-use Rattle.ev_form.specs.Draft.{ok_text, start_in, draft_of}
+use Rattle.ev_form.specs.Draft.{ok_text, start_in}
 use Rattle.ev_form.specs.declared.draft.Draft.{Draft}
 use Rattle.ev_form.proofs.ImageLaws.{encoded}
 use Rattle.ev_form.proofs.WholeLaws.{not_small, places_enough, not_named, whole, taken}

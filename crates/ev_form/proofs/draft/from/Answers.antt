@@ -1,5 +1,3 @@
-use Rattle.std.proofs.Common.{◌≡◌, length, drop, map, rules}
-use Rattle.std.proofs.lemmas.List.{take_rest}
 use Rattle.ev_form.proofs.Series.{dropped-texts}
 use Rattle.ev_form.proofs.draft.from.Goals as goal
 

@@ -1,4 +1,4 @@
-use Rattle.std.proofs.Common.{◌≡◌, refl, sym, ap, ◌∙◌, true, false, List, ℕ, ◌∷◌, []}
+use Rattle.std.proofs.Common.{ap, ◌∙◌, ◌∷◌, []}
 use Rattle.std.specs.Prelude.{codes}
 use Rattle.ev_form.specs.FormImage.{statement_of}
 use Rattle.ev_form.specs.Parse.{series, code_in, behind}

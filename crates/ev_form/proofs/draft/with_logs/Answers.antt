@@ -1,4 +1,4 @@
-use Rattle.std.proofs.Common.{◌≡◌, refl, sym, ap, ◌∙◌, true, false, List, ℕ}
+use Rattle.std.proofs.Common.{ap, ◌∙◌}
 use Rattle.ev_body.specs.declared.item.Item.TheVariants as Item
 use Rattle.ev_form.specs.FirstForm.{body_end_lines}
 use Rattle.ev_form.specs.Parse.{series, log_in, behind}

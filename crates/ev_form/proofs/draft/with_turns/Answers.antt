@@ -1,4 +1,4 @@
-use Rattle.std.proofs.Common.{◌≡◌, refl, sym, ap, ◌∙◌, true, false}
+use Rattle.std.proofs.Common.{sym, ap, ◌∙◌}
 use Rattle.ev_abstract.specs.declared.script_line.Line.TheVariants as Line
 use Rattle.ev_form.specs.Parse.{series, turn_in, is_end}
 use Rattle.ev_form.proofs.Series.{texts, series_fits, series_behind, turns_refused, turns_taken}

@@ -1,11 +1,4 @@
-use Rattle.std.proofs.Common.{◌≡◌, List, ℕ, sym, ap, ◌∙◌, true}
-use Rattle.std.specs.List.{list_all}
-use Rattle.std.specs.Option.{option_map}
-use denote.Ref.{Bor}
-use Rattle.ev_form.specs.FirstForm.{head_lines}
-use Rattle.ev_form.specs.Parse.{with_head, behind}
-use Rattle.ev_form.specs.Draft.{draft_of}
-use Rattle.ev_form.specs.Documents.{is_short}
+use Rattle.std.proofs.Common.{sym, ap, ◌∙◌}
 use Rattle.ev_form.proofs.Series.{texts}
 use Rattle.ev_form.proofs.ReadLaws.{drafted, input_is, read_any, too_large, too_long}
 use Rattle.ev_form.proofs.read.read.Goals as goal

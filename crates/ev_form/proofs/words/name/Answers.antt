@@ -1,6 +1,5 @@
-use Rattle.std.proofs.Common.{rules, ◌≡◌, ◌≤◌, length, sym, ap, true, rules}
+use Rattle.std.proofs.Common.{sym}
 use Rattle.std.proofs.lemmas.Str.{IsUtf8-from_ascii}
-use Rattle.ev_form.specs.FirstForm.{is_name}
 use Rattle.ev_form.proofs.Names.{name_parts, name_is_ascii}
 use Rattle.ev_form.proofs.words.name.Goals as goal
 
