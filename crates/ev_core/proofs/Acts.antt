@@ -1,13 +1,11 @@
 -- What a step's act leaves of a system.
-use Rattle.std.proofs.Common.{◌≡◌, ℕ, zero, suc, ◌+◌, ◌-◌, ◌<◌, ◌≤◌, Bool, true, false, not, ◌&&◌, List, [], ◌∷◌, set, length, Option, Some, None, ap, refl, sym, ◌∙◌, subst, arith, ⊎_elim}
-use Rattle.std.specs.Prelude.{◌==◌, nat_lt, if◌then◌else◌, slice_get}
+use Rattle.std.proofs.Common.{◌≡◌, ℕ, zero, suc, ◌+◌, ◌-◌, ◌<◌, ◌≤◌, Bool, true, false, not, List, [], ◌∷◌, set, length, Some, None, ap, refl, sym, ◌∙◌, subst, arith, ⊎_elim}
+use Rattle.std.specs.Prelude.{◌==◌, if◌then◌else◌, slice_get}
 use Rattle.std.specs.List.{filter}
-use Rattle.std.proofs.lemmas.Bool.{eq-eqb, eqb-true}
+use Rattle.std.proofs.lemmas.Bool.{eq-eqb}
 use Rattle.std.proofs.lemmas.Bool.Decides.{eqb_tells, leb_tells}
 use Rattle.ev_isa.specs.Word.{NatMap, put_at, numbers_from}
-use Rattle.ev_isa.specs.declared.instruction.Ins.{Ins}
 use Rattle.ev_apic.specs.Inbox.{mailed}
-use Rattle.ev_apic.specs.declared.send.Send.{Send}
 use Rattle.ev_apic.specs.declared.send.SendKey.{SendKey}
 use Rattle.ev_apic.specs.declared.send.Target.{Target}
 use Rattle.ev_apic.specs.declared.send.Target.TheVariants.{One, Myself, All, Others}
@@ -15,10 +13,9 @@ use Rattle.ev_state.specs.Processor.{Processor}
 use Rattle.ev_trace.specs.FrameText.{Totals}
 use Rattle.ev_proc.specs.declared.stepped.Stepped.{Stepped}
 use Rattle.ev_proc.specs.ProcessorStep.{instruction_at}
-use Rattle.ev_concrete.specs.ConcreteRun.{System, Activation, acted, posted, targets, interrupted, activations_by, lower, without_last, is_return, is_repeated}
-use Rattle.ev_core.specs.Local.{counted, frame_by, is_target, after_send, after_act, depth_after, ends}
+use Rattle.ev_concrete.specs.ConcreteRun.{System, Activation, acted, posted, targets, interrupted, activations_by, lower, without_last}
+use Rattle.ev_core.specs.Local.{counted, frame_by, is_target, after_act, depth_after, ends}
 use Rattle.ev_core.specs.State.{local_of}
-use Rattle.ev_core.specs.declared.local.Local.{Local}
 
 -- ---- maps
 
@@ -78,6 +75,7 @@ posted_filter key f (suc k) a q s h l = ⊎_elim (λ p. here p.1 (f a) refl) (λ
     here e true t = posted_below key f k (suc a) q (mailed_at s key a) (omega arith) ∙ ap (put_at s.inboxes a (mailed (s.inboxes a) key)) e ∙ put_same s.inboxes a _
         ∙ sym (ap (λ b. if b then mailed (s.inboxes q) key else s.inboxes q) (ap f e ∙ t) ∙ ap (λ x. mailed (s.inboxes x) key) e)
     here e false t = posted_below key f k (suc a) q s (omega arith) ∙ sym (ap (λ b. if b then mailed (s.inboxes q) key else s.inboxes q) (ap f e ∙ t))
+
     there : (q ≡ a → ⊥) → (b : Bool) → ((t : System) → (posted t key (filter f (numbers_from (suc a) k))).inboxes q ≡ (if f q then mailed (t.inboxes q) key else t.inboxes q))
         → (posted s key (if b then a ∷ filter f (numbers_from (suc a) k) else filter f (numbers_from (suc a) k))).inboxes q ≡ (if f q then mailed (s.inboxes q) key else s.inboxes q)
     there d true rest = rest (mailed_at s key a) ∙ ap (λ x. if f q then mailed x key else x) (put_other s.inboxes a _ q d)

@@ -1,6 +1,6 @@
 -- Runs of edges: one more, and their end; and that they write no frame.
-use Rattle.std.proofs.Common.{◌≡◌, ℕ, zero, suc, ◌+◌, ◌<◌, ◌≤◌, ◌⊎◌, ⊎_elim, Bool, true, false, List, [], ◌∷◌, ◌++◌, length, append_assoc, Some, None, ap, refl, sym, ◌∙◌, subst, arith}
-use Rattle.ev_isa.specs.Word.{NatMap, put_at}
+use Rattle.std.proofs.Common.{◌≡◌, ℕ, zero, suc, ◌<◌, ◌≤◌, Bool, true, false, List, [], ◌∷◌, ◌++◌, length, append_assoc, Some, None, ap, refl, sym, ◌∙◌, subst, arith}
+use Rattle.ev_isa.specs.Word.{NatMap}
 use Rattle.ev_isa.specs.declared.mode.Mode.{Mode}
 use Rattle.ev_event.specs.declared.frame_note.FrameNote.{FrameNote}
 use Rattle.ev_body.specs.declared.image.Image.{Image}
@@ -8,11 +8,11 @@ use Rattle.ev_abstract.specs.Machine.{Machine, processor}
 use Rattle.ev_state.specs.Processor.{Processor}
 use Rattle.ev_proc.specs.ProcessorStep.{After, step}
 use Rattle.ev_proc.specs.declared.stepped.Stepped.{Stepped}
-use Rattle.ev_concrete.specs.ConcreteRun.{System, Marks, Activation, marks_of, is_visible, acted, after_step, activations_by, concrete_step, edges, with_frames, targets}
+use Rattle.ev_concrete.specs.ConcreteRun.{System, Marks, marks_of, is_visible, acted, after_step, activations_by, concrete_step, edges, with_frames}
 use Rattle.ev_refine.specs.Relation.{Stands}
 use Rattle.ev_refine.proofs.Refine.{all_settle}
 use Rattle.ev_core.specs.Run.{CanRun}
-use Rattle.ev_core.proofs.Acts.{put_same, posted_keeps, interrupted_length}
+use Rattle.ev_core.proofs.Acts.{put_same, interrupted_length}
 
 append_nil : {X : Type 0} (xs : List X) → xs ++ [] ≡ xs
 append_nil [] = refl
@@ -107,4 +107,4 @@ module _ (mode : Mode) (image : Image) (can : CanRun mode image) (left : NatMap 
           ap (λ (r : System × List FrameNote). r.1) more
           ∙ ap (λ fs. fs ++ (concrete_step image.processors (edges k marks image.processors s p).0 p).1) q
           ∙ quiet_step image.processors p (length (processor m p).bodies) (edges k marks image.processors s p).0 (depth_after_edges k)
-            (subst (λ (r : System × List FrameNote). length (r.0.activations p) ≡ length (processor m p).bodies) more (depth_after_edges (suc k)))
+          (subst (λ (r : System × List FrameNote). length (r.0.activations p) ≡ length (processor m p).bodies) more (depth_after_edges (suc k)))

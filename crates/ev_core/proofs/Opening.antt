@@ -1,20 +1,18 @@
 -- The machine at its opening.
-use Rattle.std.proofs.Common.{◌≡◌, ℕ, zero, suc, ◌+◌, ◌<◌, false, List, [], ◌∷◌, map, length, replicate, Some, None, ap, refl, sym, ◌∙◌, subst, arith}
+use Rattle.std.proofs.Common.{◌≡◌, ℕ, zero, suc, ◌+◌, ◌<◌, [], map, length, replicate, Some, None, ap, refl, sym, ◌∙◌, subst, arith}
 use Rattle.std.specs.Prelude.{slice_get}
 use Rattle.ev_isa.specs.Word.{numbers_from}
 use Rattle.ev_isa.specs.declared.mode.Mode.{Mode}
 use Rattle.ev_body.specs.declared.image.Image.{Image}
 use Rattle.ev_mem.specs.Mapped.{memory}
 use Rattle.ev_abstract.specs.Machine as abstract
-use Rattle.ev_apic.specs.Inbox.{no_mail}
-use Rattle.ev_concrete.specs.Opening.{opening_cpu, opening_apic, opening_memory}
-use Rattle.ev_concrete.specs.ConcreteRun.{System, marks_of, opening_system}
+use Rattle.ev_concrete.specs.Opening.{opening_cpu, opening_memory}
+use Rattle.ev_concrete.specs.ConcreteRun.{marks_of, opening_system}
 use Rattle.ev_refine.proofs.Refine.{opens}
 use Rattle.ev_layout.specs.Marks.{marks_in}
 use Rattle.ev_core.specs.Local.{start}
-use Rattle.ev_core.specs.State.{Parts, Shows, local_of}
-use Rattle.ev_core.specs.Run.{MachineView, CanRun, IsAt, IsRun, IsStanding}
-use Rattle.ev_core.specs.declared.local.Local.{Local}
+use Rattle.ev_core.specs.State.{Parts, Shows}
+use Rattle.ev_core.specs.Run.{MachineView, CanRun, IsRun, IsStanding}
 
 numbered : {X : Type 0} (f : ℕ → X) (n a i : ℕ) → i < n → slice_get (map f (numbers_from a n)) i ≡ Some (f (a + i))
 numbered f zero a i h = absurd (omega arith)
@@ -36,12 +34,12 @@ module _ (mode : Mode) (image : Image) where
   unfolding opening_system
   open_shows v cpus locals mem totals =
       let count : length v.cpus ≡ image.processors = ap length cpus ∙ counted_numbers (opening_cpu mode image) image.processors 0 in record {
-    processors = count;
-    cpu = λ p lt. ap (λ xs. slice_get xs p) cpus ∙ numbered (opening_cpu mode image) image.processors 0 p lt ∙ (let e : 0 + p ≡ p = omega arith in ap (λ k. Some (opening_cpu mode image k)) e);
-    own = λ p lt. ap (λ xs. slice_get xs p) locals ∙ repeated start (length v.cpus) p (subst (λ k. p < k) (sym count) lt);
-    memory = mem;
-    totals = totals;
-  }
+        processors = count;
+        cpu = λ p lt. ap (λ xs. slice_get xs p) cpus ∙ numbered (opening_cpu mode image) image.processors 0 p lt ∙ (let e : 0 + p ≡ p = omega arith in ap (λ k. Some (opening_cpu mode image k)) e);
+        own = λ p lt. ap (λ xs. slice_get xs p) locals ∙ repeated start (length v.cpus) p (subst (λ k. p < k) (sym count) lt);
+        memory = mem;
+        totals = totals;
+      }
 
   pub open_run : (v : MachineView) → CanRun mode image → marks_in v.places ≡ marks_of mode image → Shows image.processors v.parts (opening_system mode image) → IsRun mode image [] v
   open_run v can marks shows = record { can = can; script_is = refl; lines_built = refl; at = record { marks = marks; shows = shows } }

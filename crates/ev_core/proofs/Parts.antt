@@ -1,6 +1,6 @@
 -- A step of a processor leads from parts that show a system to parts that show the next one.
 use Rattle.std.proofs.Common.{◌≡◌, ℕ, ◌<◌, List, set, get_or, length, Some, ap, refl, sym, ◌∙◌, ◌||◌, subst, ⊎_elim}
-use Rattle.std.specs.Prelude.{slice_get, Option}
+use Rattle.std.specs.Prelude.{slice_get}
 use Rattle.std.proofs.lemmas.Option.{slice_get_read}
 use Rattle.std.proofs.lemmas.Bool.Decides.{eqb_tells}
 use Rattle.ev_isa.specs.Word.{put_at}
@@ -9,13 +9,12 @@ use Rattle.ev_listing.specs.Marks.{Mark, Never, Always, IfNonzero, IfEqual}
 use Rattle.ev_state.specs.Processor.{Processor, is_user}
 use Rattle.ev_mem.specs.Memory.{Memory}
 use Rattle.ev_mem.specs.Mapped.{memory}
-use Rattle.ev_trace.specs.FrameText.{Totals}
 use Rattle.ev_proc.specs.ProcessorStep.{After, step, next_of, instruction_at}
 use Rattle.ev_proc.specs.Conditions.{HasEntries, IsInCode}
 use Rattle.ev_concrete.specs.ConcreteRun.{System, Marks, is_visible, is_visible_by, is_seen, mark_at, after_step, concrete_step, activations_by}
 use Rattle.ev_refine.specs.Shown.{shown}
 use Rattle.ev_core.specs.Local.{optional, still, counted, after_act, frame_by, depth_after, ends}
-use Rattle.ev_core.specs.Step.{IsStep, LocalStep, local_after}
+use Rattle.ev_core.specs.Step.{LocalStep, local_after}
 use Rattle.ev_core.specs.State.{Parts, Shows, CanStep, local_of}
 use Rattle.ev_core.specs.declared.local.Local.{Local}
 use Rattle.ev_core.specs.declared.local.Made.{Made}
@@ -38,8 +37,10 @@ module _ (n p : ℕ) (s : System) where
     where
       depth : depth_after (length (s.activations p)) (ends (s.cpus p) r.cpu (instruction_at s.memory.words (s.cpus p).rip)) r.step ≡ length (put_at s.activations p (activations_by s p (s.activations p) r.cpu r.step) p)
       depth = sym (depth_is s p (s.activations p) r.cpu r.step) ∙ ap length (sym (put_same s.activations p (activations_by s p (s.activations p) r.cpu r.step)))
+
       here : put_at (local_of s) p (local_after (s.cpus p) (local_of s p) s.memory r) p ≡ local_of (after_step s p r) p
       here = put_same (local_of s) p _ ∙ (λ i. record { apic = sym (put_same s.apics p r.apic) i; latch = sym (put_same s.latches p r.nmi) i; inbox = s.inboxes p; depth = depth i })
+
       there : (q ≡ p → ⊥) → put_at (local_of s) p (local_after (s.cpus p) (local_of s p) s.memory r) q ≡ local_of (after_step s p r) q
       there d = put_other (local_of s) p _ q d
           ∙ (λ i. record { apic = sym (put_other s.apics p r.apic q d) i; latch = sym (put_other s.latches p r.nmi q d) i; inbox = s.inboxes q; depth = length (sym (put_other s.activations p (activations_by s p (s.activations p) r.cpu r.step) q d) i) })

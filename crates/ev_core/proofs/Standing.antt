@@ -1,6 +1,5 @@
 -- What a machine that stands for an abstract state says of its edges.
-use Rattle.std.proofs.Common.{◌≡◌, ℕ, suc, ◌+◌, ◌<◌, ◌≤◌, ⊎_elim, true, false, List, [], ◌∷◌, ◌++◌, length, Some, ap, refl, sym, ◌∙◌, subst, arith}
-use Rattle.std.specs.Prelude.{slice_get}
+use Rattle.std.proofs.Common.{◌≡◌, ℕ, suc, ◌+◌, ◌<◌, ◌≤◌, ⊎_elim, true, false, List, [], ◌∷◌, ◌++◌, length, ap, sym, ◌∙◌, subst, arith}
 use Rattle.std.proofs.lemmas.Bool.Decides.{leb_tells}
 use Rattle.ev_isa.specs.Word.{NatMap}
 use Rattle.ev_isa.specs.declared.mode.Mode.{Mode}
@@ -45,19 +44,19 @@ module _ (mode : Mode) (image : Image) (can : CanRun mode image) (left : NatMap 
   pub can_step : (v : Parts) → Shows image.processors v s → CanStep v p
   can_step v h =
       let told : Tells mode image s m p = tells mode image can.built can.mode_built can.image_is left s m stands p lt in record {
-    entries = λ c e. subst (λ y. HasEntries y (memory v.mem)) (same_value (s.cpus p) c (sym (h.cpu p lt) ∙ e)) (subst (λ y. HasEntries (s.cpus p) y) (sym h.memory) told.entries);
-    in_code = λ c e. subst (λ y. IsInCode y (memory v.mem)) (same_value (s.cpus p) c (sym (h.cpu p lt) ∙ e)) (subst (λ y. IsInCode (s.cpus p) y) (sym h.memory) told.in_code);
-    depth = λ l e. let d : length (s.activations p) ≡ l.depth = ap (λ (y : Local). y.depth) (same_value (local_of s p) l (sym (h.own p lt) ∙ e)) in let f = depth_few in omega arith;
-  }
+        entries = λ c e. subst (λ y. HasEntries y (memory v.mem)) (same_value (s.cpus p) c (sym (h.cpu p lt) ∙ e)) (subst (λ y. HasEntries (s.cpus p) y) (sym h.memory) told.entries);
+        in_code = λ c e. subst (λ y. IsInCode y (memory v.mem)) (same_value (s.cpus p) c (sym (h.cpu p lt) ∙ e)) (subst (λ y. IsInCode (s.cpus p) y) (sym h.memory) told.in_code);
+        depth = λ l e. let d : length (s.activations p) ≡ l.depth = ap (λ (y : Local). y.depth) (same_value (local_of s p) l (sym (h.own p lt) ∙ e)) in let f = depth_few in omega arith;
+      }
 
-  -- before a visible step stand at most 69 edges
-  pub hidden_few : (k : ℕ) → is_visible (marks_of mode image) (edges k (marks_of mode image) image.processors s p).0 p ≡ false → k + 1 ≤ 69
+  -- before a visible step stand fewer than 1,024 edges
+  pub hidden_few : (k : ℕ) → is_visible (marks_of mode image) (edges k (marks_of mode image) image.processors s p).0 p ≡ false → k + 1 ≤ 1023
   hidden_few k h =
       let settles : Settles mode image can.built left s m p = all_settle mode image can.built can.mode_built can.image_is left s m stands p lt in
       let most = (stands.each p lt).few in
       ⊎_elim (λ e. absurd (let seen = settles.seen k e.1 in cc)) (λ e. let b = e.1 in omega arith) (leb_tells (left p) k)
 
-  pub visible_after : (k : ℕ) → 69 ≤ k → is_visible (marks_of mode image) (edges k (marks_of mode image) image.processors s p).0 p ≡ true
+  pub visible_after : (k : ℕ) → 1023 ≤ k → is_visible (marks_of mode image) (edges k (marks_of mode image) image.processors s p).0 p ≡ true
   visible_after k h =
       let settles : Settles mode image can.built left s m p = all_settle mode image can.built can.mode_built can.image_is left s m stands p lt in
       let most = (stands.each p lt).few in settles.seen k (omega arith)
@@ -82,7 +81,7 @@ module _ (v : MachineView) (h : IsStanding v) (p : ℕ) (within : p < length v.p
       let settles : Settles h.mode h.image h.can.built h.left h.system h.machine p = all_settle h.mode h.image h.can.built h.can.mode_built h.can.image_is h.left h.system h.machine h.stands p lt in
       can_step h.mode h.image h.can _ _ h.machine (settles.after k).1 p lt w (subst (λ marks. Shows processors w (edges k marks processors h.system p).0) h.at.marks shows)
 
-  pub few_edges : (k : ℕ) → is_visible seen_marks (edges k seen_marks processors h.system p).0 p ≡ false → k + 1 ≤ 69
+  pub few_edges : (k : ℕ) → is_visible seen_marks (edges k seen_marks processors h.system p).0 p ≡ false → k + 1 ≤ 1023
   few_edges k e = hidden_few h.mode h.image h.can h.left h.system h.machine h.stands p lt k (subst (λ marks. is_visible marks (edges k marks processors h.system p).0 p ≡ false) h.at.marks e)
 
 -- ---- one edge more

@@ -1,5 +1,5 @@
 -- What a step's parts say together.
-use Rattle.std.proofs.Common.{◌≡◌, ℕ, Bool, ap, refl, sym, ◌∙◌}
+use Rattle.std.proofs.Common.{◌≡◌, ℕ, refl}
 use Rattle.ev_isa.specs.Word.{NatMap}
 use Rattle.ev_isa.specs.declared.instruction.Ins.{Ins}
 use Rattle.std.specs.Prelude.{Option, Some, None}

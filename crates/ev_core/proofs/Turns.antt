@@ -1,26 +1,22 @@
 -- A turn of the machine as a line of its script.
-use Rattle.std.proofs.Common.{◌≡◌, ℕ, suc, ◌+◌, ◌<◌, ◌≤◌, ◌⊎◌, inl, inr, Bool, true, false, ◌&&◌, List, [], ◌∷◌, ◌++◌, length, ap, refl, sym, ◌∙◌, subst, arith}
-use Rattle.std.specs.Prelude.{nat_lt}
+use Rattle.std.proofs.Common.{◌≡◌, ℕ, ◌<◌, ◌⊎◌, inl, inr, Bool, true, false, ◌&&◌, List, [], ◌∷◌, ◌++◌, length, ap, refl, sym, ◌∙◌, subst, arith}
 use Rattle.std.specs.List.{list_all}
 use Rattle.std.proofs.lemmas.Bool.{lt-ltb, eq-eqb}
 use Rattle.ev_isa.specs.Word.{NatMap}
 use Rattle.ev_isa.specs.declared.mode.Mode.{Mode}
 use Rattle.ev_body.specs.declared.image.Image.{Image}
-use Rattle.ev_abstract.specs.declared.entry.Entry.{Entry}
-use Rattle.ev_abstract.specs.Machine as abstract
 use Rattle.ev_abstract.specs.Run.{turn, run, line_step, entries_of}
-use Rattle.ev_abstract.specs.Script.{IsScript, is_line}
+use Rattle.ev_abstract.specs.Script.{is_line}
 use Rattle.ev_abstract.specs.declared.script_line.Line.{Line}
 use Rattle.ev_abstract.specs.declared.script_line.Line.TheVariants.{Turn}
-use Rattle.ev_concrete.specs.ConcreteRun.{System, Marks, marks_of, is_visible, concrete_step, concrete_turn, concrete_line, concrete_lines, concrete_run, edges, settled}
+use Rattle.ev_concrete.specs.ConcreteRun.{System, Marks, marks_of, is_visible, concrete_turn, concrete_line, concrete_lines, concrete_run, settled}
 use Rattle.ev_concrete.specs.LiveWords.{IsSafeStep}
 use Rattle.ev_built.specs.Built.{line_is_built}
-use Rattle.ev_refine.specs.Relation.{Stands}
 use Rattle.ev_refine.specs.Shown.{shown}
 use Rattle.ev_refine.specs.Claims.{Settles, Simulated, MakesEdge, MakesTurn}
-use Rattle.ev_refine.proofs.Refine.{refines, opens, all_settle, turns_follow, runs_follow}
+use Rattle.ev_refine.proofs.Refine.{refines, all_settle, turns_follow, runs_follow}
 use Rattle.ev_core.specs.State.{Parts, Shows}
-use Rattle.ev_core.specs.Run.{MachineView, CanRun, IsAt, IsRun, IsStanding}
+use Rattle.ev_core.specs.Run.{MachineView, IsRun, IsStanding}
 use Rattle.ev_core.proofs.Standing.{seen_marks, processors, visible_after}
 
 -- ---- the machine stands for an abstract state again
@@ -32,15 +28,15 @@ module _ (v : MachineView) (h : IsStanding v) (p : ℕ) (within : p < length v.p
   pub settled_stands : (w : Parts) → Shows h.image.processors w (settled (seen_marks v h p within) h.image.processors h.system p).0 → IsStanding (record { parts = w; places = v.places })
   settled_stands w shows =
       let settles : Settles h.mode h.image h.can.built h.left h.system h.machine p = all_settle h.mode h.image h.can.built h.can.mode_built h.can.image_is h.left h.system h.machine h.stands p lt in record {
-    mode = h.mode;
-    image = h.image;
-    can = h.can;
-    system = (settled (marks_of h.mode h.image) h.image.processors h.system p).0;
-    at = record { marks = h.at.marks; shows = subst (λ marks. Shows h.image.processors w (settled marks h.image.processors h.system p).0) h.at.marks shows };
-    left = _;
-    machine = h.machine;
-    stands = (settles.after 1024).1;
-  }
+        mode = h.mode;
+        image = h.image;
+        can = h.can;
+        system = (settled (marks_of h.mode h.image) h.image.processors h.system p).0;
+        at = record { marks = h.at.marks; shows = subst (λ marks. Shows h.image.processors w (settled marks h.image.processors h.system p).0) h.at.marks shows };
+        left = _;
+        machine = h.machine;
+        stands = (settles.after 1024).1;
+      }
 
   pub turned_stands : (w : Parts) → Shows h.image.processors w (concrete_turn (seen_marks v h p within) h.image.processors h.system p).0 → IsStanding (record { parts = w; places = v.places })
   turned_stands w shows = record {
@@ -121,6 +117,7 @@ module _ (mode : Mode) (image : Image) (script : List Line) (v : MachineView) (r
       seen : is_visible marks (settled marks image.processors reached p).0 p ≡ true
       seen = let follows = runs_follow mode image r.can.built r.can.mode_built r.can.image_is script r.script_is r.lines_built in
           visible_after mode image r.can follows.0 reached (run image script) follows.1 p in_image 1024 (omega arith)
+
       by_kind : MakesEdge mode image r.can.built settled_simulates.0 (settled marks image.processors reached p).0 (run image script) p ⊎ MakesTurn mode image r.can.built settled_simulates.0 (settled marks image.processors reached p).0 (run image script) p
           → shown (settled marks image.processors reached p).0 p ≡ (turn image (run image script) p).1
       by_kind (inl e) = absurd (let a = e.hidden in let b = seen in cc)

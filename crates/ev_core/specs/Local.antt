@@ -10,8 +10,6 @@ use Rattle.ev_effect.specs.Frame.{addresses}
 use Rattle.ev_state.specs.Processor.{Processor, is_user, register}
 use Rattle.ev_abstract.specs.declared.entry.Entry.{Entry}
 use Rattle.ev_abstract.specs.declared.entry.Entry.TheVariants.{Enter}
-use Rattle.ev_apic.specs.declared.apic.Apic.{Apic}
-use Rattle.ev_apic.specs.declared.inbox.Inbox.{Inbox}
 use Rattle.ev_apic.specs.declared.send.Send.{Send}
 use Rattle.ev_apic.specs.declared.send.Target.{Target}
 use Rattle.ev_apic.specs.declared.send.Target.TheVariants.{One, Myself, All, Others}

@@ -1,7 +1,5 @@
 -- The machine's parts as lists, and the system that they show. Own.
 use Rattle.std.specs.Prelude.{◌≡◌, ℕ, ◌<◌, ◌≤◌, List, length, slice_get, Some}
-use Rattle.ev_isa.specs.declared.mode.Mode.{Mode}
-use Rattle.ev_body.specs.declared.image.Image.{Image}
 use Rattle.ev_state.specs.Processor.{Processor}
 use Rattle.ev_mem.specs.Mapped.{MappedWords, memory}
 use Rattle.ev_trace.specs.FrameText.{Totals}

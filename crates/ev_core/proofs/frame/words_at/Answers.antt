@@ -7,5 +7,5 @@ pub loop-words-preserved : goal.loop-words-preserved
 loop-words-preserved c = record {
   few = omega arith;
   whole = one_more (memory c.args.mem.now).words c.loop-words.at _ _ c.loop-words.words.items _ _ (omega arith)
-    (c.push.ensures.items ∙ ap (λ w. c.loop-words.words.items ++ w ∷ []) c.word.ensures) c.loop-words.invariant.whole;
+      (c.push.ensures.items ∙ ap (λ w. c.loop-words.words.items ++ w ∷ []) c.word.ensures) c.loop-words.invariant.whole;
 }

@@ -1,4 +1,4 @@
-use Rattle.std.proofs.Common.{◌≡◌, ◌∙◌, ◌++◌, [], ◌∷◌, ap, refl}
+use Rattle.std.proofs.Common.{◌∙◌, ◌++◌, [], ◌∷◌}
 use Rattle.std.proofs.lemmas.List.{replicate-append-replicate}
 use Rattle.ev_core.specs.Local.{start}
 use Rattle.ev_core.proofs.local.all_at_start.Goals as goal

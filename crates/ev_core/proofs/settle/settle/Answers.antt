@@ -42,11 +42,11 @@ keep-requires g c =
 pub loop-preserved : goal.loop-preserved
 loop-preserved g c =
     let hidden : (n : ℕ) (s : System) → Shows n c.args.state.now s → is_visible (marks_in c.args.places.now) (edges c.loop.counter (marks_in c.args.places.now) n s c.args.p).0 c.args.p ≡ false
-        = λ n s h. sym (c.is_visible.ensures n _ (c.loop.invariant.shows n s h)) ∙ c.if-is_visible.false in record {
+    = λ n s h. sym (c.is_visible.ensures n _ (c.loop.invariant.shows n s h)) ∙ c.if-is_visible.false in record {
       few = few_edges _ c.requires.stands c.args.p c.requires.place c.loop.counter (hidden _ _ c.requires.stands.at.shows);
       shows = λ n s h. more_shows (marks_in c.args.places.now) n c.args.p c.loop.counter _ s (omega arith) (hidden n s h) _ (c.step-shown.ensures.shows n _ (c.loop.invariant.shows n s h));
       frames = λ n s h. more_frames (marks_in c.args.places.now) n c.args.p c.loop.counter _ s (omega arith) (hidden n s h) _ _ _ (c.loop.invariant.frames n s h)
-        (c.step-shown.ensures.frame n _ (c.loop.invariant.shows n s h)) c.keep.ensures;
+          (c.step-shown.ensures.frame n _ (c.loop.invariant.shows n s h)) c.keep.ensures;
       counted = omega arith;
       totals = omega arith;
       same = c.step-shown.ensures.same ∙ c.loop.invariant.same;

@@ -7,7 +7,7 @@ use Rattle.ev_core.proofs.settle.settle.Given as goal
 -- so many edges are made
 abbrev pub invariant-loop : goal.invariant-loop
 invariant-loop g l = record {
-  few : l.counter ≤ 69;
+  few : l.counter ≤ 1023;
   shows : (n : ℕ) (s : System) → Shows n l.fn.state s → Shows n l.state (edges l.counter (marks_in l.places) n s l.p).0;
   frames : (n : ℕ) (s : System) → Shows n l.fn.state s → l.frames ≡ (edges l.counter (marks_in l.places) n s l.p).1;
   counted : l.steps ≡ l.fn.steps + l.counter;

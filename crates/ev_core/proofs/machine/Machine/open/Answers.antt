@@ -1,4 +1,4 @@
-use Rattle.std.proofs.Common.{◌≡◌, ◌∙◌, ap, replicate, refl, subst}
+use Rattle.std.proofs.Common.{◌∙◌, ap, replicate, subst}
 use Rattle.ev_body.specs.WellFormed.{IsImage}
 use Rattle.ev_core.specs.Local.{start}
 use Rattle.ev_core.proofs.Opening.{open_shows, open_run, open_stands}

@@ -1,9 +1,6 @@
 use Rattle.std.proofs.Common.{◌≡◌, ◌<◌, ◌+◌, ◌++◌, ◌∙◌, ap, sym, subst, length, arith, List}
-use Rattle.ev_isa.specs.declared.mode.Mode.{Mode}
 use Rattle.ev_event.specs.declared.frame_note.FrameNote.{FrameNote}
-use Rattle.ev_body.specs.declared.image.Image.{Image}
-use Rattle.ev_abstract.specs.declared.script_line.Line.{Line}
-use Rattle.ev_concrete.specs.ConcreteRun.{System, marks_of, concrete_run, settled}
+use Rattle.ev_concrete.specs.ConcreteRun.{System, concrete_run, settled}
 use Rattle.ev_core.specs.State.{Shows}
 use Rattle.ev_core.specs.Run.{MachineView, IsRun}
 use Rattle.ev_core.specs.contracts.machine.Machine.{the_view}
@@ -19,7 +16,7 @@ step-shown-requires-clause-can g c =
 pub keep-requires : goal.keep-requires
 keep-requires g c =
     let e = ap length (c.settle.ensures.frames _ _ c.self.invariant.at.shows
-        ∙ no_frames _ c.self.invariant c.args.p (subst (λ (v : MachineView). c.args.p < length v.parts.cpus) (sym c.self.view_is) c.requires.place) 1024) in omega arith
+    ∙ no_frames _ c.self.invariant c.args.p (subst (λ (v : MachineView). c.args.p < length v.parts.cpus) (sym c.self.view_is) c.requires.place) 1024) in omega arith
 
 pub invariant_of-self : goal.invariant_of-self
 invariant_of-self g c =

@@ -1,6 +1,5 @@
-use Rattle.std.proofs.Common.{◌∙◌, arith, ap, length}
+use Rattle.std.proofs.Common.{◌∙◌}
 use Rattle.ev_layout.specs.Marks.{marks_in}
-use Rattle.ev_core.specs.State.{Parts}
 use Rattle.ev_core.proofs.Parts.{visible_there}
 use Rattle.ev_core.proofs.state.State.is_visible.Goals as goal
 

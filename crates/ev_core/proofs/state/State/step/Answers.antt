@@ -28,7 +28,7 @@ pub returns-clause-frame : goal.returns-clause-frame
 returns-clause-frame g c n s h =
     c.frame_of-frame.ensures
     ∙ stepped_frame n c.args.p s c.local_step-made.new.cpu c.local_step-made.new.local (memory c.local_step-made.new.mem) c.local_step-made.result
-      (moved_step _ _ n c.args.p s _ _ _ _ _ _ c.self.view_is h c.self.invariant.same c.requires.place c.index_mut-cpu.ensures.value c.index_mut-local.ensures.value c.local_step-made.ensures)
+    (moved_step _ _ n c.args.p s _ _ _ _ _ _ c.self.view_is h c.self.invariant.same c.requires.place c.index_mut-cpu.ensures.value c.index_mut-local.ensures.value c.local_step-made.ensures)
 
 pub returns-clause-entry : goal.returns-clause-entry
 returns-clause-entry g c n s h =
