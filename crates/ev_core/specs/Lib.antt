@@ -1,0 +1,6 @@
+pub mod Local
+pub mod Step
+pub mod State
+pub mod Run
+pub mod Task
+pub mod Frames

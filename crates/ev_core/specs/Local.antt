@@ -1,0 +1,111 @@
+-- What a step does to what belongs to its processor, and what it shows. Own.
+use Rattle.std.specs.Prelude.{ℕ, suc, ◌+◌, ◌-◌, Bool, true, false, not, ◌&&◌, ◌||◌, ◌==◌, if◌then◌else◌, List, [], ◌∷◌, map, replicate, Option, Some, None}
+use Rattle.ev_isa.specs.Word.{NatMap, wrap}
+use Rattle.ev_isa.specs.declared.instruction.Ins.{Ins}
+use Rattle.ev_event.specs.declared.event.Event.{Event}
+use Rattle.ev_event.specs.Event.{has_error_code, is_hardware}
+use Rattle.ev_body.specs.declared.key.Side.TheVariants.{User, Kernel}
+use Rattle.ev_event.specs.declared.frame_note.FrameNote.{FrameNote}
+use Rattle.ev_effect.specs.Frame.{addresses}
+use Rattle.ev_state.specs.Processor.{Processor, is_user, register}
+use Rattle.ev_abstract.specs.declared.entry.Entry.{Entry}
+use Rattle.ev_abstract.specs.declared.entry.Entry.TheVariants.{Enter}
+use Rattle.ev_apic.specs.declared.send.Send.{Send}
+use Rattle.ev_apic.specs.declared.send.Target.{Target}
+use Rattle.ev_apic.specs.declared.send.Target.TheVariants.{One, Myself, All, Others}
+use Rattle.ev_apic.specs.Inbox.{mailed, no_mail}
+use Rattle.ev_mem.specs.Memory.{Memory}
+use Rattle.ev_trace.specs.FrameText.{Totals}
+use Rattle.ev_proc.specs.declared.stepped.Stepped.{Stepped}
+use Rattle.ev_concrete.specs.Opening.{opening_apic}
+use Rattle.ev_concrete.specs.ConcreteRun.{System, Activation, is_return, is_repeated, lower, frame_size}
+use Rattle.ev_refine.specs.Shown.{key_of}
+use Rattle.ev_core.specs.declared.local.Local.{Local}
+
+-- the values of an option as a list
+abbrev pub optional : {A : Type 0} → Option A → List A
+optional None = []
+optional (Some a) = a ∷ []
+
+abbrev pub standing_at : Activation
+standing_at = record { rsp = 0; rip = 0; inner = false }
+
+-- what belongs to a processor at the opening
+abbrev pub start : Local
+start = record { apic = opening_apic; latch = false; inbox = no_mail; depth = 0 }
+
+-- a system in which every processor is as this one
+abbrev pub still : Processor → Local → Memory → System
+still c l m = record {
+  cpus = λ p. c;
+  apics = λ p. l.apic;
+  latches = λ p. l.latch;
+  inboxes = λ p. l.inbox;
+  memory = m;
+  totals = record { steps = 0; frames = 0; low = None };
+  activations = λ p. replicate l.depth standing_at;
+}
+
+-- the totals after a step
+abbrev pub counted : Totals → Stepped → Totals
+counted t (Stepped.Delivered e (Some a)) = record { steps = suc t.steps; frames = suc t.frames; low = lower a t.low }
+counted t (Stepped.Delivered e None) = record t { steps = suc t.steps }
+counted t Stepped.Ran = record t { steps = suc t.steps }
+counted t Stepped.Shutdown = record t { steps = suc t.steps }
+counted t (Stepped.Sent m) = record t { steps = suc t.steps }
+
+-- whether an instruction of c that led to c' ends its activation
+abbrev pub ends : Processor → Processor → Option Ins → Bool
+ends c c' i = is_return i && not (is_user c) && not (is_repeated c c')
+
+-- how many activations stand after a step
+abbrev pub depth_after : ℕ → Bool → Stepped → ℕ
+depth_after n ended (Stepped.Delivered e frame) = suc n
+depth_after n ended Stepped.Ran = elim ended [ true ↦ n - 1 | false ↦ n ]
+depth_after n ended _ = n
+
+-- the frame that a step wrote, whose processor and words are these after it
+abbrev pub frame_by : Processor → NatMap ℕ → Stepped → List FrameNote
+frame_by c words (Stepped.Delivered e (Some a)) = record { address = a; words = record { items = map words (addresses a (frame_size c e)) } } ∷ []
+frame_by c words (Stepped.Delivered e None) = []
+frame_by c words Stepped.Ran = []
+frame_by c words Stepped.Shutdown = []
+frame_by c words (Stepped.Sent m) = []
+
+-- ---- the entry of a step, told from what was before it (the privilege, FRED, the log that its instruction writes) and what is after it
+
+abbrev pub saved_by : Bool → Processor → NatMap ℕ → Event → Option ℕ → ℕ
+saved_by fred c words e None = register c 1
+saved_by fred c words e (Some a) = words (if fred || (is_hardware e.kind && has_error_code e.vector) then wrap (a + 8) else a)
+
+abbrev pub rip_by : Bool → ℕ → Option ℕ
+rip_by user rip = if user then Some rip else None
+
+abbrev pub delivery_entry : ℕ → ℕ → Bool → Bool → Processor → NatMap ℕ → Event → Option ℕ → Entry
+delivery_entry p depth user fred c words e frame =
+    Enter p (key_of e.kind e.vector) e.kind (if user then User else Kernel) (suc depth) e.error e.info (rip_by user (saved_by fred c words e frame))
+
+abbrev pub entry_by : ℕ → ℕ → Bool → Bool → List Entry → Processor → NatMap ℕ → Stepped → List Entry
+entry_by p depth user fred log c words (Stepped.Delivered e frame) = delivery_entry p depth user fred c words e frame ∷ []
+entry_by p depth user fred log c words Stepped.Ran = if user then [] else log
+entry_by p depth user fred log c words Stepped.Shutdown = []
+entry_by p depth user fred log c words (Stepped.Sent m) = []
+
+-- ---- mail
+
+abbrev pub is_target : Target → ℕ → ℕ → Bool
+is_target (One t) p q = t == q
+is_target Myself p q = q == p
+is_target All p q = true
+is_target Others p q = not (q == p)
+
+-- what belongs to q after p sent this
+abbrev pub after_send : Send → ℕ → ℕ → Local → Local
+after_send m p q l = if is_target m.target p q then record l { inbox = mailed l.inbox m.key } else l
+
+-- what belongs to q after this step of p
+abbrev pub after_act : Stepped → ℕ → ℕ → Local → Local
+after_act (Stepped.Sent m) p q l = after_send m p q l
+after_act (Stepped.Delivered e frame) p q l = l
+after_act Stepped.Ran p q l = l
+after_act Stepped.Shutdown p q l = l

@@ -1,0 +1,56 @@
+-- The machine as contracts see it, and what it is to be the run of a script. Own.
+use Rattle.std.specs.Prelude.{◌≡◌, ℕ, ◌≤◌, ◌+◌, true, List}
+use Rattle.std.specs.List.{list_all}
+use Rattle.ev_isa.specs.Word.{NatMap}
+use Rattle.ev_isa.specs.declared.mode.Mode.{Mode}
+use Rattle.ev_body.specs.declared.image.Image.{Image}
+use Rattle.ev_body.specs.WellFormed.{IsImage}
+use Rattle.ev_abstract.specs.Machine.{Machine}
+use Rattle.ev_abstract.specs.Script.{IsScript}
+use Rattle.ev_abstract.specs.declared.script_line.Line.{Line}
+use Rattle.ev_concrete.specs.ConcreteRun.{System, marks_of, concrete_run}
+use Rattle.ev_built.specs.Built.{IsBuilt, mode_is_built, line_is_built}
+use Rattle.ev_refine.specs.Relation.{Stands}
+use Rattle.ev_layout.specs.declared.mark.Mark.{Mark}
+use Rattle.ev_layout.specs.Marks.{marks_in}
+use Rattle.ev_core.specs.State.{Parts, Shows}
+
+pub record MachineView : Type 0 where
+  pub parts : Parts
+  pub places : List (ℕ × Mark)
+
+-- the machine of an image in a mode, in the state s
+pub record IsAt (mode : Mode) (image : Image) (s : System) (v : MachineView) : Type 0 where
+  pub marks : marks_in v.places ≡ marks_of mode image
+  pub shows : Shows image.processors v.parts s
+
+-- images and modes with which machines run
+pub record CanRun (mode : Mode) (image : Image) : Type 0 where
+  pub image_is : IsImage image
+  pub built : IsBuilt image
+  pub mode_built : mode_is_built mode ≡ true
+
+-- the machine is in the state to which the script leads from the opening
+pub record IsRun (mode : Mode) (image : Image) (script : List Line) (v : MachineView) : Type 0 where
+  pub can : CanRun mode image
+  pub script_is : IsScript image script
+  pub lines_built : list_all line_is_built script ≡ true
+  pub at : IsAt mode image (concrete_run mode image script).0 v
+
+-- some machine's state that stands for a state of the abstract machine
+pub record IsStanding (v : MachineView) : Type 0 where
+  pub mode : Mode
+  pub image : Image
+  pub can : CanRun mode image
+  pub system : System
+  pub at : IsAt mode image system v
+  pub left : NatMap ℕ
+  pub machine : Machine
+  pub stands : Stands mode image can.built left system machine
+
+-- so many steps were counted and made
+pub record Costs (most before now : ℕ) (v w : MachineView) : Type 0 where
+  pub made : ℕ
+  pub few : made ≤ most
+  pub counted : now ≡ before + made
+  pub totals : w.parts.totals.steps ≡ v.parts.totals.steps + made

@@ -1,0 +1,22 @@
+//! The machine that a script drives: processors that turn from one visible step to the next, in
+//! counted processor steps, with the entries and frames that a step shows.
+#![tactic(auto)]
+
+mod entry;
+mod frame;
+mod frames;
+mod local;
+mod machine;
+mod mail;
+mod settle;
+mod state;
+mod steps;
+mod task_view;
+mod totals;
+mod visible;
+
+pub use frames::Frames;
+pub use machine::{Machine, Turned};
+pub use steps::Steps;
+pub use task_view::TaskView;
+pub use totals::Totals;

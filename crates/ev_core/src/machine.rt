@@ -1,0 +1,162 @@
+// The machine.
+
+ghost use Rattle.std.specs.Prelude.{◌≡◌, ◌<◌, ◌^◌, ℕ, true, List, [], ◌∷◌, ◌++◌, length, IfOk};
+ghost use Rattle.ev_isa.specs.Word.{NatMap};
+ghost use Rattle.ev_isa.specs.declared.mode.Mode.{Mode};
+ghost use Rattle.ev_body.specs.declared.image.Image.{Image};
+ghost use Rattle.ev_abstract.specs.declared.script_line.Line.{Line};
+ghost use Rattle.ev_abstract.specs.declared.script_line.Line.TheVariants.{Turn};
+ghost use Rattle.ev_abstract.specs.Machine as abstract;
+ghost use Rattle.ev_abstract.specs.Run.{entries_of};
+ghost use Rattle.ev_body.specs.WellFormed.{IsImage};
+ghost use Rattle.ev_concrete.specs.ConcreteRun.{System, concrete_line, concrete_run, marks_of, settled};
+ghost use Rattle.ev_concrete.specs.LiveWords.{IsSafeStep};
+ghost use Rattle.ev_built.specs.Built.{IsBuilt, mode_is_built};
+ghost use Rattle.ev_refine.specs.Relation.{Stands};
+ghost use Rattle.ev_core.specs.Local.{optional};
+ghost use Rattle.ev_core.specs.Run.{CanRun, Costs, IsAt, IsRun};
+ghost use Rattle.ev_core.specs.Task.{IsTaskView};
+
+use crate::frame::keep;
+use crate::frames::Frames;
+use crate::local::all_at_start;
+use crate::settle::settle;
+use crate::state::State;
+use crate::steps::Steps;
+use crate::task_view::TaskView;
+use crate::totals::Totals;
+use ev_abstract::Entry;
+use ev_body::Image;
+use ev_isa::{Mode, NoMemory};
+use ev_layout::{Places, build};
+use std::alloc::Global;
+use std::marker::Model;
+use std::sync::ledger::Ledger;
+
+/// A machine: its processors, their memory, and the places of the kernel's visible instructions. It
+/// knows nothing of the abstract machine, for a state of which it always stands. Own.
+#[derive(Debug, Drop)]
+pub struct Machine {
+    state: State,
+    places: Places,
+}
+
+impl Model for Machine {
+    ghost use Rattle.ev_core.specs.Run.{MachineView, IsStanding};
+
+    ghost Value = { MachineView };
+
+    ghost view = { λ m. record { parts = m.state; places = m.places } };
+
+    ghost invariant = { λ m. IsStanding (record { parts = m.state; places = m.places }) };
+}
+
+/// What a turn showed: its entry, if there is one, and the frames that it wrote.
+#[derive(Debug, Drop)]
+pub struct Turned {
+    pub entry: Option<Entry>,
+    pub frames: Frames,
+}
+
+impl Machine {
+    /// The machine of an image in a mode, at its opening. NoMemory means that memory was refused.
+    pub fn open(alloc: Global, image: &Image, mode: Mode) -> Result<Machine, NoMemory>
+        requires image { IsBuilt image.now }
+        requires mode { mode_is_built mode ≡ true }
+        ensures { IfOk result (λ m. IsRun mode image.now [] m) }
+    {
+        let _ = &image.processors;
+        let parts = build(alloc, image, mode)?;
+        let cpus = parts.cpus.into_vec();
+        let locals = match all_at_start(alloc, cpus.len()) {
+            Ok(locals) => locals,
+            Err(_) => return Err(NoMemory),
+        };
+        let state = State {
+            cpus,
+            locals,
+            mem: parts.mem,
+            totals: Totals::new(),
+        };
+        Ok(Machine {
+            state,
+            places: parts.places,
+        })
+    }
+
+    /// Processor p makes edges and then one visible step: at most 1,024 steps, each counted. The
+    /// machine becomes the run of one line more, the entry is the abstract run's, and no frame holds
+    /// a word that was live.
+    pub fn turn<L: Ledger>(&mut self, p: usize, steps: &mut Steps<L>) -> Turned
+        requires place { p < length self.old.parts.cpus }
+        requires count { self.old.parts.totals.steps < 2 ^ 62 }
+        ensures run { (mode : Mode) (image : Image) (script : List Line) → IsRun mode image script self.old → IsRun mode image (script ++ Turn p ∷ []) self.new }
+        ensures entry { (mode : Mode) (image : Image) (script : List Line) → IsRun mode image script self.old → optional result.entry ≡ entries_of image script (Turn p) }
+        ensures frames { (mode : Mode) (image : Image) (script : List Line) → IsRun mode image script self.old → result.frames ≡ (concrete_line (marks_of mode image) image.processors (concrete_run mode image script).0 (Turn p)).1 }
+        ensures safe { (mode : Mode) (image : Image) (script : List Line) → IsRun mode image script self.old → IsSafeStep mode image (settled (marks_of mode image) image.processors (concrete_run mode image script).0 p).0 p }
+        ensures cost { Costs 1024 steps.old steps.new self.old self.new }
+        ensures same { length self.new.parts.cpus ≡ length self.old.parts.cpus }
+    {
+        let mut frames = Frames::new();
+        settle(&mut self.state, &self.places, p, &mut frames, steps);
+        let shown = self.state.step(p, steps);
+        keep(&mut frames, shown.frame);
+        Turned {
+            entry: shown.entry,
+            frames,
+        }
+    }
+
+    /// Processor p makes edges, until its next step is visible, and the frames that they wrote are
+    /// answered. The abstract state stays.
+    pub fn settle<L: Ledger>(&mut self, p: usize, steps: &mut Steps<L>) -> Frames
+        requires place { p < length self.old.parts.cpus }
+        requires count { self.old.parts.totals.steps < 2 ^ 62 }
+        ensures state { (mode : Mode) (image : Image) (s : System) → IsAt mode image s self.old → IsAt mode image (settled (marks_of mode image) image.processors s p).0 self.new }
+        ensures frames { (mode : Mode) (image : Image) (s : System) → IsAt mode image s self.old → result ≡ (settled (marks_of mode image) image.processors s p).1 }
+        ensures cost { Costs 1024 steps.old steps.new self.old self.new }
+        ensures same { length self.new.parts.cpus ≡ length self.old.parts.cpus }
+    {
+        let mut frames = Frames::new();
+        settle(&mut self.state, &self.places, p, &mut frames, steps);
+        frames
+    }
+
+    /// How many processors there are.
+    pub fn processors(&self) -> usize
+        ensures { result ≡ length self.now.parts.cpus }
+    {
+        self.state.cpus.len()
+    }
+
+    /// How many activations of handlers stand on processor p: as many as bodies.
+    pub fn depth(&self, p: usize) -> u8
+        requires { p < length self.now.parts.cpus }
+        ensures { (mode : Mode) (image : Image) (s : System) (can : CanRun mode image) (left : NatMap ℕ) (m : abstract.Machine) → IsAt mode image s self.now → Stands mode image can.built left s m → result ≡ length (abstract.processor m p).bodies }
+    {
+        self.state.locals[p].depth
+    }
+
+    /// Task i of processor p, where no body stands. Machines run one task a processor today.
+    pub fn task(&self, p: usize, i: usize) -> TaskView
+        requires place { p < length self.now.parts.cpus }
+        requires task { i ≡ 0 }
+        ensures { (mode : Mode) (image : Image) (s : System) (can : CanRun mode image) (left : NatMap ℕ) (m : abstract.Machine) → IsAt mode image s self.now → Stands mode image can.built left s m → (abstract.processor m p).bodies ≡ []
+            → IsTaskView result ((abstract.processor m p).tasks i) }
+    {
+        let cpu = &self.state.cpus[p];
+        TaskView {
+            regs: cpu.regs,
+            rip: cpu.rip,
+            flags: cpu.flags,
+            gs: cpu.msrs.gs_base,
+        }
+    }
+
+    /// The totals of the run.
+    pub fn totals(&self) -> Totals
+        ensures { result ≡ self.now.parts.totals }
+    {
+        self.state.totals
+    }
+}

@@ -1,0 +1,43 @@
+// Edges up to a visible step.
+
+ghost use Rattle.std.specs.Prelude.{◌≡◌, ◌<◌, ◌≤◌, ◌+◌, ◌^◌, ℕ, [], length};
+ghost use Rattle.ev_concrete.specs.ConcreteRun.{System, settled};
+ghost use Rattle.ev_layout.specs.Marks.{marks_in};
+ghost use Rattle.ev_core.specs.State.{Shows};
+ghost use Rattle.ev_core.specs.Run.{Costs, IsStanding};
+
+use crate::frame::keep;
+use crate::frames::Frames;
+use crate::state::State;
+use crate::steps::Steps;
+use ev_layout::Places;
+use std::sync::ledger::Ledger;
+
+/// More edges than ever stand before a visible step.
+const MOST_EDGES: usize = 1024;
+
+/// Processor p makes edges, until its next step is visible. Their frames go behind those given.
+pub(crate) fn settle<L: Ledger>(
+    state: &mut State,
+    places: &Places,
+    p: usize,
+    frames: &mut Frames,
+    steps: &mut Steps<L>,
+)
+    requires place { p < length state.old.cpus }
+    requires stands { IsStanding (record { parts = state.old; places = places.now }) }
+    requires count { state.old.totals.steps < 2 ^ 62 }
+    requires empty { frames.old ≡ [] }
+    ensures settled { (n : ℕ) (s : System) → Shows n state.old s → Shows n state.new (settled (marks_in places.now) n s p).0 }
+    ensures frames { (n : ℕ) (s : System) → Shows n state.old s → frames.new ≡ (settled (marks_in places.now) n s p).1 }
+    ensures cost { Costs 1023 steps.old steps.new (record { parts = state.old; places = places.now }) (record { parts = state.new; places = places.now }) }
+    ensures same { length state.new.cpus ≡ length state.old.cpus }
+{
+    for _ in 0..MOST_EDGES {
+        if state.is_visible(places, p) {
+            return;
+        }
+        let shown = state.step(p, steps);
+        keep(frames, shown.frame);
+    }
+}

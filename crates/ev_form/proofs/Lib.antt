@@ -1,0 +1,12 @@
+pub mod Examples
+pub mod Names
+pub mod Series
+pub mod Starts
+pub mod Splitting
+pub mod LineLaws
+pub mod DraftLaws
+pub mod ImageLaws
+pub mod WholeLaws
+pub mod ReadLaws
+pub mod FormLaws
+pub mod BuiltLaws
