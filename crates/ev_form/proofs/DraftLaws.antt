@@ -145,7 +145,6 @@ pub record HasTurns (code : List CodeLine) (task logged : List ℕ) (ls : List (
 
 turns_sound : (code : List CodeLine) (task logged : List ℕ) (ls : List (List ℕ)) (d : FirstForm) → with_turns code task logged (series turn_in ls) ≡ Some d → HasTurns code task logged ls d
 turns_sound code task logged ls d h =
-    let p : List (Unit {0}) × List (List ℕ) = series turn_in ls in
     let s = series_sound turn_in (λ _. true) (λ _. turn_line) turn_reader ls in
     let k = if_some (is_end (series turn_in ls).1) (let e : FirstForm = record { code = code; task = task; logged = logged; turns = length (series turn_in ls).0 } in e) d h in
     subst (λ (e : FirstForm). HasTurns code task logged ls e) k.1
