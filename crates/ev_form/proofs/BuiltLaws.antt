@@ -18,7 +18,7 @@ use Rattle.ev_asm.specs.Assembly.{Places, is_name, size, total_size, places, pla
 use Rattle.ev_asm.specs.Assembled.{stmt_labels, is_new_name, leads_nowhere, first_at}
 use Rattle.ev_asm.proofs.Statements.{bytes_size, total_fits, place_bounds, none_lost_by}
 use Rattle.ev_built.specs.Program.{spelled, instruction_from, begins, leads_to, all_lead, is_built_instruction, all_built, AllEncodable, IsProgram}
-use Rattle.ev_built.specs.Built.{is_built_item, IsBuilt}
+use Rattle.ev_built.specs.Built.{is_built_item, is_built_key, IsBuilt}
 use Rattle.ev_body.specs.declared.item.Item.TheVariants.{Log, Ret}
 use Rattle.ev_body.specs.Bodies.{key_number, covers}
 use Rattle.ev_body.specs.WellFormed.{is_user_side}
@@ -292,7 +292,7 @@ is_program d f =
     }
 
 pub is_built : (d : FirstForm) → IsForm d → IsBuilt (image_of d)
-unfolding image_with key_number covers is_user_side is_built_item
+unfolding image_with key_number covers is_user_side is_built_item is_built_key
 is_built d f = record {
   one_processor = refl;
   no_pages = refl;
@@ -303,5 +303,6 @@ is_built d f = record {
   program = program_of (places text_base (statements d)) text_base d.code;
   is_program = is_program d f;
   bodies = ap (λ (b : Bool). b && true) (bodies_built d.logged);
+  keys = refl;
   system_calls = refl;
 }
