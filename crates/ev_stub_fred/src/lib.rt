@@ -9,3 +9,6 @@ mod names;
 mod visible;
 
 pub use fred::{fred_code, fred_sections, fred_visible};
+
+#[cfg(test)]
+mod tests;

@@ -1,0 +1,24 @@
+// The linked code, at bytes that are known from outside.
+
+use super::*;
+use std::test::*;
+
+// Jumps to the entries, and to itself where there is no body: GNU as's bytes.
+#[test]
+fn jumps(rt: HostRuntime) {
+    let code = fred_code(rt.alloc()).ok().expect(&rt, "memory was refused");
+    let blocks = code.blocks.as_slice();
+    assert_eq!(rt; blocks.len(), 4);
+    let from_user: [u8; 5] = [0xe9, 0xfb, 0x01, 0x00, 0x00];
+    let no_body: [u8; 5] = [0xe9, 0xfb, 0xff, 0xff, 0xff];
+    let first = blocks.first().expect(&rt, "there is no block");
+    let last = blocks.last().expect(&rt, "there is no block");
+    assert_eq!(rt; first.address, 0xffff_ffff_8100_0000);
+    assert_eq!(rt; first.bytes.as_slice(), from_user.as_slice());
+    assert_eq!(rt; last.address, 0xffff_ffff_8100_1ff0);
+    assert_eq!(rt; last.bytes.as_slice(), no_body.as_slice());
+    let visible = fred_visible(rt.alloc())
+        .ok()
+        .expect(&rt, "memory was refused");
+    assert_eq!(rt; visible.len(), 2);
+}
