@@ -3,66 +3,79 @@
 ghost use Rattle.std.specs.Prelude.{◌≡◌, ◌<◌};
 ghost use Rattle.ev_listing.specs.AddressMap.{pcpu, record_address, task_words, stack_top, vector_stub};
 
-/// The areas of processors, of 10000H bytes each.
+/// The areas of processors.
 pub const AREAS: u64 = 0xffff_8880_0000_0000;
 
+/// The bytes of a processor's area.
 pub const AREA_BYTES: u64 = 0x1_0000;
 
-/// The tables of body addresses, of 257 words each, by key: of events from CPL 3 and from CPL 0.
+/// The table of body addresses, by key, of events from CPL 3.
 pub const USER_TABLE: u64 = 0xffff_8880_0080_0000;
 
+/// The table of body addresses, by key, of events from CPL 0.
 pub const KERNEL_TABLE: u64 = 0xffff_8880_0080_1000;
 
+/// The bytes of a table of body addresses: 257 words.
 pub const TABLE_BYTES: u64 = 8 * 257;
 
 /// The IDT.
 pub const IDT: u64 = 0xffff_8880_0081_0000;
 
+/// The bytes of the IDT.
 pub const IDT_BYTES: u64 = 0x1000;
 
-/// The page map: a word for each data page, and one behind them.
+/// The page map.
 pub const PAGE_MAP: u64 = 0xffff_8880_0082_0000;
 
+/// The bytes of the page map: a word for each data page, and one behind them.
 pub const PAGE_MAP_BYTES: u64 = 8 * 257;
 
 /// The shared cells.
 pub const CELLS: u64 = 0xffff_8880_0083_0000;
 
+/// The bytes of the shared cells.
 pub const CELLS_BYTES: u64 = 0x800;
 
-/// The words of tasks, of 40H bytes each, four tasks for each processor.
+/// The words of tasks.
 pub const TASKS: u64 = 0xffff_8880_0084_0000;
 
+/// The bytes of the words of a processor's tasks: four tasks, of 40H bytes each.
 pub const TASKS_BYTES: u64 = 0x100;
 
 /// The kernel's code but for bodies.
 pub const CODE: u64 = 0xffff_ffff_8100_0000;
 
+/// The bytes of the kernel's code but for bodies.
 pub const CODE_BYTES: u64 = 0x6000;
 
 /// Where the tables name no body.
 pub const NO_BODY: u64 = 0xffff_ffff_8100_1ff0;
 
-/// The entry of SYSCALL and that of NMIs under IDT.
+/// The entry of SYSCALL under IDT.
 pub const SYSCALL_ENTRY: u64 = 0xffff_ffff_8100_3000;
 
+/// The entry of NMIs under IDT.
 pub const NMI_ENTRY: u64 = 0xffff_ffff_8100_4000;
 
-/// The code of bodies, of 20000H bytes each.
+/// The code of bodies.
 pub const BODIES: u64 = 0xffff_ffff_8200_0000;
 
+/// The bytes from the code of one body to that of the next.
 pub const BODY_BYTES: u64 = 0x2_0000;
 
-/// The user text, and the data pages.
+/// The user text.
 pub const TEXT: u64 = 0x40_0000;
 
+/// The bytes of the user text.
 pub const TEXT_BYTES: u64 = 0x1_0000;
 
+/// The data pages.
 pub const PAGES: u64 = 0x1000_0000;
 
+/// The bytes of a data page.
 pub const PAGE_BYTES: u64 = 0x1000;
 
-/// A stack has 2000H bytes.
+/// The bytes of a stack.
 pub const STACK_BYTES: u64 = 0x2000;
 
 /// The area of processor p.

@@ -1,12 +1,11 @@
 // Processors.
 
-ghost use Rattle.std.specs.Prelude.{◌≡◌, ◌<◌, true, map, IfOk};
+ghost use Rattle.std.specs.Prelude.{◌≡◌, ◌<◌, true, get_or, map, IfOk};
 ghost use Rattle.ev_isa.specs.Word.{is_canonical, numbers_from};
 ghost use Rattle.ev_abstract.specs.Machine.{no_task};
 ghost use Rattle.ev_built.specs.Built.{IsBuilt};
 ghost use Rattle.ev_layout.specs.Processors.{opening_msrs};
 ghost use Rattle.ev_concrete.specs.Opening.{all_descriptors, control, opening_cpu, tasks_of};
-ghost use Rattle.std.specs.Prelude.{get_or};
 
 use crate::address::{IDT, SYSCALL_ENTRY, area, stack_top};
 use crate::words::task_selector;
@@ -21,15 +20,17 @@ const START_FLAGS: u64 = 0x4_0202;
 /// The offset of the TSS in a processor's area.
 const TSS: u64 = 0x404;
 
-/// SYSCALL's selectors, the flags that it clears, the stack level of each vector, and the page of
-/// entries under FRED with its redzone of one line of 64 bytes (SDM volume 2, SYSCALL; FRED
-/// specification, "FRED configuration MSRs").
+/// The selectors of SYSCALL and SYSRET (SDM volume 4, IA32_STAR).
 const STAR: u64 = 0x0023_0010_0000_0000;
 
+/// The flags that SYSCALL clears: IF and AC (SDM volume 4, IA32_FMASK).
 const FMASK: u64 = 0x4_0200;
 
+/// The stack levels of vectors: 2 for vector 2, NMI, and 3 for vector 8, #DF (FRED specification, "FRED configuration MSRs").
 const STACK_LEVELS: u64 = 0x3_0020;
 
+/// The page of entries under FRED, with a redzone of one line of 64 bytes (FRED specification, "FRED
+/// configuration MSRs").
 const CONFIG: u64 = 0xffff_ffff_8100_0040;
 
 /// The first task of processor p.

@@ -14,9 +14,10 @@ use ev_isa::Ins::{
     Shr, Store, Wrmsr,
 };
 
-/// The tables of bodies, by key, of events from CPL 3 and from CPL 0.
+/// The table of bodies, by key, of events from CPL 3.
 const USER_TABLE: u64 = 0xffff_8880_0080_0000;
 
+/// The table of bodies, by key, of events from CPL 0.
 const KERNEL_TABLE: u64 = 0xffff_8880_0080_1000;
 
 /// The MSR with the RSP of stack level 0 (FRED specification, "FRED configuration MSRs").

@@ -19,9 +19,10 @@ use std::alloc::{AllocError, Global};
 /// bytes behind it (FRED specification, "Determining new RIP").
 const PAGE: u64 = 0xffff_ffff_8100_0000;
 
-/// Where the entries and exits stand, and the code for keys without a body.
+/// Where the entries and exits stand.
 const HANDLERS: u64 = PAGE + 0x200;
 
+/// Where the code for keys without a body stands.
 const NO_BODY: u64 = 0xffff_ffff_8100_1ff0;
 
 /// The lines of the entries and exits.
