@@ -4,8 +4,5 @@
 
 mod code;
 mod fred;
-mod line;
-mod names;
-mod visible;
 
 pub use fred::{fred_code, fred_sections, fred_visible};
