@@ -1,0 +1,63 @@
+// Words that are no command, and a sink that fails at once.
+
+use crate::status::Status;
+use crate::top::top;
+use ev_io::{MemSink, MemSource};
+use std::alloc::Global;
+use std::test::Fail;
+
+fn source(alloc: Global, bytes: &[u8]) -> Result<MemSource, Fail> {
+    let mut held = Vec::new(alloc);
+    held.extend_from_slice(bytes)?;
+    Ok(MemSource {
+        bytes: held,
+        at: 0,
+        calls: 0,
+        faults: 0,
+        fails: Vec::new(alloc),
+    })
+}
+
+fn sink(alloc: Global, fails: &[u64]) -> Result<MemSink, Fail> {
+    let mut numbers = Vec::new(alloc);
+    numbers.extend_from_slice(fails)?;
+    Ok(MemSink {
+        taken: Vec::with_capacity(alloc, 65536)?,
+        calls: 0,
+        faults: 0,
+        fails: numbers,
+    })
+}
+
+#[test]
+fn words_of_no_command(rt: HostRuntime) -> Result<(), Fail> {
+    let mut src = source(rt.alloc(), b"image 1\n")?;
+    let mut to = sink(rt.alloc(), &[])?;
+    let words = ["run", "--fast"];
+    assert_eq!(rt; top(rt.alloc(), &words, &mut src, &mut to), Status::Usage);
+    assert_eq!(rt; (src.calls, to.calls), (0, 0));
+    Ok(())
+}
+
+#[test]
+fn words_in_another_order(rt: HostRuntime) -> Result<(), Fail> {
+    let mut src = source(rt.alloc(), b"image 1\n")?;
+    let mut to = sink(rt.alloc(), &[])?;
+    let words = ["run", "--frames", "--mode", "idt"];
+    assert_eq!(rt; top(rt.alloc(), &words, &mut src, &mut to), Status::Usage);
+    assert_eq!(rt; (src.calls, to.calls), (0, 0));
+    Ok(())
+}
+
+#[test]
+fn bytes_of_no_document(rt: HostRuntime) -> Result<(), Fail> {
+    let mut src = source(rt.alloc(), b"image 1\n")?;
+    let mut to = sink(rt.alloc(), &[])?;
+    let words = ["run", "--mode", "idt", "--frames"];
+    assert_eq!(rt;
+        top(rt.alloc(), &words, &mut src, &mut to),
+        Status::NotBuilt
+    );
+    assert_eq!(rt; to.calls, 0);
+    Ok(())
+}
