@@ -2,17 +2,17 @@
 
 ghost use Rattle.std.specs.Prelude.{◌≡◌, map};
 ghost use Rattle.ev_listing.specs.FredCode.{entries, exits};
-ghost use Rattle.ev_stub_fred.specs.Lines.{marked_of};
+ghost use Rattle.ev_stub.specs.Lines.{marked_of};
 
-use crate::line::FredLabel::{Fd, Fexit, Fexitn, Fi, Fk, Fs, Ft, Fu, Fxk, Fxu};
-use crate::line::Line::{self, Jump, Label, Op, Seen};
-use crate::names::by_name;
 use ev_isa::AluOp;
 use ev_isa::Cond::{Nz, Z};
 use ev_isa::Ins::{
     Alu, AluImm, Erets, Eretu, GsLoad, GsStore, JmpReg, Lkgs, Load, MovImm, MovReg, Pop, Push, Shl,
     Shr, Store, Wrmsr,
 };
+use ev_stub::Line::{self, Jump, Label, Op, Seen};
+use ev_stub::StubLabel::{Fd, Fexit, Fexitn, Fi, Fk, Fs, Ft, Fu, Fxk, Fxu};
+use ev_stub::by_name;
 
 /// The table of bodies, by key, of events from CPL 3.
 const USER_TABLE: u64 = 0xffff_8880_0080_0000;

@@ -1,18 +1,17 @@
-// Sections and blocks.
+// Listings, sections and blocks.
 
 ghost use Rattle.std.specs.Prelude.{◌≡◌, ◌++◌, map, IfOk};
 ghost use Rattle.ev_listing.specs.Marks.{all_marks};
 ghost use Rattle.ev_listing.specs.FredCode.{entries, exits, fred_listings};
-ghost use Rattle.ev_stub_fred.specs.Blocks.{section_of, blocks_of, always};
-ghost use Rattle.ev_stub_fred.specs.Lines.{marked_of, stmt_of};
+ghost use Rattle.ev_stub.specs.Blocks.{section_of, blocks_of, always};
+ghost use Rattle.ev_stub.specs.Lines.{marked_of, listings_of};
 
 use crate::code::{entries, exits};
-use crate::line::FredLabel::{Fk, Fu, Nobody};
-use crate::line::Line::{self, Jump, Label};
-use crate::line::statement;
-use crate::visible::visible;
-use ev_asm::{Blocks, Section, Stmt, link};
+use ev_asm::{Blocks, Section};
 use ev_isa::{Many, NoMemory};
+use ev_stub::Line::{self, Jump, Label};
+use ev_stub::StubLabel::{Fk, Fu, Nobody};
+use ev_stub::{Listing, add_listing, blocks, sections, visible};
 use std::alloc::{AllocError, Global};
 
 /// The page to which the CONFIG MSR points: events from CPL 3 begin at it, and those from CPL 0 256
@@ -35,34 +34,17 @@ fn handlers(alloc: Global) -> Result<Vec<Line>, AllocError>
     Ok(lines)
 }
 
-/// The lines' statements at an address.
-fn section(alloc: Global, address: u64, lines: &[Line]) -> Result<Section, AllocError>
-    ensures { IfOk result (λ s. s ≡ section_of (record { address = address; lines = map marked_of lines.now })) }
+fn listings(alloc: Global) -> Result<Vec<Listing>, AllocError>
+    ensures { IfOk result (λ v. listings_of v.items ≡ fred_listings) }
 {
-    let mut stmts = Vec::new(alloc);
-    for line in lines {
-        stmts.push(statement(line))?;
-    }
-    Ok(Section {
-        address,
-        stmts: Many::from_vec(stmts),
-    })
-}
-
-fn sections(alloc: Global) -> Result<Vec<Section>, AllocError>
-    ensures { IfOk result (λ v. v.items ≡ map section_of fred_listings) }
-{
-    let from_user = section(alloc, PAGE, &[Jump(None, Fu)])?;
-    let from_kernel = section(alloc, PAGE + 0x100, &[Jump(None, Fk)])?;
-    let lines = handlers(alloc)?;
-    let handlers = section(alloc, HANDLERS, &lines)?;
-    let no_body = section(alloc, NO_BODY, &[Label(Nobody), Jump(None, Nobody)])?;
-    let mut sections = Vec::new(alloc);
-    sections.push(from_user)?;
-    sections.push(from_kernel)?;
-    sections.push(handlers)?;
-    sections.push(no_body)?;
-    Ok(sections)
+    let mut listings = Vec::new(alloc);
+    add_listing(alloc, &mut listings, PAGE, &[Jump(None, Fu)])?;
+    add_listing(alloc, &mut listings, PAGE + 0x100, &[Jump(None, Fk)])?;
+    let handlers = handlers(alloc)?;
+    add_listing(alloc, &mut listings, HANDLERS, &handlers)?;
+    let no_body = [Label(Nobody), Jump(None, Nobody)];
+    add_listing(alloc, &mut listings, NO_BODY, &no_body)?;
+    Ok(listings)
 }
 
 /// The sections of the code under FRED, to be linked with those of bodies. NoMemory means that
@@ -70,8 +52,8 @@ fn sections(alloc: Global) -> Result<Vec<Section>, AllocError>
 pub fn fred_sections(alloc: Global) -> Result<Many<Section>, NoMemory>
     ensures { IfOk result (λ s. s ≡ map section_of fred_listings) }
 {
-    match sections(alloc) {
-        Ok(sections) => Ok(Many::from_vec(sections)),
+    match listings(alloc) {
+        Ok(listings) => sections(alloc, &listings),
         Err(_) => Err(NoMemory),
     }
 }
@@ -81,15 +63,10 @@ pub fn fred_sections(alloc: Global) -> Result<Many<Section>, NoMemory>
 pub fn fred_code(alloc: Global) -> Result<Blocks, NoMemory>
     ensures { IfOk result (λ b. b.blocks ≡ blocks_of fred_listings) }
 {
-    let sections = fred_sections(alloc)?;
-    link(alloc, sections.as_slice())
-}
-
-fn all_visible(alloc: Global) -> Result<Vec<u64>, AllocError>
-    ensures { IfOk result (λ v. always v.items ≡ all_marks fred_listings) }
-{
-    let lines = handlers(alloc)?;
-    visible(alloc, HANDLERS, &lines)
+    match listings(alloc) {
+        Ok(listings) => blocks(alloc, &listings),
+        Err(_) => Err(NoMemory),
+    }
 }
 
 /// The addresses of the instructions that the abstract machine sees, each of them always: the
@@ -97,8 +74,8 @@ fn all_visible(alloc: Global) -> Result<Vec<u64>, AllocError>
 pub fn fred_visible(alloc: Global) -> Result<Many<u64>, NoMemory>
     ensures { IfOk result (λ v. always v ≡ all_marks fred_listings) }
 {
-    match all_visible(alloc) {
-        Ok(visible) => Ok(Many::from_vec(visible)),
+    match listings(alloc) {
+        Ok(listings) => visible(alloc, &listings),
         Err(_) => Err(NoMemory),
     }
 }

@@ -4,9 +4,6 @@
 
 mod code;
 mod fred;
-mod line;
-mod names;
-mod visible;
 
 pub use fred::{fred_code, fred_sections, fred_visible};
 

@@ -1,13 +1,7 @@
-use Rattle.std.proofs.Common.{◌≡◌, ◌∙◌, ap, sym, List, subst, IfOk}
-use Rattle.ev_asm.specs.declared.block.Block.{Block}
-use Rattle.ev_asm.specs.Linked.{AreLinkable, linked}
-use Rattle.ev_listing.specs.FredCode.{fred_listings}
-use Rattle.ev_stub_fred.proofs.Listed.{linked_is, fred_linkable}
+use Rattle.std.proofs.Common.{ap, ◌∙◌}
+use Rattle.ev_stub.specs.Lines.{listings_of}
+use Rattle.ev_stub_fred.proofs.Listed.{are_linkable}
 use Rattle.ev_stub_fred.proofs.fred.fred_code.Goals as goal
 
-pub link-requires : goal.link-requires
-link-requires c = subst AreLinkable (sym (c.as_slice.ensures ∙ c.in_ok-sections.ensures)) fred_linkable
-
-pub returns : goal.returns
-returns c =
-    subst (λ (x : List Block). IfOk c.link.result (λ b. b.blocks ≡ x)) (ap linked (c.as_slice.ensures ∙ c.in_ok-sections.ensures) ∙ linked_is fred_listings) c.link.ensures
+pub blocks-requires : goal.blocks-requires
+blocks-requires c = are_linkable c.deref.result.now (ap listings_of c.deref.ensures.value ∙ c.in-Ok.ensures)

@@ -1,6 +1,6 @@
 use Rattle.std.proofs.Common.{◌≡◌, take, map}
-use Rattle.ev_stub_fred.specs.Lines.{stmt_of}
-use Rattle.ev_stub_fred.proofs.fred.section.Given as goal
+use Rattle.ev_stub.specs.Lines.{stmt_of}
+use Rattle.ev_stub.proofs.section.statements.Given as goal
 
 abbrev pub invariant-loop-line : goal.invariant-loop-line
 invariant-loop-line l = l.stmts.items ≡ map stmt_of (take l.line-index l.lines)

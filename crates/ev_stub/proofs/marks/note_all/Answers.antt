@@ -1,9 +1,9 @@
 use Rattle.std.proofs.Common.{◌≡◌, ◌+◌, ap, ◌∙◌, arith}
 use Rattle.ev_asm.specs.Assembly.{size}
 use Rattle.ev_asm.specs.Assembled.{is_encoded}
-use Rattle.ev_stub_fred.specs.Lines.{stmt_of}
-use Rattle.ev_stub_fred.proofs.Listed.{encoded_at, marks_step, marks_end, room_step}
-use Rattle.ev_stub_fred.proofs.visible.visible.Goals as goal
+use Rattle.ev_stub.specs.Lines.{stmt_of}
+use Rattle.ev_stub.proofs.Listed.{encoded_at, marks_step, marks_end, room_step}
+use Rattle.ev_stub.proofs.marks.note_all.Goals as goal
 
 pub size-requires : goal.size-requires
 size-requires c = ap is_encoded c.statement.ensures ∙ encoded_at c.args.lines.now c.loop-line.line-index c.line-item.result c.requires.counts (omega arith) c.line-item.is

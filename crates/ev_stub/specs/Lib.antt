@@ -1,3 +1,3 @@
+pub mod Registers
 pub mod Lines
 pub mod Blocks
-pub mod Registers

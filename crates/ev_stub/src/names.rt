@@ -1,7 +1,7 @@
 // The registers by their names.
 
 ghost use Rattle.std.specs.Prelude.{◌≡◌};
-ghost use Rattle.ev_stub_fred.specs.Registers.{by_number};
+ghost use Rattle.ev_stub.specs.Registers.{by_number};
 
 use ev_isa::Reg;
 
