@@ -34,9 +34,9 @@ pub enum StubLabel {
     Common,
     /// IDT: the table of bodies is that of the user side.
     Cm1,
-    /// IDT: the arguments of the body.
+    /// IDT: the table of bodies is known.
     Cm2,
-    /// IDT: the dispatch to a body.
+    /// IDT: the arguments of the body are known.
     Cm3,
     /// IDT: the exit of every body but those of NMIs.
     Exit,
@@ -48,11 +48,11 @@ pub enum StubLabel {
     Xk,
     /// IDT: NMIs.
     Nmi,
-    /// IDT: an NMI from CPL 0 that found no code between two NMIs.
+    /// IDT: an NMI that didn't interrupt the repetition of another.
     N1,
-    /// IDT: an NMI in an NMI, whose return frame becomes that of the repetition.
+    /// IDT: an NMI in another, which is to return to the repetition.
     Redir,
-    /// IDT: the return of an NMI in an NMI.
+    /// IDT: the return of an NMI in another.
     Inret,
     /// IDT: an NMI that is in no other.
     First,
@@ -60,7 +60,7 @@ pub enum StubLabel {
     Nbody,
     /// IDT: GS has the kernel's base.
     Nb1,
-    /// IDT: the table of bodies is known.
+    /// IDT: the table of bodies of NMIs is known.
     Nb2,
     /// IDT: the exit of the bodies of NMIs.
     Exitn,
