@@ -95,6 +95,7 @@ impl Machine {
         ensures frames { (mode : Mode) (image : Image) (script : List Line) → IsRun mode image script self.old → result.frames ≡ (concrete_line (marks_of mode image) image.processors (concrete_run mode image script).0 (Turn p)).1 }
         ensures safe { (mode : Mode) (image : Image) (script : List Line) → IsRun mode image script self.old → IsSafeStep mode image (settled (marks_of mode image) image.processors (concrete_run mode image script).0 p).0 p }
         ensures cost { Costs 1024 steps.old steps.new self.old self.new }
+        ensures least { steps.old < steps.new }
         ensures same { length self.new.parts.cpus ≡ length self.old.parts.cpus }
     {
         let mut frames = Frames::new();
@@ -114,7 +115,7 @@ impl Machine {
         requires count { self.old.parts.totals.steps < 2 ^ 62 }
         ensures state { (mode : Mode) (image : Image) (s : System) → IsAt mode image s self.old → IsAt mode image (settled (marks_of mode image) image.processors s p).0 self.new }
         ensures frames { (mode : Mode) (image : Image) (s : System) → IsAt mode image s self.old → result ≡ (settled (marks_of mode image) image.processors s p).1 }
-        ensures cost { Costs 1024 steps.old steps.new self.old self.new }
+        ensures cost { Costs 1023 steps.old steps.new self.old self.new }
         ensures same { length self.new.parts.cpus ≡ length self.old.parts.cpus }
     {
         let mut frames = Frames::new();

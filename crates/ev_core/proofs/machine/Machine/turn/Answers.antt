@@ -52,3 +52,6 @@ returns-clause-cost g c = record {
   counted = let f = c.settle.ensures.cost.counted in omega arith;
   totals = let f = c.settle.ensures.cost.totals in let w = ap (λ (v : MachineView). v.parts.totals.steps) c.self.view_is in omega arith;
 }
+
+pub returns-clause-least : goal.returns-clause-least
+returns-clause-least g c = let f = c.settle.ensures.cost.counted in omega arith
