@@ -3,7 +3,7 @@ use Rattle.std.specs.Prelude.{◌≡◌, Bool, true, false, ◌&&◌, ◌==◌, 
 use Rattle.std.specs.List.{list_all}
 use Rattle.ev_isa.specs.declared.instruction.Ins.{Ins}
 use Rattle.ev_isa.specs.declared.mode.Mode.{Mode}
-use Rattle.ev_isa.specs.declared.mode.Mode.TheVariants.{Fred}
+use Rattle.ev_isa.specs.declared.mode.Mode.TheVariants.{Idt, Fred}
 use Rattle.ev_body.specs.declared.key.Key.{Key}
 use Rattle.ev_body.specs.declared.key.Key.TheVariants.{Nmi, Irq}
 use Rattle.ev_body.specs.declared.key.Side.TheVariants.{User}
@@ -49,8 +49,8 @@ pub record IsBuilt (image : Image) : Type 0 where
 
 -- the modes in which machines run
 unfoldable pub mode_is_built : Mode → Bool
+mode_is_built Idt = true
 mode_is_built Fred = true
-mode_is_built _ = false
 
 unfoldable pub line_is_built : Line → Bool
 line_is_built (Turn p) = p == 0

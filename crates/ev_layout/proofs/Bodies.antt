@@ -17,7 +17,7 @@ use Rattle.ev_built.specs.Built.{is_built_item, is_built_body}
 use Rattle.ev_listing.specs.AddressMap.{body_code}
 use Rattle.ev_listing.specs.Expansion.{expansions, function_address, body_stmts}
 use Rattle.ev_listing.specs.Marks.{stmts_of}
-use Rattle.ev_stub_fred.specs.Blocks.{section_of}
+use Rattle.ev_stub.specs.Blocks.{section_of}
 use Rattle.ev_concrete.specs.Opening.{body_listings}
 
 pub both : (a b : Bool) → (a && b) ≡ true → (a ≡ true) × (b ≡ true)

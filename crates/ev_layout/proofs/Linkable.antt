@@ -13,7 +13,7 @@ use Rattle.ev_body.specs.declared.image.Image.{Image}
 use Rattle.ev_body.specs.declared.item.Item.{Item}
 use Rattle.ev_body.specs.declared.item.Item.TheVariants.{Log, Ret}
 use Rattle.ev_body.specs.declared.key.Key.{Key}
-use Rattle.ev_body.specs.declared.key.Key.TheVariants.{Sys, Db, Nmi, Bp, Ud, Ss, Gp, Pf, Ac, Irq}
+use Rattle.ev_body.specs.declared.key.Key.TheVariants.{Sys, Nmi}
 use Rattle.ev_body.specs.Bodies.{body_items}
 use Rattle.ev_body.specs.WellFormed.{is_body}
 use Rattle.ev_asm.specs.declared.block.Block.{Block}
@@ -24,14 +24,17 @@ use Rattle.ev_asm.specs.Assembly.{Name, Places, is_name, size, total_size, place
 use Rattle.ev_asm.specs.Assembled.{is_encoded, are_instructions}
 use Rattle.ev_asm.specs.Linked.{section_places, linked, reaches, all_reach, is_linkable, AreLinkable}
 use Rattle.ev_asm.proofs.Statements.{bytes_size}
-use Rattle.ev_built.specs.Built.{is_built_item, is_built_body, mode_is_built}
+use Rattle.ev_built.specs.Built.{is_built_item, is_built_body}
 use Rattle.ev_listing.specs.AddressMap.{fred_page, code_end, body_code}
 use Rattle.ev_listing.specs.Expansion.{exit_of, expansion, expansions, function_address, body_stmts}
 use Rattle.ev_listing.specs.FredCode.{fred_listings}
+use Rattle.ev_listing.specs.IdtCode.{idt_listings}
 use Rattle.ev_listing.specs.Marks.{Listing, Marked, stmts_of, all_places}
-use Rattle.ev_concrete.specs.Opening.{Placed, placed_code, body_listings, listings, code_of}
-use Rattle.ev_stub_fred.specs.Blocks.{section_of, block_of}
-use Rattle.ev_stub_fred.proofs.Listed.{fred_linkable, linked_is}
+use Rattle.ev_concrete.specs.Opening.{Placed, placed_code, body_listings, kernel_listings, listings, code_of}
+use Rattle.ev_stub.specs.Blocks.{section_of, block_of}
+use Rattle.ev_stub.proofs.Listed.{linked_is}
+use Rattle.ev_stub_fred.proofs.Listed.{fred_linkable}
+use Rattle.ev_stub_idt.proofs.Listed.{idt_linkable}
 use Rattle.ev_layout.specs.Filled.{is_placed, are_placed}
 use Rattle.ev_layout.specs.Placed.{placed}
 use Rattle.ev_layout.proofs.Bodies.{items_are, built_items}
@@ -262,50 +265,54 @@ bodies_names mode image n (b ∷ bs) h =
 
 -- ---- the kernel's sections
 
+idt_leaves : list_all (λ (s : Section). list_all leaves_bodies s.stmts) (map section_of idt_listings) ≡ true
+unfolding idt_listings
+idt_leaves = refl
+
 fred_leaves : list_all (λ (s : Section). list_all leaves_bodies s.stmts) (map section_of fred_listings) ≡ true
 unfolding fred_listings
 fred_leaves = refl
 
+kernel_leaves : (mode : Mode) → list_all (λ (s : Section). list_all leaves_bodies s.stmts) (map section_of (kernel_listings mode)) ≡ true
+kernel_leaves Idt = idt_leaves
+kernel_leaves Fred = fred_leaves
+
+kernel_linkable : (mode : Mode) → AreLinkable (map section_of (kernel_listings mode))
+kernel_linkable Idt = idt_linkable
+kernel_linkable Fred = fred_linkable
+
 near_by : (env : Places) (name : Name) → (nat_le fred_page (place env name) && nat_le (place env name) code_end) ≡ true → IsNear env name
 near_by env name h = let s = split (nat_le fred_page (place env name)) _ h in (leb-true _ _ s.0, leb-true _ _ s.1)
 
-abbrev fred_places : Places
-fred_places = section_places (map section_of fred_listings)
+abbrev kernel_places : Mode → Places
+kernel_places mode = section_places (map section_of (kernel_listings mode))
 
-exit_near : IsNear fred_places (codes "FEXIT")
-unfolding fred_listings places size spelling four_bytes
-exit_near = near_by fred_places (codes "FEXIT") refl
+-- the exit of bodies, and that of the bodies of NMIs
+exit_near : (mode : Mode) → IsNear (kernel_places mode) (exit_of mode Sys)
+unfolding idt_listings fred_listings places size spelling four_bytes
+exit_near Idt = near_by (kernel_places Idt) (codes "EXIT") refl
+exit_near Fred = near_by (kernel_places Fred) (codes "FEXIT") refl
 
-nmi_exit_near : IsNear fred_places (codes "FEXITN")
-unfolding fred_listings places size spelling four_bytes
-nmi_exit_near = near_by fred_places (codes "FEXITN") refl
+nmi_exit_near : (mode : Mode) → IsNear (kernel_places mode) (exit_of mode Nmi)
+unfolding idt_listings fred_listings places size spelling four_bytes
+nmi_exit_near Idt = near_by (kernel_places Idt) (codes "EXITN") refl
+nmi_exit_near Fred = near_by (kernel_places Fred) (codes "FEXITN") refl
 
-exits_near : (key : Key) → IsNear fred_places (exit_of Fred key)
-exits_near Nmi = nmi_exit_near
-exits_near Sys = exit_near
-exits_near Db = exit_near
-exits_near Bp = exit_near
-exits_near Ud = exit_near
-exits_near Ss = exit_near
-exits_near Gp = exit_near
-exits_near Pf = exit_near
-exits_near Ac = exit_near
-exits_near (Irq v) = exit_near
+one_exit : (P : Name → Type 0) (mode : Mode) (key : Key) → P (exit_of mode Sys) → P (exit_of mode Nmi) → P (exit_of mode key)
+one_exit P Idt Nmi h k = k
+one_exit P Idt _ h k = h
+one_exit P Fred Nmi h k = k
+one_exit P Fred _ h k = h
 
-exit_names : (key : Key) → is_body_name (exit_of Fred key) ≡ false
-exit_names Nmi = refl
-exit_names Sys = refl
-exit_names Db = refl
-exit_names Bp = refl
-exit_names Ud = refl
-exit_names Ss = refl
-exit_names Gp = refl
-exit_names Pf = refl
-exit_names Ac = refl
-exit_names (Irq v) = refl
+exits_near : (mode : Mode) (key : Key) → IsNear (kernel_places mode) (exit_of mode key)
+exits_near mode key = one_exit (IsNear (kernel_places mode)) mode key (exit_near mode) (nmi_exit_near mode)
 
-near_behind : (pre : Places) (key : Key) → are_body_names pre ≡ true → IsNear (pre ++ fred_places) (exit_of Fred key)
-near_behind pre key h = subst (λ (p : ℕ). (fred_page ≤ p) × (p ≤ code_end)) (sym (place_behind pre fred_places (exit_of Fred key) h (exit_names key))) (exits_near key)
+exit_names : (mode : Mode) (key : Key) → is_body_name (exit_of mode key) ≡ false
+exit_names Idt key = one_exit (λ (name : Name). is_body_name name ≡ false) Idt key refl refl
+exit_names Fred key = one_exit (λ (name : Name). is_body_name name ≡ false) Fred key refl refl
+
+near_behind : (pre : Places) (mode : Mode) (key : Key) → are_body_names pre ≡ true → IsNear (pre ++ kernel_places mode) (exit_of mode key)
+near_behind pre mode key h = subst (λ (p : ℕ). (fred_page ≤ p) × (p ≤ code_end)) (sym (place_behind pre (kernel_places mode) (exit_of mode key) h (exit_names mode key))) (exits_near mode key)
 
 -- ---- all sections
 
@@ -317,18 +324,17 @@ places_append : (xs ys : List Section) → section_places (xs ++ ys) ≡ section
 places_append [] ys = refl
 places_append (x ∷ xs) ys = ap (λ (l : Places). places x.address x.stmts ++ l) (places_append xs ys) ∙ sym (append_assoc (places x.address x.stmts) (section_places xs) (section_places ys))
 
-pub all_linkable : (mode : Mode) (image : Image) → mode_is_built mode ≡ true → list_all is_built_body image.bodies ≡ true → list_all is_few image.bodies ≡ true → length image.bodies ≤ 64 → AreLinkable (map section_of (listings mode image))
-unfolding mode_is_built listings
-all_linkable Idt image m h k l = absurd cc
-all_linkable Fred image m h k l =
-    let xs : List Section = map section_of (body_listings Fred image 0 image.bodies) in
-    let ys : List Section = map section_of fred_listings in
+pub all_linkable : (mode : Mode) (image : Image) → list_all is_built_body image.bodies ≡ true → list_all is_few image.bodies ≡ true → length image.bodies ≤ 64 → AreLinkable (map section_of (listings mode image))
+unfolding listings
+all_linkable mode image h k l =
+    let xs : List Section = map section_of (body_listings mode image 0 image.bodies) in
+    let ys : List Section = map section_of (kernel_listings mode) in
     let pre : Places = section_places xs in
-    let names = bodies_names Fred image 0 image.bodies h in
-    let one = bodies_linkable (pre ++ fred_places) Fred image 0 image.bodies h k (omega arith) (λ key. near_behind pre key names) in
-    let two = linkable_same pre fred_places ys names fred_leaves ∙ fred_linkable in
-    let all = all_append (is_linkable (pre ++ fred_places)) xs ys one two in
-    subst AreLinkable (sym (sections_append (body_listings Fred image 0 image.bodies) fred_listings))
+    let names = bodies_names mode image 0 image.bodies h in
+    let one = bodies_linkable (pre ++ kernel_places mode) mode image 0 image.bodies h k (omega arith) (λ key. near_behind pre mode key names) in
+    let two = linkable_same pre (kernel_places mode) ys names (kernel_leaves mode) ∙ kernel_linkable mode in
+    let all = all_append (is_linkable (pre ++ kernel_places mode)) xs ys one two in
+    subst AreLinkable (sym (sections_append (body_listings mode image 0 image.bodies) (kernel_listings mode)))
     (subst (λ (env : Places). list_all (is_linkable env) (xs ++ ys) ≡ true) (sym (places_append xs ys)) all)
 
 -- ---- blocks
@@ -370,32 +376,39 @@ bodies_placed m env mode image n (b ∷ bs) h k l =
 abbrev is_kernel_listing : Listing → Bool
 is_kernel_listing b = nat_le fred_page b.address && nat_le (b.address + total_size (stmts_of b.lines)) code_end
 
-kernel_placed : (m : ℕ) (env : Places) (bs : List Listing) → list_all is_kernel_listing bs ≡ true → are_placed m (map (block_of env) bs) ≡ true
-kernel_placed m env [] h = refl
-kernel_placed m env (b ∷ bs) h =
+all_in_kernel : (m : ℕ) (env : Places) (bs : List Listing) → list_all is_kernel_listing bs ≡ true → are_placed m (map (block_of env) bs) ≡ true
+all_in_kernel m env [] h = refl
+all_in_kernel m env (b ∷ bs) h =
     let s = split (is_kernel_listing b) _ h in
     let x = block_in_kernel m env b s.0 in
-    let y = kernel_placed m env bs s.1 in
+    let y = all_in_kernel m env bs s.1 in
     λ i. x i && y i
+
+idt_in_kernel : list_all is_kernel_listing idt_listings ≡ true
+unfolding idt_listings size spelling four_bytes
+idt_in_kernel = refl
 
 fred_in_kernel : list_all is_kernel_listing fred_listings ≡ true
 unfolding fred_listings size spelling four_bytes
 fred_in_kernel = refl
 
+kernel_placed : (m : ℕ) (env : Places) (mode : Mode) → are_placed m (map (block_of env) (kernel_listings mode)) ≡ true
+kernel_placed m env Idt = all_in_kernel m env idt_listings idt_in_kernel
+kernel_placed m env Fred = all_in_kernel m env fred_listings fred_in_kernel
+
 blocks_append : (env : Places) (xs ys : List Listing) → map (block_of env) (xs ++ ys) ≡ map (block_of env) xs ++ map (block_of env) ys
 blocks_append env [] ys = refl
 blocks_append env (x ∷ xs) ys = ap (λ (l : List Block). block_of env x ∷ l) (blocks_append env xs ys)
 
-all_placed_in : (env : Places) (mode : Mode) (image : Image) → mode_is_built mode ≡ true → list_all is_built_body image.bodies ≡ true → list_all is_few image.bodies ≡ true → are_placed (length image.bodies) (map (block_of env) (listings mode image)) ≡ true
-unfolding mode_is_built listings
-all_placed_in env Idt image m h k = absurd cc
-all_placed_in env Fred image m h k =
+all_placed_in : (env : Places) (mode : Mode) (image : Image) → list_all is_built_body image.bodies ≡ true → list_all is_few image.bodies ≡ true → are_placed (length image.bodies) (map (block_of env) (listings mode image)) ≡ true
+unfolding listings
+all_placed_in env mode image h k =
     let n : ℕ = length image.bodies in
-    ap (are_placed n) (blocks_append env (body_listings Fred image 0 image.bodies) fred_listings)
-    ∙ all_append (is_placed n) (map (block_of env) (body_listings Fred image 0 image.bodies)) (map (block_of env) fred_listings) (bodies_placed n env Fred image 0 image.bodies h k (omega arith)) (kernel_placed n env fred_listings fred_in_kernel)
+    ap (are_placed n) (blocks_append env (body_listings mode image 0 image.bodies) (kernel_listings mode))
+    ∙ all_append (is_placed n) (map (block_of env) (body_listings mode image 0 image.bodies)) (map (block_of env) (kernel_listings mode)) (bodies_placed n env mode image 0 image.bodies h k (omega arith)) (kernel_placed n env mode)
 
-pub blocks_placed : (mode : Mode) (image : Image) → mode_is_built mode ≡ true → list_all is_built_body image.bodies ≡ true → list_all is_few image.bodies ≡ true → are_placed (length image.bodies) (linked (map section_of (listings mode image))) ≡ true
-blocks_placed mode image m h k = ap (are_placed (length image.bodies)) (linked_is (listings mode image)) ∙ all_placed_in (all_places (listings mode image)) mode image m h k
+pub blocks_placed : (mode : Mode) (image : Image) → list_all is_built_body image.bodies ≡ true → list_all is_few image.bodies ≡ true → are_placed (length image.bodies) (linked (map section_of (listings mode image))) ≡ true
+blocks_placed mode image h k = ap (are_placed (length image.bodies)) (linked_is (listings mode image)) ∙ all_placed_in (all_places (listings mode image)) mode image h k
 
 code_is : (env : Places) (bs : List Listing) → placed (map (block_of env) bs) ≡ placed_code env bs
 code_is env [] = refl

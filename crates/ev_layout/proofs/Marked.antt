@@ -2,19 +2,17 @@
 use Rattle.std.proofs.Common.{◌≡◌, ℕ, suc, ◌+◌, ◌<◌, ◌≤◌, List, [], ◌∷◌, ◌++◌, length, get_or, drop, refl, sym, ap, ◌∙◌, arith, drop-cons, append_assoc, true}
 use Rattle.std.proofs.lemmas.List.{drop_all, append-nil}
 use Rattle.ev_isa.specs.declared.mode.Mode.{Mode}
-use Rattle.ev_isa.specs.declared.mode.Mode.TheVariants.{Idt, Fred}
 use Rattle.ev_body.specs.declared.body.Body.{Body}
 use Rattle.ev_body.specs.declared.image.Image.{Image}
 use Rattle.ev_body.specs.declared.item.Item.{Item}
 use Rattle.ev_body.specs.declared.key.Key.{Key}
 use Rattle.ev_asm.specs.Assembly.{size}
-use Rattle.ev_built.specs.Built.{is_built_body, mode_is_built}
+use Rattle.ev_built.specs.Built.{is_built_body}
 use Rattle.ev_listing.specs.AddressMap.{body_code}
 use Rattle.ev_listing.specs.Expansion.{item_label, expansion, expansions, function_address, body_stmts}
-use Rattle.ev_listing.specs.FredCode.{fred_listings}
 use Rattle.ev_listing.specs.Marks.{Mark, Marked, Listing, with_mark, marks, all_marks}
 use Rattle.ev_listing.specs.Statements.{label}
-use Rattle.ev_concrete.specs.Opening.{body_listings, listings}
+use Rattle.ev_concrete.specs.Opening.{body_listings, kernel_listings, listings}
 use Rattle.ev_concrete.specs.ConcreteRun.{marks_of}
 use Rattle.ev_layout.proofs.Bodies.{body_at, items_are}
 
@@ -78,7 +76,6 @@ marks_append : (xs ys : List Listing) → all_marks (xs ++ ys) ≡ all_marks xs 
 marks_append [] ys = refl
 marks_append (x ∷ xs) ys = ap (λ (l : Found). marks x.address x.lines ++ l) (marks_append xs ys) ∙ sym (append_assoc (marks x.address x.lines) (all_marks xs) (all_marks ys))
 
-pub marks_are : (mode : Mode) (image : Image) → mode_is_built mode ≡ true → all_marks (body_listings mode image 0 image.bodies) ++ all_marks fred_listings ≡ marks_of mode image
-unfolding mode_is_built listings
-marks_are Idt image h = absurd cc
-marks_are Fred image h = sym (marks_append (body_listings Fred image 0 image.bodies) fred_listings)
+pub marks_are : (mode : Mode) (image : Image) → all_marks (body_listings mode image 0 image.bodies) ++ all_marks (kernel_listings mode) ≡ marks_of mode image
+unfolding listings
+marks_are mode image = sym (marks_append (body_listings mode image 0 image.bodies) (kernel_listings mode))

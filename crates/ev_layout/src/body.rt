@@ -7,7 +7,7 @@ ghost use Rattle.ev_asm.specs.Assembled.{is_encoded};
 ghost use Rattle.ev_built.specs.Built.{is_built_item, is_built_body};
 ghost use Rattle.ev_listing.specs.Expansion.{item_label, exit_of, expansion, expansions};
 ghost use Rattle.ev_listing.specs.Marks.{stmts_of};
-ghost use Rattle.ev_stub_fred.specs.Blocks.{section_of};
+ghost use Rattle.ev_stub.specs.Blocks.{section_of};
 ghost use Rattle.ev_concrete.specs.Opening.{body_listings};
 ghost use Rattle.ev_layout.specs.Marks.{marked_of};
 

@@ -1,34 +1,36 @@
 // Code.
 
 ghost use Rattle.std.specs.Prelude.{◌≡◌, true, map, length, IfOk};
-ghost use Rattle.ev_built.specs.Built.{IsBuilt, mode_is_built};
+ghost use Rattle.ev_built.specs.Built.{IsBuilt};
 ghost use Rattle.ev_concrete.specs.Opening.{kernel_listings, listings, code_of};
-ghost use Rattle.ev_stub_fred.specs.Blocks.{section_of};
+ghost use Rattle.ev_stub.specs.Blocks.{section_of};
 ghost use Rattle.ev_layout.specs.Filled.{are_placed};
 ghost use Rattle.ev_layout.specs.Placed.{placed};
 
 use crate::body::body_sections;
 use ev_asm::{Blocks, Section, link};
 use ev_body::Image;
-use ev_isa::{Mode, NoMemory};
+use ev_isa::{Many, Mode, NoMemory};
 use ev_stub_fred::fred_sections;
+use ev_stub_idt::idt_sections;
 use std::alloc::Global;
 
-/// The sections of the kernel's code in a mode with which machines run today, which is that of FRED.
-fn kernel_sections(alloc: Global, mode: Mode) -> Result<Vec<Section>, NoMemory>
-    requires { mode_is_built mode ≡ true }
-    ensures { IfOk result (λ v. v.items ≡ map section_of (kernel_listings mode)) }
+/// The sections of the kernel's code.
+fn kernel_sections(alloc: Global, mode: Mode) -> Result<Many<Section>, NoMemory>
+    ensures { IfOk result (λ s. s ≡ map section_of (kernel_listings mode)) }
 {
-    Ok(fred_sections(alloc)?.into_vec())
+    match mode {
+        Mode::Idt => idt_sections(alloc),
+        Mode::Fred => fred_sections(alloc),
+    }
 }
 
 /// The sections of all code: of the bodies, and then of the kernel.
 fn sections(alloc: Global, image: &Image, mode: Mode) -> Result<Vec<Section>, NoMemory>
-    requires image { IsBuilt image.now }
-    requires mode { mode_is_built mode ≡ true }
+    requires { IsBuilt image.now }
     ensures { IfOk result (λ v. v.items ≡ map section_of (listings mode image.now)) }
 {
-    let mut kernel = kernel_sections(alloc, mode)?;
+    let mut kernel = kernel_sections(alloc, mode)?.into_vec();
     match body_sections(alloc, image, mode) {
         Ok(mut sections) => match sections.append(&mut kernel) {
             Ok(()) => Ok(sections),
@@ -40,8 +42,7 @@ fn sections(alloc: Global, image: &Image, mode: Mode) -> Result<Vec<Section>, No
 
 /// The blocks of all code.
 pub fn code(alloc: Global, image: &Image, mode: Mode) -> Result<Blocks, NoMemory>
-    requires image { IsBuilt image.now }
-    requires mode { mode_is_built mode ≡ true }
+    requires { IsBuilt image.now }
     ensures is { IfOk result (λ b. placed b.blocks ≡ code_of (listings mode image.now)) }
     ensures placed { IfOk result (λ b. are_placed (length image.now.bodies) b.blocks ≡ true) }
 {

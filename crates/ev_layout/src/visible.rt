@@ -3,11 +3,11 @@
 ghost use Rattle.std.specs.Prelude.{◌≡◌, ◌≤◌, ◌<◌, ◌+◌, ◌*◌, ◌^◌, ◌++◌, [], ℕ, true, length, OnOk, IfOk};
 ghost use Rattle.std.specs.List.{list_all};
 ghost use Rattle.ev_isa.specs.declared.mode.Mode.{Mode};
-ghost use Rattle.ev_built.specs.Built.{IsBuilt, is_built_item, is_built_body, mode_is_built};
+ghost use Rattle.ev_built.specs.Built.{IsBuilt, is_built_item, is_built_body};
 ghost use Rattle.ev_listing.specs.Expansion.{expansions};
 ghost use Rattle.ev_listing.specs.Marks.{with_mark, marks, all_marks};
-ghost use Rattle.ev_stub_fred.specs.Blocks.{always};
-ghost use Rattle.ev_concrete.specs.Opening.{body_listings};
+ghost use Rattle.ev_stub.specs.Blocks.{always};
+ghost use Rattle.ev_concrete.specs.Opening.{body_listings, kernel_listings};
 ghost use Rattle.ev_concrete.specs.ConcreteRun.{marks_of};
 ghost use Rattle.ev_layout.specs.Marks.{mark_of, marks_in};
 
@@ -17,8 +17,9 @@ use crate::mark::Mark;
 use crate::places::Places;
 use ev_asm::statement_size;
 use ev_body::{Image, Item, Key};
-use ev_isa::{Mode, NoMemory};
+use ev_isa::{Many, Mode, NoMemory};
 use ev_stub_fred::fred_visible;
+use ev_stub_idt::idt_visible;
 use std::alloc::{AllocError, Global};
 
 /// The address is added with its mark, if it has one.
@@ -92,13 +93,22 @@ fn append_all(
     append_always(places, kernel)
 }
 
+/// The addresses of visible instructions in the kernel's code, each of them always seen.
+fn kernel_visible(alloc: Global, mode: Mode) -> Result<Many<u64>, NoMemory>
+    ensures { IfOk result (λ v. always v ≡ all_marks (kernel_listings mode)) }
+{
+    match mode {
+        Mode::Idt => idt_visible(alloc),
+        Mode::Fred => fred_visible(alloc),
+    }
+}
+
 /// The places of visible instructions in all code.
 pub fn visible_places(alloc: Global, image: &Image, mode: Mode) -> Result<Places, NoMemory>
-    requires image { IsBuilt image.now }
-    requires mode { mode_is_built mode ≡ true }
+    requires { IsBuilt image.now }
     ensures { IfOk result (λ places. marks_in places ≡ marks_of mode image.now) }
 {
-    let kernel = fred_visible(alloc)?;
+    let kernel = kernel_visible(alloc, mode)?;
     let mut places = Places::new(alloc);
     match append_all(&mut places, image, mode, kernel.as_slice()) {
         Ok(()) => Ok(places),

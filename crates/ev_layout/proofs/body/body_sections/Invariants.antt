@@ -1,5 +1,5 @@
 use Rattle.std.proofs.Common.{◌≡◌, ◌++◌, drop, map}
-use Rattle.ev_stub_fred.specs.Blocks.{section_of}
+use Rattle.ev_stub.specs.Blocks.{section_of}
 use Rattle.ev_concrete.specs.Opening.{body_listings}
 use Rattle.ev_layout.proofs.body.body_sections.Given as goal
 

@@ -1,5 +1,5 @@
 use Rattle.std.proofs.Common.{◌≡◌, ◌++◌, take}
-use Rattle.ev_stub_fred.specs.Blocks.{always}
+use Rattle.ev_stub.specs.Blocks.{always}
 use Rattle.ev_layout.specs.Marks.{marks_in}
 use Rattle.ev_layout.proofs.visible.append_always.Given as goal
 

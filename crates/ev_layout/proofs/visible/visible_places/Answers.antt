@@ -1,6 +1,6 @@
 use Rattle.std.proofs.Common.{◌++◌, ◌∙◌, ap}
 use Rattle.ev_listing.specs.Marks.{all_marks}
-use Rattle.ev_stub_fred.specs.Blocks.{always}
+use Rattle.ev_stub.specs.Blocks.{always}
 use Rattle.ev_concrete.specs.Opening.{body_listings}
 use Rattle.ev_layout.specs.Marks.{marks_in}
 use Rattle.ev_layout.proofs.Marked.{marks_are, Found}
@@ -12,4 +12,4 @@ returns-in-Ok c =
     let bodies : Found = all_marks (body_listings c.args.mode i 0 i.bodies) in
     let none = ap marks_in c.new-places.ensures in
     let kernel = ap always c.as_slice.ensures ∙ c.in_ok-kernel.ensures in
-    c.in-Ok.ensures ∙ (λ j. (none j ++ bodies) ++ kernel j) ∙ marks_are c.args.mode i c.requires.mode
+    c.in-Ok.ensures ∙ (λ j. (none j ++ bodies) ++ kernel j) ∙ marks_are c.args.mode i
