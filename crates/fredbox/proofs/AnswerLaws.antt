@@ -1,5 +1,5 @@
 -- What is taken of a run, by the answer.
-use Rattle.std.proofs.Common.{◌≡◌, ◌≢◌, ℕ, true, List, [], ◌++◌, length, take, Option, Some, None, refl, ap, sym, ◌∙◌, subst, append-nil, arith}
+use Rattle.std.proofs.Common.{◌≡◌, ◌≢◌, ℕ, true, List, [], length, Option, Some, None, refl, ap, sym, ◌∙◌, subst, append-nil, arith}
 use Rattle.std.specs.Prelude.{IfSome}
 use Rattle.std.specs.List.{list_all}
 use Rattle.std.proofs.lemmas.List.{take_all}
@@ -10,7 +10,7 @@ use Rattle.ev_built.specs.Built.{IsBuilt, line_is_built}
 use Rattle.ev_concrete.specs.RunText.{run_text}
 use Rattle.ev_pair.specs.Modes.{modes_of}
 use Rattle.ev_form.specs.FirstForm.{FirstForm, text_of}
-use Rattle.ev_form.specs.FormImage.{IsForm, image_of, script_of}
+use Rattle.ev_form.specs.FormImage.{IsForm}
 use Rattle.ev_form.specs.declared.document.Document.{Document}
 use Rattle.ev_form.proofs.FormLaws.{one_document, gives_script}
 use Rattle.ev_form.proofs.BuiltLaws.{is_built}

@@ -1,12 +1,12 @@
 -- The words of a command are its words alone.
-use Rattle.std.proofs.Common.{◌≡◌, ℕ, Bool, true, false, ◌⊎◌, inl, inr, List, [], ◌∷◌, Option, Some, None, refl, ap, ◌∙◌, sym}
+use Rattle.std.proofs.Common.{◌≡◌, ℕ, Bool, true, false, List, [], ◌∷◌, Option, Some, None, refl, ap, ◌∙◌}
 use Rattle.std.specs.Prelude.{if◌then◌else◌, ◌&&◌, ◌↔◌, codes}
 use Rattle.std.specs.Str.{bytes_eq}
 use Rattle.std.proofs.lemmas.Slice.Eq.{bytes_eq-Decides}
 use Rattle.ev_pair.specs.declared.modes.Modes.{Modes}
 use Rattle.ev_pair.specs.declared.modes.Modes.TheVariants.{Idt, Fred, Both}
 use Rattle.fredbox.specs.declared.command.Command.{Command}
-use Rattle.fredbox.specs.Commands.{command_of, in_mode, words_of, mode_words, frame_words}
+use Rattle.fredbox.specs.Commands.{command_of, in_mode, words_of, frame_words}
 
 tested : (b : Bool) (o : Option Command) (c : Command) → (if b then o else None) ≡ Some c → (b ≡ true) × (o ≡ Some c)
 tested true o c h = (refl, h)

@@ -6,6 +6,10 @@ use ev_io::{MemSink, MemSource};
 use std::alloc::Global;
 use std::test::Fail;
 
+/// A document of one system call's body and five turns.
+const DOCUMENT: &str =
+    "image 1\nprocessors 1\nnest 1\ntext\nstart:\nmov rax 5\nsyscall\nadd rax rax\njmp start\nendtext\ntask 0 start 0\nbody sys user\nlog rdi\nret\nendbody\nfill\nscript\nturn 0\nturn 0\nturn 0\nturn 0\nturn 0\nend\n";
+
 fn source(alloc: Global, bytes: &[u8]) -> Result<MemSource, Fail> {
     let mut held = Vec::new(alloc);
     held.extend_from_slice(bytes)?;
@@ -59,5 +63,19 @@ fn bytes_of_no_document(rt: HostRuntime) -> Result<(), Fail> {
         Status::NotBuilt
     );
     assert_eq!(rt; to.calls, 0);
+    Ok(())
+}
+
+#[test]
+fn sink_that_fails(rt: HostRuntime) -> Result<(), Fail> {
+    let mut src = source(rt.alloc(), DOCUMENT.as_bytes())?;
+    let mut to = sink(rt.alloc(), &[0])?;
+    let words = ["run", "--frames"];
+    assert_eq!(rt;
+        top(rt.alloc(), &words, &mut src, &mut to),
+        Status::WriteFault
+    );
+    assert_eq!(rt; to.taken.len(), 0);
+    assert_eq!(rt; (to.calls, to.faults), (1, 1));
     Ok(())
 }

@@ -1,4 +1,3 @@
-use Rattle.std.proofs.Common.{◌≡◌}
 use Rattle.fredbox.proofs.AnswerLaws.{image_built, script_of_image, script_built}
 use Rattle.fredbox.proofs.top.run.Goals as goal
 

@@ -1,10 +1,9 @@
-use Rattle.std.proofs.Common.{◌≡◌, Some, sym, subst, ap, ◌∙◌}
+use Rattle.std.proofs.Common.{◌≡◌, Some, subst, ap, ◌∙◌}
 use Rattle.std.specs.Io.KnownBytes.{append_known}
 use Rattle.ev_io.specs.Transfer.{TookPrefix}
-use Rattle.ev_form.specs.FirstForm.{FirstForm}
 use Rattle.fredbox.specs.declared.command.Command.{Command}
 use Rattle.fredbox.specs.Answer.{run_of}
-use Rattle.fredbox.proofs.AnswerLaws.{answers_done, answers_prefix, answers_not_built, answers_unread}
+use Rattle.fredbox.proofs.AnswerLaws.{answers_done, answers_prefix}
 use Rattle.fredbox.proofs.top.top.Goals as goal
 
 same_command : (c d : Command) → Some c ≡ Some d → c ≡ d
