@@ -90,23 +90,3 @@ answers_prefix left old new c NoMemory f a p h = a f p h
 answers_prefix left old new c ReadFault f a p h = took_nothing_by old new (run_of c f) a
 answers_prefix left old new c NotBuilt f a p h = took_nothing_by old new (run_of c f) a.0
 answers_prefix left old new c Usage f a p h = absurd a
-
--- NotBuilt is the answer to bytes of no form
-pub answers_not_built : (left old new : Option (List ℕ)) (c : Command) (s : Status) (bytes : List ℕ) → Answers left old new c s → left ≡ Some bytes → IsNoForm bytes
-    → (s ≡ ReadFault → ⊥) → s ≢ NoMemory → s ≡ NotBuilt
-answers_not_built left old new c Done bytes a h none no_read enough = absurd (none a.0 a.1 (subst (λ (o : Option (List ℕ)). IfSome o (λ xs. xs ≡ text_of a.0)) h a.2))
-answers_not_built left old new c WriteFault bytes a h none no_read enough =
-    absurd (none a.0 a.1 (subst (λ (o : Option (List ℕ)). IfSome o (λ xs. xs ≡ text_of a.0)) h a.2))
-answers_not_built left old new c NoMemory bytes a h none no_read enough = absurd (enough refl)
-answers_not_built left old new c ReadFault bytes a h none no_read enough = absurd (no_read refl)
-answers_not_built left old new c NotBuilt bytes a h none no_read enough = refl
-answers_not_built left old new c Usage bytes a h none no_read enough = absurd a
-
-pub answers_unread : (left old new : Option (List ℕ)) (c : Command) (s : Status) → Answers left old new c s → s ≡ NotBuilt
-    → (new ≡ old) × ((f : FirstForm) → IsForm f → left ≡ Some (text_of f) → ⊥)
-answers_unread left old new c NotBuilt a e = (a.0, λ f p h. not_of left f p h a.1)
-answers_unread left old new c Done a e = absurd cc
-answers_unread left old new c WriteFault a e = absurd cc
-answers_unread left old new c NoMemory a e = absurd cc
-answers_unread left old new c ReadFault a e = absurd cc
-answers_unread left old new c Usage a e = absurd a

@@ -1,6 +1,6 @@
 // The program over a source and a sink.
 
-ghost use Rattle.std.specs.Prelude.{◌≡◌, ◌≢◌, ℕ, List, Some, None, Err, map, ⊤};
+ghost use Rattle.std.specs.Prelude.{◌≡◌, ◌≢◌, ℕ, List, Some, None, Err, map};
 ghost use Rattle.std.specs.Io.KnownBytes.{append_known};
 ghost use Rattle.ev_io.specs.Transfer.{Rose, TookPrefix};
 ghost use Rattle.ev_concrete.specs.RunText.{run_text};
@@ -84,6 +84,8 @@ pub fn top<S: Source, K: Sink>(alloc: Global, words: &[&str], src: &mut S, sink:
     // what is taken of a run is a prefix of its text, whatever the answer
     ensures prefix { (c : Command) (f : FirstForm) → command_of (map (λ w. w.now) words.now) ≡ Some c → IsForm f → S.left src.old ≡ Some (text_of f)
         → TookPrefix (K.taken sink.old) (K.taken sink.new) (run_text (image_of f) (script_of f) (modes_of c.modes) c.frames) }
+    // nothing is taken before the document is read
+    ensures kept { result ≡ Status.ReadFault → K.taken sink.new ≡ K.taken sink.old }
     // NotBuilt says that the bytes are of no form, with nothing taken
     ensures unread { result ≡ Status.NotBuilt → (K.taken sink.new ≡ K.taken sink.old) × ((f : FirstForm) → IsForm f → S.left src.old ≡ Some (text_of f) → ⊥) }
     // and it is the answer to bytes of no form
