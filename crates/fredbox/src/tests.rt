@@ -40,7 +40,8 @@ fn document_under_fred(rt: HostRuntime) -> Result<(), Fail> {
     let mut to = sink(rt.alloc(), &[])?;
     let words = ["run", "--mode", "fred", "--frames"];
     assert_eq!(rt; top(rt.alloc(), &words, &mut src, &mut to), Status::Done);
-    let text = b"fred 0 frame ffffc90000003fc0 0 40000c 33 40202 0 220700010002002b 0 0\nfred 0 enter sys type 7 user depth 1 error 0 data 0 rip 40000c\nfred 0 log 100\nfred task 0 0 rip 40000f flags 40202 gs 0 rax a rcx 40000c r11 40202\nfred steps 74 frames 1 low ffffc90000003fc0\n";
+    let text =
+        b"fred 0 frame ffffc90000003fc0 0 40000c 33 40202 0 220700010002002b 0 0\nfred 0 enter sys type 7 user depth 1 error 0 data 0 rip 40000c\nfred 0 log 100\nfred task 0 0 rip 40000f flags 40202 gs 0 rax a rcx 40000c r11 40202\nfred steps 74 frames 1 low ffffc90000003fc0\n";
     assert_eq!(rt; to.taken.as_slice(), text.as_slice());
     Ok(())
 }

@@ -1,0 +1,9 @@
+pub mod Writes
+pub mod Frames
+pub mod Settled
+pub mod Ends
+pub mod Shown
+pub mod Rest
+pub mod Opened
+pub mod Parts
+pub mod Built

@@ -1,0 +1,74 @@
+-- A line of a script, what it shows, and what the end shows.
+use Rattle.std.proofs.Common.{◌≡◌, ℕ, Bool, true, false, List, [], ◌++◌, ap, refl, sym, ◌∙◌, zero, suc, take, Option, ⊎_elim, arith}
+use Rattle.std.specs.Io.KnownBytes.{append_known}
+use Rattle.std.proofs.lemmas.Bool.Decides.{eqb_tells}
+use Rattle.ev_isa.specs.declared.mode.Mode.{Mode}
+use Rattle.ev_event.specs.declared.frame_note.FrameNote.{FrameNote}
+use Rattle.ev_body.specs.declared.image.Image.{Image}
+use Rattle.ev_io.specs.Transfer.{TookPrefix}
+use Rattle.ev_abstract.specs.Run.{run, entries_of}
+use Rattle.ev_abstract.specs.declared.entry.Entry.{Entry}
+use Rattle.ev_abstract.specs.declared.script_line.Line.{Line}
+use Rattle.ev_abstract.specs.declared.script_line.Line.TheVariants.{Turn, Edge, Arrive, Accept}
+use Rattle.ev_abstract.specs.EntryText.{Text, trace_text, all_end_lines}
+use Rattle.ev_trace.specs.FrameText.{Totals, Noted, mode_text, totals_text}
+use Rattle.ev_built.specs.Built.{line_is_built}
+use Rattle.ev_concrete.specs.ConcreteRun.{marks_of, noted, concrete_line, concrete_run}
+use Rattle.ev_concrete.specs.RunText.{shown_frames, settling}
+use Rattle.ev_pair.specs.SideText.{side_at, shown_line, shown_end}
+use Rattle.ev_pair.proofs.Writes.{nothing_written}
+
+-- only turns of processor 0 are built today
+pub only_turns : (l : Line) → line_is_built l ≡ true → ((p : ℕ) → l ≡ Turn p → ⊥) → ⊥
+unfolding line_is_built
+only_turns (Turn p) e other = other p refl
+only_turns (Edge p n) e other = absurd (cc)
+only_turns (Arrive p key) e other = absurd (cc)
+only_turns (Accept p) e other = absurd (cc)
+
+pub first_only : (l : Line) (p : ℕ) → l ≡ Turn p → line_is_built l ≡ true → p ≡ 0
+unfolding line_is_built
+first_only (Turn q) p is e = ⊎_elim (λ h. let first = h.1 in cc) (λ h. absurd (let other = h.0 in cc)) (eqb_tells q 0)
+first_only (Edge q n) p is e = absurd (cc)
+first_only (Arrive q key) p is e = absurd (cc)
+first_only (Accept q) p is e = absurd (cc)
+
+module _ (frames : Bool) (mode : Mode) (image : Image) where
+  pub turn_shown : (done : List Line) (line : Line) (p : ℕ) (fs : List FrameNote) (es : List Entry) → line ≡ Turn p
+      → fs ≡ (concrete_line (marks_of mode image) image.processors (concrete_run mode image done).0 (Turn p)).1 → es ≡ entries_of image done (Turn p)
+      → shown_frames frames mode (noted p fs) ++ trace_text (mode_text mode) es ≡ shown_line frames mode image done line
+  unfolding shown_line
+  turn_shown done line p fs es is a b = (λ i. shown_frames frames mode (noted p (a i)) ++ trace_text (mode_text mode) (b i)) ∙ ap (shown_line frames mode image done) (sym is)
+
+  pub end_shown : (script : List Line) (t : Totals) → t ≡ (settling image (side_at mode image script)).0.totals
+      → shown_frames frames mode (settling image (side_at mode image script)).1 ++ all_end_lines (mode_text mode) (run image script) 0 image.processors ++ totals_text (mode_text mode) t
+      ≡ shown_end frames mode image script
+  unfolding shown_end
+  end_shown script t e =
+      ap (λ x. shown_frames frames mode (settling image (side_at mode image script)).1 ++ all_end_lines (mode_text mode) (run image script) 0 image.processors ++ totals_text (mode_text mode) x) e
+
+-- ---- no frame is shown
+
+no_text : (frames : Bool) (mode : Mode) (p : ℕ) → shown_frames frames mode (noted p []) ≡ []
+no_text true mode p = refl
+no_text false mode p = refl
+
+pub none_noted : (frames : Bool) (mode : Mode) (fs : List Noted) → fs ≡ [] → shown_frames frames mode fs ≡ []
+none_noted true mode fs e = ap (λ xs. shown_frames true mode xs) e
+none_noted false mode fs e = refl
+
+pub none_shown : (frames : Bool) (mode : Mode) (p : ℕ) (fs : List FrameNote) → fs ≡ [] → shown_frames frames mode (noted p fs) ≡ []
+none_shown frames mode p fs e = ap (λ xs. shown_frames frames mode (noted p xs)) e ∙ no_text frames mode p
+
+pub wrote_none : (old new : Option (List ℕ)) (t : Text) → t ≡ [] → new ≡ append_known old t → new ≡ old
+wrote_none old new t e h = h ∙ ap (append_known old) e ∙ nothing_written old
+
+take_none : (n : ℕ) → take n (let none : Text = [] in none) ≡ []
+take_none zero = refl
+take_none (suc n) = refl
+
+pub took_none : (old new : Option (List ℕ)) (t : Text) → t ≡ [] → TookPrefix old new t → new ≡ old
+took_none old new t e h = h.2 ∙ ap (λ x. append_known old (take h.0 x)) e ∙ ap (append_known old) (take_none h.0) ∙ nothing_written old
+
+pub prefix_none : (old new : Option (List ℕ)) (t : Text) → new ≡ old → TookPrefix old new t
+prefix_none old new t e = (0, omega arith, e ∙ sym (nothing_written old))

@@ -1,0 +1,4 @@
+pub mod Outcome
+pub mod SideText
+pub mod Modes
+pub mod Agreement

@@ -1,0 +1,189 @@
+// Runs of scripts.
+
+ghost use Rattle.std.specs.Prelude.{◌≡◌, ◌<◌, ◌≤◌, ◌^◌, true, [], ◌∷◌, length, OnOk, OnErr};
+ghost use Rattle.std.specs.List.{list_all};
+ghost use Rattle.std.specs.Io.KnownBytes.{append_known};
+ghost use Rattle.ev_isa.specs.declared.mode.Mode.TheVariants.{Idt, Fred};
+ghost use Rattle.ev_body.specs.declared.image.Image.{Image};
+ghost use Rattle.ev_io.specs.Transfer.{Rose, TookPrefix};
+ghost use Rattle.ev_abstract.specs.Script.{IsScript};
+ghost use Rattle.ev_built.specs.Built.{IsBuilt, line_is_built, mode_is_built};
+ghost use Rattle.ev_concrete.specs.RunText.{run_text};
+ghost use Rattle.ev_core.specs.Run.{IsRun};
+ghost use Rattle.ev_pair.specs.Modes.{all_built, modes_of};
+ghost use Rattle.ev_pair.specs.Outcome.{OnWriteFault};
+
+use crate::fault::RunFault;
+use crate::modes::Modes;
+use crate::side::{put_end, put_line};
+use ev_abstract::Line;
+use ev_body::Image;
+use ev_core::{Machine, Steps};
+use ev_io::{Failed, Sink};
+use ev_isa::Mode;
+use std::alloc::Global;
+use std::marker::Brand;
+use std::sync::ledger::{Blank, Ledger};
+
+/// Makes the lines of a script and writes what they and the end show.
+fn put_one<L: Ledger, K: Sink>(
+    machine: &mut Machine,
+    mode: Mode,
+    script: &[Line],
+    frames: bool,
+    sink: &mut K,
+    steps: &mut Steps<L>,
+) -> Result<(), Failed>
+    requires lines { list_all line_is_built script.now ≡ true }
+    requires few { length script.now < 2 ^ 32 }
+    requires processors { length machine.old.parts.cpus ≡ 1 }
+    requires count { machine.old.parts.totals.steps ≡ 0 }
+    ensures ok { (image : Image) → IsRun mode image [] machine.old → OnOk result (K.taken sink.new ≡ append_known (K.taken sink.old) (run_text image script.now (mode ∷ []) frames)) }
+    ensures failed { (image : Image) → IsRun mode image [] machine.old → OnErr result (TookPrefix (K.taken sink.old) (K.taken sink.new) (run_text image script.now (mode ∷ []) frames)) }
+    ensures later { K.faults sink.old ≤ K.faults sink.new }
+    ensures cause { OnErr result (Rose (K.faults sink.old) (K.faults sink.new)) }
+{
+    for line in script {
+        put_line(machine, mode, line, frames, sink, steps)?;
+    }
+    put_end(machine, mode, frames, sink, steps)
+}
+
+/// The same in both modes: of each line of the script first what it shows under IDT and then what it
+/// shows under FRED, and so the ends.
+fn put_both<L: Ledger, K: Sink>(
+    idt: &mut Machine,
+    fred: &mut Machine,
+    script: &[Line],
+    frames: bool,
+    sink: &mut K,
+    steps: &mut Steps<L>,
+) -> Result<(), Failed>
+    requires lines { list_all line_is_built script.now ≡ true }
+    requires few { length script.now < 2 ^ 32 }
+    requires idt_processors { length idt.old.parts.cpus ≡ 1 }
+    requires idt_count { idt.old.parts.totals.steps ≡ 0 }
+    requires fred_processors { length fred.old.parts.cpus ≡ 1 }
+    requires fred_count { fred.old.parts.totals.steps ≡ 0 }
+    ensures ok { (image : Image) → IsRun Idt image [] idt.old → IsRun Fred image [] fred.old → OnOk result (K.taken sink.new ≡ append_known (K.taken sink.old) (run_text image script.now (Idt ∷ Fred ∷ []) frames)) }
+    ensures failed { (image : Image) → IsRun Idt image [] idt.old → IsRun Fred image [] fred.old → OnErr result (TookPrefix (K.taken sink.old) (K.taken sink.new) (run_text image script.now (Idt ∷ Fred ∷ []) frames)) }
+    ensures later { K.faults sink.old ≤ K.faults sink.new }
+    ensures cause { OnErr result (Rose (K.faults sink.old) (K.faults sink.new)) }
+{
+    for line in script {
+        put_line(idt, Mode::Idt, line, frames, sink, steps)?;
+        put_line(fred, Mode::Fred, line, frames, sink, steps)?;
+    }
+    put_end(idt, Mode::Idt, frames, sink, steps)?;
+    put_end(fred, Mode::Fred, frames, sink, steps)
+}
+
+/// Runs a script in one mode.
+fn run_one<L: Ledger, K: Sink>(
+    alloc: Global,
+    image: &Image,
+    script: &[Line],
+    mode: Mode,
+    frames: bool,
+    sink: &mut K,
+    steps: &mut Steps<L>,
+) -> Result<(), RunFault>
+    requires image { IsBuilt image.now }
+    requires mode { mode_is_built mode ≡ true }
+    requires lines { list_all line_is_built script.now ≡ true }
+    requires few { length script.now < 2 ^ 32 }
+    ensures ok { OnOk result (K.taken sink.new ≡ append_known (K.taken sink.old) (run_text image.now script.now (mode ∷ []) frames)) }
+    ensures failed { OnErr result (TookPrefix (K.taken sink.old) (K.taken sink.new) (run_text image.now script.now (mode ∷ []) frames)) }
+    ensures later { K.faults sink.old ≤ K.faults sink.new }
+    ensures cause { OnWriteFault result (Rose (K.faults sink.old) (K.faults sink.new)) }
+{
+    let Ok(mut machine) = Machine::open(alloc, image, mode) else {
+        return Err(RunFault::NoMemory);
+    };
+    match put_one(&mut machine, mode, script, frames, sink, steps) {
+        Ok(()) => Ok(()),
+        Err(Failed) => Err(RunFault::WriteFault),
+    }
+}
+
+/// Runs a script in both modes.
+fn run_both<L: Ledger, K: Sink>(
+    alloc: Global,
+    image: &Image,
+    script: &[Line],
+    frames: bool,
+    sink: &mut K,
+    steps: &mut Steps<L>,
+) -> Result<(), RunFault>
+    requires image { IsBuilt image.now }
+    requires idt { mode_is_built Idt ≡ true }
+    requires fred { mode_is_built Fred ≡ true }
+    requires lines { list_all line_is_built script.now ≡ true }
+    requires few { length script.now < 2 ^ 32 }
+    ensures ok { OnOk result (K.taken sink.new ≡ append_known (K.taken sink.old) (run_text image.now script.now (Idt ∷ Fred ∷ []) frames)) }
+    ensures failed { OnErr result (TookPrefix (K.taken sink.old) (K.taken sink.new) (run_text image.now script.now (Idt ∷ Fred ∷ []) frames)) }
+    ensures later { K.faults sink.old ≤ K.faults sink.new }
+    ensures cause { OnWriteFault result (Rose (K.faults sink.old) (K.faults sink.new)) }
+{
+    let Ok(mut idt) = Machine::open(alloc, image, Mode::Idt) else {
+        return Err(RunFault::NoMemory);
+    };
+    let Ok(mut fred) = Machine::open(alloc, image, Mode::Fred) else {
+        return Err(RunFault::NoMemory);
+    };
+    match put_both(&mut idt, &mut fred, script, frames, sink, steps) {
+        Ok(()) => Ok(()),
+        Err(Failed) => Err(RunFault::WriteFault),
+    }
+}
+
+/// The run for a blank ledger, in which its steps are counted.
+fn run_counted<L: Ledger, K: Sink>(
+    alloc: Global,
+    image: &Image,
+    script: &[Line],
+    modes: Modes,
+    frames: bool,
+    sink: &mut K,
+    blank: Blank,
+) -> Result<(), RunFault>
+    requires ledger { (blank.name ≡ L.name) × (blank.parts ≡ L.parts) × (0 < blank.parts) }
+    requires image { IsBuilt image.now }
+    requires modes { all_built modes ≡ true }
+    requires lines { list_all line_is_built script.now ≡ true }
+    requires few { length script.now < 2 ^ 32 }
+    ensures ok { OnOk result (K.taken sink.new ≡ append_known (K.taken sink.old) (run_text image.now script.now (modes_of modes) frames)) }
+    ensures failed { OnErr result (TookPrefix (K.taken sink.old) (K.taken sink.new) (run_text image.now script.now (modes_of modes) frames)) }
+    ensures later { K.faults sink.old ≤ K.faults sink.new }
+    ensures cause { OnWriteFault result (Rose (K.faults sink.old) (K.faults sink.new)) }
+{
+    let mut steps: Steps<L> = Steps::new(blank);
+    match modes {
+        Modes::Idt => run_one(alloc, image, script, Mode::Idt, frames, sink, &mut steps),
+        Modes::Fred => run_one(alloc, image, script, Mode::Fred, frames, sink, &mut steps),
+        Modes::Both => run_both(alloc, image, script, frames, sink, &mut steps),
+    }
+}
+
+/// Runs a script on an image in the modes that are asked for, and writes the run's text, with its
+/// frames where they are asked for. Each line goes into the sink as it is made: a fault leaves a
+/// prefix of the text there. WriteFault means that the sink failed, NoMemory that memory was refused.
+pub fn run_modes<K: Sink>(
+    alloc: Global,
+    image: &Image,
+    script: &[Line],
+    modes: Modes,
+    frames: bool,
+    sink: &mut K,
+) -> Result<(), RunFault>
+    requires image { IsBuilt image.now }
+    requires script { IsScript image.now script.now }
+    requires lines { list_all line_is_built script.now ≡ true }
+    requires few { length script.now < 2 ^ 32 }
+    ensures ok { OnOk result (K.taken sink.new ≡ append_known (K.taken sink.old) (run_text image.now script.now (modes_of modes) frames)) }
+    ensures failed { OnErr result (TookPrefix (K.taken sink.old) (K.taken sink.new) (run_text image.now script.now (modes_of modes) frames)) }
+    ensures later { K.faults sink.old ≤ K.faults sink.new }
+    ensures cause { OnWriteFault result (Rose (K.faults sink.old) (K.faults sink.new)) }
+{
+    run_counted::<Brand, K>(alloc, image, script, modes, frames, sink, Blank::new(1))
+}
