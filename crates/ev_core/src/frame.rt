@@ -7,11 +7,10 @@ ghost use Rattle.ev_concrete.specs.ConcreteRun.{frame_size};
 ghost use Rattle.ev_core.specs.Local.{frame_by, optional};
 
 use crate::frames::Frames;
-use crate::visible::has_fred;
 use arrayvec::ArrayVec;
 use ev_event::{Event, FrameNote};
 use ev_mem::Mem;
-use ev_proc::Stepped;
+use ev_proc::{Stepped, has_fred};
 use ev_state::Cpu;
 
 /// How many words a hardware frame has (SDM volume 3, 6.14; FRED specification, "Stack frames").

@@ -9,12 +9,12 @@ ghost use Rattle.ev_core.specs.Local.{depth_after, start};
 ghost use Rattle.ev_core.specs.Step.{LocalStep};
 
 use crate::entry::{Before, entry_of, instruction_at, log_of};
-use crate::visible::{LAST_RETURN, REPEAT, has_fred};
+use crate::visible::{LAST_RETURN, REPEAT};
 use ev_abstract::Entry;
 use ev_apic::{Apic, Inbox};
 use ev_isa::Ins;
 use ev_mem::Mem;
-use ev_proc::{Stepped, step};
+use ev_proc::{Stepped, has_fred, step};
 use ev_state::Cpu;
 use std::alloc::{AllocError, Global};
 

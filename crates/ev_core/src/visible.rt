@@ -2,21 +2,18 @@
 
 ghost use Rattle.std.specs.Prelude.{◌≡◌, ◌<◌, ◌-◌};
 ghost use Rattle.ev_mem.specs.Mapped.{memory};
-ghost use Rattle.ev_proc.specs.ProcessorStep.{has_fred, next_of};
 ghost use Rattle.ev_listing.specs.AddressMap.{stack_top};
 ghost use Rattle.ev_concrete.specs.ConcreteRun.{is_inner_nmi, is_seen, is_visible};
 ghost use Rattle.ev_layout.specs.Marks.{mark_of, marks_in};
 ghost use Rattle.ev_core.specs.Local.{still};
 
 use crate::local::Local;
-use ev_event::{Boundary, Next, first_of};
+use ev_event::Next;
 use ev_isa::Reg;
 use ev_layout::{Mark, Places};
 use ev_mem::Mem;
+use ev_proc::{has_fred, next};
 use ev_state::Cpu;
-
-/// CR4.FRED (FRED specification, "Enumeration").
-const CR4_FRED: u64 = 1 << 32;
 
 // Where the NMI code goes on, and where the IDT handlers of NMIs end (own).
 pub(crate) const REPEAT: u64 = 0xffff_ffff_8100_4800;
@@ -24,28 +21,6 @@ pub(crate) const REPEAT: u64 = 0xffff_ffff_8100_4800;
 const NBODY: u64 = 0xffff_ffff_8100_4a00;
 
 pub(crate) const LAST_RETURN: u64 = 0xffff_ffff_8100_5000;
-
-/// Whether the processor delivers events by FRED.
-pub(crate) fn has_fred(cpu: &Cpu) -> bool
-    ensures { result ≡ has_fred cpu.now }
-{
-    cpu.cr4 / CR4_FRED % 2 == 1
-}
-
-/// What comes first at the boundary (SDM volume 3, 6.9). A debug trap never stands there.
-#[tactic(auto, unfolding(ev_proc::specs::ProcessorStep::next_of))]
-fn next(cpu: &Cpu, local: &Local) -> Next
-    ensures { result ≡ next_of cpu.now local.now.apic local.now.latch }
-{
-    first_of(&Boundary {
-        debug: false,
-        nmi: local.latch,
-        nmi_blocked: cpu.nmi_blocked,
-        sti_blocked: cpu.sti_blocked,
-        if_set: cpu.interrupts_on(),
-        vector: local.apic.next_vector(),
-    })
-}
 
 /// The word under the frame of the NMI stack, which is 1 while an NMI's first activation runs.
 fn nmi_running(p: u32, mem: &Mem) -> u64
@@ -85,7 +60,7 @@ pub(crate) fn is_visible(p: u32, cpu: &Cpu, local: &Local, mem: &Mem, places: &P
     requires { p < 256 }
     ensures { result ≡ is_visible (marks_in places.now) (still cpu.now local.now (memory mem.now)) p }
 {
-    match next(cpu, local) {
+    match next(cpu, &local.apic, local.latch) {
         Next::Nmi => !is_inner_nmi(p, cpu, local, mem),
         Next::Interrupt(_) => true,
         Next::Debug | Next::Instruction => {

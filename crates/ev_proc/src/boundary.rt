@@ -15,9 +15,10 @@ use ev_event::{Boundary, Event, Next, first_of};
 use ev_mem::Mem;
 use ev_state::Cpu;
 
-/// What comes first at the boundary (SDM volume 3, 6.9). A debug trap never stands there.
+/// What comes first at a processor's boundary: the event that `step` would deliver there, or the
+/// instruction at RIP (SDM volume 3, 6.9). A debug trap never stands there.
 #[tactic(auto, unfolding(crate::specs::ProcessorStep::next_of))]
-fn next(cpu: &Cpu, apic: &Apic, nmi: bool) -> Next
+pub fn next(cpu: &Cpu, apic: &Apic, nmi: bool) -> Next
     ensures { result ≡ next_of cpu.now apic.now nmi }
 {
     first_of(&Boundary {

@@ -16,7 +16,7 @@ use ev_idt::deliver_idt;
 use ev_mem::Mem;
 use ev_state::Cpu;
 
-/// Whether FRED is on.
+/// Whether the processor delivers events by FRED: CR4.FRED (FRED specification, "Enumeration").
 pub fn has_fred(cpu: &Cpu) -> bool
     ensures { result ≡ has_fred cpu.now }
 {

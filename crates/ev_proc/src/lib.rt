@@ -10,5 +10,6 @@ mod returns;
 mod special;
 mod stepped;
 
-pub use boundary::step;
+pub use boundary::{next, step};
+pub use delivery::has_fred;
 pub use stepped::Stepped;
