@@ -8,3 +8,6 @@ mod idt;
 mod vectors;
 
 pub use idt::{idt_code, idt_sections, idt_visible};
+
+#[cfg(test)]
+mod tests;
