@@ -3,9 +3,10 @@
 use super::*;
 use std::test::*;
 
-// The start of the entry of SYSCALL, in the spelling that GNU as and objdump give: SWAPGS, the store
-// and load at GS, and the pushes of SS, RSP, RFLAGS, CS and RIP (constants by PUSH imm32). Seen are
-// SYSRETQ, the two IRETQ and the jump by which a held NMI is delivered.
+// The start of the entry of SYSCALL: SWAPGS, the store and load at GS, and the pushes of SS, RSP,
+// RFLAGS, CS and RIP, as objdump reads them. The constants are pushed by PUSH imm32, where GNU as
+// would choose the shorter imm8. Seen are SYSRETQ, the two IRETQ and the jump by which a held NMI is
+// delivered.
 #[test]
 fn entry_of_system_calls(rt: HostRuntime) {
     let code = idt_code(rt.alloc()).ok().expect(&rt, "memory was refused");
