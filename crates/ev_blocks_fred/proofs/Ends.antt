@@ -1,17 +1,17 @@
 -- What the blocks come to, and how they join: closed facts, each by computation.
-use Rattle.std.proofs.Common.{◌≡◌, ◌-◌, false, List, [], ◌∷◌, ◌++◌, get_or, Some, refl, ap}
+use Rattle.std.proofs.Common.{◌≡◌, ◌-◌, false, List, [], ◌∷◌, get_or, map, Some, refl, ap}
 use Rattle.ev_isa.specs.Spelling.{spelling, four_bytes}
 use Rattle.ev_isa.specs.declared.instruction.Ins.TheVariants.{JmpReg}
 use Rattle.ev_asm.specs.Assembly.{size, places, distance}
 use Rattle.ev_listing.specs.AddressMap.{user_table}
 use Rattle.ev_listing.specs.FredCode.{fred_listings}
 use Rattle.ev_symbolic.specs.Value.{M, V, K, P, X}
-use Rattle.ev_symbolic.specs.State.{absolute}
+use Rattle.ev_symbolic.specs.State.{Word, find, absolute}
 use Rattle.ev_symbolic.specs.Run.{line_at, brun}
 use Rattle.ev_symbolic.specs.Join.{Joins}
 use Rattle.ev_symbolic.specs.Openings.{gs_tag}
 use Rattle.ev_activation.specs.Activation.{Kind, SystemCall}
-use Rattle.ev_blocks_fred.specs.Blocks.{fred_lines, frame_words, fixed_words, fred_ground, enter, item, leave}
+use Rattle.ev_blocks_fred.specs.Blocks.{fred_lines, frame_words, fred_ground, enter, item, leave}
 use Rattle.ev_blocks_fred.specs.Ends.{enter_end, leave_end, enter_values}
 use Rattle.ev_blocks_fred.specs.Claims.{StaysOnStack, restored, AllEnter, AllLeave}
 
@@ -56,7 +56,7 @@ pub leave_regs : (κ : Kind) → (leave_end κ).regs ≡ restored (P 16 (M - 64)
 unfolding leave_end fred_lines fred_listings spelling four_bytes size places distance
 leave_regs SystemCall = refl
 
-pub leave_words : (κ : Kind) → (leave_end κ).words ≡ frame_words κ ++ fixed_words
+pub leave_words : (κ : Kind) → map (λ (w : Word). find w.at (leave_end κ).words) (frame_words κ) ≡ map (λ (w : Word). Some w.val) (frame_words κ)
 unfolding leave_end fred_lines fred_listings spelling four_bytes size places distance
 leave_words SystemCall = refl
 

@@ -1,12 +1,12 @@
 -- What is proved of the blocks, as the contract of this crate states it.
-use Rattle.std.specs.Prelude.{◌≡◌, ◌-◌, true, List, [], ◌∷◌, ◌++◌, Some}
+use Rattle.std.specs.Prelude.{◌≡◌, ◌-◌, true, List, [], ◌∷◌, map, Some}
 use Rattle.ev_isa.specs.declared.instruction.Ins.TheVariants.{JmpReg}
 use Rattle.ev_symbolic.specs.Value.{M, V, P, X}
-use Rattle.ev_symbolic.specs.State.{Line, Block, sreg, is_on_stack}
+use Rattle.ev_symbolic.specs.State.{Word, Line, Block, find, sreg, is_on_stack}
 use Rattle.ev_symbolic.specs.Run.{line_at, brun, every}
 use Rattle.ev_symbolic.specs.Join.{Joins}
 use Rattle.ev_activation.specs.Activation.{Kind}
-use Rattle.ev_blocks_fred.specs.Blocks.{fred_lines, frame_words, fixed_words, fred_ground, enter, item, leave}
+use Rattle.ev_blocks_fred.specs.Blocks.{fred_lines, frame_words, fred_ground, enter, item, leave}
 use Rattle.ev_blocks_fred.specs.Ends.{enter_end, leave_end, enter_values}
 
 -- at each instruction of a block RSP lies in the frame and the saved area
@@ -31,7 +31,7 @@ pub record Enters (κ : Kind) : Type 0 where
 pub record Leaves (κ : Kind) : Type 0 where
   pub runs : brun (leave κ) 22 ≡ Some (leave_end κ)
   pub regs : (leave_end κ).regs ≡ restored (P 16 (M - 64))
-  pub words : (leave_end κ).words ≡ frame_words κ ++ fixed_words
+  pub words : map (λ (w : Word). find w.at (leave_end κ).words) (frame_words κ) ≡ map (λ (w : Word). Some w.val) (frame_words κ)
   pub on_stack : StaysOnStack (leave κ)
 
 abbrev pub AllEnter : Type 0

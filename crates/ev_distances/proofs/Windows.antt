@@ -1,13 +1,13 @@
 -- What located windows give a block: no two of them meet, words of the kernel, and canonical addresses of code. And the windows of each base.
-use Rattle.std.proofs.Common.{◌≡◌, ℕ, ◌+◌, ◌-◌, ◌*◌, ◌/◌, ◌%◌, ◌^◌, ◌<◌, ◌≤◌, Bool, true, false, ◌&&◌, List, [], ◌∷◌, refl, sym, ap, ◌∙◌, arith, ⊎_elim}
-use Rattle.std.specs.Prelude.{◌==◌, ◌||◌, nat_lt, if◌then◌else◌}
-use Rattle.std.proofs.lemmas.Bool.{eqb-true, eq-eqb, ltb-false}
+use Rattle.std.proofs.Common.{◌≡◌, ℕ, ◌+◌, ◌-◌, ◌*◌, ◌/◌, ◌%◌, ◌^◌, ◌<◌, ◌≤◌, Bool, true, false, List, [], ◌∷◌, refl, sym, ap, ◌∙◌, arith, ⊎_elim}
+use Rattle.std.specs.Prelude.{◌==◌, ◌||◌, if◌then◌else◌}
+use Rattle.std.proofs.lemmas.Bool.{eqb-true, eq-eqb}
 use Rattle.ev_isa.specs.Word.{is_canonical}
 use Rattle.ev_mem.specs.declared.region.Region.{Region}
 use Rattle.ev_listing.specs.AddressMap.{pcpu, task_words, stack_top}
-use Rattle.ev_symbolic.specs.Value.{M, V, P}
-use Rattle.ev_symbolic.specs.State.{Loc, Win, is_within, in_win, in_text, loc_eq, is_below}
-use Rattle.ev_symbolic.specs.Agrees.{Env, addr, Far, FarAbove, IsOpen, Open}
+use Rattle.ev_symbolic.specs.Value.{M}
+use Rattle.ev_symbolic.specs.State.{Loc, Win, is_within, in_win, in_text, loc_eq}
+use Rattle.ev_symbolic.specs.Agrees.{Env, addr, IsOpen, Open}
 use Rattle.ev_symbolic.specs.Agrees as agrees
 use Rattle.ev_symbolic.specs.Openings.{win_below, win_at}
 use Rattle.ev_symbolic.proofs.Values.{and_left, and_right}
@@ -77,38 +77,6 @@ text_ok e (w ∷ W) (s ∷ ss) hw l i = pick (is_within w l) refl i (text_ok e W
     pick : (b : Bool) → is_within w l ≡ b → (if b then true else in_text W l) ≡ true → (in_text W l ≡ true → is_canonical (addr e l) ≡ true) → is_canonical (addr e l) ≡ true
     pick true q r k = let inside = located_in e w s l hw.0 (in_ok w l q) in canonical (addr e l) (from_low s (addr e l) inside) (to_end s (addr e l) hw.0.is inside)
     pick false q r k = k r
-
--- ---- two activations on one stack
-
-pub far_is_above : (e f : Env) (W O : List Win) (v : V) → Far e W f O → FarAbove e W v f O
-far_is_above e f W O v h k l i a j q = h k l i j q
-
--- windows one by one
-pub above_cons : (e f : Env) (w : Win) (W O : List Win) (v : V) → ((k l : Loc) → InWord w k → is_below v k ≡ false → in_win O l ≡ true → addr e k ≡ addr f l → ⊥) → FarAbove e W v f O → FarAbove e (w ∷ W) v f O
-above_cons e f w W O v h t k l i a j q = ⊎_elim (λ z. h k l z a j q) (λ z. t k l z a j q) (cases w W k i)
-
-pub own_cons : (e f : Env) (x : Win) (W O : List Win) (v : V) → ((k l : Loc) → in_win W k ≡ true → is_below v k ≡ false → InWord x l → addr e k ≡ addr f l → ⊥) → FarAbove e W v f O → FarAbove e W v f (x ∷ O)
-own_cons e f x W O v h t k l i a j q = ⊎_elim (λ z. h k l i a z q) (λ z. t k l i a z q) (cases x O l j)
-
--- an offset in the window below a top
-top_off : (off n : ℕ) → off < M → n ≤ 0x4000 → (off + (M - (M - n))) % M < n → M - n ≤ off
-top_off off n h k l = omega arith
-
-not_below : (o off n : ℕ) → M - 0x4000 ≤ o → o < M → n ≤ 0x4000 → M - n ≤ off → off < M → (o + 9223372036854775808) % M ≤ (off + 9223372036854775808) % M → o ≤ off
-not_below o off n h1 h2 h3 h4 h5 h6 = omega arith
-
-under : (b t o x y n m : ℕ) → 0x4000 ≤ b → b < M → 0x4000 ≤ t → t < M → o < M → M - 0x4000 ≤ o → t ≤ (b + o) % M → o ≤ x → x < M → M - m ≤ y → m ≤ 0x4000 → y < M → (b + x) % M ≡ (t + y) % M → ⊥
-under b t o x y n m h1 h2 h3 h4 h5 h6 h7 h8 h9 h10 h11 h12 q = absurd (omega arith)
-
--- a frame whose top lies at or below the RSP of the activation that it interrupts
-pub nested : (e f : Env) (o n m : ℕ) → n ≤ 0x4000 → m ≤ 0x4000 → 0x4000 ≤ e.base 16 → e.base 16 < M → 0x4000 ≤ f.base 16 → f.base 16 < M → M - 0x4000 ≤ o → o < M → f.base 16 ≤ (e.base 16 + o) % M → (k l : Loc) → InWord (win_below 16 n) k → is_below (P 16 o) k ≡ false → InWord (win_below 16 m) l → addr e k ≡ addr f l → ⊥
-nested e f o n m hn hm he he' hf hf' ho ho' ht k l i a j q =
-    let x : M - n ≤ k.off = top_off k.off n i.place.small hn i.place.near in
-    let y : M - m ≤ l.off = top_off l.off m j.place.small hm j.place.near in
-    let tag : (16 == k.tag) ≡ true = eq-eqb 16 k.tag (sym i.place.tag) in
-    let b : nat_lt ((k.off + 9223372036854775808) % M) ((o + 9223372036854775808) % M) ≡ false = sym (ap (λ t. t && nat_lt ((k.off + 9223372036854775808) % M) ((o + 9223372036854775808) % M)) tag) ∙ a in
-    let z : o ≤ k.off = not_below o k.off n ho ho' hn x i.place.small (ltb-false _ _ b) in
-    under (e.base 16) (f.base 16) o k.off l.off n m he he' hf hf' ho' ho ht z i.place.small y hm j.place.small (sym (ap (λ t. (e.base t + k.off) % M) i.place.tag) ∙ q ∙ ap (λ t. (f.base t + l.off) % M) j.place.tag)
 
 -- ---- the windows of each base
 

@@ -11,14 +11,14 @@ use Rattle.ev_mem.specs.Memory.{Memory}
 use Rattle.ev_exec.specs.Exec.{Executed, Done, completed, changed, exec}
 use Rattle.ev_concrete.specs.ConcreteRun.{is_return}
 use Rattle.ev_symbolic.specs.State.{Loc, SS, Line, Ground, Block}
-use Rattle.ev_symbolic.specs.Run.{line_at, sstep, tidy_if, bstep, bnext, brun}
+use Rattle.ev_symbolic.specs.Run.{line_at, sstep, bstep, bnext, brun}
 use Rattle.ev_symbolic.specs.Agrees.{Env, addr, Cell, Code, edge_cell, At}
 use Rattle.ev_symbolic.proofs.Sound.{executes, reg_ok, step_ok}
 use Rattle.ev_symbolic.proofs.Sound as sound
 use Rattle.ev_symbolic.proofs.Blocks.{unsome, LineOk, line_ok}
 
 -- no return is inside a block
-not_return : (G : Ground) (i : Ins) (l : Loc) (s t : SS) → tidy_if (sstep G i l s) ≡ Some t → is_return (Some i) ≡ false
+not_return : (G : Ground) (i : Ins) (l : Loc) (s t : SS) → sstep G i l s ≡ Some t → is_return (Some i) ≡ false
 unfolding is_return
 not_return G Sysretq l s t h = absurd (cc)
 not_return G Iretq l s t h = absurd (cc)

@@ -50,7 +50,7 @@ use Rattle.ev_refine.specs.Shown.{shown_instruction}
 use Rattle.ev_refine.proofs.Facts.{Facts}
 use Rattle.ev_refine.proofs.Maps.{at_same}
 use Rattle.ev_refine.proofs.ModeFacts.{is_fred}
-use Rattle.ev_refine.proofs.Spots.{ground_of, ground_is, end_of, runs_to_end, no_steps, entry_ends, exit_ends, jumps_to_body, values_of, opens_item, clear_opening, OpensItem, item_opening, SaysSame, any_item, exit_opening, exit_at, exit_canonical, log_moves, begins_body, means_item, controls, IsReturn, task_returns, not_repeated, one_less, less_in_item, less_in_exit, few_in_item}
+use Rattle.ev_refine.proofs.Spots.{ground_of, ground_is, end_of, runs_to_end, no_steps, entry_ends, exit_ends, jumps_to_body, values_of, opens_item, OpensItem, item_opening, SaysSame, any_item, exit_opening, exit_at, exit_canonical, log_moves, begins_body, means_item, controls, IsReturn, task_returns, not_repeated, one_less, less_in_item, less_in_exit, few_in_item}
 use Rattle.ev_refine.proofs.Fits.{fits_at, opens_at, leaves_fixed, leaves_mark, leaves_top, leaves_task}
 use Rattle.ev_refine.proofs.Instructions.{stays_inside, jumped, jump_by_register, jump}
 use Rattle.ev_refine.proofs.Standing.{instruction_first, hidden, seen, after_ran, Runs, ran_step, ran_safe, ran_shown, ran_stays, ran_returns, stands_on_after, stands_after}
@@ -133,7 +133,6 @@ module _ (mode : Mode) (image : Image) (built : IsBuilt image) (good : IsImage i
       fits = fits_at mode image built facts p small hp spot w b' v f top refl fred;
       state = (block spot).opening;
       is = refl;
-      clear = clear_opening mode spot;
       agrees = subst (λ g. Agrees (env b' v f) g (block spot).opening cpu mem) (sym (ground_is mode spot)) a;
     }
 

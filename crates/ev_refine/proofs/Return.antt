@@ -1,5 +1,5 @@
 -- The return of an activation to the task: ERETU and SYSRETQ give exactly the processor that the activation stands over.
-use Rattle.std.proofs.Common.{◌≡◌, ℕ, ◌+◌, ◌-◌, ◌/◌, ◌%◌, ◌^◌, ◌<◌, ◌≤◌, Bool, true, false, not, ◌&&◌, ◌||◌, List, [], ◌∷◌, ◌++◌, get_or, set, drop, map, length, Some, None, refl, sym, ap, ◌∙◌, subst, arith, length-append}
+use Rattle.std.proofs.Common.{◌≡◌, ℕ, ◌+◌, ◌-◌, ◌/◌, ◌%◌, ◌^◌, ◌<◌, ◌≤◌, Bool, true, false, not, ◌&&◌, ◌||◌, List, [], ◌∷◌, get_or, set, drop, map, length, Some, None, refl, sym, ap, ◌∙◌, subst, arith, length-append}
 use Rattle.std.specs.Prelude.{if◌then◌else◌, ◌==◌, is_some}
 use Rattle.std.proofs.lemmas.Bool.{eqb-true, eq-eqb}
 use Rattle.ev_isa.specs.Word.{wrap, bit, is_canonical}
@@ -37,9 +37,9 @@ use Rattle.ev_symbolic.specs.Agrees.{Env, untracked, eval, addr, Known, Agrees}
 use Rattle.ev_symbolic.proofs.Values.{add_shift}
 use Rattle.ev_symbolic.proofs.Words.{found_ok, accessible}
 use Rattle.ev_symbolic.proofs.Sound.{executes}
-use Rattle.ev_symbolic.proofs.Blocks.{levels_split}
+use Rattle.ev_symbolic.proofs.Blocks.{levels_split, all_found}
 use Rattle.ev_activation.specs.Activation.{SystemCall, AtExit}
-use Rattle.ev_blocks_fred.specs.Blocks.{fred_ground, frame_words, fixed_words}
+use Rattle.ev_blocks_fred.specs.Blocks.{fred_ground, frame_words}
 use Rattle.ev_blocks_fred.specs.Ends as fred
 use Rattle.ev_blocks_fred.proofs.Ends as fred_ends
 use Rattle.ev_blocks_idt.specs.Blocks.{idt_ground}
@@ -155,17 +155,17 @@ module _ (image : Image) (built : IsBuilt image) (good : IsImage image) where
         ∙ ap (λ o. or_else o (first_event (view m false) false (addr e (below 24) ∷ []))) (readable (below 32) refl)
         ∙ ap (λ o. or_else o None) (readable (below 24) refl)
 
-    known : Known e fred_ground.known m.words (frame_words SystemCall ++ fixed_words)
-    known = subst (Known e fred_ground.known m.words) (fred_ends.leave_words SystemCall) a.words
+    known : Known e fred_ground.known m.words (frame_words SystemCall)
+    known = all_found e fred_ground.known m.words (fred.leave_end SystemCall).words a.words (frame_words SystemCall) (fred_ends.leave_words SystemCall)
 
     words : map m.words frame_places ≡ w.rip ∷ 0x33 ∷ v 19 ∷ v 20 ∷ 0x220700010002002b ∷ []
     unfolding eval
     words =
-        let rip : m.words (addr e (below 56)) ≡ w.rip = (found_ok e fred_ground.known m.words (below 56) (frame_words SystemCall ++ fixed_words) known).1 ∙ saved.framed.rip in
-        let cs : m.words (addr e (below 48)) ≡ 0x33 = (found_ok e fred_ground.known m.words (below 48) (frame_words SystemCall ++ fixed_words) known).1 in
-        let flags : m.words (addr e (below 40)) ≡ v 19 = (found_ok e fred_ground.known m.words (below 40) (frame_words SystemCall ++ fixed_words) known).1 in
-        let sp : m.words (addr e (below 32)) ≡ v 20 = (found_ok e fred_ground.known m.words (below 32) (frame_words SystemCall ++ fixed_words) known).1 in
-        let stack : m.words (addr e (below 24)) ≡ 0x220700010002002b = (found_ok e fred_ground.known m.words (below 24) (frame_words SystemCall ++ fixed_words) known).1 in
+        let rip : m.words (addr e (below 56)) ≡ w.rip = (found_ok e fred_ground.known m.words (below 56) (frame_words SystemCall) known).1 ∙ saved.framed.rip in
+        let cs : m.words (addr e (below 48)) ≡ 0x33 = (found_ok e fred_ground.known m.words (below 48) (frame_words SystemCall) known).1 in
+        let flags : m.words (addr e (below 40)) ≡ v 19 = (found_ok e fred_ground.known m.words (below 40) (frame_words SystemCall) known).1 in
+        let sp : m.words (addr e (below 32)) ≡ v 20 = (found_ok e fred_ground.known m.words (below 32) (frame_words SystemCall) known).1 in
+        let stack : m.words (addr e (below 24)) ≡ 0x220700010002002b = (found_ok e fred_ground.known m.words (below 24) (frame_words SystemCall) known).1 in
         λ i. rip i ∷ cs i ∷ flags i ∷ sp i ∷ stack i ∷ []
 
     abbrev by_frame : Processor

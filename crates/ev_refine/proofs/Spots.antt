@@ -14,7 +14,7 @@ use Rattle.ev_concrete.specs.Opening.{control}
 use Rattle.ev_concrete.specs.ConcreteRun.{is_return, is_repeated}
 use Rattle.ev_built.specs.Built.{IsBuilt}
 use Rattle.ev_symbolic.specs.Value.{M, V, K, P, X, FVar}
-use Rattle.ev_symbolic.specs.State.{SS, Win, Ground, absolute, sreg, all_above}
+use Rattle.ev_symbolic.specs.State.{SS, Win, Ground, absolute, sreg}
 use Rattle.ev_symbolic.specs.Run.{moved, sstep, brun}
 use Rattle.ev_symbolic.specs.Agrees.{Env, eval, eval_flags, addr, Known, Cell}
 use Rattle.ev_symbolic.specs.Join.{Joins, env_after}
@@ -92,14 +92,6 @@ values_of Idt = idt.enter_values SystemCall
 pub opens_item : (mode : Mode) → Joins (end_of mode AtEntry) (values_of mode) (ground_of mode).known (block_of mode SystemCall AtItem).opening
 opens_item Fred = fred_ends.enter_joins SystemCall
 opens_item Idt = idt_ends.enter_joins SystemCall
-
-pub clear_opening : (mode : Mode) (spot : Spot) → all_above (sreg (block_of mode SystemCall spot).opening 4) (block_of mode SystemCall spot).opening.words ≡ true
-clear_opening Fred AtEntry = refl
-clear_opening Fred AtItem = refl
-clear_opening Fred AtExit = refl
-clear_opening Idt AtEntry = refl
-clear_opening Idt AtItem = refl
-clear_opening Idt AtExit = refl
 
 -- an item opens at its address, with registers of its own
 pub record OpensItem (o : SS) : Type 0 where

@@ -166,7 +166,7 @@ module _ (image : Image) (built : IsBuilt image) (p n : ℕ) (t : Task) (cr2 nex
         flags = no_flags;
         within = omega arith;
         enough = omega arith;
-        at = begins (code_table Fred image) (enter SystemCall) env handler (with_words m (words_after m.words)) fit refl agrees;
+        at = begins (code_table Fred image) (enter SystemCall) env handler (with_words m (words_after m.words)) fit agrees;
         means = entering;
         long = length-set t.regs 4 frame_at ∙ ready.long;
       };

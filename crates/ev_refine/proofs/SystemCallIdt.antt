@@ -127,7 +127,7 @@ module _ (image : Image) (built : IsBuilt image) (p n : ℕ) (t : Task) (cr2 nex
         flags = masked_flags t.flags;
         within = omega arith;
         enough = omega arith;
-        at = begins (code_table Idt image) (enter SystemCall) env handler m fit refl agrees;
+        at = begins (code_table Idt image) (enter SystemCall) env handler m fit agrees;
         means = called;
         long = length-set (set t.regs 1 next) 11 (flags_word t.flags) ∙ length-set t.regs 1 next ∙ ready.long;
       };

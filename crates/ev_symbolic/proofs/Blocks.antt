@@ -11,13 +11,13 @@ use Rattle.ev_mem.specs.Memory.{Memory, page_fault}
 use Rattle.ev_apic.specs.declared.apic.Apic.{Apic}
 use Rattle.ev_proc.specs.ProcessorStep.{executed, ran, fetched, step_by, next_of, step, instruction_at}
 use Rattle.ev_symbolic.specs.Value.{V, K, P, X, B, FVar, number}
-use Rattle.ev_symbolic.specs.State.{Loc, Word, SS, Win, Line, Ground, Block, in_win, loc_eq, find, is_below, all_above, above, sreg}
-use Rattle.ev_symbolic.specs.Run.{line_at, sstep, tidy, tidy_if, bstep, bnext, brun, every_from, every}
-use Rattle.ev_symbolic.specs.Agrees.{Env, untracked, eval, addr, eval_flags, Known, Open, Cell, Code, edge_cell, Stands, Agrees, with_words, Far, FarAbove, Within, Foreign, ForeignAbove, FactsHold, Described, AreTops, Fits, StepsIf, At}
+use Rattle.ev_symbolic.specs.State.{Loc, Word, SS, Win, Line, Ground, Block, in_win, loc_eq, find}
+use Rattle.ev_symbolic.specs.Run.{line_at, sstep, bstep, bnext, brun, every_from, every}
+use Rattle.ev_symbolic.specs.Agrees.{Env, untracked, eval, addr, eval_flags, Known, Open, Cell, Code, edge_cell, Stands, Agrees, with_words, Far, Within, Foreign, FactsHold, Described, AreTops, Fits, StepsIf, At}
 use Rattle.ev_symbolic.specs.Join.{inst, Joins, env_after}
 use Rattle.ev_symbolic.specs.Machine.{Fetches, Inside}
 use Rattle.ev_symbolic.proofs.Values.{and_left, and_right}
-use Rattle.ev_symbolic.proofs.Words.{loc_same, Found, found_ok, above_ok}
+use Rattle.ev_symbolic.proofs.Words.{loc_same, Found, found_ok}
 use Rattle.ev_symbolic.proofs.Sound.{step_ok}
 
 pub unsome : {A : Type 0} (x y : A) → Some x ≡ Some y → x ≡ y
@@ -38,19 +38,11 @@ line_ok code e l (x ∷ xs) h = pick (loc_eq x.at l) refl (line_ok code e l xs h
     pick true q r = subst (λ y. code (addr e y) ≡ Some (edge_cell x.ins (addr e x.next))) (loc_same x.at l q) h.0
     pick false q r = r
 
-above_clear : (v : V) (ws : List Word) → all_above v (above v ws) ≡ true
-above_clear v [] = refl
-above_clear v (w ∷ ws) = pick (is_below v w.at) refl (above_clear v ws)
-  where
-    pick : (b : Bool) → is_below v w.at ≡ b → all_above v (above v ws) ≡ true → all_above v (if b then above v ws else (w ∷ above v ws)) ≡ true
-    pick true q r = r
-    pick false q r = ap (λ b. if b then false else all_above v (above v ws)) q ∙ r
-
 -- from a state in a block to the next state of that block
 pub inside : (code : Code) (b : Block) (k : ℕ) (e : Env) (c : Processor) (m : Memory) → At code b k e c m → (s : SS) → brun b (suc k) ≡ Some s → Inside code b (suc k) e c m
 inside code b k e c m at s h = with_line (line_at at.state.rip b.lines) (line_ok code e at.state.rip b.lines at.fits.stands) (ap (bnext b) (sym at.is) ∙ h)
   where
-    finish : (x : Line) → code c.rip ≡ Some (edge_cell x.ins (addr e x.next)) → (o : Option SS) → StepsIf e b.ground x.ins o c m → tidy_if o ≡ Some s → Inside code b (suc k) e c m
+    finish : (x : Line) → code c.rip ≡ Some (edge_cell x.ins (addr e x.next)) → (o : Option SS) → StepsIf e b.ground x.ins o c m → o ≡ Some s → Inside code b (suc k) e c m
     finish x q None r t = absurd (cc)
     finish x q (Some y) r t = record {
       ins = x.ins;
@@ -63,22 +55,7 @@ inside code b k e c m at s h = with_line (line_at at.state.rip b.lines) (line_ok
         fits = at.fits;
         state = s;
         is = h;
-        clear = subst (λ z. all_above (sreg z 4) z.words ≡ true) (unsome (tidy y) s t) (above_clear (sreg y 4) y.words);
-        agrees = subst (λ z. Agrees e b.ground z r.cpu (with_words m r.words)) (unsome (tidy y) s t) (record {
-          regs = r.agrees.regs;
-          rip = r.agrees.rip;
-          flags = r.agrees.flags;
-          gs = r.agrees.gs;
-          kernel_gs = r.agrees.kernel_gs;
-          selector = r.agrees.selector;
-          cr2 = r.agrees.cr2;
-          levels = r.agrees.levels;
-          blocked = r.agrees.blocked;
-          rest = r.agrees.rest;
-          words = above_ok e b.ground.known r.words (sreg y 4) y.words r.agrees.words;
-          known_open = r.agrees.known_open;
-          shared_open = r.agrees.shared_open;
-        });
+        agrees = subst (λ z. Agrees e b.ground z r.cpu (with_words m r.words)) (unsome y s t) r.agrees;
       };
       long = r.long;
       same = r.agrees.rest ∙ sym at.agrees.rest;
@@ -120,8 +97,8 @@ earlier b k (suc j) s h = back (brun b (j + k)) refl (ap (brun b) (let e : suc (
     back (Some t) q r f = f t q
 
 -- a block from its opening, through each instruction before its end, to its end
-pub begins : (code : Code) (b : Block) (e : Env) (c : Processor) (m : Memory) → Fits code e b → all_above (sreg b.opening 4) b.opening.words ≡ true → Agrees e b.ground b.opening c m → At code b 0 e c m
-begins code b e c m f h g = record { fits = f; state = b.opening; is = refl; clear = h; agrees = g }
+pub begins : (code : Code) (b : Block) (e : Env) (c : Processor) (m : Memory) → Fits code e b → Agrees e b.ground b.opening c m → At code b 0 e c m
+begins code b e c m f g = record { fits = f; state = b.opening; is = refl; agrees = g }
 
 pub goes_on : (code : Code) (b : Block) (n : ℕ) (z : SS) → brun b n ≡ Some z → (k : ℕ) (e : Env) (c : Processor) (m : Memory) → At code b k e c m → k < n → Inside code b (suc k) e c m
 goes_on code b n z r k e c m at lt = let t = earlier b (suc k) (n - suc k) z (ap (brun b) (let q : (n - suc k) + suc k ≡ n = omega arith in q) ∙ r) in inside code b k e c m at t.0 t.1
@@ -172,6 +149,13 @@ joined_words e θ f W U m s k (w ∷ ws) h i =
     let found = subst (Found e W m w.at) (head_same _ _ _ _ h) (found_ok e W m w.at s k) in
     (head_same _ _ _ _ i, found.1 ∙ inst_ok e θ f w.val, joined_words e θ f W U m s k ws (tail_same _ _ _ _ h) (tail_same _ _ _ _ i))
 
+-- words that are found among those that are known
+pub all_found : (e : Env) (W : List Win) (m : NatMap ℕ) (s : List Word) → Known e W m s → (ws : List Word)
+    → map (λ (w : Word). find w.at s) ws ≡ map (λ (w : Word). Some w.val) ws → Known e W m ws
+all_found e W m s k [] h = tt
+all_found e W m s k (w ∷ ws) h =
+    let f = subst (Found e W m w.at) (head_same _ _ _ _ h) (found_ok e W m w.at s k) in (f.0, f.1, all_found e W m s k ws (tail_same _ _ _ _ h))
+
 -- The state that a block opens with, from a state that it joins. The processor d has come to the opening's place with flags of its own.
 pub joined : (e : Env) (θ : List V) (G U : Ground) (s : SS) (c : Processor) (m : Memory) (o : SS) → Agrees e G s c m → Joins s θ U.known o
     → (d : Processor) (f : Flags) → d.regs ≡ c.regs → d.msrs ≡ c.msrs → d.gs ≡ c.gs → d.cr2 ≡ c.cr2 → untracked d ≡ untracked c → d.sti_blocked ≡ o.blocked → d.rip ≡ addr e o.rip → d.flags ≡ flags_word f → o.flags ≡ FVar
@@ -207,14 +191,6 @@ kept : (e : Env) (W : List Win) (m n : NatMap ℕ) → Foreign e W m n → (ws :
 kept e W m n h [] k = tt
 kept e W m n h (w ∷ ws) k = (k.0, h w.at k.0 ∙ k.1, kept e W m n h ws k.2)
 
-kept_above : (e : Env) (W : List Win) (v : V) (m n : NatMap ℕ) → ForeignAbove e W v m n → (ws : List Word) → all_above v ws ≡ true → Known e W m ws → Known e W n ws
-kept_above e W v m n h [] a k = tt
-kept_above e W v m n h (w ∷ ws) a k = pick (is_below v w.at) refl a (λ b. kept_above e W v m n h ws b k.2)
-  where
-    pick : (b : Bool) → is_below v w.at ≡ b → (if b then false else all_above v ws) ≡ true → (all_above v ws ≡ true → Known e W n ws) → Known e W n (w ∷ ws)
-    pick true q r f = absurd (cc)
-    pick false q r f = (k.0, h w.at k.0 q ∙ k.1, f r)
-
 -- the same state, with other memory of the same regions
 agrees_in : (e : Env) (G : Ground) (s : SS) (c : Processor) (m n : Memory) → n.regions ≡ m.regions → Agrees e G s c m → Known e G.known n.words s.words → Agrees e G s c n
 agrees_in e G s c m n r g k = record {
@@ -238,26 +214,12 @@ stays code b k e c m n at r h = record {
   fits = at.fits;
   state = at.state;
   is = at.is;
-  clear = at.clear;
   agrees = agrees_in e b.ground at.state c m n r at.agrees (kept e b.ground.known m.words n.words h at.state.words at.agrees.words);
-}
-
--- the same where the other stands on the same stack: only what lies at or above RSP is left alone
-pub stays_above : (code : Code) (b : Block) (k : ℕ) (e : Env) (c : Processor) (m n : Memory) (at : At code b k e c m) → n.regions ≡ m.regions → ForeignAbove e b.ground.known (sreg at.state 4) m.words n.words → At code b k e c n
-stays_above code b k e c m n at r h = record {
-  fits = at.fits;
-  state = at.state;
-  is = at.is;
-  clear = at.clear;
-  agrees = agrees_in e b.ground at.state c m n r at.agrees (kept_above e b.ground.known (sreg at.state 4) m.words n.words h at.state.words at.clear at.agrees.words);
 }
 
 -- whoever wrote within windows that lie apart has left the private windows alone
 pub foreign : (e f : Env) (W O S : List Win) (m n : NatMap ℕ) → Within f O S m n → Far e W f O → Far e W f S → Foreign e W m n
 foreign e f W O S m n w o s l i = w (addr e l) (λ k j q. o l k i j q) (λ k j q. s l k i j q)
-
-pub foreign_above : (e f : Env) (W O S : List Win) (v : V) (m n : NatMap ℕ) → Within f O S m n → FarAbove e W v f O → FarAbove e W v f S → ForeignAbove e W v m n
-foreign_above e f W O S v m n w o s l i a = w (addr e l) (λ k j q. o l k i a j q) (λ k j q. s l k i a j q)
 
 -- ---- the next block's environment: bases and the rest of the processor stay, so that only what speaks of variables is to be shown anew
 

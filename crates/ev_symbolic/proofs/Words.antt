@@ -11,7 +11,7 @@ use Rattle.ev_event.specs.Event.{ac}
 use Rattle.ev_effect.specs.Effect.{access_event, page_event}
 use Rattle.ev_mem.specs.Memory.{Memory, view, page_fault, data_access, present_in}
 use Rattle.ev_symbolic.specs.Value.{M, V, K, P, X, B}
-use Rattle.ev_symbolic.specs.State.{Loc, Word, Win, is_within, in_one, in_win, in_text, loc_eq, loc_of, shift, find, without, is_below, above}
+use Rattle.ev_symbolic.specs.State.{Loc, Word, Win, is_within, in_one, in_win, in_text, loc_eq, loc_of, shift, find, without}
 use Rattle.ev_symbolic.specs.Agrees.{Env, eval, addr, Known, IsOpen, Apart, Far, Within}
 use Rattle.ev_symbolic.proofs.Values.{and_left, and_right, add_shift}
 
@@ -99,14 +99,6 @@ within_put e W S m l v h x far far' = put_other m (addr e l) v x (far l h)
 
 pub within_put_shared : (e : Env) (W S : List Win) (m : NatMap ℕ) (l : Loc) (v : ℕ) → in_win S l ≡ true → Within e W S m (put_at m (addr e l) v)
 within_put_shared e W S m l v h x far far' = put_other m (addr e l) v x (far' l h)
-
-pub above_ok : (e : Env) (W : List Win) (m : NatMap ℕ) (v : V) (ws : List Word) → Known e W m ws → Known e W m (above v ws)
-above_ok e W m v [] k = tt
-above_ok e W m v (w ∷ ws) k = pick (is_below v w.at) (above_ok e W m v ws k.2)
-  where
-    pick : (b : Bool) → Known e W m (above v ws) → Known e W m (if b then above v ws else (w ∷ above v ws))
-    pick true r = r
-    pick false r = (k.0, k.1, r)
 
 -- ---- accesses
 

@@ -13,7 +13,7 @@ use Rattle.ev_mem.specs.Memory.{Memory, place_in}
 use Rattle.ev_apic.specs.declared.apic.Apic.{Apic}
 use Rattle.ev_proc.specs.ProcessorStep.{has_fred, executed, ran}
 use Rattle.ev_symbolic.specs.Value.{M, Op, OAdd, OSub, OAnd, OOr, OXor, OShl, OShr, OLess, OSame, V, K, P, X, B, F, FVar, FOp, Fact, number}
-use Rattle.ev_symbolic.specs.State.{Loc, Word, SS, Win, Line, Descriptor, Ground, Block, in_win, in_text, loc_eq, sreg, is_below, all_above}
+use Rattle.ev_symbolic.specs.State.{Loc, Word, SS, Win, Line, Descriptor, Ground, Block, in_win, in_text, loc_eq}
 use Rattle.ev_symbolic.specs.Run.{brun}
 
 -- The meaning of bases, variables and opening flags, and of all that a symbolic state doesn't tell of the processor.
@@ -117,10 +117,6 @@ Apart e N W = (k l : Loc) → in_win N k ≡ true → in_win W l ≡ true → lo
 abbrev pub Far : Env → List Win → Env → List Win → Type 0
 Far e N f W = (k l : Loc) → in_win N k ≡ true → in_win W l ≡ true → addr e k ≡ addr f l → ⊥
 
--- the same, but for what lies below the RSP of the first
-abbrev pub FarAbove : Env → List Win → V → Env → List Win → Type 0
-FarAbove e N rsp f W = (k l : Loc) → in_win N k ≡ true → is_below rsp k ≡ false → in_win W l ≡ true → addr e k ≡ addr f l → ⊥
-
 -- what an environment owes the ground of a block, for as long as an activation is in the block
 pub record Grounded (e : Env) (G : Ground) : Type 0 where
   pub zero_base : e.base 1000 ≡ 0
@@ -165,10 +161,6 @@ Within e W S m n = (x : ℕ) → ((l : Loc) → in_win W l ≡ true → x ≡ ad
 abbrev pub Foreign : Env → List Win → NatMap ℕ → NatMap ℕ → Type 0
 Foreign e W m n = (l : Loc) → in_win W l ≡ true → n (addr e l) ≡ m (addr e l)
 
--- the same, but for what lies below the RSP of the activation
-abbrev pub ForeignAbove : Env → List Win → V → NatMap ℕ → NatMap ℕ → Type 0
-ForeignAbove e W rsp m n = (l : Loc) → in_win W l ≡ true → is_below rsp l ≡ false → n (addr e l) ≡ m (addr e l)
-
 -- what an instruction at RIP leads to, where the symbolic step gives an answer
 pub record Steps (e : Env) (G : Ground) (i : Ins) (s : SS) (c : Processor) (m : Memory) : Type 0 where
   pub cpu : Processor
@@ -187,5 +179,4 @@ pub record At (code : Code) (b : Block) (k : ℕ) (e : Env) (c : Processor) (m :
   pub fits : Fits code e b
   pub state : SS
   pub is : brun b k ≡ Some state
-  pub clear : all_above (sreg state 4) state.words ≡ true
   pub agrees : Agrees e b.ground state c m

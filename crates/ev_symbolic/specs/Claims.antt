@@ -7,9 +7,9 @@ use Rattle.ev_apic.specs.declared.apic.Apic.{Apic}
 use Rattle.ev_state.specs.Processor.{Processor}
 use Rattle.ev_mem.specs.Memory.{Memory}
 use Rattle.ev_proc.specs.ProcessorStep.{ran, next_of, step}
-use Rattle.ev_symbolic.specs.State.{Loc, SS, Ground, Block, sreg}
+use Rattle.ev_symbolic.specs.State.{Loc, SS, Ground, Block}
 use Rattle.ev_symbolic.specs.Run.{sstep, brun}
-use Rattle.ev_symbolic.specs.Agrees.{Env, addr, Code, Grounded, Agrees, ForeignAbove, StepsIf, At}
+use Rattle.ev_symbolic.specs.Agrees.{Env, addr, Code, Grounded, Agrees, Foreign, StepsIf, At}
 use Rattle.ev_symbolic.specs.Machine.{Fetches, Inside}
 
 -- a symbolic step that gives an answer is what the processor does with the instruction
@@ -26,7 +26,7 @@ abbrev pub StepsInside : Type 0
 StepsInside = (code : Code) (b : Block) (k : ℕ) (e : Env) (c : Processor) (m : Memory) → At code b k e c m → (s : SS) → brun b (suc k) ≡ Some s
     → Fetches code m → (a : Apic) (nmi : Bool) → next_of c a nmi ≡ Next.Instruction → RunsInside code b (suc k) e c m a nmi
 
--- whoever leaves the private words of an activation alone, those below its RSP aside, leaves it where it stands
+-- whoever leaves the private words of an activation alone leaves it where it stands
 abbrev pub LeavesOthers : Type 0
-LeavesOthers = (code : Code) (b : Block) (k : ℕ) (e : Env) (c : Processor) (m n : Memory) (at : At code b k e c m)
-    → n.regions ≡ m.regions → ForeignAbove e b.ground.known (sreg at.state 4) m.words n.words → At code b k e c n
+LeavesOthers = (code : Code) (b : Block) (k : ℕ) (e : Env) (c : Processor) (m n : Memory) → At code b k e c m
+    → n.regions ≡ m.regions → Foreign e b.ground.known m.words n.words → At code b k e c n

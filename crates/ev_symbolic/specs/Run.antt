@@ -5,7 +5,7 @@ use Rattle.ev_isa.specs.Word.{sign_extend}
 use Rattle.ev_isa.specs.declared.instruction.Ins.{Ins}
 use Rattle.ev_isa.specs.declared.instruction.Ins.TheVariants.{MovImm, MovReg, Load, Store, StoreImm, GsLoad, GsStore, GsPush, Alu, AluImm, Shl, Shr, Jmp, Jcc, JmpReg, Push, PushImm, Pop, Lkgs, MovGs, ReadCr2, WriteCr2, Nop, Swapgs, Rdmsr, Wrmsr}
 use Rattle.ev_symbolic.specs.Value.{M, Op, OAdd, OSub, OAnd, OShl, OShr, V, K, P, FOp, v_eq, norm, sop, op_of, left_by, sholds}
-use Rattle.ev_symbolic.specs.State.{Loc, SS, Line, Descriptor, Ground, Block, in_win, in_text, loc_eq, loc_of, shift, find, write, above, sreg, is_listed, descriptor_of}
+use Rattle.ev_symbolic.specs.State.{Loc, SS, Line, Descriptor, Ground, Block, in_win, in_text, loc_eq, loc_of, shift, find, write, sreg, is_listed, descriptor_of}
 
 -- the state after an instruction that sets registers, and goes on
 abbrev pub moved : SS → List V → Loc → SS
@@ -114,18 +114,10 @@ abbrev pub line_at : Loc → List Line → Option Line
 line_at l [] = None
 line_at l (x ∷ xs) = if loc_eq x.at l then Some x else line_at l xs
 
--- what lies below RSP is forgotten
-abbrev pub tidy : SS → SS
-tidy s = record s { words = above (sreg s 4) s.words }
-
-abbrev pub tidy_if : Option SS → Option SS
-tidy_if None = None
-tidy_if (Some s) = Some (tidy s)
-
 -- one step of a block
 abbrev pub bstep : Block → Option Line → SS → Option SS
 bstep b None s = None
-bstep b (Some x) s = tidy_if (sstep b.ground x.ins x.next s)
+bstep b (Some x) s = sstep b.ground x.ins x.next s
 
 abbrev pub bnext : Block → Option SS → Option SS
 bnext b None = None

@@ -112,20 +112,6 @@ without l (w ∷ ws) = if loc_eq w.at l then without l ws else (w ∷ without l 
 abbrev pub write : Loc → V → List Word → List Word
 write l v ws = record { at = l; val = v } ∷ without l ws
 
--- below RSP on the activation's own stack, whose words below RSP are anyone's
-abbrev pub is_below : V → Loc → Bool
-is_below (P t o) l = ((t == top_tag) && (t == l.tag)) && nat_lt ((l.off + 9223372036854775808) % M) ((o + 9223372036854775808) % M)
-is_below v l = false
-
-abbrev pub above : V → List Word → List Word
-above v [] = []
-above v (w ∷ ws) = if is_below v w.at then above v ws else (w ∷ above v ws)
-
--- no word of the list lies below RSP
-abbrev pub all_above : V → List Word → Bool
-all_above v [] = true
-all_above v (w ∷ ws) = if is_below v w.at then false else all_above v ws
-
 abbrev pub sreg : SS → ℕ → V
 sreg s r = get_or s.regs r (K 0)
 
