@@ -99,9 +99,9 @@ abbrev pub without_last : List Activation → List Activation
 without_last [] = []
 without_last (a ∷ as') = as'
 
--- whether the last IRETQ leads to REPEAT, so that its activation goes on
+-- whether the last IRETQ leads to REPEAT, so that its activation goes on; user code may stand at that address too
 abbrev pub is_repeated : Processor → Processor → Bool
-is_repeated c c' = (c.rip == nlast_entry + 12) && (c'.rip == repeat_entry)
+is_repeated c c' = (c.rip == nlast_entry + 12) && (c'.rip == repeat_entry) && not (is_user c')
 
 -- whether the step is the delivery of an inner NMI
 abbrev pub starts_inner : System → ℕ → Next → Bool

@@ -4,6 +4,7 @@ ghost use Rattle.std.specs.Prelude.{◌≡◌, ◌<◌, ◌+◌, ◌&&◌, ◌==
 ghost use Rattle.ev_mem.specs.Mapped.{memory};
 ghost use Rattle.ev_listing.specs.AddressMap.{nlast_entry, repeat_entry};
 ghost use Rattle.ev_proc.specs.Conditions.{HasEntries, IsInCode};
+ghost use Rattle.ev_state.specs.Processor.{is_user};
 ghost use Rattle.ev_concrete.specs.ConcreteRun.{is_return};
 ghost use Rattle.ev_core.specs.Local.{depth_after, start};
 ghost use Rattle.ev_core.specs.Step.{LocalStep};
@@ -91,11 +92,14 @@ fn depth_after(depth: u8, ended: bool, stepped: &Stepped) -> u8
 }
 
 /// Whether an instruction that the kernel or user code ran ended its activation: a return of the
-/// kernel does, but for the NMI's that begins anew.
-fn ends(user: bool, instruction: &Option<Ins>, from: u64, to: u64) -> bool
-    ensures { result ≡ (is_return instruction.now && not user && not ((from == nlast_entry + 12) && (to == repeat_entry))) }
+/// kernel does, but for the NMI's that begins anew. User code may stand at REPEAT's address too.
+fn ends(user: bool, instruction: &Option<Ins>, from: u64, after: &Cpu) -> bool
+    ensures { result ≡ (is_return instruction.now && not user
+        && not ((from == nlast_entry + 12) && (after.now.rip == repeat_entry) && not (is_user after.now))) }
 {
-    is_return(instruction) && !user && !(from == LAST_RETURN && to == REPEAT)
+    is_return(instruction)
+        && !user
+        && !(from == LAST_RETURN && after.rip == REPEAT && !after.is_user())
 }
 
 /// One step of processor p, with the entry that it shows.
@@ -114,7 +118,7 @@ pub(crate) fn local_step(p: u32, cpu: &mut Cpu, local: &mut Local, mem: &mut Mem
         log: log_of(p, cpu, &instruction),
     };
     let stepped = step(cpu, &mut local.apic, mem, &mut local.latch);
-    let ended = ends(before.user, &instruction, rip, cpu.rip);
+    let ended = ends(before.user, &instruction, rip, cpu);
     local.depth = depth_after(before.depth, ended, &stepped);
     let entry = entry_of(p, &before, cpu, mem, &stepped);
     Made { stepped, entry }

@@ -9,6 +9,7 @@ mod SoftwareInterrupts
 mod NestedInterrupts
 mod MergedNmis
 mod NmiAtLastReturn
+mod UserAtRepeat
 mod SupervisorJump
 mod NmiAfterSyscall
 mod PageFaultInAnNmi

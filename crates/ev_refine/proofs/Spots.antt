@@ -1,6 +1,6 @@
 -- The blocks of a system call in either mode: the ground that they share, where each ends, and how one opens the next.
 use Rattle.std.proofs.Common.{◌≡◌, ℕ, suc, ◌+◌, ◌-◌, ◌%◌, ◌<◌, ◌≤◌, true, false, ◌&&◌, get_or, List, [], ◌∷◌, map, Some, refl, sym, ap, ◌∙◌, arith}
-use Rattle.std.specs.Prelude.{pos, ◌==◌}
+use Rattle.std.specs.Prelude.{pos, not, ◌==◌}
 use Rattle.ev_isa.specs.Word.{NatMap, bit, is_canonical}
 use Rattle.ev_isa.specs.Flags.{Flags}
 use Rattle.ev_isa.specs.declared.instruction.Ins.TheVariants.{GsStore}
@@ -8,7 +8,7 @@ use Rattle.ev_isa.specs.declared.mode.Mode.{Mode}
 use Rattle.ev_isa.specs.declared.mode.Mode.TheVariants.{Idt, Fred}
 use Rattle.ev_body.specs.declared.image.Image.{Image}
 use Rattle.ev_listing.specs.AddressMap.{exit_entry, body_code, nlast_entry, repeat_entry}
-use Rattle.ev_state.specs.Processor.{Processor}
+use Rattle.ev_state.specs.Processor.{Processor, is_user}
 use Rattle.ev_abstract.specs.Context.{BodyContext}
 use Rattle.ev_concrete.specs.Opening.{control}
 use Rattle.ev_concrete.specs.ConcreteRun.{is_return, is_repeated}
@@ -178,8 +178,8 @@ task_returns Fred = record { marked = refl; returns = refl; silent = λ p c. ref
 task_returns Idt = record { marked = refl; returns = refl; silent = λ p c. refl }
 
 pub not_repeated : (mode : Mode) (c w : Processor) → c.rip ≡ task_return mode → is_repeated c w ≡ false
-not_repeated Fred c w h = ap (λ y. (y == nlast_entry + 12) && (w.rip == repeat_entry)) h
-not_repeated Idt c w h = ap (λ y. (y == nlast_entry + 12) && (w.rip == repeat_entry)) h
+not_repeated Fred c w h = ap (λ y. (y == nlast_entry + 12) && (w.rip == repeat_entry) && not (is_user w)) h
+not_repeated Idt c w h = ap (λ y. (y == nlast_entry + 12) && (w.rip == repeat_entry) && not (is_user w)) h
 
 -- ---- edges
 
