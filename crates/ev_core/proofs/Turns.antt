@@ -5,18 +5,20 @@ use Rattle.std.proofs.lemmas.Bool.{lt-ltb, eq-eqb}
 use Rattle.ev_isa.specs.Word.{NatMap}
 use Rattle.ev_isa.specs.declared.mode.Mode.{Mode}
 use Rattle.ev_body.specs.declared.image.Image.{Image}
+use Rattle.ev_abstract.specs.Machine.{Machine}
 use Rattle.ev_abstract.specs.Run.{turn, run, line_step, entries_of}
 use Rattle.ev_abstract.specs.Script.{is_line}
 use Rattle.ev_abstract.specs.declared.script_line.Line.{Line}
 use Rattle.ev_abstract.specs.declared.script_line.Line.TheVariants.{Turn}
-use Rattle.ev_concrete.specs.ConcreteRun.{System, Marks, marks_of, is_visible, concrete_turn, concrete_line, concrete_lines, concrete_run, settled}
+use Rattle.ev_concrete.specs.ConcreteRun.{System, Marks, marks_of, is_visible, edges, concrete_turn, concrete_line, concrete_lines, concrete_run, settled}
 use Rattle.ev_concrete.specs.LiveWords.{IsSafeStep}
 use Rattle.ev_built.specs.Built.{line_is_built}
+use Rattle.ev_refine.specs.Relation.{Stands}
 use Rattle.ev_refine.specs.Shown.{shown}
 use Rattle.ev_refine.specs.Claims.{Settles, Simulated, MakesEdge, MakesTurn}
 use Rattle.ev_refine.proofs.Refine.{refines, all_settle, turns_follow, runs_follow}
 use Rattle.ev_core.specs.State.{Parts, Shows}
-use Rattle.ev_core.specs.Run.{MachineView, IsRun, IsStanding}
+use Rattle.ev_core.specs.Run.{MachineView, CanRun, IsRun, IsStanding}
 use Rattle.ev_core.proofs.Standing.{seen_marks, processors, visible_after}
 
 -- ---- the machine stands for an abstract state again
@@ -104,8 +106,11 @@ module _ (mode : Mode) (image : Image) (script : List Line) (v : MachineView) (r
       let settles : Settles mode image r.can.built follows.0 reached (run image script) p = all_settle mode image r.can.built r.can.mode_built r.can.image_is follows.0 reached (run image script) follows.1 p in_image in
       (_, refines mode image r.can.built r.can.mode_built r.can.image_is _ _ _ (settles.after 1024).1 p in_image)
 
-  pub turn_safe : IsSafeStep mode image (settled marks image.processors reached p).0 p
-  turn_safe = settled_simulates.1.safe
+  pub turn_safe : (k : ℕ) → IsSafeStep mode image (edges k marks image.processors reached p).0 p
+  turn_safe k =
+      let follows = runs_follow mode image r.can.built r.can.mode_built r.can.image_is script r.script_is r.lines_built in
+      let settles : Settles mode image r.can.built follows.0 reached (run image script) p = all_settle mode image r.can.built r.can.mode_built r.can.image_is follows.0 reached (run image script) follows.1 p in_image in
+      (refines mode image r.can.built r.can.mode_built r.can.image_is _ _ _ (settles.after k).1 p in_image).safe
 
   abstract_turn : (turn image (run image script) p).1 ≡ entries_of image script (Turn p)
   unfolding line_step
@@ -125,3 +130,9 @@ module _ (mode : Mode) (image : Image) (script : List Line) (v : MachineView) (r
 
   pub turn_frames : concrete_turn marks image.processors reached p ≡ concrete_line marks image.processors reached (Turn p)
   turn_frames = sym line_is_turn
+
+pub edges_safe : (mode : Mode) (image : Image) (can : CanRun mode image) (left : NatMap ℕ) (s : System) (m : Machine) → Stands mode image can.built left s m
+    → (p : ℕ) → p < image.processors → (k : ℕ) → IsSafeStep mode image (edges k (marks_of mode image) image.processors s p).0 p
+edges_safe mode image can left s m stands p lt k =
+    let settles : Settles mode image can.built left s m p = all_settle mode image can.built can.mode_built can.image_is left s m stands p lt in
+    (refines mode image can.built can.mode_built can.image_is _ _ _ (settles.after k).1 p lt).safe

@@ -9,7 +9,7 @@ ghost use Rattle.ev_abstract.specs.declared.script_line.Line.TheVariants.{Turn};
 ghost use Rattle.ev_abstract.specs.Machine as abstract;
 ghost use Rattle.ev_abstract.specs.Run.{entries_of};
 ghost use Rattle.ev_body.specs.WellFormed.{IsImage};
-ghost use Rattle.ev_concrete.specs.ConcreteRun.{System, concrete_line, concrete_run, marks_of, settled};
+ghost use Rattle.ev_concrete.specs.ConcreteRun.{System, concrete_line, concrete_run, edges, marks_of, settled};
 ghost use Rattle.ev_concrete.specs.LiveWords.{IsSafeStep};
 ghost use Rattle.ev_built.specs.Built.{IsBuilt, mode_is_built};
 ghost use Rattle.ev_refine.specs.Relation.{Stands};
@@ -93,7 +93,8 @@ impl Machine {
         ensures run { (mode : Mode) (image : Image) (script : List Line) → IsRun mode image script self.old → IsRun mode image (script ++ Turn p ∷ []) self.new }
         ensures entry { (mode : Mode) (image : Image) (script : List Line) → IsRun mode image script self.old → optional result.entry ≡ entries_of image script (Turn p) }
         ensures frames { (mode : Mode) (image : Image) (script : List Line) → IsRun mode image script self.old → result.frames ≡ (concrete_line (marks_of mode image) image.processors (concrete_run mode image script).0 (Turn p)).1 }
-        ensures safe { (mode : Mode) (image : Image) (script : List Line) → IsRun mode image script self.old → IsSafeStep mode image (settled (marks_of mode image) image.processors (concrete_run mode image script).0 p).0 p }
+        ensures safe { (mode : Mode) (image : Image) (script : List Line) → IsRun mode image script self.old → (k : ℕ)
+            → IsSafeStep mode image (edges k (marks_of mode image) image.processors (concrete_run mode image script).0 p).0 p }
         ensures cost { Costs 1024 steps.old steps.new self.old self.new }
         ensures least { steps.old < steps.new }
         ensures same { length self.new.parts.cpus ≡ length self.old.parts.cpus }
@@ -115,6 +116,8 @@ impl Machine {
         requires count { self.old.parts.totals.steps < 2 ^ 62 }
         ensures state { (mode : Mode) (image : Image) (s : System) → IsAt mode image s self.old → IsAt mode image (settled (marks_of mode image) image.processors s p).0 self.new }
         ensures frames { (mode : Mode) (image : Image) (s : System) → IsAt mode image s self.old → result ≡ (settled (marks_of mode image) image.processors s p).1 }
+        ensures safe { (mode : Mode) (image : Image) (s : System) (can : CanRun mode image) (left : NatMap ℕ) (m : abstract.Machine)
+            → IsAt mode image s self.old → Stands mode image can.built left s m → (k : ℕ) → IsSafeStep mode image (edges k (marks_of mode image) image.processors s p).0 p }
         ensures cost { Costs 1023 steps.old steps.new self.old self.new }
         ensures same { length self.new.parts.cpus ≡ length self.old.parts.cpus }
     {
