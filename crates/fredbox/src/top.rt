@@ -3,6 +3,7 @@
 ghost use Rattle.std.specs.Prelude.{◌≡◌, ◌≢◌, ℕ, List, Some, None, Err, map};
 ghost use Rattle.std.specs.Io.KnownBytes.{append_known};
 ghost use Rattle.ev_io.specs.Transfer.{Rose, TookPrefix};
+ghost use Rattle.ev_io.specs.Input.{DrawsWithin};
 ghost use Rattle.ev_concrete.specs.RunText.{run_text};
 ghost use Rattle.ev_pair.specs.Modes.{modes_of};
 ghost use Rattle.ev_form.specs.FirstForm.{FirstForm, text_of};
@@ -22,6 +23,7 @@ use std::alloc::Global;
 /// Reads a document whole, or answers why there is none.
 fn read_document<S: Source>(alloc: Global, src: &mut S) -> Result<Document, Status>
     ensures finds { Finds (S.left src.old) result }
+    ensures most { DrawsWithin 0 (S.left src.old) (S.left src.new) }
     ensures cause { result ≡ Err Status.ReadFault → Rose (S.faults src.old) (S.faults src.new) }
 {
     let bytes = match read_all(alloc, src) {
@@ -61,6 +63,8 @@ fn run<K: Sink>(alloc: Global, document: &Document, command: Command, sink: &mut
 /// Does what a command says: reads a document whole and writes the text of its run.
 fn answer<S: Source, K: Sink>(alloc: Global, command: Command, src: &mut S, sink: &mut K) -> Status
     ensures answers { Answers (S.left src.old) (K.taken sink.old) (K.taken sink.new) command result }
+    ensures unwritten { result ≡ Status.NotBuilt → sink.new ≡ sink.old }
+    ensures most { DrawsWithin 0 (S.left src.old) (S.left src.new) }
     ensures read { result ≡ Status.ReadFault → Rose (S.faults src.old) (S.faults src.new) }
     ensures write { result ≡ Status.WriteFault → Rose (K.faults sink.old) (K.faults sink.new) }
 {
@@ -93,6 +97,11 @@ pub fn top<S: Source, K: Sink>(alloc: Global, words: &[&str], src: &mut S, sink:
         → (Rose (S.faults src.old) (S.faults src.new) → ⊥) → result ≢ Status.NoMemory → result ≡ Status.NotBuilt }
     ensures read { result ≡ Status.ReadFault → Rose (S.faults src.old) (S.faults src.new) }
     ensures write { result ≡ Status.WriteFault → Rose (K.faults sink.old) (K.faults sink.new) }
+    ensures answers { (c : Command) → command_of (map (λ w. w.now) words.now) ≡ Some c
+        → Answers (S.left src.old) (K.taken sink.old) (K.taken sink.new) c result }
+    ensures untouched { command_of (map (λ w. w.now) words.now) ≡ None → (src.new ≡ src.old) × (sink.new ≡ sink.old) }
+    ensures unwritten { result ≡ Status.NotBuilt → sink.new ≡ sink.old }
+    ensures unread_all { (c : Command) → command_of (map (λ w. w.now) words.now) ≡ Some c → DrawsWithin 0 (S.left src.old) (S.left src.new) }
 {
     match command_of(words) {
         Some(command) => answer(alloc, command, src, sink),

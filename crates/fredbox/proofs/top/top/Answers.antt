@@ -2,7 +2,7 @@ use Rattle.std.proofs.Common.{◌≡◌, Some, subst, ap, ◌∙◌}
 use Rattle.std.specs.Io.KnownBytes.{append_known}
 use Rattle.ev_io.specs.Transfer.{TookPrefix}
 use Rattle.fredbox.specs.declared.command.Command.{Command}
-use Rattle.fredbox.specs.Answer.{run_of}
+use Rattle.fredbox.specs.Answer.{Answers, run_of}
 use Rattle.fredbox.proofs.AnswerLaws.{answers_done, answers_prefix}
 use Rattle.fredbox.proofs.top.top.Goals as goal
 
@@ -20,3 +20,9 @@ returns-in-Some-clause-prefix g c = λ x f e p h.
     let k = same_command c.in-Some.command x (c.in-Some.ensures.is ∙ e) in
     subst (λ (y : Command). TookPrefix (g.K.Sink.taken c.args.sink.now) (g.K.Sink.taken c.answer.new.sink) (run_of y f)) k
     (answers_prefix _ _ _ c.in-Some.command _ f c.answer.ensures.answers p h)
+
+pub returns-in-Some-clause-answers : goal.returns-in-Some-clause-answers
+returns-in-Some-clause-answers g c = λ x e.
+    let k = same_command c.in-Some.command x (c.in-Some.ensures.is ∙ e) in
+    subst (λ (y : Command). Answers (g.S.Source.left c.args.src.now) (g.K.Sink.taken c.args.sink.now) (g.K.Sink.taken c.answer.new.sink) y c.answer.result) k
+    c.answer.ensures.answers
