@@ -1,5 +1,6 @@
 pub mod Opening
 pub mod ConcreteRun
 pub mod LiveWords
+pub mod Shown
 pub mod RunText
 pub mod Claims

@@ -9,10 +9,10 @@ use Rattle.ev_listing.specs.Marks.{Mark, Never, Always, IfNonzero, IfEqual}
 use Rattle.ev_state.specs.Processor.{Processor, is_user}
 use Rattle.ev_mem.specs.Memory.{Memory}
 use Rattle.ev_mem.specs.Mapped.{memory}
-use Rattle.ev_proc.specs.ProcessorStep.{After, step, next_of, instruction_at}
+use Rattle.ev_proc.specs.ProcessorStep.{After, has_fred, step, next_of, instruction_at}
 use Rattle.ev_proc.specs.Conditions.{HasEntries, IsInCode}
 use Rattle.ev_concrete.specs.ConcreteRun.{System, Marks, is_visible, is_visible_by, is_seen, mark_at, after_step, concrete_step, activations_by}
-use Rattle.ev_refine.specs.Shown.{shown}
+use Rattle.ev_concrete.specs.Shown.{shown, shown_by, told_at}
 use Rattle.ev_core.specs.Local.{optional, still, counted, after_act, frame_by, depth_after, ends}
 use Rattle.ev_core.specs.Step.{LocalStep, local_after}
 use Rattle.ev_core.specs.State.{Parts, Shows, CanStep, local_of}
@@ -21,12 +21,12 @@ use Rattle.ev_core.specs.declared.local.Made.{Made}
 use Rattle.ev_core.proofs.Acts.{put_same, put_other, put_shown, own_after, rest_after, totals_after, frames_after, depth_is}
 
 -- a step of what p has in a system
-pub moved : (p : ℕ) (s : System) (c : Processor) (l : Local) (m : Memory) (c' : Processor) (l' : Local) (m' : Memory) (made : Made)
-    → c ≡ s.cpus p → l ≡ local_of s p → m ≡ s.memory → LocalStep p c l m c' l' m' made → LocalStep p (s.cpus p) (local_of s p) s.memory c' l' m' made
-moved p s c l m c' l' m' made e f g h =
-    subst (λ x. LocalStep p (s.cpus p) (local_of s p) x c' l' m' made) g
-    (subst (λ x. LocalStep p (s.cpus p) x m c' l' m' made) f
-    (subst (λ x. LocalStep p x l m c' l' m' made) e h))
+pub moved : (mark : Mark) (p : ℕ) (s : System) (c : Processor) (l : Local) (m : Memory) (c' : Processor) (l' : Local) (m' : Memory) (made : Made)
+    → c ≡ s.cpus p → l ≡ local_of s p → m ≡ s.memory → LocalStep mark p c l m c' l' m' made → LocalStep mark p (s.cpus p) (local_of s p) s.memory c' l' m' made
+moved mark p s c l m c' l' m' made e f g h =
+    subst (λ x. LocalStep mark p (s.cpus p) (local_of s p) x c' l' m' made) g
+    (subst (λ x. LocalStep mark p (s.cpus p) x m c' l' m' made) f
+    (subst (λ x. LocalStep mark p x l m c' l' m' made) e h))
 
 module _ (n p : ℕ) (s : System) where
   abbrev pub next : After
@@ -46,12 +46,12 @@ module _ (n p : ℕ) (s : System) where
           ∙ (λ i. record { apic = sym (put_other s.apics p r.apic q d) i; latch = sym (put_other s.latches p r.nmi q d) i; inbox = s.inboxes q; depth = length (sym (put_other s.activations p (activations_by s p (s.activations p) r.cpu r.step) q d) i) })
 
   -- the parts after the step
-  pub stepped_shows : (v w : Parts) (c' : Processor) (l' : Local) (m' : Memory) (made : Made) → Shows n v s → p < n → length v.locals ≡ n → LocalStep p (s.cpus p) (local_of s p) s.memory c' l' m' made
+  pub stepped_shows : (mark : Mark) (v w : Parts) (c' : Processor) (l' : Local) (m' : Memory) (made : Made) → Shows n v s → p < n → length v.locals ≡ n → LocalStep mark p (s.cpus p) (local_of s p) s.memory c' l' m' made
       → w.cpus ≡ set v.cpus p c'
       → ((q : ℕ) (x : Local) → slice_get (set v.locals p l') q ≡ Some x → slice_get w.locals q ≡ Some (after_act made.stepped p q x))
       → length w.cpus ≡ n → memory w.mem ≡ m' → w.totals ≡ counted v.totals made.stepped → Shows n w (concrete_step n s p).0
   unfolding concrete_step
-  stepped_shows v w c' l' m' made h lt same is cpus locals len mem totals = record {
+  stepped_shows mark v w c' l' m' made h lt same is cpus locals len mem totals = record {
     processors = len;
     cpu = λ q b. subst (λ xs. slice_get xs q ≡ Some (put_at s.cpus p next.cpu q)) (sym (cpus ∙ ap (set v.cpus p) is.cpu)) (put_shown v.cpus s.cpus n p next.cpu (subst (λ k. p < k) (sym h.processors) lt) h.cpu q b)
         ∙ ap (λ f. Some (f q)) (sym (rest_after n p next.step (after_step s p next)).0);
@@ -64,17 +64,21 @@ module _ (n p : ℕ) (s : System) where
     totals = totals ∙ ap (λ st. counted v.totals st) is.step ∙ ap (λ t. counted t next.step) h.totals ∙ sym (totals_after n p next.step (after_step s p next) s refl);
   }
 
-  pub stepped_frame : (c' : Processor) (l' : Local) (m' : Memory) (made : Made) → LocalStep p (s.cpus p) (local_of s p) s.memory c' l' m' made
-      → frame_by c' m'.words made.stepped ≡ (concrete_step n s p).1
+  pub stepped_frame : (mark : Mark) (c' : Processor) (l' : Local) (m' : Memory) (made : Made)
+      → LocalStep mark p (s.cpus p) (local_of s p) s.memory c' l' m' made → frame_by c' m'.words made.stepped ≡ (concrete_step n s p).1
   unfolding concrete_step
-  stepped_frame c' l' m' made is =
+  stepped_frame mark c' l' m' made is =
       ap (λ c. frame_by c m'.words made.stepped) (is.cpu ∙ sym (put_same s.cpus p next.cpu)) ∙ ap (λ m. frame_by (put_at s.cpus p next.cpu p) m.words made.stepped) is.memory
       ∙ ap (λ st. frame_by (put_at s.cpus p next.cpu p) next.words st) is.step ∙ frames_after n p next.step (after_step s p next)
 
-  pub stepped_entry : (c' : Processor) (l' : Local) (m' : Memory) (made : Made) → LocalStep p (s.cpus p) (local_of s p) s.memory c' l' m' made
-      → optional made.entry ≡ shown s p
+  pub stepped_entry : (marks : Marks) (mark : Mark) (rip : ℕ) (c' : Processor) (l' : Local) (m' : Memory) (made : Made)
+      → mark ≡ mark_at marks rip → rip ≡ (s.cpus p).rip
+      → LocalStep mark p (s.cpus p) (local_of s p) s.memory c' l' m' made → optional made.entry ≡ shown marks s p
   unfolding shown
-  stepped_entry c' l' m' made is = is.entry
+  stepped_entry marks mark rip c' l' m' made at here is =
+      is.entry
+      ∙ ap (λ k. shown_by p (length (s.activations p)) (is_user (s.cpus p)) (has_fred (s.cpus p)) (told_at k s p) next.cpu next.words next.step)
+      (at ∙ ap (mark_at marks) here)
 
 -- ---- what the code reads
 
@@ -83,6 +87,13 @@ same_value a b e = cc
 
 pub read_is : {X : Type 0} (xs : List X) (m : ℕ → X) (n k : ℕ) (x : X) → k < length xs → k < n → x ≡ get_or xs k x → ((i : ℕ) → i < n → slice_get xs i ≡ Some (m i)) → x ≡ m k
 read_is xs m n k x lt ltn e each = same_value x (m k) (sym (slice_get_read xs (length xs) k x refl lt e) ∙ each k ltn)
+
+-- the processor that is read is the system's
+pub read_cpu : (v w : Parts) (n p : ℕ) (s : System) (c : Processor) → v ≡ w → Shows n w s → p < length w.cpus → c ≡ get_or v.cpus p c → c ≡ s.cpus p
+read_cpu v w n p s c is h lt e =
+    let hv : Shows n v s = subst (λ y. Shows n y s) (sym is) h in
+    let lc : p < length v.cpus = subst (λ y. p < length y.cpus) (sym is) lt in
+    read_is v.cpus s.cpus n p c lc (subst (λ k. p < k) hv.processors lc) e hv.cpu
 
 -- what a step asks, of the parts v that are seen as w
 pub can_enter : (v w : Parts) (p : ℕ) (x : Processor) → v ≡ w → p < length w.cpus → CanStep w p → x ≡ get_or v.cpus p x → HasEntries x (memory v.mem) × IsInCode x (memory v.mem)
@@ -96,14 +107,14 @@ can_deepen v w p x is same lt can e =
     let c : CanStep v p = subst (λ y. CanStep y p) (sym is) can in
     c.depth x (slice_get_read v.locals (length v.locals) p x refl (subst (λ k. p < k) (sym same) (subst (λ y. p < length y.cpus) (sym is) lt)) e)
 
-pub moved_step : (v w : Parts) (n p : ℕ) (s : System) (c : Processor) (l : Local) (c' : Processor) (l' : Local) (m' : Memory) (made : Made)
+pub moved_step : (mark : Mark) (v w : Parts) (n p : ℕ) (s : System) (c : Processor) (l : Local) (c' : Processor) (l' : Local) (m' : Memory) (made : Made)
     → v ≡ w → Shows n w s → length v.locals ≡ length v.cpus → p < length w.cpus → c ≡ get_or v.cpus p c → l ≡ get_or v.locals p l
-    → LocalStep p c l (memory v.mem) c' l' m' made → LocalStep p (s.cpus p) (local_of s p) s.memory c' l' m' made
-moved_step v w n p s c l c' l' m' made is h same lt e f step =
+    → LocalStep mark p c l (memory v.mem) c' l' m' made → LocalStep mark p (s.cpus p) (local_of s p) s.memory c' l' m' made
+moved_step mark v w n p s c l c' l' m' made is h same lt e f step =
     let hv : Shows n v s = subst (λ y. Shows n y s) (sym is) h in
     let lc : p < length v.cpus = subst (λ y. p < length y.cpus) (sym is) lt in
     let ln : p < n = subst (λ k. p < k) hv.processors lc in
-    moved p s c l (memory v.mem) c' l' m' made (read_is v.cpus s.cpus n p c lc ln e hv.cpu) (read_is v.locals (local_of s) n p l (subst (λ k. p < k) (sym same) lc) ln f hv.own) hv.memory step
+    moved mark p s c l (memory v.mem) c' l' m' made (read_is v.cpus s.cpus n p c lc ln e hv.cpu) (read_is v.locals (local_of s) n p l (subst (λ k. p < k) (sym same) lc) ln f hv.own) hv.memory step
 
 -- whether the next step is visible, told from what p has
 seen_there : (k : Mark) (s : System) (p : ℕ) → is_seen k (still (s.cpus p) (local_of s p) s.memory) (s.cpus p) ≡ is_seen k s (s.cpus p)

@@ -14,7 +14,7 @@ use Rattle.ev_concrete.specs.ConcreteRun.{System, Marks, marks_of, is_visible, e
 use Rattle.ev_concrete.specs.LiveWords.{IsSafeStep}
 use Rattle.ev_built.specs.Built.{line_is_built}
 use Rattle.ev_refine.specs.Relation.{Stands}
-use Rattle.ev_refine.specs.Shown.{shown}
+use Rattle.ev_concrete.specs.Shown.{shown}
 use Rattle.ev_refine.specs.Claims.{Settles, Simulated, MakesEdge, MakesTurn}
 use Rattle.ev_refine.proofs.Refine.{refines, all_settle, turns_follow, runs_follow}
 use Rattle.ev_core.specs.State.{Parts, Shows}
@@ -116,7 +116,7 @@ module _ (mode : Mode) (image : Image) (script : List Line) (v : MachineView) (r
   unfolding line_step
   abstract_turn = refl
 
-  pub turn_entry : shown (settled marks image.processors reached p).0 p ≡ entries_of image script (Turn p)
+  pub turn_entry : shown marks (settled marks image.processors reached p).0 p ≡ entries_of image script (Turn p)
   turn_entry = by_kind settled_simulates.1.how ∙ abstract_turn
     where
       seen : is_visible marks (settled marks image.processors reached p).0 p ≡ true
@@ -124,7 +124,7 @@ module _ (mode : Mode) (image : Image) (script : List Line) (v : MachineView) (r
           visible_after mode image r.can follows.0 reached (run image script) follows.1 p in_image 1024 (omega arith)
 
       by_kind : MakesEdge mode image r.can.built settled_simulates.0 (settled marks image.processors reached p).0 (run image script) p ⊎ MakesTurn mode image r.can.built settled_simulates.0 (settled marks image.processors reached p).0 (run image script) p
-          → shown (settled marks image.processors reached p).0 p ≡ (turn image (run image script) p).1
+          → shown marks (settled marks image.processors reached p).0 p ≡ (turn image (run image script) p).1
       by_kind (inl e) = absurd (let a = e.hidden in let b = seen in cc)
       by_kind (inr t) = t.entries
 

@@ -1,15 +1,10 @@
--- What a step does to what belongs to its processor, and what it shows. Own.
-use Rattle.std.specs.Prelude.{ℕ, suc, ◌+◌, ◌-◌, Bool, true, false, not, ◌&&◌, ◌||◌, ◌==◌, if◌then◌else◌, List, [], ◌∷◌, map, replicate, Option, Some, None}
-use Rattle.ev_isa.specs.Word.{NatMap, wrap}
+-- What a step does to what belongs to its processor. Own.
+use Rattle.std.specs.Prelude.{ℕ, suc, ◌-◌, Bool, true, false, not, ◌&&◌, ◌==◌, if◌then◌else◌, List, [], ◌∷◌, map, replicate, Option, Some, None}
+use Rattle.ev_isa.specs.Word.{NatMap}
 use Rattle.ev_isa.specs.declared.instruction.Ins.{Ins}
-use Rattle.ev_event.specs.declared.event.Event.{Event}
-use Rattle.ev_event.specs.Event.{has_error_code, is_hardware}
-use Rattle.ev_body.specs.declared.key.Side.TheVariants.{User, Kernel}
 use Rattle.ev_event.specs.declared.frame_note.FrameNote.{FrameNote}
 use Rattle.ev_effect.specs.Frame.{addresses}
-use Rattle.ev_state.specs.Processor.{Processor, is_user, register}
-use Rattle.ev_abstract.specs.declared.entry.Entry.{Entry}
-use Rattle.ev_abstract.specs.declared.entry.Entry.TheVariants.{Enter}
+use Rattle.ev_state.specs.Processor.{Processor, is_user}
 use Rattle.ev_apic.specs.declared.send.Send.{Send}
 use Rattle.ev_apic.specs.declared.send.Target.{Target}
 use Rattle.ev_apic.specs.declared.send.Target.TheVariants.{One, Myself, All, Others}
@@ -19,7 +14,6 @@ use Rattle.ev_trace.specs.FrameText.{Totals}
 use Rattle.ev_proc.specs.declared.stepped.Stepped.{Stepped}
 use Rattle.ev_concrete.specs.Opening.{opening_apic}
 use Rattle.ev_concrete.specs.ConcreteRun.{System, Activation, is_return, is_repeated, lower, frame_size}
-use Rattle.ev_refine.specs.Shown.{key_of}
 use Rattle.ev_core.specs.declared.local.Local.{Local}
 
 -- the values of an option as a list
@@ -71,25 +65,6 @@ frame_by c words (Stepped.Delivered e None) = []
 frame_by c words Stepped.Ran = []
 frame_by c words Stepped.Shutdown = []
 frame_by c words (Stepped.Sent m) = []
-
--- ---- the entry of a step, told from what was before it (the privilege, FRED, the log that its instruction writes) and what is after it
-
-abbrev pub saved_by : Bool → Processor → NatMap ℕ → Event → Option ℕ → ℕ
-saved_by fred c words e None = register c 1
-saved_by fred c words e (Some a) = words (if fred || (is_hardware e.kind && has_error_code e.vector) then wrap (a + 8) else a)
-
-abbrev pub rip_by : Bool → ℕ → Option ℕ
-rip_by user rip = if user then Some rip else None
-
-abbrev pub delivery_entry : ℕ → ℕ → Bool → Bool → Processor → NatMap ℕ → Event → Option ℕ → Entry
-delivery_entry p depth user fred c words e frame =
-    Enter p (key_of e.kind e.vector) e.kind (if user then User else Kernel) (suc depth) e.error e.info (rip_by user (saved_by fred c words e frame))
-
-abbrev pub entry_by : ℕ → ℕ → Bool → Bool → List Entry → Processor → NatMap ℕ → Stepped → List Entry
-entry_by p depth user fred log c words (Stepped.Delivered e frame) = delivery_entry p depth user fred c words e frame ∷ []
-entry_by p depth user fred log c words Stepped.Ran = if user then [] else log
-entry_by p depth user fred log c words Stepped.Shutdown = []
-entry_by p depth user fred log c words (Stepped.Sent m) = []
 
 -- ---- mail
 

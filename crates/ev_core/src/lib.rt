@@ -12,6 +12,7 @@ mod settle;
 mod state;
 mod steps;
 mod task_view;
+mod told;
 mod totals;
 mod visible;
 

@@ -6,14 +6,17 @@ ghost use Rattle.ev_listing.specs.AddressMap.{nlast_entry, repeat_entry};
 ghost use Rattle.ev_proc.specs.Conditions.{HasEntries, IsInCode};
 ghost use Rattle.ev_state.specs.Processor.{is_user};
 ghost use Rattle.ev_concrete.specs.ConcreteRun.{is_return};
+ghost use Rattle.ev_layout.specs.Marks.{mark_of};
 ghost use Rattle.ev_core.specs.Local.{depth_after, start};
 ghost use Rattle.ev_core.specs.Step.{LocalStep};
 
-use crate::entry::{Before, entry_of, instruction_at, log_of};
+use crate::entry::{Before, entry_of, instruction_at};
+use crate::told::told_of;
 use crate::visible::{LAST_RETURN, REPEAT};
 use ev_abstract::Entry;
 use ev_apic::{Apic, Inbox};
 use ev_isa::Ins;
+use ev_layout::Mark;
 use ev_mem::Mem;
 use ev_proc::{Stepped, has_fred, step};
 use ev_state::Cpu;
@@ -102,12 +105,19 @@ fn ends(user: bool, instruction: &Option<Ins>, from: u64, after: &Cpu) -> bool
         && !(from == LAST_RETURN && after.rip == REPEAT && !after.is_user())
 }
 
-/// One step of processor p, with the entry that it shows.
-pub(crate) fn local_step(p: u32, cpu: &mut Cpu, local: &mut Local, mem: &mut Mem) -> Made
+/// One step of processor p at an instruction with this mark, with the entry that it shows.
+pub(crate) fn local_step(
+    p: u32,
+    mark: Mark,
+    cpu: &mut Cpu,
+    local: &mut Local,
+    mem: &mut Mem,
+) -> Made
+    requires few { p < 256 }
     requires entries { HasEntries cpu.old (memory mem.old) }
     requires code { IsInCode cpu.old (memory mem.old) }
     requires depth { local.old.depth < 255 }
-    ensures { LocalStep p cpu.old local.old (memory mem.old) cpu.new local.new (memory mem.new) result }
+    ensures { LocalStep (mark_of mark) p cpu.old local.old (memory mem.old) cpu.new local.new (memory mem.new) result }
 {
     let rip = cpu.rip;
     let instruction = instruction_at(cpu, mem);
@@ -115,7 +125,7 @@ pub(crate) fn local_step(p: u32, cpu: &mut Cpu, local: &mut Local, mem: &mut Mem
         depth: local.depth,
         user: cpu.is_user(),
         fred: has_fred(cpu),
-        log: log_of(p, cpu, &instruction),
+        told: told_of(p, local.depth, cpu, mem, mark, &instruction),
     };
     let stepped = step(cpu, &mut local.apic, mem, &mut local.latch);
     let ended = ends(before.user, &instruction, rip, cpu);

@@ -101,7 +101,7 @@ impl Machine {
     {
         let mut frames = Frames::new();
         settle(&mut self.state, &self.places, p, &mut frames, steps);
-        let shown = self.state.step(p, steps);
+        let shown = self.state.step(&self.places, p, steps);
         keep(&mut frames, shown.frame);
         Turned {
             entry: shown.entry,

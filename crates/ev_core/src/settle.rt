@@ -37,7 +37,7 @@ pub(crate) fn settle<L: Ledger>(
         if state.is_visible(places, p) {
             return;
         }
-        let shown = state.step(p, steps);
+        let shown = state.step(places, p, steps);
         keep(frames, shown.frame);
     }
 }

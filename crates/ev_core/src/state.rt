@@ -4,7 +4,7 @@ ghost use Rattle.std.specs.Prelude.{◌≡◌, ◌<◌, ◌≤◌, ◌+◌, ◌^
 ghost use Rattle.ev_isa.specs.Word.{numbers_from};
 ghost use Rattle.ev_mem.specs.Mapped.{memory};
 ghost use Rattle.ev_concrete.specs.ConcreteRun.{System, concrete_step, is_visible};
-ghost use Rattle.ev_refine.specs.Shown.{shown};
+ghost use Rattle.ev_concrete.specs.Shown.{shown};
 ghost use Rattle.ev_layout.specs.Marks.{marks_in};
 ghost use Rattle.ev_core.specs.Local.{optional};
 ghost use Rattle.ev_core.specs.State.{AreParts, CanStep, Shows};
@@ -61,20 +61,21 @@ impl State {
     }
 
     /// One step of processor p.
-    pub fn step<L: Ledger>(&mut self, p: usize, steps: &mut Steps<L>) -> Shown
+    pub fn step<L: Ledger>(&mut self, places: &Places, p: usize, steps: &mut Steps<L>) -> Shown
         requires place { p < length self.old.cpus }
         requires can { CanStep self.old p }
         requires count { self.old.totals.steps < 2 ^ 63 }
         ensures shows { (n : ℕ) (s : System) → Shows n self.old s → Shows n self.new (concrete_step n s p).0 }
         ensures frame { (n : ℕ) (s : System) → Shows n self.old s → optional result.frame ≡ (concrete_step n s p).1 }
-        ensures entry { (n : ℕ) (s : System) → Shows n self.old s → optional result.entry ≡ shown s p }
+        ensures entry { (n : ℕ) (s : System) → Shows n self.old s → optional result.entry ≡ shown (marks_in places.now) s p }
         ensures ticks { steps.new ≡ steps.old + 1 }
         ensures steps { self.new.totals.steps ≡ self.old.totals.steps + 1 }
         ensures same { length self.new.cpus ≡ length self.old.cpus }
     {
         let cpu = &mut self.cpus[p];
         let local = &mut self.locals[p];
-        let made = local_step(p as u32, cpu, local, &mut self.mem);
+        let mark = places.mark_at(cpu.rip);
+        let made = local_step(p as u32, mark, cpu, local, &mut self.mem);
         let frame = frame_of(cpu, &self.mem, &made.stepped);
         act(&mut self.locals, p, &made.stepped);
         self.totals.count(&made.stepped);

@@ -18,7 +18,7 @@ use ev_state::Cpu;
 // Where the NMI code goes on, and where the IDT handlers of NMIs end (own).
 pub(crate) const REPEAT: u64 = 0xffff_ffff_8100_4800;
 
-const NBODY: u64 = 0xffff_ffff_8100_4a00;
+pub(crate) const NBODY: u64 = 0xffff_ffff_8100_4a00;
 
 pub(crate) const LAST_RETURN: u64 = 0xffff_ffff_8100_5000;
 

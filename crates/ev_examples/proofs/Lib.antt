@@ -28,3 +28,4 @@ mod ReturnsOnTheirOwn
 mod WellFormedImages
 mod FramesOverNoLiveWord
 mod AgreementOfMachines
+mod ShownEntries

@@ -46,7 +46,7 @@ use Rattle.ev_activation.specs.Activation.{Kind, SystemCall, Spot, AtEntry, AtIt
 use Rattle.ev_table.specs.Table.{code_table, other_exit, body_jump, task_return, task_return_cell, RetCell}
 use Rattle.ev_refine.specs.Relation.{block_of, edges_of, item_place, address_of_item, RunsTask, here, top_of, rest_in, InItem, Leaving, Means, Active, IsContext, StandsOver, Chain, most_edges, StandsOn, Stands}
 use Rattle.ev_refine.specs.Claims.{MakesEdge, MakesTurn}
-use Rattle.ev_refine.specs.Shown.{shown_instruction}
+use Rattle.ev_concrete.specs.Shown.{shown_always}
 use Rattle.ev_refine.proofs.Facts.{Facts}
 use Rattle.ev_refine.proofs.Maps.{at_same}
 use Rattle.ev_refine.proofs.ModeFacts.{is_fred}
@@ -161,7 +161,7 @@ module _ (mode : Mode) (image : Image) (built : IsBuilt image) (good : IsImage i
         → (cpu : Processor) (words : NatMap ℕ) → Executes cell.ins cpu words → Within (env b v f) (ground_of mode).own (ground_of mode).shared s.memory.words words
         → (bs : List BodyContext) → length (activations_by s p (s.activations p) cpu Stepped.Ran) ≡ length bs
         → (now : ℕ) → now ≤ most_edges mode image built → Chain mode image built p now (record x { bodies = bs }) bs cpu (with_words s.memory words)
-        → (es : List Entry) → shown_instruction p c (Some cell.ins) ≡ es → turn image m p ≡ (with_processor m p (record x { bodies = bs }), es) → Result
+        → (es : List Entry) → shown_always p (length (s.activations p)) c s.memory.words (Some cell.ins) ≡ es → turn image m p ≡ (with_processor m p (record x { bodies = bs }), es) → Result
     visible v f cell hc hm hu cpu words he wrote bs depth now few chain es hes ht =
         let run : Runs s p cpu words = runs cell hc hu cpu words he in
         let there : StandsOn mode image built p now (after_ran s p cpu words) (record x { bodies = bs }) = stands_on_after mode image built p (left p) now s x cpu words bs on few (leaves_mark mode image built facts p small hp w b v f top s.memory.words words wrote) (leaves_top mode image built facts p small hp w b v f top s.memory.words words wrote) (leaves_task mode image built facts p small hp w b v f top s.memory.words words wrote) depth chain in
@@ -172,7 +172,8 @@ module _ (mode : Mode) (image : Image) (built : IsBuilt image) (good : IsImage i
             seen = seen (marks_of mode image) s p first hu (facts.marked c.rip cell hc hm);
             now_left = now;
             stands = subst (λ z. Stands mode image built (put_at left p now) z.0 (turn image m p).0) (sym (ran_step image.processors s p cpu words run)) turned;
-            entries = ran_shown s p cpu words cell.ins run hu (fetches c.rip cell hc).1 ∙ hes ∙ sym (ap (λ (y : Step). y.1) ht);
+            entries = ran_shown (marks_of mode image) s p cpu words cell.ins run hu (facts.marked c.rip cell hc hm) (fetches c.rip cell hc).1
+                ∙ hes ∙ sym (ap (λ (y : Step). y.1) ht);
           }),
           ran_safe mode image s p cpu words run,
         )
@@ -258,7 +259,7 @@ module _ (mode : Mode) (image : Image) (built : IsBuilt image) (good : IsImage i
 
     at_log : (v : ℕ → ℕ) (f : Flags) → At code (block AtItem) 0 (env b v f) c s.memory → InItem mode image built v w b → length c.regs ≡ 16
         → (body : Body) → slice_get image.bodies b.body ≡ Some body → (q : ℕ) → item_at (Some body) b.place ≡ Some (Log q) → 6 ≤ q → q < 14 → Result
-    unfolding is_return shown_instruction
+    unfolding is_return shown_always
     at_log v f at means long body is q hi lo hq =
         let e : Env = env b v f in
         let o : SS = (block AtItem).opening in
@@ -363,7 +364,7 @@ module _ (mode : Mode) (image : Image) (built : IsBuilt image) (good : IsImage i
         let does : Executes cell.ins w s.memory.words = returns image built good mode p small x on.running w r b v f c s.memory a means.saved cell.next (sym (facts.spaced c.rip cell hc)) in
         visible v f cell hc is.marked hu w s.memory.words does (λ y far far'. refl) []
         (ap length (ran_returns s p w cell.ins (fetches c.rip cell hc).1 is.returns hu (not_repeated mode c w rip)) ∙ none_left (s.activations p) (on.depth ∙ ap length bodies)) 0 (omega arith)
-        (same_task [] w r) [] (is.silent p c) (ret_turn means.ret)
+        (same_task [] w r) [] (is.silent p (length (s.activations p)) c s.memory.words) (ret_turn means.ret)
 
     -- ---- every step
 

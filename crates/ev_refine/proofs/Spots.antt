@@ -28,7 +28,7 @@ use Rattle.ev_blocks_idt.specs.Ends as idt
 use Rattle.ev_blocks_idt.proofs.Ends as idt_ends
 use Rattle.ev_table.specs.Table.{other_exit, body_jump, task_return, task_return_cell}
 use Rattle.ev_refine.specs.Relation.{block_of, edges_of, here, InItem, Means, most_edges}
-use Rattle.ev_refine.specs.Shown.{shown_instruction}
+use Rattle.ev_concrete.specs.Shown.{shown_always}
 use Rattle.ev_refine.proofs.ModeFacts.{is_fred}
 
 -- ---- the ground
@@ -170,12 +170,12 @@ controls Idt = refl
 pub record IsReturn (cell : Cell) : Type 0 where
   pub marked : cell.mark ≡ true
   pub returns : is_return (Some cell.ins) ≡ true
-  pub silent : (p : ℕ) (c : Processor) → shown_instruction p c (Some cell.ins) ≡ []
+  pub silent : (p depth : ℕ) (c : Processor) (words : NatMap ℕ) → shown_always p depth c words (Some cell.ins) ≡ []
 
 pub task_returns : (mode : Mode) → IsReturn (task_return_cell mode)
-unfolding is_return shown_instruction
-task_returns Fred = record { marked = refl; returns = refl; silent = λ p c. refl }
-task_returns Idt = record { marked = refl; returns = refl; silent = λ p c. refl }
+unfolding is_return shown_always
+task_returns Fred = record { marked = refl; returns = refl; silent = λ p d c m. refl }
+task_returns Idt = record { marked = refl; returns = refl; silent = λ p d c m. refl }
 
 pub not_repeated : (mode : Mode) (c w : Processor) → c.rip ≡ task_return mode → is_repeated c w ≡ false
 not_repeated Fred c w h = ap (λ y. (y == nlast_entry + 12) && (w.rip == repeat_entry) && not (is_user w)) h

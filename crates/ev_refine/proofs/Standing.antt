@@ -13,7 +13,7 @@ use Rattle.ev_listing.specs.Marks.{Never, Always}
 use Rattle.ev_state.specs.Processor.{Processor, is_user, interrupts_on}
 use Rattle.ev_apic.specs.declared.apic.Apic.{Apic}
 use Rattle.ev_apic.specs.Apic.{next_vector}
-use Rattle.ev_proc.specs.ProcessorStep.{ran, next_of, step, instruction_at}
+use Rattle.ev_proc.specs.ProcessorStep.{ran, next_of, step, has_fred, instruction_at}
 use Rattle.ev_proc.specs.declared.stepped.Stepped.{Stepped}
 use Rattle.ev_abstract.specs.Context.{BodyContext}
 use Rattle.ev_abstract.specs.Machine.{Machine, processor}
@@ -25,7 +25,7 @@ use Rattle.ev_event.specs.declared.frame_note.FrameNote.{FrameNote}
 use Rattle.ev_built.specs.Built.{IsBuilt}
 use Rattle.ev_symbolic.specs.Agrees.{with_words}
 use Rattle.ev_refine.specs.Relation.{IsFixed, Chain, most_edges, StandsOn, Stands}
-use Rattle.ev_refine.specs.Shown.{shown, shown_by, shown_instruction}
+use Rattle.ev_concrete.specs.Shown.{shown, shown_always, shown_by, told_at}
 use Rattle.ev_refine.proofs.Maps.{at_same}
 
 -- ---- the boundary
@@ -72,11 +72,15 @@ ran_step n s p cpu words h = ap (λ r. acted n (after_step s p r) p r.step) h
 pub ran_safe : (mode : Mode) (image : Image) (s : System) (p : ℕ) (cpu : Processor) (words : NatMap ℕ) → Runs s p cpu words → IsSafeStep mode image s p
 ran_safe mode image s p cpu words h = ap (λ (r : System × List FrameNote). list_any (overwrites mode image s) r.1) (ran_step image.processors s p cpu words h)
 
-pub ran_shown : (s : System) (p : ℕ) (cpu : Processor) (words : NatMap ℕ) (i : Ins) → Runs s p cpu words → is_user (s.cpus p) ≡ false → instruction_at s.memory.words (s.cpus p).rip ≡ Some i → shown s p ≡ shown_instruction p (s.cpus p) (Some i)
+pub ran_shown : (marks : Marks) (s : System) (p : ℕ) (cpu : Processor) (words : NatMap ℕ) (i : Ins) → Runs s p cpu words → is_user (s.cpus p) ≡ false
+    → mark_at marks (s.cpus p).rip ≡ Always → instruction_at s.memory.words (s.cpus p).rip ≡ Some i
+    → shown marks s p ≡ shown_always p (length (s.activations p)) (s.cpus p) s.memory.words (Some i)
 unfolding shown
-ran_shown s p cpu words i h hu hi =
-    ap (λ r. shown_by p (length (s.activations p)) (s.cpus p) (instruction_at s.memory.words (s.cpus p).rip) r r.step) h
-    ∙ ap (λ b. if b then [] else shown_instruction p (s.cpus p) (instruction_at s.memory.words (s.cpus p).rip)) hu ∙ ap (shown_instruction p (s.cpus p)) hi
+ran_shown marks s p cpu words i h hu hm hi =
+    ap (λ r. shown_by p (length (s.activations p)) (is_user (s.cpus p)) (has_fred (s.cpus p)) (told_at (mark_at marks (s.cpus p).rip) s p)
+    r.cpu r.words r.step) h
+    ∙ ap (λ b. if b then [] else told_at (mark_at marks (s.cpus p).rip) s p) hu ∙ ap (λ k. told_at k s p) hm
+    ∙ ap (shown_always p (length (s.activations p)) (s.cpus p) s.memory.words) hi
 
 -- ---- its activations
 

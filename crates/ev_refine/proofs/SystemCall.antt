@@ -28,7 +28,7 @@ use Rattle.ev_symbolic.specs.Agrees.{Open, Fits, with_words}
 use Rattle.ev_activation.specs.Activation.{SystemCall, AtEntry}
 use Rattle.ev_table.specs.Table.{code_table}
 use Rattle.ev_refine.specs.Relation.{block_of, task_processor, top_of, rest_in, here, Active, most_edges}
-use Rattle.ev_refine.specs.Shown.{saved_rip}
+use Rattle.ev_concrete.specs.Shown.{saved_rip}
 use Rattle.ev_refine.proofs.ModeFacts.{is_fred}
 use Rattle.ev_refine.proofs.UserSafe.{OnlyTask}
 
@@ -100,5 +100,5 @@ module _ (mode : Mode) (image : Image) (built : IsBuilt image) (p n : ℕ) (t : 
     pub runs : (a : Apic) (nmi : Bool) → executed caller a m nmi (Some Syscall) ≡ arrival cpu words frame a nmi
     pub active : Active mode image built p (most_edges mode image built) SystemCall over context cpu (with_words m words)
     pub stays : (a : ℕ) → (a < 0xffffc90000000000) ⊎ (0xffffffff81000000 ≤ a) → words a ≡ m.words a
-    pub saved : (a : Apic) (nmi : Bool) → saved_rip caller (arrival cpu words frame a nmi) call_event frame ≡ next
+    pub saved : saved_rip (has_fred caller) cpu words call_event frame ≡ next
     pub safe : (s : System) → OnlyTask s → (k : ℕ) (z : System) → list_any (overwrites mode image s) (acted k z p (Stepped.Delivered call_event frame)).1 ≡ false

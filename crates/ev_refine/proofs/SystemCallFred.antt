@@ -171,6 +171,6 @@ module _ (image : Image) (built : IsBuilt image) (p n : ℕ) (t : Task) (cr2 nex
         long = length-set t.regs 4 frame_at ∙ ready.long;
       };
       stays = λ a h. between n p ready.running ready.small (map (eval env) (frame SystemCall)) refl m.words a h;
-      saved = λ a nmi. saved_is;
+      saved = saved_is;
       safe = λ s only k z. overwrites_none image built s only (acted k z p (Stepped.Delivered call_event (Some frame_at))).1;
     }

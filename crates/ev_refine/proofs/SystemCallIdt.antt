@@ -132,6 +132,6 @@ module _ (image : Image) (built : IsBuilt image) (p n : ℕ) (t : Task) (cr2 nex
         long = length-set (set t.regs 1 next) 11 (flags_word t.flags) ∙ length-set t.regs 1 next ∙ ready.long;
       };
       stays = λ a h. refl;
-      saved = λ a nmi. ap (λ xs. get_or (set (set xs 1 next) 11 (flags_word t.flags)) 1 0) (listed_is t.regs ready.long);
+      saved = ap (λ xs. get_or (set (set xs 1 next) 11 (flags_word t.flags)) 1 0) (listed_is t.regs ready.long);
       safe = λ s only k z. refl;
     }

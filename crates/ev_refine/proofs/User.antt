@@ -1,11 +1,10 @@
 -- The turns of the task: a plain instruction, or a system call, which begins an activation.
-use Rattle.std.proofs.Common.{◌≡◌, ℕ, suc, ◌+◌, ◌<◌, ◌≤◌, true, false, List, [], ◌∷◌, set, length, Option, Some, None, refl, sym, ap, ◌∙◌, subst, arith, ◌⊎◌, inl, inr, ⊎_elim}
+use Rattle.std.proofs.Common.{◌≡◌, ℕ, suc, ◌+◌, ◌<◌, ◌≤◌, Bool, true, false, List, [], ◌∷◌, set, length, Option, Some, None, refl, sym, ap, ◌∙◌, subst, arith, ◌⊎◌, inl, inr, ⊎_elim}
 use Rattle.std.specs.Prelude.{if◌then◌else◌, slice_get, is_some}
 use Rattle.std.proofs.lemmas.List.{length-set}
 use Rattle.ev_isa.specs.Word.{NatMap}
 use Rattle.ev_isa.specs.Flags.{flags_word}
 use Rattle.ev_isa.specs.Spelling.{spelling}
-use Rattle.ev_isa.specs.declared.instruction.Ins.{Ins}
 use Rattle.ev_isa.specs.declared.instruction.Ins.TheVariants.{Syscall}
 use Rattle.ev_isa.specs.declared.mode.Mode.{Mode}
 use Rattle.ev_isa.specs.declared.mode.Mode.TheVariants.{Idt, Fred}
@@ -19,7 +18,7 @@ use Rattle.ev_body.specs.WellFormed.{IsImage}
 use Rattle.ev_effect.specs.Task.{Task}
 use Rattle.ev_state.specs.Processor.{Processor, is_user}
 use Rattle.ev_mem.specs.Memory.{Memory}
-use Rattle.ev_proc.specs.ProcessorStep.{After, executed, instruction_at}
+use Rattle.ev_proc.specs.ProcessorStep.{After, executed, has_fred}
 use Rattle.ev_proc.specs.declared.stepped.Stepped.{Stepped}
 use Rattle.ev_listing.specs.AddressMap.{pcpu, user_table, task_words, body_code}
 use Rattle.ev_abstract.specs.Context.{BodyContext}
@@ -39,7 +38,7 @@ use Rattle.ev_built.specs.Program.{begins, leads_to}
 use Rattle.ev_symbolic.specs.Agrees.{with_words}
 use Rattle.ev_activation.specs.Activation.{SystemCall}
 use Rattle.ev_refine.specs.Relation.{IsFixed, InText, InTables, InTasks, InCode, task_processor, RunsTask, IsContext, Chain, most_edges, StandsOn, Stands}
-use Rattle.ev_refine.specs.Shown.{shown_by, saved_rip, key_of}
+use Rattle.ev_concrete.specs.Shown.{shown_by, saved_rip, key_of}
 use Rattle.ev_refine.specs.Claims.{MakesTurn}
 use Rattle.ev_refine.proofs.Facts.{Facts}
 use Rattle.ev_refine.proofs.UserState.{put_same, TurnsTo, makes_turn, is_safe, stands_again, stands_acted}
@@ -91,12 +90,13 @@ call_steps image m p next body c hb hf =
 
 -- ---- what the processor's step shows of it
 
-shown_is : (p depth : ℕ) (c : Processor) (i : Option Ins) (r : After) (frame : Option ℕ) (next : ℕ) → is_user c ≡ true → depth ≡ 0 → saved_rip c r call_event frame ≡ next
-    → shown_by p depth c i r (Stepped.Delivered call_event frame) ≡ Enter p Sys Other User 1 0 0 (Some next) ∷ []
+shown_is : (p depth : ℕ) (user fred : Bool) (told : List Entry) (c : Processor) (words : NatMap ℕ) (frame : Option ℕ) (next : ℕ) → user ≡ true → depth ≡ 0
+    → saved_rip fred c words call_event frame ≡ next
+    → shown_by p depth user fred told c words (Stepped.Delivered call_event frame) ≡ Enter p Sys Other User 1 0 0 (Some next) ∷ []
 unfolding key_of
-shown_is p depth c i r frame next hu hd hs =
-    ap (λ u. Enter p Sys Other (if u then User else Kernel) (suc depth) 0 0 (if u then Some (saved_rip c r call_event frame) else None) ∷ []) hu
-    ∙ ap (λ d. Enter p Sys Other User (suc d) 0 0 (Some (saved_rip c r call_event frame)) ∷ []) hd
+shown_is p depth user fred told c words frame next hu hd hs =
+    ap (λ u. Enter p Sys Other (if u then User else Kernel) (suc depth) 0 0 (if u then Some (saved_rip fred c words call_event frame) else None) ∷ []) hu
+    ∙ ap (λ d. Enter p Sys Other User (suc d) 0 0 (Some (saved_rip fred c words call_event frame)) ∷ []) hd
     ∙ ap (λ n. Enter p Sys Other User 1 0 0 (Some n) ∷ []) hs
 
 -- ---- what the delivery comes to, by the mode
@@ -193,7 +193,8 @@ module _ (mode : Mode) (image : Image) (formed : IsImage image) (built : IsBuilt
         now_left = most;
         stands = stands_acted mode image built _ s' m' image.processors p call_event begun.frame
             (stands_again mode image built left s m h p lt most s' m' refl (λ q i. begun.stays q (not_there q i)) refl refl (subst (λ q. StandsOn mode image built p most s' q) (sym (put_same m.processors p y)) stands_on));
-        shows = shown_is p (length (s.activations p)) c (instruction_at words c.rip) r begun.frame next u.at_cpl3 u.shallow (ap (λ q. saved_rip q r call_event begun.frame) u.runs.is ∙ begun.saved opening_apic false);
+        shows = λ told. shown_is p (length (s.activations p)) (is_user c) (has_fred c) told begun.cpu begun.words begun.frame next u.at_cpl3 u.shallow
+            (ap (λ q. saved_rip (has_fred q) begun.cpu begun.words call_event begun.frame) u.runs.is ∙ begun.saved);
         safe = begun.safe s only image.processors s';
       }
 

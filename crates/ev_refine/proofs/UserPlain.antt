@@ -24,7 +24,6 @@ use Rattle.ev_concrete.specs.ConcreteRun.{System, marks_of, mark_at, is_visible,
 use Rattle.ev_built.specs.Built.{IsBuilt}
 use Rattle.ev_built.specs.Program.{begins, leads_to, is_built_instruction}
 use Rattle.ev_refine.specs.Relation.{task_processor, RunsTask, Chain, StandsOn, Stands}
-use Rattle.ev_refine.specs.Shown.{shown_instruction}
 use Rattle.ev_refine.proofs.Facts.{Facts}
 use Rattle.ev_refine.proofs.UserText.{Reads, reads}
 use Rattle.ev_refine.proofs.UserState.{put_same, TurnsTo, stands_again}
@@ -137,6 +136,6 @@ module _ (mode : Mode) (image : Image) (formed : IsImage image) (built : IsBuilt
         seen = u.seen;
         now_left = 0;
         stands = stands_again mode image built left s m h p lt 0 s' m' refl (λ a i. refl) refl refl (subst (λ z. StandsOn mode image built p 0 s' z) (sym (put_same m.processors p y)) stands_on);
-        shows = ap (λ b. if b then [] else shown_instruction p c (instruction_at s.memory.words c.rip)) u.at_cpl3;
+        shows = λ told. ap (λ b. if b then [] else told) u.at_cpl3;
         safe = refl;
       }

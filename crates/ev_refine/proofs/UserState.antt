@@ -9,13 +9,14 @@ use Rattle.ev_body.specs.declared.image.Image.{Image}
 use Rattle.ev_abstract.specs.declared.entry.Entry.{Entry}
 use Rattle.ev_abstract.specs.Machine.{Machine, processor}
 use Rattle.ev_abstract.specs.Run.{turn}
-use Rattle.ev_proc.specs.ProcessorStep.{After, step, instruction_at}
+use Rattle.ev_state.specs.Processor.{is_user}
+use Rattle.ev_proc.specs.ProcessorStep.{After, has_fred, step}
 use Rattle.ev_proc.specs.declared.stepped.Stepped.{Stepped}
-use Rattle.ev_concrete.specs.ConcreteRun.{System, marks_of, is_visible, acted, after_step, concrete_step}
+use Rattle.ev_concrete.specs.ConcreteRun.{System, marks_of, mark_at, is_visible, acted, after_step, concrete_step}
 use Rattle.ev_concrete.specs.LiveWords.{overwrites, IsSafeStep}
 use Rattle.ev_built.specs.Built.{IsBuilt}
 use Rattle.ev_refine.specs.Relation.{IsFixed, StandsOn, Stands}
-use Rattle.ev_refine.specs.Shown.{shown, shown_by}
+use Rattle.ev_concrete.specs.Shown.{shown, shown_by, told_at}
 use Rattle.ev_refine.specs.Claims.{MakesTurn}
 
 -- what was put is there
@@ -33,7 +34,8 @@ module _ (mode : Mode) (image : Image) (built : IsBuilt image) where
     pub seen : is_visible (marks_of mode image) s p ≡ true
     pub now_left : ℕ
     pub stands : Stands mode image built (put_at left p now_left) (acted image.processors (after_step s p after) p after.step).0 machine
-    pub shows : shown_by p (length (s.activations p)) (s.cpus p) (instruction_at s.memory.words (s.cpus p).rip) after after.step ≡ entries
+    pub shows : (told : List Entry)
+        → shown_by p (length (s.activations p)) (is_user (s.cpus p)) (has_fred (s.cpus p)) told after.cpu after.words after.step ≡ entries
     pub safe : list_any (overwrites mode image s) (acted image.processors (after_step s p after) p after.step).1 ≡ false
 
   concrete_is : (left : NatMap ℕ) (s : System) (m : Machine) (p : ℕ) (t : TurnsTo left s m p) → concrete_step image.processors s p ≡ acted image.processors (after_step s p t.after) p t.after.step
@@ -47,7 +49,9 @@ module _ (mode : Mode) (image : Image) (built : IsBuilt image) where
     now_left = t.now_left;
     stands = subst (λ z. Stands mode image built (put_at left p t.now_left) z.0 (turn image m p).0) (sym (concrete_is left s m p t))
         (subst (λ z. Stands mode image built (put_at left p t.now_left) (acted image.processors (after_step s p t.after) p t.after.step).0 z.0) (sym t.turns) t.stands);
-    entries = ap (λ r. shown_by p (length (s.activations p)) (s.cpus p) (instruction_at s.memory.words (s.cpus p).rip) r r.step) t.steps ∙ t.shows ∙ sym (ap (λ z. z.1) t.turns);
+    entries = let told : List Entry = told_at (mark_at (marks_of mode image) (s.cpus p).rip) s p in
+        ap (λ r. shown_by p (length (s.activations p)) (is_user (s.cpus p)) (has_fred (s.cpus p)) told r.cpu r.words r.step) t.steps
+        ∙ t.shows told ∙ sym (ap (λ z. z.1) t.turns);
   }
 
   pub is_safe : (left : NatMap ℕ) (s : System) (m : Machine) (p : ℕ) → TurnsTo left s m p → IsSafeStep mode image s p

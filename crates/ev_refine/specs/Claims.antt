@@ -15,7 +15,7 @@ use Rattle.ev_concrete.specs.LiveWords.{IsSafeStep}
 use Rattle.ev_proc.specs.Conditions.{HasEntries, IsInCode}
 use Rattle.ev_built.specs.Built.{IsBuilt, mode_is_built, line_is_built}
 use Rattle.ev_refine.specs.Relation.{Stands}
-use Rattle.ev_refine.specs.Shown.{shown}
+use Rattle.ev_concrete.specs.Shown.{shown}
 
 -- ---- the step theorem
 
@@ -32,7 +32,7 @@ module _ (mode : Mode) (image : Image) (built : IsBuilt image) where
     pub seen : is_visible (marks_of mode image) s p ≡ true
     pub now_left : ℕ
     pub stands : Stands mode image built (put_at left p now_left) (concrete_step image.processors s p).0 (turn image m p).0
-    pub entries : shown s p ≡ (turn image m p).1
+    pub entries : shown (marks_of mode image) s p ≡ (turn image m p).1
 
   -- one concrete step, which writes over no live word
   pub record Simulated (left : NatMap ℕ) (s : System) (m : Machine) (p : ℕ) : Type 0 where

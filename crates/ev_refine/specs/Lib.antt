@@ -1,3 +1,2 @@
 pub mod Relation
-pub mod Shown
 pub mod Claims

@@ -1,6 +1,7 @@
 use Rattle.std.proofs.Common.{◌≡◌, ◌<◌, ◌+◌, ◌++◌, ◌∙◌, ap, sym, subst, length, arith, List}
 use Rattle.ev_event.specs.declared.frame_note.FrameNote.{FrameNote}
-use Rattle.ev_concrete.specs.ConcreteRun.{System, concrete_run, settled}
+use Rattle.ev_concrete.specs.ConcreteRun.{System, Marks, marks_of, concrete_run, settled}
+use Rattle.ev_concrete.specs.Shown.{shown}
 use Rattle.ev_core.specs.State.{Shows}
 use Rattle.ev_core.specs.Run.{MachineView, IsRun}
 use Rattle.ev_core.specs.contracts.machine.Machine.{the_view}
@@ -33,7 +34,8 @@ pub returns-clause-entry : goal.returns-clause-entry
 returns-clause-entry g c mode image script h =
     let r : IsRun mode image script (the_view c.self.inside) = subst (λ v. IsRun mode image script v) (sym c.self.view_is) h in
     let shows = subst (λ marks. Shows image.processors c.settle.new.state (settled marks image.processors (concrete_run mode image script).0 c.args.p).0) r.at.marks (c.settle.ensures.settled _ _ r.at.shows) in
-    c.step-shown.ensures.entry _ _ shows ∙ turn_entry mode image script _ h c.args.p c.requires.place
+    let here : System = (settled (marks_of mode image) image.processors (concrete_run mode image script).0 c.args.p).0 in
+    c.step-shown.ensures.entry _ _ shows ∙ ap (λ (k : Marks). shown k here c.args.p) r.at.marks ∙ turn_entry mode image script _ h c.args.p c.requires.place
 
 pub returns-clause-frames : goal.returns-clause-frames
 returns-clause-frames g c mode image script h =
