@@ -88,7 +88,7 @@ quiet_step n p d s a b =
     let r : After = step (s.cpus p) (s.apics p) s.memory (s.latches p) in
     quiet_act n p d r.step (after_step s p r) s r.cpu a (put_same s.activations p _) b
 
-module _ (mode : Mode) (image : Image) (can : CanRun mode image) (left : NatMap ℕ) (s : System) (m : Machine) (stands : Stands mode image can.built left s m) (p : ℕ) (lt : p < image.processors) where
+module _ (mode : Mode) (image : Image) (can : CanRun mode image) (left : NatMap ℕ) (s : System) (m : Machine) (stands : Stands mode image left s m) (p : ℕ) (lt : p < image.processors) where
   abbrev marks : Marks
   marks = marks_of mode image
 

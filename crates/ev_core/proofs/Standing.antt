@@ -5,6 +5,7 @@ use Rattle.ev_isa.specs.Word.{NatMap}
 use Rattle.ev_isa.specs.declared.mode.Mode.{Mode}
 use Rattle.ev_event.specs.declared.frame_note.FrameNote.{FrameNote}
 use Rattle.ev_body.specs.declared.image.Image.{Image}
+use Rattle.ev_effect.specs.Task.{Task}
 use Rattle.ev_abstract.specs.Context.{BodyContext}
 use Rattle.ev_abstract.specs.Machine as abstract
 use Rattle.ev_state.specs.Processor.{Processor}
@@ -12,7 +13,6 @@ use Rattle.ev_mem.specs.Memory.{Memory}
 use Rattle.ev_mem.specs.Mapped.{memory}
 use Rattle.ev_proc.specs.Conditions.{HasEntries, IsInCode}
 use Rattle.ev_concrete.specs.ConcreteRun.{System, Marks, marks_of, is_visible, concrete_step, edges, with_frames}
-use Rattle.ev_built.specs.Built.{IsBuilt}
 use Rattle.ev_activation.specs.Activation.{Kind, SystemCall}
 use Rattle.ev_refine.specs.Relation.{Stands, StandsOver, Chain}
 use Rattle.ev_refine.specs.Claims.{Settles, Tells}
@@ -24,20 +24,20 @@ use Rattle.ev_core.specs.declared.local.Local.{Local}
 use Rattle.ev_core.proofs.Parts.{same_value}
 use Rattle.ev_core.proofs.Edges.{edges_more, quiet}
 
-module _ (mode : Mode) (image : Image) (built : IsBuilt image) where
-  over_few : (κ : Kind) (below : List BodyContext) → StandsOver mode image built κ below → length below + 1 ≤ 1
+module _ (mode : Mode) (image : Image) where
+  over_few : (κ : Kind) (below : List BodyContext) → StandsOver mode image κ below → length below + 1 ≤ 1
   over_few SystemCall below e = let l = ap length e in omega arith
 
   -- few bodies stand on a processor
-  pub bodies_few : (p left : ℕ) (x : abstract.Processor) (bs : List BodyContext) (c : Processor) (m : Memory) → Chain mode image built p left x bs c m → length bs ≤ 1
-  bodies_few p left x [] c m h = omega arith
-  bodies_few p left x (b ∷ below) c m h = let l = over_few h.1 below h.2 in omega arith
+  pub bodies_few : (p left r : ℕ) (t : Task) (bs : List BodyContext) (c : Processor) (m : Memory) → Chain mode image p left r t bs c m → length bs ≤ 1
+  bodies_few p left r t [] c m h = omega arith
+  bodies_few p left r t (b ∷ below) c m h = let l = over_few h.1 below h.2 in omega arith
 
-module _ (mode : Mode) (image : Image) (can : CanRun mode image) (left : NatMap ℕ) (s : System) (m : abstract.Machine) (stands : Stands mode image can.built left s m) (p : ℕ) (lt : p < image.processors) where
+module _ (mode : Mode) (image : Image) (can : CanRun mode image) (left : NatMap ℕ) (s : System) (m : abstract.Machine) (stands : Stands mode image left s m) (p : ℕ) (lt : p < image.processors) where
   pub depth_few : length (s.activations p) ≤ 1
   depth_few =
       let on = stands.each p lt in
-      let l = bodies_few mode image can.built p (left p) (abstract.processor m p) (abstract.processor m p).bodies (s.cpus p) s.memory on.chain in
+      let l = bodies_few mode image p (left p) _ _ (abstract.processor m p).bodies (s.cpus p) s.memory on.chain in
       let d = on.depth in omega arith
 
   -- parts that show the state can make a step
@@ -52,13 +52,13 @@ module _ (mode : Mode) (image : Image) (can : CanRun mode image) (left : NatMap 
   -- before a visible step stand fewer than 1,024 edges
   pub hidden_few : (k : ℕ) → is_visible (marks_of mode image) (edges k (marks_of mode image) image.processors s p).0 p ≡ false → k + 1 ≤ 1023
   hidden_few k h =
-      let settles : Settles mode image can.built left s m p = all_settle mode image can.built can.mode_built can.image_is left s m stands p lt in
+      let settles : Settles mode image left s m p = all_settle mode image can.built can.mode_built can.image_is left s m stands p lt in
       let most = (stands.each p lt).few in
       ⊎_elim (λ e. absurd (let seen = settles.seen k e.1 in cc)) (λ e. let b = e.1 in omega arith) (leb_tells (left p) k)
 
   pub visible_after : (k : ℕ) → 1023 ≤ k → is_visible (marks_of mode image) (edges k (marks_of mode image) image.processors s p).0 p ≡ true
   visible_after k h =
-      let settles : Settles mode image can.built left s m p = all_settle mode image can.built can.mode_built can.image_is left s m stands p lt in
+      let settles : Settles mode image left s m p = all_settle mode image can.built can.mode_built can.image_is left s m stands p lt in
       let most = (stands.each p lt).few in settles.seen k (omega arith)
 
 -- ---- the same of the machine as contracts see it
@@ -78,7 +78,7 @@ module _ (v : MachineView) (h : IsStanding v) (p : ℕ) (within : p < length v.p
 
   pub can_step_after : (k : ℕ) (w : Parts) → Shows processors w (edges k seen_marks processors h.system p).0 → CanStep w p
   can_step_after k w shows =
-      let settles : Settles h.mode h.image h.can.built h.left h.system h.machine p = all_settle h.mode h.image h.can.built h.can.mode_built h.can.image_is h.left h.system h.machine h.stands p lt in
+      let settles : Settles h.mode h.image h.left h.system h.machine p = all_settle h.mode h.image h.can.built h.can.mode_built h.can.image_is h.left h.system h.machine h.stands p lt in
       can_step h.mode h.image h.can _ _ h.machine (settles.after k).1 p lt w (subst (λ marks. Shows processors w (edges k marks processors h.system p).0) h.at.marks shows)
 
   pub few_edges : (k : ℕ) → is_visible seen_marks (edges k seen_marks processors h.system p).0 p ≡ false → k + 1 ≤ 1023

@@ -29,7 +29,7 @@ module _ (v : MachineView) (h : IsStanding v) (p : ℕ) (within : p < length v.p
 
   pub settled_stands : (w : Parts) → Shows h.image.processors w (settled (seen_marks v h p within) h.image.processors h.system p).0 → IsStanding (record { parts = w; places = v.places })
   settled_stands w shows =
-      let settles : Settles h.mode h.image h.can.built h.left h.system h.machine p = all_settle h.mode h.image h.can.built h.can.mode_built h.can.image_is h.left h.system h.machine h.stands p lt in record {
+      let settles : Settles h.mode h.image h.left h.system h.machine p = all_settle h.mode h.image h.can.built h.can.mode_built h.can.image_is h.left h.system h.machine h.stands p lt in record {
         mode = h.mode;
         image = h.image;
         can = h.can;
@@ -100,16 +100,16 @@ module _ (mode : Mode) (image : Image) (script : List Line) (v : MachineView) (r
   }
 
   -- the step after the edges
-  settled_simulates : (left : NatMap ℕ) × Simulated mode image r.can.built left (settled marks image.processors reached p).0 (run image script) p
+  settled_simulates : (left : NatMap ℕ) × Simulated mode image left (settled marks image.processors reached p).0 (run image script) p
   settled_simulates =
       let follows = runs_follow mode image r.can.built r.can.mode_built r.can.image_is script r.script_is r.lines_built in
-      let settles : Settles mode image r.can.built follows.0 reached (run image script) p = all_settle mode image r.can.built r.can.mode_built r.can.image_is follows.0 reached (run image script) follows.1 p in_image in
+      let settles : Settles mode image follows.0 reached (run image script) p = all_settle mode image r.can.built r.can.mode_built r.can.image_is follows.0 reached (run image script) follows.1 p in_image in
       (_, refines mode image r.can.built r.can.mode_built r.can.image_is _ _ _ (settles.after 1024).1 p in_image)
 
   pub turn_safe : (k : ℕ) → IsSafeStep mode image (edges k marks image.processors reached p).0 p
   turn_safe k =
       let follows = runs_follow mode image r.can.built r.can.mode_built r.can.image_is script r.script_is r.lines_built in
-      let settles : Settles mode image r.can.built follows.0 reached (run image script) p = all_settle mode image r.can.built r.can.mode_built r.can.image_is follows.0 reached (run image script) follows.1 p in_image in
+      let settles : Settles mode image follows.0 reached (run image script) p = all_settle mode image r.can.built r.can.mode_built r.can.image_is follows.0 reached (run image script) follows.1 p in_image in
       (refines mode image r.can.built r.can.mode_built r.can.image_is _ _ _ (settles.after k).1 p in_image).safe
 
   abstract_turn : (turn image (run image script) p).1 ≡ entries_of image script (Turn p)
@@ -123,7 +123,7 @@ module _ (mode : Mode) (image : Image) (script : List Line) (v : MachineView) (r
       seen = let follows = runs_follow mode image r.can.built r.can.mode_built r.can.image_is script r.script_is r.lines_built in
           visible_after mode image r.can follows.0 reached (run image script) follows.1 p in_image 1024 (omega arith)
 
-      by_kind : MakesEdge mode image r.can.built settled_simulates.0 (settled marks image.processors reached p).0 (run image script) p ⊎ MakesTurn mode image r.can.built settled_simulates.0 (settled marks image.processors reached p).0 (run image script) p
+      by_kind : MakesEdge mode image settled_simulates.0 (settled marks image.processors reached p).0 (run image script) p ⊎ MakesTurn mode image settled_simulates.0 (settled marks image.processors reached p).0 (run image script) p
           → shown marks (settled marks image.processors reached p).0 p ≡ (turn image (run image script) p).1
       by_kind (inl e) = absurd (let a = e.hidden in let b = seen in cc)
       by_kind (inr t) = t.entries
@@ -131,8 +131,8 @@ module _ (mode : Mode) (image : Image) (script : List Line) (v : MachineView) (r
   pub turn_frames : concrete_turn marks image.processors reached p ≡ concrete_line marks image.processors reached (Turn p)
   turn_frames = sym line_is_turn
 
-pub edges_safe : (mode : Mode) (image : Image) (can : CanRun mode image) (left : NatMap ℕ) (s : System) (m : Machine) → Stands mode image can.built left s m
+pub edges_safe : (mode : Mode) (image : Image) (can : CanRun mode image) (left : NatMap ℕ) (s : System) (m : Machine) → Stands mode image left s m
     → (p : ℕ) → p < image.processors → (k : ℕ) → IsSafeStep mode image (edges k (marks_of mode image) image.processors s p).0 p
 edges_safe mode image can left s m stands p lt k =
-    let settles : Settles mode image can.built left s m p = all_settle mode image can.built can.mode_built can.image_is left s m stands p lt in
+    let settles : Settles mode image left s m p = all_settle mode image can.built can.mode_built can.image_is left s m stands p lt in
     (refines mode image can.built can.mode_built can.image_is _ _ _ (settles.after k).1 p lt).safe

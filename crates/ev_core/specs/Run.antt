@@ -46,7 +46,7 @@ pub record IsStanding (v : MachineView) : Type 0 where
   pub at : IsAt mode image system v
   pub left : NatMap ℕ
   pub machine : Machine
-  pub stands : Stands mode image can.built left system machine
+  pub stands : Stands mode image left system machine
 
 -- so many steps were counted and made
 pub record Costs (most before now : ℕ) (v w : MachineView) : Type 0 where

@@ -117,7 +117,7 @@ impl Machine {
         ensures state { (mode : Mode) (image : Image) (s : System) → IsAt mode image s self.old → IsAt mode image (settled (marks_of mode image) image.processors s p).0 self.new }
         ensures frames { (mode : Mode) (image : Image) (s : System) → IsAt mode image s self.old → result ≡ (settled (marks_of mode image) image.processors s p).1 }
         ensures safe { (mode : Mode) (image : Image) (s : System) (can : CanRun mode image) (left : NatMap ℕ) (m : abstract.Machine)
-            → IsAt mode image s self.old → Stands mode image can.built left s m → (k : ℕ) → IsSafeStep mode image (edges k (marks_of mode image) image.processors s p).0 p }
+            → IsAt mode image s self.old → Stands mode image left s m → (k : ℕ) → IsSafeStep mode image (edges k (marks_of mode image) image.processors s p).0 p }
         ensures cost { Costs 1023 steps.old steps.new self.old self.new }
         ensures same { length self.new.parts.cpus ≡ length self.old.parts.cpus }
     {
@@ -136,7 +136,7 @@ impl Machine {
     /// How many activations of handlers stand on processor p: as many as bodies.
     pub fn depth(&self, p: usize) -> u8
         requires { p < length self.now.parts.cpus }
-        ensures { (mode : Mode) (image : Image) (s : System) (can : CanRun mode image) (left : NatMap ℕ) (m : abstract.Machine) → IsAt mode image s self.now → Stands mode image can.built left s m → result ≡ length (abstract.processor m p).bodies }
+        ensures { (mode : Mode) (image : Image) (s : System) (can : CanRun mode image) (left : NatMap ℕ) (m : abstract.Machine) → IsAt mode image s self.now → Stands mode image left s m → result ≡ length (abstract.processor m p).bodies }
     {
         self.state.locals[p].depth
     }
@@ -145,7 +145,7 @@ impl Machine {
     pub fn task(&self, p: usize, i: usize) -> TaskView
         requires place { p < length self.now.parts.cpus }
         requires task { i ≡ 0 }
-        ensures { (mode : Mode) (image : Image) (s : System) (can : CanRun mode image) (left : NatMap ℕ) (m : abstract.Machine) → IsAt mode image s self.now → Stands mode image can.built left s m → (abstract.processor m p).bodies ≡ []
+        ensures { (mode : Mode) (image : Image) (s : System) (can : CanRun mode image) (left : NatMap ℕ) (m : abstract.Machine) → IsAt mode image s self.now → Stands mode image left s m → (abstract.processor m p).bodies ≡ []
             → IsTaskView result ((abstract.processor m p).tasks i) }
     {
         let cpu = &self.state.cpus[p];

@@ -67,19 +67,19 @@ pub settled_next : (mode : Mode) (image : Image) (script : List Line) (k j : ℕ
 settled_next mode image script k j e = ap (λ i. (settled_first mode image script i).0) e ∙ state_more (marks_of mode image) image.processors (concrete_run mode image script).0 k
 
 module _ (mode : Mode) (image : Image) (script : List Line) (v : MachineView) (r : IsRun mode image script v) where
-  pub stands : (k : ℕ) → k ≤ image.processors → (left : NatMap ℕ) × Stands mode image r.can.built left (settled_first mode image script k).0 (run image script)
+  pub stands : (k : ℕ) → k ≤ image.processors → (left : NatMap ℕ) × Stands mode image left (settled_first mode image script k).0 (run image script)
   stands zero lt = runs_follow mode image r.can.built r.can.mode_built r.can.image_is script r.script_is r.lines_built
   stands (suc k) lt =
-      let before : (left : NatMap ℕ) × Stands mode image r.can.built left (settled_first mode image script k).0 (run image script) = stands k (omega arith) in
-      let settles : Settles mode image r.can.built before.0 (settled_first mode image script k).0 (run image script) k =
+      let before : (left : NatMap ℕ) × Stands mode image left (settled_first mode image script k).0 (run image script) = stands k (omega arith) in
+      let settles : Settles mode image before.0 (settled_first mode image script k).0 (run image script) k =
       all_settle mode image r.can.built r.can.mode_built r.can.image_is before.0 (settled_first mode image script k).0 (run image script) before.1 k (omega arith) in
       let after = settles.after 1024 in
-      (put_at before.0 k after.0, subst (λ s. Stands mode image r.can.built (put_at before.0 k after.0) s (run image script)) (sym (state_more (marks_of mode image) image.processors (concrete_run mode image script).0 k)) after.1)
+      (put_at before.0 k after.0, subst (λ s. Stands mode image (put_at before.0 k after.0) s (run image script)) (sym (state_more (marks_of mode image) image.processors (concrete_run mode image script).0 k)) after.1)
 
   -- settling writes no frame
   pub quiet_next : (k : ℕ) → k < image.processors → (settled (marks_of mode image) image.processors (settled_first mode image script k).0 k).1 ≡ []
   quiet_next k lt =
-      let here : (left : NatMap ℕ) × Stands mode image r.can.built left (settled_first mode image script k).0 (run image script) = stands k (omega arith) in
+      let here : (left : NatMap ℕ) × Stands mode image left (settled_first mode image script k).0 (run image script) = stands k (omega arith) in
       quiet mode image r.can here.0 (settled_first mode image script k).0 (run image script) here.1 k lt 1024
 
   pub quiet_so_far : (k : ℕ) → k ≤ image.processors → (settled_first mode image script k).1 ≡ []
@@ -95,7 +95,7 @@ module _ (mode : Mode) (image : Image) (script : List Line) (v : MachineView) (r
   few_frames p lt =
       let marks : Marks = marks_of mode image in
       let s : System = (concrete_run mode image script).0 in
-      let here : (left : NatMap ℕ) × Stands mode image r.can.built left s (run image script) = stands 0 (omega arith) in
+      let here : (left : NatMap ℕ) × Stands mode image left s (run image script) = stands 0 (omega arith) in
       let none : (settled marks image.processors s p).1 ≡ [] = quiet mode image r.can here.0 s (run image script) here.1 p lt 1024 in
       let one : length (concrete_step image.processors (settled marks image.processors s p).0 p).1 ≤ 1 = step_few image.processors (settled marks image.processors s p).0 p in
       subst (λ (fs : List FrameNote). length (fs ++ (concrete_step image.processors (settled marks image.processors s p).0 p).1) ≤ 2) (sym none) (omega arith)

@@ -82,9 +82,9 @@ fn put_settling<L: Ledger, K: Sink>(
 fn put_state<K: Sink>(machine: &Machine, mode: Mode, p: usize, sink: &mut K) -> Result<(), Failed>
     requires place { p < length machine.now.parts.cpus }
     requires few { length machine.now.parts.cpus < 256 }
-    ensures ok { (image : Image) (s : System) (can : CanRun mode image) (left : NatMap ℕ) (m : abstract.Machine) → IsAt mode image s machine.now → Stands mode image can.built left s m
+    ensures ok { (image : Image) (s : System) (can : CanRun mode image) (left : NatMap ℕ) (m : abstract.Machine) → IsAt mode image s machine.now → Stands mode image left s m
         → OnOk result (K.taken sink.new ≡ append_known (K.taken sink.old) (end_lines (mode_text mode) p (abstract.processor m p) (length (abstract.processor m p).bodies))) }
-    ensures failed { (image : Image) (s : System) (can : CanRun mode image) (left : NatMap ℕ) (m : abstract.Machine) → IsAt mode image s machine.now → Stands mode image can.built left s m
+    ensures failed { (image : Image) (s : System) (can : CanRun mode image) (left : NatMap ℕ) (m : abstract.Machine) → IsAt mode image s machine.now → Stands mode image left s m
         → OnErr result (TookPrefix (K.taken sink.old) (K.taken sink.new) (end_lines (mode_text mode) p (abstract.processor m p) (length (abstract.processor m p).bodies))) }
     ensures later { K.faults sink.old ≤ K.faults sink.new }
     ensures cause { OnErr result (Rose (K.faults sink.old) (K.faults sink.new)) }
@@ -99,9 +99,9 @@ fn put_state<K: Sink>(machine: &Machine, mode: Mode, p: usize, sink: &mut K) -> 
 /// The states of all processors.
 fn put_states<K: Sink>(machine: &Machine, mode: Mode, sink: &mut K) -> Result<(), Failed>
     requires few { length machine.now.parts.cpus < 256 }
-    ensures ok { (image : Image) (s : System) (can : CanRun mode image) (left : NatMap ℕ) (m : abstract.Machine) → IsAt mode image s machine.now → Stands mode image can.built left s m
+    ensures ok { (image : Image) (s : System) (can : CanRun mode image) (left : NatMap ℕ) (m : abstract.Machine) → IsAt mode image s machine.now → Stands mode image left s m
         → OnOk result (K.taken sink.new ≡ append_known (K.taken sink.old) (all_end_lines (mode_text mode) m 0 image.processors)) }
-    ensures failed { (image : Image) (s : System) (can : CanRun mode image) (left : NatMap ℕ) (m : abstract.Machine) → IsAt mode image s machine.now → Stands mode image can.built left s m
+    ensures failed { (image : Image) (s : System) (can : CanRun mode image) (left : NatMap ℕ) (m : abstract.Machine) → IsAt mode image s machine.now → Stands mode image left s m
         → OnErr result (TookPrefix (K.taken sink.old) (K.taken sink.new) (all_end_lines (mode_text mode) m 0 image.processors)) }
     ensures later { K.faults sink.old ≤ K.faults sink.new }
     ensures cause { OnErr result (Rose (K.faults sink.old) (K.faults sink.new)) }

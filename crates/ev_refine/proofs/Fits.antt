@@ -12,7 +12,6 @@ use Rattle.ev_mem.specs.Memory.{Memory}
 use Rattle.ev_proc.specs.ProcessorStep.{has_fred}
 use Rattle.ev_abstract.specs.Context.{BodyContext}
 use Rattle.ev_concrete.specs.Opening.{regions}
-use Rattle.ev_built.specs.Built.{IsBuilt}
 use Rattle.ev_symbolic.specs.State.{Loc, in_win, in_text}
 use Rattle.ev_symbolic.specs.Agrees.{Env, addr, Far, FactsHold, Described, AreTops, Open, Within, Grounded, Fits}
 use Rattle.ev_symbolic.specs.Agrees as agrees
@@ -168,30 +167,30 @@ lines_stand Idt image AtEntry e h = h
 lines_stand Idt image AtItem e h = tt
 lines_stand Idt image AtExit e h = h
 
-module _ (mode : Mode) (image : Image) (built : IsBuilt image) (facts : Facts mode image) (p : ℕ) (hp : p < 32) (hi : p < image.processors) where
-  pub bases_at : (w : Processor) (b : BodyContext) (v : ℕ → ℕ) (f : Flags) → top_of mode image built SystemCall w ≡ stack_top p 0 → Bases (here mode image built p SystemCall w b v f) p 0 0
+module _ (mode : Mode) (image : Image) (facts : Facts mode image) (p : ℕ) (hp : p < 32) (hi : p < image.processors) where
+  pub bases_at : (w : Processor) (b : BodyContext) (v : ℕ → ℕ) (f : Flags) → top_of mode image SystemCall w ≡ stack_top p 0 → Bases (here mode image p SystemCall w b v f) p 0 0
   bases_at w b v f ht = record { top = plus_zero _ ∙ ht; area = refl; zero_base = refl }
     where
       plus_zero : (x : ℕ) → x + 0 ≡ x
       plus_zero x = omega arith
 
-  pub fits_at : (spot : Spot) (w : Processor) (b : BodyContext) (v : ℕ → ℕ) (f : Flags) → top_of mode image built SystemCall w ≡ stack_top p 0 → is_user (rest_in mode image built SystemCall w) ≡ false → has_fred (rest_in mode image built SystemCall w) ≡ is_fred mode
-      → Fits (code_table mode image) (here mode image built p SystemCall w b v f) (block_of mode SystemCall spot)
+  pub fits_at : (spot : Spot) (w : Processor) (b : BodyContext) (v : ℕ → ℕ) (f : Flags) → top_of mode image SystemCall w ≡ stack_top p 0 → is_user (rest_in mode image SystemCall w) ≡ false → has_fred (rest_in mode image SystemCall w) ≡ is_fred mode
+      → Fits (code_table mode image) (here mode image p SystemCall w b v f) (block_of mode SystemCall spot)
   fits_at spot w b v f ht hk hf = record {
-    ground = subst (Grounded (here mode image built p SystemCall w b v f)) (sym (ground_is mode spot)) (grounded _ p 0 0 (bases_at w b v f ht) hp (omega arith) (omega arith) mode hk hf);
+    ground = subst (Grounded (here mode image p SystemCall w b v f)) (sym (ground_is mode spot)) (grounded _ p 0 0 (bases_at w b v f ht) hp (omega arith) (omega arith) mode hk hf);
     spaced = facts.spaced;
-    stands = lines_stand mode image spot (here mode image built p SystemCall w b v f) (facts.stands (here mode image built p SystemCall w b v f) refl);
+    stands = lines_stand mode image spot (here mode image p SystemCall w b v f) (facts.stands (here mode image p SystemCall w b v f) refl);
   }
 
-  pub opens_at : (w : Processor) (b : BodyContext) (v : ℕ → ℕ) (f : Flags) (m : Memory) → m.regions ≡ regions image → top_of mode image built SystemCall w ≡ stack_top p 0
-      → Open (here mode image built p SystemCall w b v f) (ground_of mode).known m.regions × Open (here mode image built p SystemCall w b v f) (ground_of mode).shared m.regions
+  pub opens_at : (w : Processor) (b : BodyContext) (v : ℕ → ℕ) (f : Flags) (m : Memory) → m.regions ≡ regions image → top_of mode image SystemCall w ≡ stack_top p 0
+      → Open (here mode image p SystemCall w b v f) (ground_of mode).known m.regions × Open (here mode image p SystemCall w b v f) (ground_of mode).shared m.regions
   opens_at w b v f m hr ht =
-      let e : Env = here mode image built p SystemCall w b v f in
+      let e : Env = here mode image p SystemCall w b v f in
       let bs : Bases e p 0 0 = bases_at w b v f ht in
       (subst (Open e (ground_of mode).known) (sym hr) (known_open image e p 0 0 bs hp hi (omega arith) (omega arith) (omega arith) mode), subst (Open e (ground_of mode).shared) (sym hr) (shared_open image e p 0 0 bs hp hi (omega arith) (omega arith) (omega arith) mode))
 
   -- what an activation writes leaves the words that nothing writes, the mark and the running task's
-  module _ (w : Processor) (b : BodyContext) (v : ℕ → ℕ) (f : Flags) (ht : top_of mode image built SystemCall w ≡ stack_top p 0) (m m' : NatMap ℕ) (wrote : Within (here mode image built p SystemCall w b v f) (ground_of mode).own (ground_of mode).shared m m') where
+  module _ (w : Processor) (b : BodyContext) (v : ℕ → ℕ) (f : Flags) (ht : top_of mode image SystemCall w ≡ stack_top p 0) (m m' : NatMap ℕ) (wrote : Within (here mode image p SystemCall w b v f) (ground_of mode).own (ground_of mode).shared m m') where
     alone : (a : ℕ) → Misses (stack_span p 0 0 0xc0) a → Misses (area_span p 8 8) a → Misses (area_span p 0x28 8) a → m' a ≡ m a
     alone a h j k = left_alone _ p 0 0 (bases_at w b v f ht) hp (omega arith) (omega arith) mode m m' wrote a h j k
 

@@ -75,7 +75,7 @@ body_at None n i h = absurd (cc)
 body_at (Some b) n i h = (b, refl, h)
 
 module _ (mode : Mode) (image : Image) (built : IsBuilt image) (good : IsImage image) (facts : Facts mode image)
-    (left : NatMap ℕ) (s : System) (m : Machine) (h : Stands mode image built left s m) (p : ℕ) (hp : p < image.processors) where
+    (left : NatMap ℕ) (s : System) (m : Machine) (h : Stands mode image left s m) (p : ℕ) (hp : p < image.processors) where
   abbrev code : Code
   code = code_table mode image
 
@@ -86,9 +86,9 @@ module _ (mode : Mode) (image : Image) (built : IsBuilt image) (good : IsImage i
   x = processor m p
 
   abbrev Result : Type 0
-  Result = (MakesEdge mode image built left s m p ⊎ MakesTurn mode image built left s m p) × IsSafeStep mode image s p
+  Result = (MakesEdge mode image left s m p ⊎ MakesTurn mode image left s m p) × IsSafeStep mode image s p
 
-  on : StandsOn mode image built p (left p) s x
+  on : StandsOn mode image p (left p) s x
   on = h.each p hp
 
   small : p < 32
@@ -106,18 +106,14 @@ module _ (mode : Mode) (image : Image) (built : IsBuilt image) (good : IsImage i
   runs : (cell : Cell) → code c.rip ≡ Some cell → is_user c ≡ false → (cpu : Processor) (words : NatMap ℕ) → Executes cell.ins cpu words → Runs s p cpu words
   runs cell hc hu cpu words he = cell_step code c (s.apics p) s.memory (s.latches p) cell fetches hc first hu ∙ he (s.apics p) (s.latches p)
 
-  -- the same task, whatever bodies stand on it
-  same_task : (bs : List BodyContext) (w : Processor) → RunsTask mode image built p x w → RunsTask mode image built p (record x { bodies = bs }) w
-  same_task bs w r = record { is = r.is; gs = r.gs; long = r.long; at = r.at }
-
-  module _ (b : BodyContext) (bodies : x.bodies ≡ b ∷ []) (ctx : IsContext mode image built b) (w : Processor) (r : RunsTask mode image built p x w) where
+  module _ (b : BodyContext) (bodies : x.bodies ≡ b ∷ []) (ctx : IsContext mode image b) (w : Processor) (r : RunsTask mode image p x.running (task x) w) where
     abbrev env : BodyContext → (ℕ → ℕ) → Flags → Env
-    env a v f = here mode image built p SystemCall w a v f
+    env a v f = here mode image p SystemCall w a v f
 
-    top : top_of mode image built SystemCall w ≡ stack_top p 0
+    top : top_of mode image SystemCall w ≡ stack_top p 0
     top = ap (λ (y : Processor). get_or y.msrs.rsp 0 0) r.is ∙ ap (stack_top p) on.running
 
-    fred : has_fred (rest_in mode image built SystemCall w) ≡ is_fred mode
+    fred : has_fred (rest_in mode image SystemCall w) ≡ is_fred mode
     fred = ap (λ (y : Processor). bit 32 y.cr4) r.is ∙ controls mode
 
     abbrev block : Spot → Block
@@ -130,7 +126,7 @@ module _ (mode : Mode) (image : Image) (built : IsBuilt image) (good : IsImage i
     -- an activation at the opening of a block
     opened : (spot : Spot) (b' : BodyContext) (v : ℕ → ℕ) (f : Flags) (cpu : Processor) (mem : Memory) → Agrees (env b' v f) (ground_of mode) (block spot).opening cpu mem → At code (block spot) 0 (env b' v f) cpu mem
     opened spot b' v f cpu mem a = record {
-      fits = fits_at mode image built facts p small hp spot w b' v f top refl fred;
+      fits = fits_at mode image facts p small hp spot w b' v f top refl fred;
       state = (block spot).opening;
       is = refl;
       agrees = subst (λ g. Agrees (env b' v f) g (block spot).opening cpu mem) (sym (ground_is mode spot)) a;
@@ -140,19 +136,19 @@ module _ (mode : Mode) (image : Image) (built : IsBuilt image) (good : IsImage i
 
     edge : (v : ℕ → ℕ) (f : Flags) (cell : Cell) → code c.rip ≡ Some cell → cell.mark ≡ false → is_return (Some cell.ins) ≡ false → is_user c ≡ false
         → (cpu : Processor) (words : NatMap ℕ) → Executes cell.ins cpu words → Within (env b v f) (ground_of mode).own (ground_of mode).shared s.memory.words words
-        → (now : ℕ) → now < left p → Active mode image built p now SystemCall w b cpu (with_words s.memory words) → Result
+        → (now : ℕ) → now < left p → Active mode image p now SystemCall w b cpu (with_words s.memory words) → Result
     edge v f cell hc hm hr hu cpu words he wrote now fewer act =
         let run : Runs s p cpu words = runs cell hc hu cpu words he in
-        let few : left p ≤ most_edges mode image built = on.few in
-        let chain : Chain mode image built p now x x.bodies cpu (with_words s.memory words) = subst (λ bs. Chain mode image built p now x bs cpu (with_words s.memory words)) (sym bodies) (w, SystemCall, refl, ctx, r, act) in
-        let there : StandsOn mode image built p now (after_ran s p cpu words) x = stands_on_after mode image built p (left p) now s x cpu words x.bodies on (omega arith) (leaves_mark mode image built facts p small hp w b v f top s.memory.words words wrote) (leaves_top mode image built facts p small hp w b v f top s.memory.words words wrote) (leaves_task mode image built facts p small hp w b v f top s.memory.words words wrote)
+        let few : left p ≤ most_edges mode image = on.few in
+        let chain : Chain mode image p now x.running (task x) x.bodies cpu (with_words s.memory words) = subst (λ bs. Chain mode image p now x.running (task x) bs cpu (with_words s.memory words)) (sym bodies) (w, SystemCall, refl, ctx, r, act) in
+        let there : StandsOn mode image p now (after_ran s p cpu words) x = stands_on_after mode image built p (left p) now s x cpu words x.bodies on (omega arith) (leaves_mark mode image facts p small hp w b v f top s.memory.words words wrote) (leaves_top mode image facts p small hp w b v f top s.memory.words words wrote) (leaves_task mode image facts p small hp w b v f top s.memory.words words wrote)
         (ap length (ran_stays s p cpu cell.ins (fetches c.rip cell hc).1 hr) ∙ on.depth) chain in (
           inl (record {
             hidden = hidden (marks_of mode image) s p first hu (facts.unmarked c.rip cell hc hm);
             now_left = now;
             fewer = fewer;
-            stands = subst (λ z. Stands mode image built (put_at left p now) z.0 m) (sym (ran_step image.processors s p cpu words run))
-                (stands_after mode image built left s m m p now cpu words h hp (leaves_fixed mode image built facts p small hp w b v f top s.memory.words words wrote) refl refl there);
+            stands = subst (λ z. Stands mode image (put_at left p now) z.0 m) (sym (ran_step image.processors s p cpu words run))
+                (stands_after mode image built left s m m p now cpu words h hp (leaves_fixed mode image facts p small hp w b v f top s.memory.words words wrote) refl refl there);
           }),
           ran_safe mode image s p cpu words run,
         )
@@ -160,18 +156,18 @@ module _ (mode : Mode) (image : Image) (built : IsBuilt image) (good : IsImage i
     visible : (v : ℕ → ℕ) (f : Flags) (cell : Cell) → code c.rip ≡ Some cell → cell.mark ≡ true → is_user c ≡ false
         → (cpu : Processor) (words : NatMap ℕ) → Executes cell.ins cpu words → Within (env b v f) (ground_of mode).own (ground_of mode).shared s.memory.words words
         → (bs : List BodyContext) → length (activations_by s p (s.activations p) cpu Stepped.Ran) ≡ length bs
-        → (now : ℕ) → now ≤ most_edges mode image built → Chain mode image built p now (record x { bodies = bs }) bs cpu (with_words s.memory words)
+        → (now : ℕ) → now ≤ most_edges mode image → Chain mode image p now x.running (task x) bs cpu (with_words s.memory words)
         → (es : List Entry) → shown_always p (length (s.activations p)) c s.memory.words (Some cell.ins) ≡ es → turn image m p ≡ (with_processor m p (record x { bodies = bs }), es) → Result
     visible v f cell hc hm hu cpu words he wrote bs depth now few chain es hes ht =
         let run : Runs s p cpu words = runs cell hc hu cpu words he in
-        let there : StandsOn mode image built p now (after_ran s p cpu words) (record x { bodies = bs }) = stands_on_after mode image built p (left p) now s x cpu words bs on few (leaves_mark mode image built facts p small hp w b v f top s.memory.words words wrote) (leaves_top mode image built facts p small hp w b v f top s.memory.words words wrote) (leaves_task mode image built facts p small hp w b v f top s.memory.words words wrote) depth chain in
-        let placed : StandsOn mode image built p now (after_ran s p cpu words) (put_at m.processors p (record x { bodies = bs }) p) = subst (StandsOn mode image built p now (after_ran s p cpu words)) (sym (at_same m.processors p p (record x { bodies = bs }) refl)) there in
-        let all : Stands mode image built (put_at left p now) (after_ran s p cpu words) (with_processor m p (record x { bodies = bs })) = stands_after mode image built left s m (with_processor m p (record x { bodies = bs })) p now cpu words h hp (leaves_fixed mode image built facts p small hp w b v f top s.memory.words words wrote) refl refl placed in
-        let turned : Stands mode image built (put_at left p now) (after_ran s p cpu words) (turn image m p).0 = subst (λ z. Stands mode image built (put_at left p now) (after_ran s p cpu words) z.0) (sym ht) all in (
+        let there : StandsOn mode image p now (after_ran s p cpu words) (record x { bodies = bs }) = stands_on_after mode image built p (left p) now s x cpu words bs on few (leaves_mark mode image facts p small hp w b v f top s.memory.words words wrote) (leaves_top mode image facts p small hp w b v f top s.memory.words words wrote) (leaves_task mode image facts p small hp w b v f top s.memory.words words wrote) depth chain in
+        let placed : StandsOn mode image p now (after_ran s p cpu words) (put_at m.processors p (record x { bodies = bs }) p) = subst (StandsOn mode image p now (after_ran s p cpu words)) (sym (at_same m.processors p p (record x { bodies = bs }) refl)) there in
+        let all : Stands mode image (put_at left p now) (after_ran s p cpu words) (with_processor m p (record x { bodies = bs })) = stands_after mode image built left s m (with_processor m p (record x { bodies = bs })) p now cpu words h hp (leaves_fixed mode image facts p small hp w b v f top s.memory.words words wrote) refl refl placed in
+        let turned : Stands mode image (put_at left p now) (after_ran s p cpu words) (turn image m p).0 = subst (λ z. Stands mode image (put_at left p now) (after_ran s p cpu words) z.0) (sym ht) all in (
           inr (record {
             seen = seen (marks_of mode image) s p first hu (facts.marked c.rip cell hc hm);
             now_left = now;
-            stands = subst (λ z. Stands mode image built (put_at left p now) z.0 (turn image m p).0) (sym (ran_step image.processors s p cpu words run)) turned;
+            stands = subst (λ z. Stands mode image (put_at left p now) z.0 (turn image m p).0) (sym (ran_step image.processors s p cpu words run)) turned;
             entries = ran_shown (marks_of mode image) s p cpu words cell.ins run hu (facts.marked c.rip cell hc hm) (fetches c.rip cell hc).1
                 ∙ hes ∙ sym (ap (λ (y : Step). y.1) ht);
           }),
@@ -200,7 +196,7 @@ module _ (mode : Mode) (image : Image) (built : IsBuilt image) (good : IsImage i
 
     -- ---- inside a block
 
-    inside : (spot : Spot) (k : ℕ) (v : ℕ → ℕ) (f : Flags) → At code (block spot) k (env b v f) c s.memory → Means mode image built SystemCall spot v w b → length c.regs ≡ 16 → edges_of mode spot k ≤ left p → k < (block spot).steps → Result
+    inside : (spot : Spot) (k : ℕ) (v : ℕ → ℕ) (f : Flags) → At code (block spot) k (env b v f) c s.memory → Means mode image SystemCall spot v w b → length c.regs ≡ 16 → edges_of mode spot k ≤ left p → k < (block spot).steps → Result
     inside spot k v f at means long enough lt =
         let S : ℕ = (block spot).steps in
         let run = runs_to_end mode spot in
@@ -212,7 +208,7 @@ module _ (mode : Mode) (image : Image) (built : IsBuilt image) (good : IsImage i
 
     -- ---- the entry's end: the jump to the body's first item
 
-    at_entry : (v : ℕ → ℕ) (f : Flags) → At code (block AtEntry) (block AtEntry).steps (env b v f) c s.memory → Means mode image built SystemCall AtEntry v w b → length c.regs ≡ 16 → edges_of mode AtEntry (block AtEntry).steps ≤ left p
+    at_entry : (v : ℕ → ℕ) (f : Flags) → At code (block AtEntry) (block AtEntry).steps (env b v f) c s.memory → Means mode image SystemCall AtEntry v w b → length c.regs ≡ 16 → edges_of mode AtEntry (block AtEntry).steps ≤ left p
         → (body : Body) → slice_get image.bodies b.body ≡ Some body → Result
     unfolding eval is_return
     at_entry v f at means long enough body is =
@@ -222,7 +218,7 @@ module _ (mode : Mode) (image : Image) (built : IsBuilt image) (good : IsImage i
         let io : OpensItem (block AtItem).opening = item_opening mode in
         let cell : Cell = edge_cell (JmpReg 0) (body_jump mode + 2) in
         let hc : code c.rip ≡ Some cell = ap code (a.rip ∙ entry_ends mode e refl) ∙ facts.body_jump_cell in
-        let begun = begins_body image built mode v w b means in
+        let begun = begins_body image mode v w b means in
         let rax : get_or c.regs 0 0 ≡ v 24 = reg_ok e (block AtEntry).ground at.fits.ground (end_of mode AtEntry) c s.memory (at_end code (block AtEntry) (block AtEntry).steps (end_of mode AtEntry) (runs_to_end mode AtEntry) e c s.memory at) 0 ∙ ap (eval e) (jumps_to_body mode) in
         let first_is : item_address mode b.body body b.place ≡ body_code b.body = ap (item_address mode b.body body) begun.1 ∙ facts.first_item b.body body in
         let target : get_or c.regs 0 0 ≡ item_address mode b.body body b.place = rax ∙ begun.0 ∙ sym first_is in
@@ -232,7 +228,7 @@ module _ (mode : Mode) (image : Image) (built : IsBuilt image) (good : IsImage i
         let cpu : Processor = jumped c (get_or c.regs 0 0) in
         let g : Flags = flags_of c.flags in
         let u : Env = env_after e (values_of mode) g in
-        let open_at = opens_at mode image built facts p small hp w b u.var g s.memory h.regions_are top in
+        let open_at = opens_at mode image facts p small hp w b u.var g s.memory h.regions_are top in
         let agrees : Agrees u (ground_of mode) (block AtItem).opening cpu s.memory = joined e (values_of mode) (ground_of mode) (ground_of mode) (end_of mode AtEntry) c s.memory (block AtItem).opening a (opens_item mode) cpu g refl refl refl refl refl (sym io.blocked)
         (target ∙ low ∙ ap (λ y. (y + 0) % M) (sym place_is) ∙ ap (addr e) (sym io.rip)) refl io.flags open_at.0 open_at.1 in
         edge v f cell hc refl refl hu cpu s.memory.words
@@ -246,7 +242,7 @@ module _ (mode : Mode) (image : Image) (built : IsBuilt image) (good : IsImage i
           within = omega arith;
           enough = omega arith;
           at = opened AtItem b u.var g cpu s.memory agrees;
-          means = means_item image built mode e w b g means;
+          means = means_item image mode e w b g means;
           long = long;
         })
 
@@ -257,7 +253,7 @@ module _ (mode : Mode) (image : Image) (built : IsBuilt image) (good : IsImage i
     at_item v f a body is =
         a.rip ∙ ap (addr (env b v f)) (item_opening mode).rip ∙ ap (λ y. (y + 0) % M) (ap (address_of_item mode b.body b.place) is) ∙ sym (plus_zero _ (facts.item_small b.body b.place body is).1)
 
-    at_log : (v : ℕ → ℕ) (f : Flags) → At code (block AtItem) 0 (env b v f) c s.memory → InItem mode image built v w b → length c.regs ≡ 16
+    at_log : (v : ℕ → ℕ) (f : Flags) → At code (block AtItem) 0 (env b v f) c s.memory → InItem mode image v w b → length c.regs ≡ 16
         → (body : Body) → slice_get image.bodies b.body ≡ Some body → (q : ℕ) → item_at (Some body) b.place ≡ Some (Log q) → 6 ≤ q → q < 14 → Result
     unfolding is_return shown_always
     at_log v f at means long body is q hi lo hq =
@@ -274,8 +270,8 @@ module _ (mode : Mode) (image : Image) (built : IsBuilt image) (good : IsImage i
         = subst (λ z. StepsIf e (ground_of mode) (GsStore (pos 0x28) q) z c s.memory) (log_moves mode q next)
         (step_ok e (ground_of mode) (subst (Grounded e) (ground_is mode AtItem) at.fits.ground) (GsStore (pos 0x28) q) next (absolute next) o c s.memory a (sym (facts.spaced c.rip cell hc)) (zero_plus next next_small)) in
         let behind = behind_log image built good b.body body is b.place q hi in
-        let on_next : IsContext mode image built (onward b) = record { item = behind.0; is = ap (λ o. item_at o (suc b.place)) is ∙ behind.1; interrupts = ctx.interrupts; service = ctx.service; calls = ctx.calls } in
-        let same : SaysSame e (env (onward b) v f) (ground_of mode).known o = any_item mode image built p w b (onward b) v f in
+        let on_next : IsContext mode image (onward b) = record { item = behind.0; is = ap (λ o. item_at o (suc b.place)) is ∙ behind.1; interrupts = ctx.interrupts; service = ctx.service; calls = ctx.calls } in
+        let same : SaysSame e (env (onward b) v f) (ground_of mode).known o = any_item mode image p w b (onward b) v f in
         let agrees : Agrees (env (onward b) v f) (ground_of mode) o st.cpu (with_words s.memory st.words) = record {
           regs = st.agrees.regs ∙ same.regs;
           rip = st.agrees.rip ∙ sym (zero_plus next next_small) ∙ plus_zero next next_small ∙ ap (λ y. (y + 0) % M) (sym (ap (address_of_item mode b.body (suc b.place)) is)) ∙ ap (addr (env (onward b) v f)) (sym io.rip);
@@ -288,10 +284,10 @@ module _ (mode : Mode) (image : Image) (built : IsBuilt image) (good : IsImage i
           blocked = st.agrees.blocked ∙ sym io.blocked;
           rest = st.agrees.rest;
           words = same.words st.words st.agrees.words;
-          known_open = (opens_at mode image built facts p small hp w (onward b) v f s.memory h.regions_are top).0;
-          shared_open = (opens_at mode image built facts p small hp w (onward b) v f s.memory h.regions_are top).1;
+          known_open = (opens_at mode image facts p small hp w (onward b) v f s.memory h.regions_are top).0;
+          shared_open = (opens_at mode image facts p small hp w (onward b) v f s.memory h.regions_are top).1;
         } in
-        let act : Active mode image built p (edges_of mode AtItem 0) SystemCall w (onward b) st.cpu (with_words s.memory st.words) = record {
+        let act : Active mode image p (edges_of mode AtItem 0) SystemCall w (onward b) st.cpu (with_words s.memory st.words) = record {
           spot = AtItem;
           k = 0;
           var = v;
@@ -303,12 +299,12 @@ module _ (mode : Mode) (image : Image) (built : IsBuilt image) (good : IsImage i
           long = st.long ∙ long;
         } in
         visible v f cell hc refl hu st.cpu st.words st.runs st.within (onward b ∷ [])
-        (ap length (ran_stays s p st.cpu cell.ins (fetches c.rip cell hc).1 refl) ∙ on.depth ∙ ap length bodies) (edges_of mode AtItem 0) (few_in_item mode image built)
-        (w, SystemCall, refl, on_next, same_task (onward b ∷ []) w r, act)
+        (ap length (ran_stays s p st.cpu cell.ins (fetches c.rip cell hc).1 refl) ∙ on.depth ∙ ap length bodies) (edges_of mode AtItem 0) (few_in_item mode image)
+        (w, SystemCall, refl, on_next, r, act)
         (Entry.Log p (local b q) ∷ []) (ap (λ y. Entry.Log p y ∷ []) (local_is e io.rsp c.regs b.locals (a.regs ∙ ap (map (eval e)) io.regs) means.locals q lo hq))
         (log_turn q (ap (λ o. item_at o b.place) is ∙ hi))
 
-    at_ret : (k : ℕ) (v : ℕ → ℕ) (f : Flags) → At code (block AtItem) 0 (env b v f) c s.memory → InItem mode image built v w b → length c.regs ≡ 16 → edges_of mode AtItem k ≤ left p
+    at_ret : (k : ℕ) (v : ℕ → ℕ) (f : Flags) → At code (block AtItem) 0 (env b v f) c s.memory → InItem mode image v w b → length c.regs ≡ 16 → edges_of mode AtItem k ≤ left p
         → (body : Body) → slice_get image.bodies b.body ≡ Some body → item_at (Some body) b.place ≡ Some Ret → Result
     unfolding is_return
     at_ret k v f at means long enough body is hi =
@@ -352,7 +348,7 @@ module _ (mode : Mode) (image : Image) (built : IsBuilt image) (good : IsImage i
 
     -- ---- the exit's end: the return
 
-    at_exit : (v : ℕ → ℕ) (f : Flags) → At code (block AtExit) (block AtExit).steps (env b v f) c s.memory → Leaving mode image built v w b → Result
+    at_exit : (v : ℕ → ℕ) (f : Flags) → At code (block AtExit) (block AtExit).steps (env b v f) c s.memory → Leaving mode image v w b → Result
     at_exit v f at means =
         let e : Env = env b v f in
         let a : Agrees e (ground_of mode) (end_of mode AtExit) c s.memory = grounded_in AtExit e (end_of mode AtExit) c s.memory (at_end code (block AtExit) (block AtExit).steps (end_of mode AtExit) (runs_to_end mode AtExit) e c s.memory at) in
@@ -361,25 +357,25 @@ module _ (mode : Mode) (image : Image) (built : IsBuilt image) (good : IsImage i
         let cell : Cell = task_return_cell mode in
         let is : IsReturn cell = task_returns mode in
         let hc : code c.rip ≡ Some cell = ap code rip ∙ facts.return_cell in
-        let does : Executes cell.ins w s.memory.words = returns image built good mode p small x on.running w r b v f c s.memory a means.saved cell.next (sym (facts.spaced c.rip cell hc)) in
+        let does : Executes cell.ins w s.memory.words = returns image mode p small x.running (task x) on.running w r b v f c s.memory a means.saved cell.next (sym (facts.spaced c.rip cell hc)) in
         visible v f cell hc is.marked hu w s.memory.words does (λ y far far'. refl) []
         (ap length (ran_returns s p w cell.ins (fetches c.rip cell hc).1 is.returns hu (not_repeated mode c w rip)) ∙ none_left (s.activations p) (on.depth ∙ ap length bodies)) 0 (omega arith)
-        (same_task [] w r) [] (is.silent p (length (s.activations p)) c s.memory.words) (ret_turn means.ret)
+        r [] (is.silent p (length (s.activations p)) c s.memory.words) (ret_turn means.ret)
 
     -- ---- every step
 
-    by_item : (k : ℕ) (v : ℕ → ℕ) (f : Flags) → At code (block AtItem) 0 (env b v f) c s.memory → InItem mode image built v w b → length c.regs ≡ 16 → edges_of mode AtItem k ≤ left p
+    by_item : (k : ℕ) (v : ℕ → ℕ) (f : Flags) → At code (block AtItem) 0 (env b v f) c s.memory → InItem mode image v w b → length c.regs ≡ 16 → edges_of mode AtItem k ≤ left p
         → (body : Body) → slice_get image.bodies b.body ≡ Some body → (i : Item) → Today i → item_at (Some body) b.place ≡ Some i → Result
     by_item k v f at means long enough body is i (IsLog q e lo hq) hi = at_log v f at means long body is q (hi ∙ ap (λ j. Some j) e) lo hq
     by_item k v f at means long enough body is i (IsRet e) hi = at_ret k v f at means long enough body is (hi ∙ ap (λ j. Some j) e)
 
-    at_the_end : (spot : Spot) (k : ℕ) (v : ℕ → ℕ) (f : Flags) → k ≡ (block spot).steps → At code (block spot) k (env b v f) c s.memory → Means mode image built SystemCall spot v w b → length c.regs ≡ 16 → edges_of mode spot k ≤ left p
+    at_the_end : (spot : Spot) (k : ℕ) (v : ℕ → ℕ) (f : Flags) → k ≡ (block spot).steps → At code (block spot) k (env b v f) c s.memory → Means mode image SystemCall spot v w b → length c.regs ≡ 16 → edges_of mode spot k ≤ left p
         → (body : Body) → slice_get image.bodies b.body ≡ Some body → item_at (Some body) b.place ≡ Some ctx.item → Result
     at_the_end AtEntry k v f q at means long enough body is hi = at_entry v f (subst (λ j. At code (block AtEntry) j (env b v f) c s.memory) q at) means long (subst (λ j. edges_of mode AtEntry j ≤ left p) q enough) body is
     at_the_end AtItem k v f q at means long enough body is hi = by_item k v f (subst (λ j. At code (block AtItem) j (env b v f) c s.memory) (q ∙ no_steps mode) at) means long enough body is ctx.item (which image built good b.body body is b.place ctx.item hi) hi
     at_the_end AtExit k v f q at means long enough body is hi = at_exit v f (subst (λ j. At code (block AtExit) j (env b v f) c s.memory) q at) means
 
-    act_step : Active mode image built p (left p) SystemCall w b c s.memory → Result
+    act_step : Active mode image p (left p) SystemCall w b c s.memory → Result
     act_step act =
         let found = body_at (slice_get image.bodies b.body) b.place ctx.item ctx.is in
         pick (nat_le (suc act.k) (block act.spot).steps) refl found.0 found.1 found.2
@@ -392,8 +388,8 @@ module _ (mode : Mode) (image : Image) (built : IsBuilt image) (good : IsImage i
   pub kernel_step : (b : BodyContext) (below : List BodyContext) → x.bodies ≡ b ∷ below → Result
   kernel_step b below hb = go chain.0 chain.1 chain.2 chain.3 chain.4 chain.5
     where
-      chain : Chain mode image built p (left p) x (b ∷ below) c s.memory
-      chain = subst (λ bs. Chain mode image built p (left p) x bs c s.memory) hb on.chain
+      chain : Chain mode image p (left p) x.running (task x) (b ∷ below) c s.memory
+      chain = subst (λ bs. Chain mode image p (left p) x.running (task x) bs c s.memory) hb on.chain
 
-      go : (w : Processor) (κ : Kind) → StandsOver mode image built κ below → IsContext mode image built b → Chain mode image built p (left p) x below w s.memory → Active mode image built p (left p) κ w b c s.memory → Result
-      go w SystemCall none ctx task act = act_step b (hb ∙ ap (λ bs. b ∷ bs) none) ctx w (subst (λ bs. Chain mode image built p (left p) x bs w s.memory) none task) act
+      go : (w : Processor) (κ : Kind) → StandsOver mode image κ below → IsContext mode image b → Chain mode image p (left p) x.running (task x) below w s.memory → Active mode image p (left p) κ w b c s.memory → Result
+      go w SystemCall none ctx under act = act_step b (hb ∙ ap (λ bs. b ∷ bs) none) ctx w (subst (λ bs. Chain mode image p (left p) x.running (task x) bs w s.memory) none under) act

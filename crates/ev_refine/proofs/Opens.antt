@@ -15,6 +15,7 @@ use Rattle.ev_listing.specs.AddressMap.{pcpu, task_words, stack_top}
 use Rattle.ev_built.specs.Built.{IsBuilt}
 use Rattle.ev_built.specs.Program.{begins}
 use Rattle.ev_refine.specs.Relation.{Stands, StandsOn, first_word}
+use Rattle.ev_refine.proofs.UserText.{task_canonical}
 
 one_image : (image : Image) → image.processors ≡ 1 → record image { processors = 1 } ≡ image
 one_image image h = ap (λ n. record image { processors = n }) (sym h)
@@ -55,7 +56,7 @@ the_one ts t n h k = found (subst (λ (us : List (List TaskSpec)). list_all (λ 
         eqb-true (length t.regs) 16 (right (is_text_place n t.start && nat_lt t.gs (2 ^ 32)) (length t.regs == 16) c)
 
 module _ (mode : Mode) (image : Image) (built : IsBuilt image) where
-  first_processor : (p : ℕ) → p ≡ 0 → IsImage image → StandsOn mode image built p 0 (opening_system mode image) (processor (opening image) p)
+  first_processor : (p : ℕ) → p ≡ 0 → IsImage image → StandsOn mode image p 0 (opening_system mode image) (processor (opening image) p)
   unfolding opening_system opening
   first_processor p h i =
       let specs : get_or image.tasks p [] ≡ built.task ∷ [] = ap (λ q. get_or image.tasks q []) h ∙ ap (λ ts. get_or ts 0 []) built.one_task in
@@ -77,11 +78,13 @@ module _ (mode : Mode) (image : Image) (built : IsBuilt image) where
           is = refl;
           gs = ap (λ (t : TaskSpec). t.gs) spec ∙ built.no_base;
           long = ap (λ (t : TaskSpec). length t.regs) spec ∙ the_one image.tasks built.task (length image.text) built.one_task i.tasks_given.1;
-          at = subst (λ (t : TaskSpec). begins built.program t.start ≡ true) (sym spec) built.is_program.starts;
+          canonical = task_canonical image i built.task.start built.program built.is_program _
+              (subst (λ (t : TaskSpec). begins built.program t.start ≡ true) (sym spec) built.is_program.starts);
+          at = λ program is. subst (λ q. begins program (get_or (get_or image.tasks q []) 0 no_task).start ≡ true) (sym h) is.starts;
         };
       }
 
-  pub opens : IsImage image → Stands mode image built (λ p. 0) (opening_system mode image) (opening image)
+  pub opens : IsImage image → Stands mode image (λ p. 0) (opening_system mode image) (opening image)
   unfolding opening_system
   opens i = record {
     regions_are = refl;

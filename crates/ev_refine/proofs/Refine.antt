@@ -28,7 +28,7 @@ few : (p n : ℕ) → n ≡ 1 → p < n → p < 32
 few p n h lt = omega arith
 
 module _ (mode : Mode) (image : Image) (built : IsBuilt image) (given : IsImage image) where
-  pub simulates : (left : NatMap ℕ) (s : System) (m : Machine) → Stands mode image built left s m → (p : ℕ) → p < image.processors → Simulated mode image built left s m p
+  pub simulates : (left : NatMap ℕ) (s : System) (m : Machine) → Stands mode image left s m → (p : ℕ) → p < image.processors → Simulated mode image left s m p
   simulates left s m h p lt = by_bodies (processor m p).bodies refl
     where
       code : Facts mode image
@@ -37,14 +37,14 @@ module _ (mode : Mode) (image : Image) (built : IsBuilt image) (given : IsImage 
       small : p < 32
       small = few p image.processors built.one_processor lt
 
-      opened : OpensAt mode image built p
+      opened : OpensAt mode image p
       opened w b v f m' hr ht =
-          subst (λ (g : Ground). Open (here mode image built p SystemCall w b v f) g.known m'.regions × Open (here mode image built p SystemCall w b v f) g.shared m'.regions) (sym (ground_is mode AtEntry))
-          (opens_at mode image built code p small lt w b v f m' hr ht)
+          subst (λ (g : Ground). Open (here mode image p SystemCall w b v f) g.known m'.regions × Open (here mode image p SystemCall w b v f) g.shared m'.regions) (sym (ground_is mode AtEntry))
+          (opens_at mode image code p small lt w b v f m' hr ht)
 
-      by_bodies : (bs : List BodyContext) → (processor m p).bodies ≡ bs → Simulated mode image built left s m p
+      by_bodies : (bs : List BodyContext) → (processor m p).bodies ≡ bs → Simulated mode image left s m p
       by_bodies [] q =
-          let r = user_turn mode image given built code left s m h p lt q (fits_at mode image built code p small lt AtEntry) opened in
+          let r = user_turn mode image given built code left s m h p lt q (fits_at mode image code p small lt AtEntry) opened in
           record { safe = r.1; how = inr r.0 }
       by_bodies (b ∷ below) q =
           let r = kernel_step mode image built given code left s m h p lt b below q in
@@ -57,13 +57,13 @@ pub opens : Opens
 opens mode image built h given = opening.opens mode image built given
 
 pub all_settle : AllSettle
-all_settle mode image built h given left s m r p lt = runs.settles mode image built (refines mode image built h given) left s m r p lt
+all_settle mode image built h given left s m r p lt = runs.settles mode image (refines mode image built h given) left s m r p lt
 
 pub turns_follow : TurnsFollow
-turns_follow mode image built h given left s m r p lt = runs.turn_follows mode image built (refines mode image built h given) left s m r p lt
+turns_follow mode image built h given left s m r p lt = runs.turn_follows mode image (refines mode image built h given) left s m r p lt
 
 pub runs_follow : RunsFollow
-runs_follow mode image built h given script i b = runs.lines_follow mode image built (refines mode image built h given) script (λ p. 0) _ _ (opens mode image built h given) i b
+runs_follow mode image built h given script i b = runs.lines_follow mode image (refines mode image built h given) script (λ p. 0) _ _ (opens mode image built h given) i b
 
 pub tells : StandsTells
-tells mode image built h given left s m r p lt = telling.stands_tells mode image built given (facts mode image given built) left s m r p lt
+tells mode image built h given left s m r p lt = telling.stands_tells mode image given (facts mode image given built) left s m r p lt

@@ -1,19 +1,16 @@
 -- The return of an activation to the task: ERETU and SYSRETQ give exactly the processor that the activation stands over.
-use Rattle.std.proofs.Common.{◌≡◌, ℕ, ◌+◌, ◌-◌, ◌/◌, ◌%◌, ◌^◌, ◌<◌, ◌≤◌, Bool, true, false, not, ◌&&◌, ◌||◌, List, [], ◌∷◌, get_or, set, drop, map, length, Some, None, refl, sym, ap, ◌∙◌, subst, arith, length-append}
-use Rattle.std.specs.Prelude.{if◌then◌else◌, ◌==◌, is_some}
-use Rattle.std.proofs.lemmas.Bool.{eqb-true, eq-eqb}
+use Rattle.std.proofs.Common.{◌≡◌, ℕ, ◌+◌, ◌-◌, ◌%◌, ◌<◌, Bool, true, false, not, ◌&&◌, List, [], ◌∷◌, get_or, set, drop, map, length, Some, None, refl, sym, ap, ◌∙◌, subst, arith}
+use Rattle.std.specs.Prelude.{if◌then◌else◌, ◌==◌}
 use Rattle.ev_isa.specs.Word.{wrap, bit, is_canonical}
 use Rattle.ev_isa.specs.Flags.{Flags, modelled}
 use Rattle.ev_isa.specs.Spelling.{spelling}
-use Rattle.ev_isa.specs.Pages.{text_base}
-use Rattle.ev_isa.specs.declared.instruction.Ins.{Ins}
 use Rattle.ev_isa.specs.declared.instruction.Ins.TheVariants.{Sysretq, Eretu}
 use Rattle.ev_isa.specs.declared.mode.Mode.{Mode}
 use Rattle.ev_isa.specs.declared.mode.Mode.TheVariants.{Idt, Fred}
 use Rattle.ev_event.specs.Event.{ss, gp, ud}
 use Rattle.ev_body.specs.declared.image.Image.{Image}
-use Rattle.ev_body.specs.WellFormed.{IsImage}
 use Rattle.ev_effect.specs.Effect.{access_event}
+use Rattle.ev_effect.specs.Task.{Task}
 use Rattle.ev_effect.specs.Frame.{addresses, or_else, first_event}
 use Rattle.ev_listing.specs.AddressMap.{pcpu, stack_top}
 use Rattle.ev_state.specs.Processor.{Processor, is_user, selector, gs_exchanged}
@@ -26,10 +23,6 @@ use Rattle.ev_idt.specs.IdtDelivery.{sysretq}
 use Rattle.ev_fred.specs.FredDelivery.{fred_returned, eretu_words, frame_read, return_addresses, eretu}
 use Rattle.ev_proc.specs.ProcessorStep.{has_fred, executed, ran, fault, special, after_return}
 use Rattle.ev_abstract.specs.Context.{BodyContext}
-use Rattle.ev_abstract.specs.Machine.{task}
-use Rattle.ev_abstract.specs.Machine as abstract
-use Rattle.ev_built.specs.Program.{spelled, instruction_from, begins}
-use Rattle.ev_built.specs.Built.{IsBuilt}
 use Rattle.ev_symbolic.specs.Value.{M}
 use Rattle.ev_symbolic.specs.State.{Loc, in_win}
 use Rattle.ev_symbolic.specs.Openings.{below}
@@ -49,25 +42,6 @@ use Rattle.ev_table.specs.Table.{task_return_cell}
 use Rattle.ev_refine.specs.Relation.{RunsTask, Saved, here, top_of, rest_in}
 use Rattle.ev_refine.proofs.Spots.{ground_of, end_of}
 
--- ---- where the task's RIP lies
-
--- an instruction that begins at an address begins in the code
-begins_within : (a : ℕ) (is : List Ins) (y : ℕ) → is_some (instruction_from a is y) ≡ true → (a ≤ y) × (y ≤ a + length (spelled is))
-begins_within a [] y h = absurd (cc)
-begins_within a (i ∷ is) y h = pick (y == a) refl h (begins_within (a + length (spelling i)) is y)
-  where
-    long : length (spelled (i ∷ is)) ≡ length (spelling i) + length (spelled is)
-    long = length-append (spelling i) (spelled is)
-
-    pick : (b : Bool) → (y == a) ≡ b → is_some (if b then Some i else instruction_from (a + length (spelling i)) is y) ≡ true
-        → (is_some (instruction_from (a + length (spelling i)) is y) ≡ true → (a + length (spelling i) ≤ y) × (y ≤ (a + length (spelling i)) + length (spelled is)))
-        → (a ≤ y) × (y ≤ a + length (spelled (i ∷ is)))
-    pick true q r k = let e : y ≡ a = eqb-true y a q in (omega arith, omega arith)
-    pick false q r k = let z = k r in let z0 = z.0 in let z1 = z.1 in (omega arith, omega (arith, long))
-
-low_canonical : (a : ℕ) → a < 2 ^ 47 → is_canonical a ≡ true
-low_canonical a h = ap (λ b. b || (a / 2 ^ 47 == 2 ^ 17 - 1)) (eq-eqb (a / 2 ^ 47) 0 (let e : a / 140737488355328 ≡ 0 = omega arith in e))
-
 -- a processor, by all that a symbolic state tells of it and by the rest
 whole : (c d : Processor) → untracked c ≡ untracked d → c.regs ≡ d.regs → c.rip ≡ d.rip → c.flags ≡ d.flags → c.cr2 ≡ d.cr2 → c.gs ≡ d.gs → c.sti_blocked ≡ d.sti_blocked
     → c.msrs.gs_base ≡ d.msrs.gs_base → c.msrs.kernel_gs_base ≡ d.msrs.kernel_gs_base → c.msrs.rsp ≡ d.msrs.rsp → c ≡ d
@@ -81,33 +55,26 @@ whole c d hu regs rip flags cr2 gs sti base kernel rsp = λ i. record (hu i) {
   msrs = record ((hu i).msrs) { gs_base = base i; kernel_gs_base = kernel i; rsp = rsp i };
 }
 
-module _ (image : Image) (built : IsBuilt image) (good : IsImage image) where
-  pub task_canonical : (a : ℕ) → begins built.program a ≡ true → is_canonical a ≡ true
-  task_canonical a h =
-      let w = begins_within text_base built.program a h in
-      let hi : a ≤ text_base + length (spelled built.program) = w.1 in
-      let small : length (spelled built.program) ≤ 65520 = subst (λ (t : List ℕ). length t ≤ 65520) built.is_program.text_is good.text_fits in
-      low_canonical a (omega arith)
-
+module _ (image : Image) where
   -- ---- the processor to which an activation returns
 
-  module _ (mode : Mode) (p : ℕ) (hp : p < 32) (x : abstract.Processor) (hx : x.running ≡ 0) (w : Processor) (r : RunsTask mode image built p x w) where
+  module _ (mode : Mode) (p : ℕ) (hp : p < 32) (q : ℕ) (t : Task) (hq : q ≡ 0) (w : Processor) (r : RunsTask mode image p q t w) where
     rip_canonical : is_canonical w.rip ≡ true
-    rip_canonical = ap is_canonical (ap (λ (y : Processor). y.rip) r.is) ∙ task_canonical (task x).rip r.at
+    rip_canonical = ap is_canonical (ap (λ (y : Processor). y.rip) r.is) ∙ r.canonical
 
     -- at the task's privilege, with the rest as the activation left it
-    returned : (d : Processor) → untracked d ≡ record (rest_in mode image built SystemCall w) { cpl = 3; cs = 0x33; ss = 0x2b } → d.regs ≡ w.regs → d.rip ≡ w.rip → d.flags ≡ modelled w.flags → d.cr2 ≡ w.cr2 → d.gs ≡ w.gs → d.sti_blocked ≡ false
-        → d.msrs.gs_base ≡ w.msrs.gs_base → d.msrs.kernel_gs_base ≡ (pcpu p + 0) % M → d.msrs.rsp ≡ (top_of mode image built SystemCall w + 0) % M ∷ drop 1 w.msrs.rsp → d ≡ w
+    returned : (d : Processor) → untracked d ≡ record (rest_in mode image SystemCall w) { cpl = 3; cs = 0x33; ss = 0x2b } → d.regs ≡ w.regs → d.rip ≡ w.rip → d.flags ≡ modelled w.flags → d.cr2 ≡ w.cr2 → d.gs ≡ w.gs → d.sti_blocked ≡ false
+        → d.msrs.gs_base ≡ w.msrs.gs_base → d.msrs.kernel_gs_base ≡ (pcpu p + 0) % M → d.msrs.rsp ≡ (top_of mode image SystemCall w + 0) % M ∷ drop 1 w.msrs.rsp → d ≡ w
     returned d rest regs rip flags cr2 gs sti base kernel levels =
-        let t : w ≡ _ = r.is in
-        let h_cpl : 3 ≡ w.cpl = sym (ap (λ (y : Processor). y.cpl) t) in
-        let h_cs : 0x33 ≡ w.cs = sym (ap (λ (y : Processor). y.cs) t) in
-        let h_ss : 0x2b ≡ w.ss = sym (ap (λ (y : Processor). y.ss) t) in
-        let h_level : 0 ≡ w.level = sym (ap (λ (y : Processor). y.level) t) in
+        let s : w ≡ _ = r.is in
+        let h_cpl : 3 ≡ w.cpl = sym (ap (λ (y : Processor). y.cpl) s) in
+        let h_cs : 0x33 ≡ w.cs = sym (ap (λ (y : Processor). y.cs) s) in
+        let h_ss : 0x2b ≡ w.ss = sym (ap (λ (y : Processor). y.ss) s) in
+        let h_level : 0 ≡ w.level = sym (ap (λ (y : Processor). y.level) s) in
         let h_rest : untracked d ≡ untracked w = rest ∙ (λ i. record (untracked w) { cpl = h_cpl i; cs = h_cs i; ss = h_ss i; level = h_level i }) in
-        let h_top : get_or w.msrs.rsp 0 0 ≡ stack_top p 0 = ap (λ (y : Processor). get_or y.msrs.rsp 0 0) t ∙ ap (stack_top p) hx in
-        whole d w h_rest regs rip (flags ∙ sym (kept w.flags (task x).flags (ap (λ (y : Processor). y.flags) t))) cr2 gs (sti ∙ sym (ap (λ (y : Processor). y.sti_blocked) t))
-        base (kernel ∙ area_low ∙ sym (ap (λ (y : Processor). y.msrs.kernel_gs_base) t)) (levels ∙ ap (λ n. n ∷ drop 1 w.msrs.rsp) (top_low (get_or w.msrs.rsp 0 0) h_top) ∙ sym (levels_split w.msrs.rsp (ap (λ (y : Processor). length y.msrs.rsp) t)))
+        let h_top : get_or w.msrs.rsp 0 0 ≡ stack_top p 0 = ap (λ (y : Processor). get_or y.msrs.rsp 0 0) s ∙ ap (stack_top p) hq in
+        whole d w h_rest regs rip (flags ∙ sym (kept w.flags t.flags (ap (λ (y : Processor). y.flags) s))) cr2 gs (sti ∙ sym (ap (λ (y : Processor). y.sti_blocked) s))
+        base (kernel ∙ area_low ∙ sym (ap (λ (y : Processor). y.msrs.kernel_gs_base) s)) (levels ∙ ap (λ n. n ∷ drop 1 w.msrs.rsp) (top_low (get_or w.msrs.rsp 0 0) h_top) ∙ sym (levels_split w.msrs.rsp (ap (λ (y : Processor). length y.msrs.rsp) s)))
       where
         area_low : (pcpu p + 0) % M ≡ pcpu p
         area_low = omega arith
@@ -117,13 +84,13 @@ module _ (image : Image) (built : IsBuilt image) (good : IsImage image) where
 
   -- ---- under FRED: ERETU takes the frame
 
-  module _ (p : ℕ) (hp : p < 32) (x : abstract.Processor) (hx : x.running ≡ 0) (w : Processor) (r : RunsTask Fred image built p x w) (b : BodyContext) (v : ℕ → ℕ) (f : Flags) (c : Processor) (m : Memory)
-      (a : Agrees (here Fred image built p SystemCall w b v f) fred_ground (fred.leave_end SystemCall) c m) (saved : Saved Fred image built v w) where
+  module _ (p : ℕ) (hp : p < 32) (q : ℕ) (t : Task) (hq : q ≡ 0) (w : Processor) (r : RunsTask Fred image p q t w) (b : BodyContext) (v : ℕ → ℕ) (f : Flags) (c : Processor) (m : Memory)
+      (a : Agrees (here Fred image p SystemCall w b v f) fred_ground (fred.leave_end SystemCall) c m) (saved : Saved Fred image v w) where
     abbrev e : Env
-    e = here Fred image built p SystemCall w b v f
+    e = here Fred image p SystemCall w b v f
 
     abbrev top : ℕ
-    top = top_of Fred image built SystemCall w
+    top = top_of Fred image SystemCall w
 
     regs : c.regs ≡ v 30 ∷ v 31 ∷ v 32 ∷ v 33 ∷ (top + (M - 64)) % M ∷ v 35 ∷ v 36 ∷ v 37 ∷ v 38 ∷ v 39 ∷ v 40 ∷ v 41 ∷ v 42 ∷ v 43 ∷ v 44 ∷ v 45 ∷ []
     unfolding eval
@@ -176,17 +143,17 @@ module _ (image : Image) (built : IsBuilt image) (good : IsImage image) where
     by_frame_is =
         let z = fred_ends.leave_gs SystemCall in
         let nmi : (w.nmi_blocked && not (bit 18 0x220700010002002b)) ≡ w.nmi_blocked = ap (λ (y : Processor). y.nmi_blocked && not (bit 18 0x220700010002002b)) r.is ∙ sym (ap (λ (y : Processor). y.nmi_blocked) r.is) in
-        let rest : untracked by_frame ≡ record (rest_in Fred image built SystemCall w) { cpl = 3; cs = 0x33; ss = 0x2b } =
+        let rest : untracked by_frame ≡ record (rest_in Fred image SystemCall w) { cpl = 3; cs = 0x33; ss = 0x2b } =
         ap {A = Processor} {B = Processor} (λ y. record y { cpl = 3; cs = 0x33; ss = 0x2b; nmi_blocked = y.nmi_blocked && not (bit 18 0x220700010002002b) }) a.rest
-        ∙ ap {A = Bool} {B = Processor} (λ n. record (rest_in Fred image built SystemCall w) { cpl = 3; cs = 0x33; ss = 0x2b; nmi_blocked = n }) nmi in
-        returned Fred p hp x hx w r by_frame rest (ap (λ xs. set xs 4 (v 20)) regs ∙ sym saved.regs) refl (ap modelled saved.framed.flags) (a.cr2 ∙ ap (eval e) z.3 ∙ saved.framed.cr2) (a.selector ∙ ap (eval e) z.2 ∙ saved.framed.selector) refl
+        ∙ ap {A = Bool} {B = Processor} (λ n. record (rest_in Fred image SystemCall w) { cpl = 3; cs = 0x33; ss = 0x2b; nmi_blocked = n }) nmi in
+        returned Fred p hp q t hq w r by_frame rest (ap (λ xs. set xs 4 (v 20)) regs ∙ sym saved.regs) refl (ap modelled saved.framed.flags) (a.cr2 ∙ ap (eval e) z.3 ∙ saved.framed.cr2) (a.selector ∙ ap (eval e) z.2 ∙ saved.framed.selector) refl
         (a.kernel_gs ∙ ap (eval e) z.1 ∙ saved.framed.gs) (a.gs ∙ ap (eval e) z.0) (a.levels ∙ ap (λ y. eval e y ∷ drop 1 w.msrs.rsp) z.4)
 
     eretu_gives : eretu c m ≡ Went w m.words 0
     unfolding eretu
     eretu_gives =
         let level : c.level ≡ 0 = ap (λ (y : Processor). y.level) a.rest in
-        let canonical : is_canonical w.rip ≡ true = rip_canonical Fred p hp x hx w r in
+        let canonical : is_canonical w.rip ≡ true = rip_canonical Fred p hp q t hq w r in
         let met : Outcome = Met c (gp 0) in
         ap (λ as'. frame_read c (eretu_words c m.words) m.words as' (first_event (view m false) false as')) places
         ∙ ap (frame_read c (eretu_words c m.words) m.words frame_places) all_readable
@@ -196,10 +163,10 @@ module _ (image : Image) (built : IsBuilt image) (good : IsImage image) where
 
   -- ---- under IDT: SYSRETQ takes RIP from RCX and the flags from R11
 
-  module _ (p : ℕ) (hp : p < 32) (x : abstract.Processor) (hx : x.running ≡ 0) (w : Processor) (r : RunsTask Idt image built p x w) (b : BodyContext) (v : ℕ → ℕ) (f : Flags) (c : Processor) (m : Memory)
-      (a : Agrees (here Idt image built p SystemCall w b v f) idt_ground (idt.leave_end SystemCall) c m) (saved : Saved Idt image built v w) where
+  module _ (p : ℕ) (hp : p < 32) (q : ℕ) (t : Task) (hq : q ≡ 0) (w : Processor) (r : RunsTask Idt image p q t w) (b : BodyContext) (v : ℕ → ℕ) (f : Flags) (c : Processor) (m : Memory)
+      (a : Agrees (here Idt image p SystemCall w b v f) idt_ground (idt.leave_end SystemCall) c m) (saved : Saved Idt image v w) where
     abbrev env : Env
-    env = here Idt image built p SystemCall w b v f
+    env = here Idt image p SystemCall w b v f
 
     registers : c.regs ≡ w.regs
     unfolding eval
@@ -218,27 +185,27 @@ module _ (image : Image) (built : IsBuilt image) (good : IsImage image) where
     unfolding eval
     by_registers_is =
         let z = idt_ends.leave_gs SystemCall in
-        returned Idt p hp x hx w r by_registers (ap {A = Processor} {B = Processor} (λ y. record y { cpl = 3; cs = 0x33; ss = 0x2b }) a.rest) registers rcx (ap modelled r11) (a.cr2 ∙ ap (eval env) z.3 ∙ saved.framed.cr2) (a.selector ∙ ap (eval env) z.2 ∙ saved.framed.selector) refl
+        returned Idt p hp q t hq w r by_registers (ap {A = Processor} {B = Processor} (λ y. record y { cpl = 3; cs = 0x33; ss = 0x2b }) a.rest) registers rcx (ap modelled r11) (a.cr2 ∙ ap (eval env) z.3 ∙ saved.framed.cr2) (a.selector ∙ ap (eval env) z.2 ∙ saved.framed.selector) refl
         (a.gs ∙ ap (eval env) z.0 ∙ saved.framed.gs) (a.kernel_gs ∙ ap (eval env) z.1) (a.levels ∙ ap (λ y. eval env y ∷ drop 1 w.msrs.rsp) z.4)
 
     sysretq_gives : sysretq c m.words ≡ Went w m.words 0
     unfolding sysretq
     sysretq_gives =
         let met : Outcome = Met c (gp 0) in
-        ap (λ t. if t then Went by_registers m.words 0 else met) (ap is_canonical rcx ∙ rip_canonical Idt p hp x hx w r)
+        ap (λ b'. if b' then Went by_registers m.words 0 else met) (ap is_canonical rcx ∙ rip_canonical Idt p hp q t hq w r)
         ∙ ap (λ y. Went y m.words 0) by_registers_is
 
   -- ---- the step
 
-  pub returns : (mode : Mode) (p : ℕ) → p < 32 → (x : abstract.Processor) → x.running ≡ 0 → (w : Processor) → RunsTask mode image built p x w → (b : BodyContext) (v : ℕ → ℕ) (f : Flags) (c : Processor) (m : Memory)
-      → Agrees (here mode image built p SystemCall w b v f) (ground_of mode) (end_of mode AtExit) c m → Saved mode image built v w → (next : ℕ) → c.rip + length (spelling (task_return_cell mode).ins) ≡ next
+  pub returns : (mode : Mode) (p : ℕ) → p < 32 → (q : ℕ) (t : Task) → q ≡ 0 → (w : Processor) → RunsTask mode image p q t w → (b : BodyContext) (v : ℕ → ℕ) (f : Flags) (c : Processor) (m : Memory)
+      → Agrees (here mode image p SystemCall w b v f) (ground_of mode) (end_of mode AtExit) c m → Saved mode image v w → (next : ℕ) → c.rip + length (spelling (task_return_cell mode).ins) ≡ next
       → (n : Apic) (nmi : Bool) → executed c n m nmi (Some (task_return_cell mode).ins) ≡ ran w n m.words nmi
   unfolding exec special
-  returns Fred p hp x hx w r b v f c m a saved next hn n nmi =
+  returns Fred p hp q t hq w r b v f c m a saved next hn n nmi =
       executes c m Eretu next Special (ap is_user a.rest) hn refl n nmi
       ∙ ap (λ z. if z then after_return n m nmi (eretu c m) else fault c n m nmi ud) (ap has_fred a.rest ∙ ap (λ (y : Processor). bit 32 y.cr4) r.is)
-      ∙ ap (after_return n m nmi) (eretu_gives p hp x hx w r b v f c m a saved)
-  returns Idt p hp x hx w r b v f c m a saved next hn n nmi =
+      ∙ ap (after_return n m nmi) (eretu_gives p hp q t hq w r b v f c m a saved)
+  returns Idt p hp q t hq w r b v f c m a saved next hn n nmi =
       executes c m Sysretq next Special (ap is_user a.rest) hn refl n nmi
       ∙ ap (λ z. if z then fault c n m nmi ud else after_return n m nmi (sysretq c m.words)) (ap has_fred a.rest ∙ ap (λ (y : Processor). bit 32 y.cr4) r.is)
-      ∙ ap (after_return n m nmi) (sysretq_gives p hp x hx w r b v f c m a saved)
+      ∙ ap (after_return n m nmi) (sysretq_gives p hp q t hq w r b v f c m a saved)

@@ -12,7 +12,7 @@ use Rattle.ev_abstract.specs.Script.{IsScript, is_line}
 use Rattle.ev_abstract.specs.declared.script_line.Line.{Line}
 use Rattle.ev_abstract.specs.declared.script_line.Line.TheVariants.{Turn, Edge, Arrive, Accept}
 use Rattle.ev_concrete.specs.ConcreteRun.{System, marks_of, is_visible, concrete_step, edges, with_frames, concrete_turn, concrete_line, concrete_lines}
-use Rattle.ev_built.specs.Built.{IsBuilt, line_is_built}
+use Rattle.ev_built.specs.Built.{line_is_built}
 use Rattle.ev_event.specs.declared.frame_note.FrameNote.{FrameNote}
 use Rattle.ev_refine.specs.Relation.{Stands, StandsOn}
 use Rattle.ev_refine.proofs.Maps.{at_same, at_other}
@@ -40,9 +40,9 @@ two : (b : Bool) (c : Bool) → (b && c) ≡ true → c ≡ true
 two true c h = h
 two false c h = absurd (cc)
 
-module _ (mode : Mode) (image : Image) (built : IsBuilt image) where
+module _ (mode : Mode) (image : Image) where
   abbrev Follows : NatMap ℕ → System → Machine → Type 0
-  Follows left s m = Stands mode image built left s m
+  Follows left s m = Stands mode image left s m
 
   -- the bounds as another map tells them
   pub with_left : (l l' : NatMap ℕ) → ((q : ℕ) → l q ≡ l' q) → (s : System) (m : Machine) → Follows l s m → Follows l' s m
@@ -51,7 +51,7 @@ module _ (mode : Mode) (image : Image) (built : IsBuilt image) where
     fixed = r.fixed;
     text = r.text;
     present = r.present;
-    each = λ q lt. subst (λ n. StandsOn mode image built q n s (processor m q)) (h q) (r.each q lt);
+    each = λ q lt. subst (λ n. StandsOn mode image q n s (processor m q)) (h q) (r.each q lt);
   }
 
   -- ---- edges
@@ -64,14 +64,14 @@ module _ (mode : Mode) (image : Image) (built : IsBuilt image) where
   unfolding edges
   no_edge k s p h = ap (λ (b : Bool). (let r : System × List FrameNote = elim b [ true ↦ (s, []) | false ↦ with_frames (concrete_step image.processors s p).1 (edges k (marks_of mode image) image.processors (concrete_step image.processors s p).0 p) ] in r).0) h
 
-  module _ (step : (left : NatMap ℕ) (s : System) (m : Machine) → Stands mode image built left s m → (p : ℕ) → p < image.processors → Simulated mode image built left s m p) where
+  module _ (step : (left : NatMap ℕ) (s : System) (m : Machine) → Stands mode image left s m → (p : ℕ) → p < image.processors → Simulated mode image left s m p) where
     pub edges_follow : (k : ℕ) (left : NatMap ℕ) (s : System) (m : Machine) → Follows left s m → (p : ℕ) → p < image.processors
         → (now_left : ℕ) × Follows (put_at left p now_left) (edges k (marks_of mode image) image.processors s p).0 m
     unfolding edges
     edges_follow zero left s m r p lt = (left p, with_left left (put_at left p (left p)) (put_own left p) s m r)
     edges_follow (suc k) left s m r p lt = go (step left s m r p lt).how (edges_follow k)
       where
-        go : MakesEdge mode image built left s m p ⊎ MakesTurn mode image built left s m p
+        go : MakesEdge mode image left s m p ⊎ MakesTurn mode image left s m p
             → ((left : NatMap ℕ) (s : System) (m : Machine) → Follows left s m → (p : ℕ) → p < image.processors → (now_left : ℕ) × Follows (put_at left p now_left) (edges k (marks_of mode image) image.processors s p).0 m)
             → (now_left : ℕ) × Follows (put_at left p now_left) (edges (suc k) (marks_of mode image) image.processors s p).0 m
         go (inl e) next =
@@ -85,7 +85,7 @@ module _ (mode : Mode) (image : Image) (built : IsBuilt image) where
     edges_end zero left s m r p lt h = ⊎_elim (λ e. absurd (let z : e.now_left < left p = e.fewer in omega arith)) (λ t. t.seen) (step left s m r p lt).how
     edges_end (suc k) left s m r p lt h = go (step left s m r p lt).how (edges_end k)
       where
-        go : MakesEdge mode image built left s m p ⊎ MakesTurn mode image built left s m p
+        go : MakesEdge mode image left s m p ⊎ MakesTurn mode image left s m p
             → ((left : NatMap ℕ) (s : System) (m : Machine) → Follows left s m → (p : ℕ) → p < image.processors → left p ≤ k → is_visible (marks_of mode image) (edges k (marks_of mode image) image.processors s p).0 p ≡ true)
             → is_visible (marks_of mode image) (edges (suc k) (marks_of mode image) image.processors s p).0 p ≡ true
         go (inl e) next =
@@ -93,7 +93,7 @@ module _ (mode : Mode) (image : Image) (built : IsBuilt image) where
             ap (λ t. is_visible (marks_of mode image) t p) (first_edge k s p e.hidden) ∙ next (put_at left p e.now_left) (concrete_step image.processors s p).0 m e.stands p lt fits
         go (inr t) next = ap (λ u. is_visible (marks_of mode image) u p) (no_edge k s p t.seen) ∙ t.seen
 
-    pub settles : (left : NatMap ℕ) (s : System) (m : Machine) → Follows left s m → (p : ℕ) → p < image.processors → Settles mode image built left s m p
+    pub settles : (left : NatMap ℕ) (s : System) (m : Machine) → Follows left s m → (p : ℕ) → p < image.processors → Settles mode image left s m p
     settles left s m r p lt = record {
       after = λ k. edges_follow k left s m r p lt;
       seen = λ k h. edges_end k left s m r p lt h;

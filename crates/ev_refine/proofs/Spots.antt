@@ -12,7 +12,6 @@ use Rattle.ev_state.specs.Processor.{Processor, is_user}
 use Rattle.ev_abstract.specs.Context.{BodyContext}
 use Rattle.ev_concrete.specs.Opening.{control}
 use Rattle.ev_concrete.specs.ConcreteRun.{is_return, is_repeated}
-use Rattle.ev_built.specs.Built.{IsBuilt}
 use Rattle.ev_symbolic.specs.Value.{M, V, K, P, X, FVar}
 use Rattle.ev_symbolic.specs.State.{SS, Win, Ground, absolute, sreg}
 use Rattle.ev_symbolic.specs.Run.{moved, sstep, brun}
@@ -117,11 +116,11 @@ pub record SaysSame (e u : Env) (W : List Win) (o : SS) : Type 0 where
   pub words : (m : NatMap ℕ) → Known e W m o.words → Known u W m o.words
 
 -- only its place speaks of the item
-pub any_item : (mode : Mode) (image : Image) (built : IsBuilt image) (p : ℕ) (w : Processor) (b b' : BodyContext) (v : ℕ → ℕ) (f : Flags)
-    → SaysSame (here mode image built p SystemCall w b v f) (here mode image built p SystemCall w b' v f) (ground_of mode).known (block_of mode SystemCall AtItem).opening
+pub any_item : (mode : Mode) (image : Image) (p : ℕ) (w : Processor) (b b' : BodyContext) (v : ℕ → ℕ) (f : Flags)
+    → SaysSame (here mode image p SystemCall w b v f) (here mode image p SystemCall w b' v f) (ground_of mode).known (block_of mode SystemCall AtItem).opening
 unfolding eval eval_flags
-any_item Fred image built p w b b' v f = record { regs = refl; flags = refl; gs = refl; kernel_gs = refl; selector = refl; cr2 = refl; rsp0 = refl; words = λ m h. h }
-any_item Idt image built p w b b' v f = record { regs = refl; flags = refl; gs = refl; kernel_gs = refl; selector = refl; cr2 = refl; rsp0 = refl; words = λ m h. h }
+any_item Fred image p w b b' v f = record { regs = refl; flags = refl; gs = refl; kernel_gs = refl; selector = refl; cr2 = refl; rsp0 = refl; words = λ m h. h }
+any_item Idt image p w b b' v f = record { regs = refl; flags = refl; gs = refl; kernel_gs = refl; selector = refl; cr2 = refl; rsp0 = refl; words = λ m h. h }
 
 -- and the exit opens with what an item has
 pub exit_opening : (mode : Mode) → (block_of mode SystemCall AtExit).opening ≡ record ((block_of mode SystemCall AtItem).opening) { rip = absolute (other_exit mode) }
@@ -144,12 +143,12 @@ log_moves Idt q next = refl
 
 -- ---- what an activation's variables mean, from the entry to the item
 
-module _ (image : Image) (built : IsBuilt image) where
-  pub begins_body : (mode : Mode) (v : ℕ → ℕ) (w : Processor) (b : BodyContext) → Means mode image built SystemCall AtEntry v w b → (v 24 ≡ body_code b.body) × (b.place ≡ 0)
+module _ (image : Image) where
+  pub begins_body : (mode : Mode) (v : ℕ → ℕ) (w : Processor) (b : BodyContext) → Means mode image SystemCall AtEntry v w b → (v 24 ≡ body_code b.body) × (b.place ≡ 0)
   begins_body Fred v w b means = (means.code, means.place)
   begins_body Idt v w b means = (means.code, means.place)
 
-  pub means_item : (mode : Mode) (e : Env) (w : Processor) (b : BodyContext) (f : Flags) → Means mode image built SystemCall AtEntry e.var w b → InItem mode image built (env_after e (values_of mode) f).var w b
+  pub means_item : (mode : Mode) (e : Env) (w : Processor) (b : BodyContext) (f : Flags) → Means mode image SystemCall AtEntry e.var w b → InItem mode image (env_after e (values_of mode) f).var w b
   unfolding eval
   means_item Fred e w b f means = record {
     saved = record { framed = record { rip = means.framed.rip; flags = means.framed.flags; gs = means.framed.gs; selector = means.framed.selector; cr2 = means.framed.cr2 }; regs = means.regs };
@@ -199,6 +198,6 @@ pub less_in_exit : (mode : Mode) (k n : ℕ) → edges_of mode AtItem k ≤ n �
 less_in_exit Fred k n h = omega arith
 less_in_exit Idt k n h = omega arith
 
-pub few_in_item : (mode : Mode) (image : Image) (built : IsBuilt image) → edges_of mode AtItem 0 ≤ most_edges mode image built
-few_in_item Fred image built = omega arith
-few_in_item Idt image built = omega arith
+pub few_in_item : (mode : Mode) (image : Image) → edges_of mode AtItem 0 ≤ most_edges mode image
+few_in_item Fred image = omega arith
+few_in_item Idt image = omega arith

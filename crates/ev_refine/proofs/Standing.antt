@@ -16,7 +16,7 @@ use Rattle.ev_apic.specs.Apic.{next_vector}
 use Rattle.ev_proc.specs.ProcessorStep.{ran, next_of, step, has_fred, instruction_at}
 use Rattle.ev_proc.specs.declared.stepped.Stepped.{Stepped}
 use Rattle.ev_abstract.specs.Context.{BodyContext}
-use Rattle.ev_abstract.specs.Machine.{Machine, processor}
+use Rattle.ev_abstract.specs.Machine.{Machine, processor, task}
 use Rattle.ev_abstract.specs.Machine as abstract
 use Rattle.ev_concrete.specs.Opening.{opening_apic}
 use Rattle.ev_concrete.specs.ConcreteRun.{System, Marks, mark_at, is_seen, is_visible, is_visible_by, is_return, is_repeated, without_last, acted, activations_by, after_step, concrete_step}
@@ -97,12 +97,12 @@ ran_returns s p cpu i hi hr hu hl =
 
 module _ (mode : Mode) (image : Image) (built : IsBuilt image) where
   -- of this processor, where only its bodies have changed
-  pub stands_on_after : (p left now : ℕ) (s : System) (x : abstract.Processor) (cpu : Processor) (words : NatMap ℕ) (bs : List BodyContext) → StandsOn mode image built p left s x → now ≤ most_edges mode image built
+  pub stands_on_after : (p left now : ℕ) (s : System) (x : abstract.Processor) (cpu : Processor) (words : NatMap ℕ) (bs : List BodyContext) → StandsOn mode image p left s x → now ≤ most_edges mode image
       → words (pcpu p + 0x20) ≡ s.memory.words (pcpu p + 0x20) → words (pcpu p + 0x10) ≡ s.memory.words (pcpu p + 0x10) → words (pcpu p + 0x18) ≡ s.memory.words (pcpu p + 0x18)
       → length (activations_by s p (s.activations p) cpu Stepped.Ran) ≡ length bs
-      → Chain mode image built p now (record x { bodies = bs }) bs cpu (with_words s.memory words)
-      → StandsOn mode image built p now (after_ran s p cpu words) (record x { bodies = bs })
-  stands_on_after p left now s x cpu words bs o few mark top task depth chain = record {
+      → Chain mode image p now x.running (task x) bs cpu (with_words s.memory words)
+      → StandsOn mode image p now (after_ran s p cpu words) (record x { bodies = bs })
+  stands_on_after p left now s x cpu words bs o few mark top current depth chain = record {
     few = few;
     running = o.running;
     waiting = o.waiting;
@@ -113,16 +113,16 @@ module _ (mode : Mode) (image : Image) (built : IsBuilt image) where
     resched = o.resched;
     mark = mark ∙ o.mark;
     top_is = top ∙ o.top_is;
-    task_is = task ∙ o.task_is;
+    task_is = current ∙ o.task_is;
     depth = ap length (at_same s.activations p p (activations_by s p (s.activations p) cpu Stepped.Ran) refl) ∙ depth;
-    chain = subst (λ c. Chain mode image built p now (record x { bodies = bs }) bs c (with_words s.memory words)) (sym (at_same s.cpus p p cpu refl)) chain;
+    chain = subst (λ c. Chain mode image p now x.running (task x) bs c (with_words s.memory words)) (sym (at_same s.cpus p p cpu refl)) chain;
   }
 
   -- of the whole machine
-  pub stands_after : (left : NatMap ℕ) (s : System) (m m' : Machine) (p now : ℕ) (cpu : Processor) (words : NatMap ℕ) → Stands mode image built left s m → p < image.processors
+  pub stands_after : (left : NatMap ℕ) (s : System) (m m' : Machine) (p now : ℕ) (cpu : Processor) (words : NatMap ℕ) → Stands mode image left s m → p < image.processors
       → ((a : ℕ) → IsFixed a → words a ≡ s.memory.words a) → m'.words ≡ m.words → m'.present ≡ m.present
-      → StandsOn mode image built p now (after_ran s p cpu words) (processor m' p)
-      → Stands mode image built (put_at left p now) (after_ran s p cpu words) m'
+      → StandsOn mode image p now (after_ran s p cpu words) (processor m' p)
+      → Stands mode image (put_at left p now) (after_ran s p cpu words) m'
   stands_after left s m m' p now cpu words h hp fixed same_words same_pages on = record {
     regions_are = h.regions_are;
     fixed = λ a f. fixed a f ∙ h.fixed a f;
@@ -130,8 +130,8 @@ module _ (mode : Mode) (image : Image) (built : IsBuilt image) where
     present = same_pages ∙ h.present;
     each = λ q hq.
         let same : p ≡ q = only q hq in
-        subst (λ r. StandsOn mode image built r (put_at left p now r) (after_ran s p cpu words) (processor m' r)) same
-        (subst (λ l. StandsOn mode image built p l (after_ran s p cpu words) (processor m' p)) (sym (at_same left p p now refl)) on);
+        subst (λ r. StandsOn mode image r (put_at left p now r) (after_ran s p cpu words) (processor m' r)) same
+        (subst (λ l. StandsOn mode image p l (after_ran s p cpu words) (processor m' p)) (sym (at_same left p p now refl)) on);
   }
     where
       only : (q : ℕ) → q < image.processors → p ≡ q

@@ -23,7 +23,6 @@ use Rattle.ev_abstract.specs.Delivery.{body_at_start, saved_by}
 use Rattle.ev_concrete.specs.Opening.{regions}
 use Rattle.ev_concrete.specs.ConcreteRun.{System, acted}
 use Rattle.ev_concrete.specs.LiveWords.{overwrites}
-use Rattle.ev_built.specs.Built.{IsBuilt}
 use Rattle.ev_symbolic.specs.Agrees.{Open, Fits, with_words}
 use Rattle.ev_activation.specs.Activation.{SystemCall, AtEntry}
 use Rattle.ev_table.specs.Table.{code_table}
@@ -53,15 +52,15 @@ abbrev pub returning : Task → ℕ → Task
 returning t next = saved_by Other (record t { rip = next })
 
 -- the entry of an activation fits the code, and the kernel has access to its windows
-abbrev pub FitsAt : (mode : Mode) (image : Image) → IsBuilt image → ℕ → Type 0
-FitsAt mode image built p = (w : Processor) (b : BodyContext) (v : ℕ → ℕ) (f : Flags) → top_of mode image built SystemCall w ≡ stack_top p 0
-    → is_user (rest_in mode image built SystemCall w) ≡ false → has_fred (rest_in mode image built SystemCall w) ≡ is_fred mode
-    → Fits (code_table mode image) (here mode image built p SystemCall w b v f) (block_of mode SystemCall AtEntry)
+abbrev pub FitsAt : Mode → Image → ℕ → Type 0
+FitsAt mode image p = (w : Processor) (b : BodyContext) (v : ℕ → ℕ) (f : Flags) → top_of mode image SystemCall w ≡ stack_top p 0
+    → is_user (rest_in mode image SystemCall w) ≡ false → has_fred (rest_in mode image SystemCall w) ≡ is_fred mode
+    → Fits (code_table mode image) (here mode image p SystemCall w b v f) (block_of mode SystemCall AtEntry)
 
-abbrev pub OpensAt : (mode : Mode) (image : Image) → IsBuilt image → ℕ → Type 0
-OpensAt mode image built p = (w : Processor) (b : BodyContext) (v : ℕ → ℕ) (f : Flags) (m : Memory) → m.regions ≡ regions image → top_of mode image built SystemCall w ≡ stack_top p 0
-    → Open (here mode image built p SystemCall w b v f) (block_of mode SystemCall AtEntry).ground.known m.regions
-    × Open (here mode image built p SystemCall w b v f) (block_of mode SystemCall AtEntry).ground.shared m.regions
+abbrev pub OpensAt : Mode → Image → ℕ → Type 0
+OpensAt mode image p = (w : Processor) (b : BodyContext) (v : ℕ → ℕ) (f : Flags) (m : Memory) → m.regions ≡ regions image → top_of mode image SystemCall w ≡ stack_top p 0
+    → Open (here mode image p SystemCall w b v f) (block_of mode SystemCall AtEntry).ground.known m.regions
+    × Open (here mode image p SystemCall w b v f) (block_of mode SystemCall AtEntry).ground.shared m.regions
 
 -- what stands after it
 abbrev pub arrival : Processor → NatMap ℕ → Option ℕ → Apic → Bool → After
@@ -69,7 +68,7 @@ arrival c words frame a nmi = record { cpu = c; apic = a; words = words; nmi = n
 
 -- ---- the delivery, of a task on its stack n
 
-module _ (mode : Mode) (image : Image) (built : IsBuilt image) (p n : ℕ) (t : Task) (cr2 next body : ℕ) where
+module _ (mode : Mode) (image : Image) (p n : ℕ) (t : Task) (cr2 next body : ℕ) where
   abbrev pub caller : Processor
   caller = task_processor mode image p n t cr2
 
@@ -85,8 +84,8 @@ module _ (mode : Mode) (image : Image) (built : IsBuilt image) (p n : ℕ) (t : 
     pub small : p < 32
     pub long : length t.regs ≡ 16
     pub next_is : t.rip + length (spelling Syscall) ≡ next
-    pub fits : FitsAt mode image built p
-    pub opens : OpensAt mode image built p
+    pub fits : FitsAt mode image p
+    pub opens : OpensAt mode image p
     pub regions_are : m.regions ≡ regions image
     pub table : m.words (user_table + 0x800) ≡ body_code body
     pub top_is : m.words (pcpu p + 0x10) ≡ stack_top p n
@@ -98,7 +97,7 @@ module _ (mode : Mode) (image : Image) (built : IsBuilt image) (p n : ℕ) (t : 
     pub words : NatMap ℕ
     pub frame : Option ℕ
     pub runs : (a : Apic) (nmi : Bool) → executed caller a m nmi (Some Syscall) ≡ arrival cpu words frame a nmi
-    pub active : Active mode image built p (most_edges mode image built) SystemCall over context cpu (with_words m words)
+    pub active : Active mode image p (most_edges mode image) SystemCall over context cpu (with_words m words)
     pub stays : (a : ℕ) → (a < 0xffffc90000000000) ⊎ (0xffffffff81000000 ≤ a) → words a ≡ m.words a
     pub saved : saved_rip (has_fred caller) cpu words call_event frame ≡ next
     pub safe : (s : System) → OnlyTask s → (k : ℕ) (z : System) → list_any (overwrites mode image s) (acted k z p (Stepped.Delivered call_event frame)).1 ≡ false

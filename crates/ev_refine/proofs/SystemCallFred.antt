@@ -58,13 +58,13 @@ between n p hn hp vs hl words x h = from ((stack_top p n + (M - 64)) % M) refl
 
 module _ (image : Image) (built : IsBuilt image) (p n : ℕ) (t : Task) (cr2 next body : ℕ) where
   abbrev caller : Processor
-  caller = call.caller Fred image built p n t cr2 next body
+  caller = call.caller Fred image p n t cr2 next body
 
   abbrev var : ℕ → ℕ
   var = variables t next (task_selector p n) cr2 (body_code body)
 
   abbrev env : Env
-  env = here Fred image built p SystemCall (call.over Fred image built p n t cr2 next body) (call.context Fred image built p n t cr2 next body) var no_flags
+  env = here Fred image p SystemCall (call.over Fred image p n t cr2 next body) (call.context Fred image p n t cr2 next body) var no_flags
 
   abbrev frame_at : ℕ
   frame_at = (stack_top p n + (M - 64)) % M
@@ -97,15 +97,15 @@ module _ (image : Image) (built : IsBuilt image) (p n : ℕ) (t : Task) (cr2 nex
 
   -- ---- the activation that begins
 
-  module _ (m : Memory) (ready : Ready Fred image built p n t cr2 next body m) where
-    top_is : top_of Fred image built SystemCall (call.over Fred image built p n t cr2 next body) ≡ stack_top p 0
+  module _ (m : Memory) (ready : Ready Fred image p n t cr2 next body m) where
+    top_is : top_of Fred image SystemCall (call.over Fred image p n t cr2 next body) ≡ stack_top p 0
     top_is = ap (stack_top p) ready.running
 
     open_windows : Open env fred_ground.known m.regions × Open env fred_ground.shared m.regions
-    open_windows = ready.opens (call.over Fred image built p n t cr2 next body) (call.context Fred image built p n t cr2 next body) var no_flags m ready.regions_are top_is
+    open_windows = ready.opens (call.over Fred image p n t cr2 next body) (call.context Fred image p n t cr2 next body) var no_flags m ready.regions_are top_is
 
     fit : Fits (code_table Fred image) env (enter SystemCall)
-    fit = ready.fits (call.over Fred image built p n t cr2 next body) (call.context Fred image built p n t cr2 next body) var no_flags top_is refl refl
+    fit = ready.fits (call.over Fred image p n t cr2 next body) (call.context Fred image p n t cr2 next body) var no_flags top_is refl refl
 
     -- the kernel has access to the frame's words
     frame_open : first_event (view m false) true (reverse (addresses frame_at 8)) ≡ None
@@ -142,7 +142,7 @@ module _ (image : Image) (built : IsBuilt image) (p n : ℕ) (t : Task) (cr2 nex
       shared_open = open_windows.1;
     }
 
-    entering : Entering Fred image built SystemCall var (call.over Fred image built p n t cr2 next body) (call.context Fred image built p n t cr2 next body)
+    entering : Entering Fred image SystemCall var (call.over Fred image p n t cr2 next body) (call.context Fred image p n t cr2 next body)
     entering = record {
       framed = record { rip = refl; flags = refl; gs = refl; selector = refl; cr2 = refl };
       regs = ap (λ xs. set (set xs 1 next) 11 (flags_word t.flags)) (listed_is t.regs ready.long);
@@ -153,7 +153,7 @@ module _ (image : Image) (built : IsBuilt image) (p n : ℕ) (t : Task) (cr2 nex
       locals = refl;
     }
 
-    pub begins_call : Begins Fred image built p n t cr2 next body m
+    pub begins_call : Begins Fred image p n t cr2 next body m
     begins_call = record {
       cpu = handler;
       words = words_after m.words;

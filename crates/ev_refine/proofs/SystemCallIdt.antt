@@ -16,7 +16,6 @@ use Rattle.ev_idt.specs.IdtDelivery.{syscall_idt}
 use Rattle.ev_exec.specs.Exec.{exec}
 use Rattle.ev_proc.specs.ProcessorStep.{executed, special}
 use Rattle.ev_listing.specs.AddressMap.{pcpu, task_selector, stack_top, body_code}
-use Rattle.ev_built.specs.Built.{IsBuilt}
 use Rattle.ev_symbolic.specs.Value.{M}
 use Rattle.ev_symbolic.specs.Agrees.{Env, eval, eval_flags, Known, Open, Fits, Agrees}
 use Rattle.ev_symbolic.proofs.Blocks.{begins}
@@ -37,15 +36,15 @@ variables t next selector cr2 code i =
 abbrev masked_flags : Flags → Flags
 masked_flags f = flags_of (flags_word f - bit_and (flags_word f) 0x40200)
 
-module _ (image : Image) (built : IsBuilt image) (p n : ℕ) (t : Task) (cr2 next body : ℕ) where
+module _ (image : Image) (p n : ℕ) (t : Task) (cr2 next body : ℕ) where
   abbrev caller : Processor
-  caller = call.caller Idt image built p n t cr2 next body
+  caller = call.caller Idt image p n t cr2 next body
 
   abbrev var : ℕ → ℕ
   var = variables t next (task_selector p n) cr2 (body_code body)
 
   abbrev env : Env
-  env = here Idt image built p SystemCall (call.over Idt image built p n t cr2 next body) (call.context Idt image built p n t cr2 next body) var (masked_flags t.flags)
+  env = here Idt image p SystemCall (call.over Idt image p n t cr2 next body) (call.context Idt image p n t cr2 next body) var (masked_flags t.flags)
 
   abbrev handler : Processor
   handler = syscall_idt (record caller { rip = next })
@@ -57,15 +56,15 @@ module _ (image : Image) (built : IsBuilt image) (p n : ℕ) (t : Task) (cr2 nex
 
   -- ---- the activation that begins
 
-  module _ (m : Memory) (ready : Ready Idt image built p n t cr2 next body m) where
-    top_is : top_of Idt image built SystemCall (call.over Idt image built p n t cr2 next body) ≡ stack_top p 0
+  module _ (m : Memory) (ready : Ready Idt image p n t cr2 next body m) where
+    top_is : top_of Idt image SystemCall (call.over Idt image p n t cr2 next body) ≡ stack_top p 0
     top_is = ap (stack_top p) ready.running
 
     open_windows : Open env idt_ground.known m.regions × Open env idt_ground.shared m.regions
-    open_windows = ready.opens (call.over Idt image built p n t cr2 next body) (call.context Idt image built p n t cr2 next body) var (masked_flags t.flags) m ready.regions_are top_is
+    open_windows = ready.opens (call.over Idt image p n t cr2 next body) (call.context Idt image p n t cr2 next body) var (masked_flags t.flags) m ready.regions_are top_is
 
     fit : Fits (code_table Idt image) env (enter SystemCall)
-    fit = ready.fits (call.over Idt image built p n t cr2 next body) (call.context Idt image built p n t cr2 next body) var (masked_flags t.flags) top_is refl refl
+    fit = ready.fits (call.over Idt image p n t cr2 next body) (call.context Idt image p n t cr2 next body) var (masked_flags t.flags) top_is refl refl
 
     -- the words that the entry reads: the table's word, the top of the task's stack and the mark
     known : Known env idt_ground.known m.words fixed_words
@@ -100,7 +99,7 @@ module _ (image : Image) (built : IsBuilt image) (p n : ℕ) (t : Task) (cr2 nex
       shared_open = open_windows.1;
     }
 
-    called : Called Idt image built SystemCall var (call.over Idt image built p n t cr2 next body) (call.context Idt image built p n t cr2 next body)
+    called : Called Idt image SystemCall var (call.over Idt image p n t cr2 next body) (call.context Idt image p n t cr2 next body)
     called = record {
       rip = refl;
       flags = refl;
@@ -113,7 +112,7 @@ module _ (image : Image) (built : IsBuilt image) (p n : ℕ) (t : Task) (cr2 nex
       locals = refl;
     }
 
-    pub begins_call : Begins Idt image built p n t cr2 next body m
+    pub begins_call : Begins Idt image p n t cr2 next body m
     unfolding syscall_idt
     begins_call = record {
       cpu = handler;

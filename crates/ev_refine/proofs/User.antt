@@ -2,7 +2,7 @@
 use Rattle.std.proofs.Common.{◌≡◌, ℕ, suc, ◌+◌, ◌<◌, ◌≤◌, Bool, true, false, List, [], ◌∷◌, set, length, Option, Some, None, refl, sym, ap, ◌∙◌, subst, arith, ◌⊎◌, inl, inr, ⊎_elim}
 use Rattle.std.specs.Prelude.{if◌then◌else◌, slice_get, is_some}
 use Rattle.std.proofs.lemmas.List.{length-set}
-use Rattle.ev_isa.specs.Word.{NatMap}
+use Rattle.ev_isa.specs.Word.{NatMap, is_canonical}
 use Rattle.ev_isa.specs.Flags.{flags_word}
 use Rattle.ev_isa.specs.Spelling.{spelling}
 use Rattle.ev_isa.specs.declared.instruction.Ins.TheVariants.{Syscall}
@@ -101,8 +101,8 @@ shown_is p depth user fred told c words frame next hu hd hs =
 
 -- ---- what the delivery comes to, by the mode
 
-begins_call : (mode : Mode) (image : Image) (built : IsBuilt image) (p n : ℕ) (t : Task) (cr2 next body : ℕ) (m : Memory) → Ready mode image built p n t cr2 next body m → Begins mode image built p n t cr2 next body m
-begins_call Idt image built p n t cr2 next body m ready = idt.begins_call image built p n t cr2 next body m ready
+begins_call : (mode : Mode) (image : Image) (built : IsBuilt image) (p n : ℕ) (t : Task) (cr2 next body : ℕ) (m : Memory) → Ready mode image p n t cr2 next body m → Begins mode image p n t cr2 next body m
+begins_call Idt image built p n t cr2 next body m ready = idt.begins_call image p n t cr2 next body m ready
 begins_call Fred image built p n t cr2 next body m ready = fred.begins_call image built p n t cr2 next body m ready
 
 not_there : (a : ℕ) → IsFixed a → (a < 0xffffc90000000000) ⊎ (0xffffffff81000000 ≤ a)
@@ -113,7 +113,7 @@ not_there a (InCode h) = inr h
 
 module _ (mode : Mode) (image : Image) (formed : IsImage image) (built : IsBuilt image) (facts : Facts mode image) where
   -- a system call
-  pub call_turn : (left : NatMap ℕ) (s : System) (m : Machine) → Stands mode image built left s m → (p : ℕ) → p < image.processors → (processor m p).bodies ≡ [] → FitsAt mode image built p → OpensAt mode image built p
+  pub call_turn : (left : NatMap ℕ) (s : System) (m : Machine) → Stands mode image left s m → (p : ℕ) → p < image.processors → (processor m p).bodies ≡ [] → FitsAt mode image p → OpensAt mode image p
       → (u : AtUser mode image formed built facts left s m p) → u.ins ≡ Syscall → TurnsTo mode image built left s m p
   call_turn left s m h p lt hb fits opens u hi =
       let x : abstract.Processor = processor m p in
@@ -128,7 +128,7 @@ module _ (mode : Mode) (image : Image) (formed : IsImage image) (built : IsBuilt
       let zero_is : p ≡ 0 = omega (arith, built.one_processor) in
       let words : NatMap ℕ = s.memory.words in
       let table : words (user_table + 0x800) ≡ body_code body = h.fixed (user_table + 0x800) (InTables (omega arith) (omega arith)) ∙ table_word_is mode image built body found.1 in
-      let begun : Begins mode image built p n t c.cr2 next body s.memory = begins_call mode image built p n t c.cr2 next body s.memory (record {
+      let begun : Begins mode image p n t c.cr2 next body s.memory = begins_call mode image built p n t c.cr2 next body s.memory (record {
         running = u.on.running;
         small = small;
         long = u.runs.long;
@@ -140,11 +140,11 @@ module _ (mode : Mode) (image : Image) (formed : IsImage image) (built : IsBuilt
         top_is = u.on.top_is;
         mark = u.on.mark;
       }) in
-      let most : ℕ = most_edges mode image built in
+      let most : ℕ = most_edges mode image in
       let d : Processor = begun.cpu in
       let words' : NatMap ℕ = begun.words in
-      let w : Processor = over mode image built p n t c.cr2 next body in
-      let b : BodyContext = context mode image built p n t c.cr2 next body in
+      let w : Processor = over mode image p n t c.cr2 next body in
+      let b : BodyContext = context mode image p n t c.cr2 next body in
       let back : Task = returning t next in
       let z : abstract.Processor = with_task x back in
       let y : abstract.Processor = called x next body in
@@ -153,15 +153,16 @@ module _ (mode : Mode) (image : Image) (formed : IsImage image) (built : IsBuilt
       let m' : Machine = with_processor m p y in
       let task_is : task z ≡ back = put_same x.tasks n back in
       let empty : s.activations p ≡ [] = is_empty (s.activations p) u.shallow in
-      let runs : RunsTask mode image built p y w = record {
+      let runs : RunsTask mode image p y.running (task y) w = record {
         is = ap (λ (q : Task). task_processor mode image p n q c.cr2) (sym task_is);
         gs = ap (λ (q : Task). q.gs) task_is ∙ u.runs.gs;
         long = ap (λ (q : Task). length q.regs) task_is ∙ length-set (set t.regs 1 next) 11 (flags_word t.flags) ∙ length-set t.regs 1 next ∙ u.runs.long;
-        at = ap (λ (q : Task). begins built.program q.rip) task_is ∙ sym (ap (λ i. begins built.program (leads_to t.rip i)) hi) ∙ u.leads;
+        canonical = ap (λ (q : Task). is_canonical q.rip) task_is ∙ sym (ap (λ i. is_canonical (leads_to t.rip i)) hi) ∙ u.canonical;
+        at = λ program is. ap (λ (q : Task). begins program q.rip) task_is ∙ sym (ap (λ i. begins program (leads_to t.rip i)) hi) ∙ u.leads program is;
       } in
-      let is_context : IsContext mode image built b = record { item = call.item; is = call.first; interrupts = refl; service = refl; calls = refl } in
-      let chain : Chain mode image built p most y (b ∷ []) d (with_words s.memory words') = (w, SystemCall, refl, is_context, runs, begun.active) in
-      let stands_on : StandsOn mode image built p most s' y = record {
+      let is_context : IsContext mode image b = record { item = call.item; is = call.first; interrupts = refl; service = refl; calls = refl } in
+      let chain : Chain mode image p most y.running (task y) (b ∷ []) d (with_words s.memory words') = (w, SystemCall, refl, is_context, runs, begun.active) in
+      let stands_on : StandsOn mode image p most s' y = record {
         few = omega arith;
         running = u.on.running;
         waiting = u.on.waiting;
@@ -174,7 +175,7 @@ module _ (mode : Mode) (image : Image) (formed : IsImage image) (built : IsBuilt
         top_is = begun.stays (pcpu p + 0x10) (inl (omega arith)) ∙ u.on.top_is;
         task_is = begun.stays (pcpu p + 0x18) (inl (omega arith)) ∙ u.on.task_is;
         depth = ap length (put_same s.activations p (activations_by s p (s.activations p) d r.step)) ∙ ap (λ (as' : List Activation). suc (length (interrupted c as'))) empty;
-        chain = subst (λ q. Chain mode image built p most y (b ∷ []) q (with_words s.memory words')) (sym (put_same s.cpus p d)) chain;
+        chain = subst (λ q. Chain mode image p most y.running (task y) (b ∷ []) q (with_words s.memory words')) (sym (put_same s.cpus p d)) chain;
       } in
       let only : OnlyTask s = record {
         none = subst (λ q. s.activations q ≡ []) zero_is empty;
@@ -184,7 +185,7 @@ module _ (mode : Mode) (image : Image) (formed : IsImage image) (built : IsBuilt
       let entries : List Entry = Enter p Sys Other User 1 0 0 (Some next) ∷ [] in
       record {
         after = r;
-        steps = u.steps ∙ ap (λ i. executed (caller mode image built p n t c.cr2 next body) opening_apic s.memory false (Some i)) hi ∙ begun.runs opening_apic false;
+        steps = u.steps ∙ ap (λ i. executed (caller mode image p n t c.cr2 next body) opening_apic s.memory false (Some i)) hi ∙ begun.runs opening_apic false;
         machine = m';
         entries = entries;
         turns = u.turns ∙ ap (λ i. task_step image m p (user.executed (user_view (user_memory image m)) t (t.rip + length (spelling i)) i)) hi
@@ -192,15 +193,15 @@ module _ (mode : Mode) (image : Image) (formed : IsImage image) (built : IsBuilt
         seen = u.seen;
         now_left = most;
         stands = stands_acted mode image built _ s' m' image.processors p call_event begun.frame
-            (stands_again mode image built left s m h p lt most s' m' refl (λ q i. begun.stays q (not_there q i)) refl refl (subst (λ q. StandsOn mode image built p most s' q) (sym (put_same m.processors p y)) stands_on));
+            (stands_again mode image built left s m h p lt most s' m' refl (λ q i. begun.stays q (not_there q i)) refl refl (subst (λ q. StandsOn mode image p most s' q) (sym (put_same m.processors p y)) stands_on));
         shows = λ told. shown_is p (length (s.activations p)) (is_user c) (has_fred c) told begun.cpu begun.words begun.frame next u.at_cpl3 u.shallow
             (ap (λ q. saved_rip (has_fred q) begun.cpu begun.words call_event begun.frame) u.runs.is ∙ begun.saved);
         safe = begun.safe s only image.processors s';
       }
 
   -- a turn of the task is visible, and the abstract machine makes the same; it writes over no live word
-  pub user_turn : (left : NatMap ℕ) (s : System) (m : Machine) → Stands mode image built left s m → (p : ℕ) → p < image.processors → (processor m p).bodies ≡ [] → FitsAt mode image built p → OpensAt mode image built p
-      → MakesTurn mode image built left s m p × IsSafeStep mode image s p
+  pub user_turn : (left : NatMap ℕ) (s : System) (m : Machine) → Stands mode image left s m → (p : ℕ) → p < image.processors → (processor m p).bodies ≡ [] → FitsAt mode image p → OpensAt mode image p
+      → MakesTurn mode image left s m p × IsSafeStep mode image s p
   user_turn left s m h p lt hb fits opens =
       let u : AtUser mode image formed built facts left s m p = at_user mode image formed built facts left s m h p lt hb in
       let t : TurnsTo mode image built left s m p

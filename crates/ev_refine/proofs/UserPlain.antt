@@ -1,7 +1,6 @@
 -- A turn of the task: what both machines make of it, and the turns that raise no event.
-use Rattle.std.proofs.Common.{◌≡◌, ℕ, ◌+◌, ◌-◌, ◌/◌, ◌^◌, ◌<◌, Bool, true, false, ◌&&◌, not, List, [], length, Some, refl, sym, ap, ◌∙◌, subst, arith}
-use Rattle.std.specs.Prelude.{◌==◌, ◌||◌, if◌then◌else◌}
-use Rattle.std.proofs.lemmas.Bool.{eq-eqb}
+use Rattle.std.proofs.Common.{◌≡◌, ℕ, ◌+◌, ◌<◌, Bool, true, false, ◌&&◌, not, List, [], length, Some, refl, sym, ap, ◌∙◌, subst, arith}
+use Rattle.std.specs.Prelude.{◌||◌, if◌then◌else◌}
 use Rattle.ev_isa.specs.Word.{NatMap, is_canonical}
 use Rattle.ev_isa.specs.Spelling.{spelling}
 use Rattle.ev_isa.specs.declared.instruction.Ins.{Ins}
@@ -22,26 +21,23 @@ use Rattle.ev_abstract.specs.Run.{turn, task_step}
 use Rattle.ev_concrete.specs.Opening.{opening_apic}
 use Rattle.ev_concrete.specs.ConcreteRun.{System, marks_of, mark_at, is_visible, is_visible_by, is_seen, after_step, activations_by, is_return, is_repeated, without_last, Activation}
 use Rattle.ev_built.specs.Built.{IsBuilt}
-use Rattle.ev_built.specs.Program.{begins, leads_to, is_built_instruction}
-use Rattle.ev_refine.specs.Relation.{task_processor, RunsTask, Chain, StandsOn, Stands}
+use Rattle.ev_built.specs.Program.{begins, leads_to, is_built_instruction, IsProgram}
+use Rattle.ev_refine.specs.Relation.{task_processor, first_start, IsInProgram, RunsTask, Chain, StandsOn, Stands}
 use Rattle.ev_refine.proofs.Facts.{Facts}
-use Rattle.ev_refine.proofs.UserText.{Reads, reads}
+use Rattle.ev_refine.proofs.UserText.{Reads, reads, task_canonical, first_program, leads_again}
 use Rattle.ev_refine.proofs.UserState.{put_same, TurnsTo, stands_again}
 use Rattle.ev_refine.proofs.UserStep.{instruction_next, user_steps, task_turns, user_reads, Makes, plain_runs}
-
-low_canonical : (a : ℕ) → a < 0x410000 → is_canonical a ≡ true
-low_canonical a h = ap (λ b. b || (a / 2 ^ 47 == 2 ^ 17 - 1)) (eq-eqb (a / 2 ^ 47) 0 (let e : a / 140737488355328 ≡ 0 = omega arith in e))
 
 module _ (mode : Mode) (image : Image) (formed : IsImage image) (built : IsBuilt image) (facts : Facts mode image) where
   -- the instruction of the task that comes next, on both sides
   pub record AtUser (left : NatMap ℕ) (s : System) (m : Machine) (p : ℕ) : Type 0 where
-    pub on : StandsOn mode image built p (left p) s (processor m p)
-    pub runs : RunsTask mode image built p (processor m p) (s.cpus p)
+    pub on : StandsOn mode image p (left p) s (processor m p)
+    pub runs : RunsTask mode image p (processor m p).running (task (processor m p)) (s.cpus p)
     pub at_cpl3 : is_user (s.cpus p) ≡ true
     pub shallow : length (s.activations p) ≡ 0
     pub ins : Ins
     pub is_built : is_built_instruction ins ≡ true
-    pub leads : begins built.program (leads_to (task (processor m p)).rip ins) ≡ true
+    pub leads : IsInProgram image (leads_to (task (processor m p)).rip ins)
     pub canonical : is_canonical (leads_to (task (processor m p)).rip ins) ≡ true
     pub steps : step (s.cpus p) (s.apics p) s.memory (s.latches p)
         ≡ executed (task_processor mode image p (processor m p).running (task (processor m p)) (s.cpus p).cr2) opening_apic s.memory false (Some ins)
@@ -49,16 +45,16 @@ module _ (mode : Mode) (image : Image) (formed : IsImage image) (built : IsBuilt
         ≡ task_step image m p (user.executed (user_view (user_memory image m)) (task (processor m p)) ((task (processor m p)).rip + length (spelling ins)) ins)
     pub seen : is_visible (marks_of mode image) s p ≡ true
 
-  pub at_user : (left : NatMap ℕ) (s : System) (m : Machine) → Stands mode image built left s m → (p : ℕ) → p < image.processors → (processor m p).bodies ≡ [] → AtUser left s m p
+  pub at_user : (left : NatMap ℕ) (s : System) (m : Machine) → Stands mode image left s m → (p : ℕ) → p < image.processors → (processor m p).bodies ≡ [] → AtUser left s m p
   unfolding is_visible
   at_user left s m h p lt hb =
       let x : abstract.Processor = processor m p in
       let t : Task = task x in
       let c : Processor = s.cpus p in
-      let on : StandsOn mode image built p (left p) s x = h.each p lt in
-      let runs : RunsTask mode image built p x c = subst (λ bs. Chain mode image built p (left p) x bs c s.memory) hb on.chain in
-      let reads_it : Reads built.program image.text t.rip = reads image.text built.task.start built.program built.is_program t.rip runs.at in
-      let next_one : Reads built.program image.text (leads_to t.rip reads_it.ins) = reads image.text built.task.start built.program built.is_program (leads_to t.rip reads_it.ins) reads_it.leads in
+      let on : StandsOn mode image p (left p) s x = h.each p lt in
+      let runs : RunsTask mode image p x.running (task x) c = subst (λ bs. Chain mode image p (left p) x.running (task x) bs c s.memory) hb on.chain in
+      let is_program : IsProgram image.text (first_start image) built.program = first_program image built in
+      let reads_it : Reads built.program image.text t.rip = reads image.text (first_start image) built.program is_program t.rip (runs.at built.program is_program) in
       let rip : c.rip ≡ t.rip = ap (λ (z : Processor). z.rip) runs.is in
       let is_it : is_user c ≡ true = ap is_user runs.is in
       let fetch = facts.user_fetch s.memory h.regions_are h.fixed t.rip reads_it.from reads_it.to in
@@ -70,8 +66,8 @@ module _ (mode : Mode) (image : Image) (formed : IsImage image) (built : IsBuilt
         shallow = on.depth ∙ ap length hb;
         ins = reads_it.ins;
         is_built = reads_it.built;
-        leads = reads_it.leads;
-        canonical = low_canonical (leads_to t.rip reads_it.ins) (omega (arith, next_one.to, formed.text_fits));
+        leads = λ program is. leads_again image t.rip reads_it.ins program is reads_it.is (runs.at program is);
+        canonical = task_canonical image formed (first_start image) built.program is_program (leads_to t.rip reads_it.ins) reads_it.leads;
         steps = user_steps c (s.apics p) s.memory (s.latches p) reads_it.ins next is_it
             (ap (page_fault s.memory (record { user = true; write = false; fetch = true })) rip ∙ fetch.0)
             (ap (instruction_at s.memory.words) rip ∙ fetch.1 ∙ reads_it.is)
@@ -94,7 +90,7 @@ module _ (mode : Mode) (image : Image) (formed : IsImage image) (built : IsBuilt
       pick false b = refl
 
   -- a turn that raises no event
-  pub plain_turn : (left : NatMap ℕ) (s : System) (m : Machine) → Stands mode image built left s m → (p : ℕ) → p < image.processors → (processor m p).bodies ≡ [] → (u : AtUser left s m p) → Makes (task (processor m p)) u.ins
+  pub plain_turn : (left : NatMap ℕ) (s : System) (m : Machine) → Stands mode image left s m → (p : ℕ) → p < image.processors → (processor m p).bodies ≡ [] → (u : AtUser left s m p) → Makes (task (processor m p)) u.ins
       → TurnsTo mode image built left s m p
   plain_turn left s m h p lt hb u k =
       let x : abstract.Processor = processor m p in
@@ -105,14 +101,15 @@ module _ (mode : Mode) (image : Image) (formed : IsImage image) (built : IsBuilt
       let s' : System = after_step s p r in
       let m' : Machine = with_processor m p y in
       let task_is : task y ≡ k.task = put_same x.tasks x.running k.task in
-      let runs : RunsTask mode image built p y d = record {
+      let runs : RunsTask mode image p y.running (task y) d = record {
         is = ap (λ t. task_processor mode image p x.running t c.cr2) (sym task_is);
         gs = ap (λ (t : Task). t.gs) task_is ∙ k.gs ∙ u.runs.gs;
         long = ap (λ (t : Task). length t.regs) task_is ∙ k.long ∙ u.runs.long;
-        at = ap (λ (t : Task). begins built.program t.rip) task_is ∙ ap (begins built.program) k.rip ∙ u.leads;
+        canonical = ap (λ (t : Task). is_canonical t.rip) task_is ∙ ap is_canonical k.rip ∙ u.canonical;
+        at = λ program is. ap (λ (t : Task). begins program t.rip) task_is ∙ ap (begins program) k.rip ∙ u.leads program is;
       } in
-      let chain : Chain mode image built p 0 y y.bodies d s.memory = subst (λ bs. Chain mode image built p 0 y bs d s.memory) (sym hb) runs in
-      let stands_on : StandsOn mode image built p 0 s' y = record {
+      let chain : Chain mode image p 0 y.running (task y) y.bodies d s.memory = subst (λ bs. Chain mode image p 0 y.running (task y) bs d s.memory) (sym hb) runs in
+      let stands_on : StandsOn mode image p 0 s' y = record {
         few = omega arith;
         running = u.on.running;
         waiting = u.on.waiting;
@@ -125,7 +122,7 @@ module _ (mode : Mode) (image : Image) (formed : IsImage image) (built : IsBuilt
         top_is = u.on.top_is;
         task_is = u.on.task_is;
         depth = ap length (put_same s.activations p (activations_by s p (s.activations p) d Stepped.Ran)) ∙ ap length (same_activations s p (s.activations p) d u.at_cpl3) ∙ u.on.depth;
-        chain = subst (λ z. Chain mode image built p 0 y y.bodies z s.memory) (sym (put_same s.cpus p d)) chain;
+        chain = subst (λ z. Chain mode image p 0 y.running (task y) y.bodies z s.memory) (sym (put_same s.cpus p d)) chain;
       } in
       record {
         after = r;
@@ -135,7 +132,7 @@ module _ (mode : Mode) (image : Image) (formed : IsImage image) (built : IsBuilt
         turns = u.turns ∙ ap (task_step image m p) (k.user (user_view (user_memory image m)) ∙ ap (step_of (task x)) (k.is (user_view (user_memory image m))));
         seen = u.seen;
         now_left = 0;
-        stands = stands_again mode image built left s m h p lt 0 s' m' refl (λ a i. refl) refl refl (subst (λ z. StandsOn mode image built p 0 s' z) (sym (put_same m.processors p y)) stands_on);
+        stands = stands_again mode image built left s m h p lt 0 s' m' refl (λ a i. refl) refl refl (subst (λ z. StandsOn mode image p 0 s' z) (sym (put_same m.processors p y)) stands_on);
         shows = λ told. ap (λ b. if b then [] else told) u.at_cpl3;
         safe = refl;
       }

@@ -33,7 +33,7 @@ module _ (mode : Mode) (image : Image) (built : IsBuilt image) where
     pub turns : turn image m p ≡ (machine, entries)
     pub seen : is_visible (marks_of mode image) s p ≡ true
     pub now_left : ℕ
-    pub stands : Stands mode image built (put_at left p now_left) (acted image.processors (after_step s p after) p after.step).0 machine
+    pub stands : Stands mode image (put_at left p now_left) (acted image.processors (after_step s p after) p after.step).0 machine
     pub shows : (told : List Entry)
         → shown_by p (length (s.activations p)) (is_user (s.cpus p)) (has_fred (s.cpus p)) told after.cpu after.words after.step ≡ entries
     pub safe : list_any (overwrites mode image s) (acted image.processors (after_step s p after) p after.step).1 ≡ false
@@ -42,13 +42,13 @@ module _ (mode : Mode) (image : Image) (built : IsBuilt image) where
   unfolding concrete_step
   concrete_is left s m p t = ap (λ r. acted image.processors (after_step s p r) p r.step) t.steps
 
-  pub makes_turn : (left : NatMap ℕ) (s : System) (m : Machine) (p : ℕ) → TurnsTo left s m p → MakesTurn mode image built left s m p
+  pub makes_turn : (left : NatMap ℕ) (s : System) (m : Machine) (p : ℕ) → TurnsTo left s m p → MakesTurn mode image left s m p
   unfolding shown
   makes_turn left s m p t = record {
     seen = t.seen;
     now_left = t.now_left;
-    stands = subst (λ z. Stands mode image built (put_at left p t.now_left) z.0 (turn image m p).0) (sym (concrete_is left s m p t))
-        (subst (λ z. Stands mode image built (put_at left p t.now_left) (acted image.processors (after_step s p t.after) p t.after.step).0 z.0) (sym t.turns) t.stands);
+    stands = subst (λ z. Stands mode image (put_at left p t.now_left) z.0 (turn image m p).0) (sym (concrete_is left s m p t))
+        (subst (λ z. Stands mode image (put_at left p t.now_left) (acted image.processors (after_step s p t.after) p t.after.step).0 z.0) (sym t.turns) t.stands);
     entries = let told : List Entry = told_at (mark_at (marks_of mode image) (s.cpus p).rip) s p in
         ap (λ r. shown_by p (length (s.activations p)) (is_user (s.cpus p)) (has_fred (s.cpus p)) told r.cpu r.words r.step) t.steps
         ∙ t.shows told ∙ sym (ap (λ z. z.1) t.turns);
@@ -58,28 +58,28 @@ module _ (mode : Mode) (image : Image) (built : IsBuilt image) where
   is_safe left s m p t = ap (λ z. list_any (overwrites mode image s) z.1) (concrete_is left s m p t) ∙ t.safe
 
   -- what else stands, where the step leaves the words that nothing writes
-  pub stands_again : (left : NatMap ℕ) (s : System) (m : Machine) → Stands mode image built left s m → (p : ℕ) → p < image.processors → (now_left : ℕ) (s' : System) (m' : Machine)
+  pub stands_again : (left : NatMap ℕ) (s : System) (m : Machine) → Stands mode image left s m → (p : ℕ) → p < image.processors → (now_left : ℕ) (s' : System) (m' : Machine)
       → s'.memory.regions ≡ s.memory.regions → ((a : ℕ) → IsFixed a → s'.memory.words a ≡ s.memory.words a) → m'.words ≡ m.words → m'.present ≡ m.present
-      → StandsOn mode image built p now_left s' (processor m' p) → Stands mode image built (put_at left p now_left) s' m'
+      → StandsOn mode image p now_left s' (processor m' p) → Stands mode image (put_at left p now_left) s' m'
   stands_again left s m h p lt now_left s' m' hr hf hw hp ho = record {
     regions_are = hr ∙ h.regions_are;
     fixed = λ a i. hf a i ∙ h.fixed a i;
     text = hw ∙ h.text;
     present = hp ∙ h.present;
     each = λ q l. let same : p ≡ q = omega (arith, built.one_processor) in
-        subst (λ q. StandsOn mode image built q (put_at left p now_left q) s' (processor m' q)) same
-        (subst (λ n. StandsOn mode image built p n s' (processor m' p)) (sym (put_same left p now_left)) ho);
+        subst (λ q. StandsOn mode image q (put_at left p now_left q) s' (processor m' q)) same
+        (subst (λ n. StandsOn mode image p n s' (processor m' p)) (sym (put_same left p now_left)) ho);
   }
 
   -- a delivery that is counted leaves the rest
-  pub stands_acted : (left : NatMap ℕ) (s : System) (m : Machine) (n p : ℕ) (e : Event) (frame : Option ℕ) → Stands mode image built left s m → Stands mode image built left (acted n s p (Stepped.Delivered e frame)).0 m
+  pub stands_acted : (left : NatMap ℕ) (s : System) (m : Machine) (n p : ℕ) (e : Event) (frame : Option ℕ) → Stands mode image left s m → Stands mode image left (acted n s p (Stepped.Delivered e frame)).0 m
   stands_acted left s m n p e None h = h
   stands_acted left s m n p e (Some a) h = record {
     regions_are = h.regions_are;
     fixed = h.fixed;
     text = h.text;
     present = h.present;
-    each = λ q l. let o : StandsOn mode image built q (left q) s (processor m q) = h.each q l in record {
+    each = λ q l. let o : StandsOn mode image q (left q) s (processor m q) = h.each q l in record {
       few = o.few;
       running = o.running;
       waiting = o.waiting;

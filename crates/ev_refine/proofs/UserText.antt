@@ -1,21 +1,29 @@
 -- The instruction at the RIP of a task: it stands in the text, it is one of today's, and it leads to the beginning of another.
-use Rattle.std.proofs.Common.{◌≡◌, ℕ, suc, ◌+◌, ◌-◌, ◌<◌, ◌≤◌, Bool, true, false, List, [], ◌∷◌, ◌++◌, length, take, drop, Option, Some, None, refl, sym, ap, ◌∙◌, subst, arith, append_assoc}
-use Rattle.std.specs.Prelude.{◌==◌, if◌then◌else◌, replicate, is_some}
-use Rattle.std.proofs.lemmas.Bool.{eqb-true}
+use Rattle.std.proofs.Common.{◌≡◌, ℕ, suc, ◌+◌, ◌-◌, ◌/◌, ◌^◌, ◌<◌, ◌≤◌, Bool, true, false, List, [], ◌∷◌, ◌++◌, get_or, length, take, drop, Option, Some, None, refl, sym, ap, ◌∙◌, subst, arith, append_assoc}
+use Rattle.std.specs.Prelude.{◌==◌, ◌||◌, if◌then◌else◌, replicate, is_some}
+use Rattle.std.proofs.lemmas.Bool.{eqb-true, eq-eqb}
 use Rattle.std.proofs.lemmas.List.{length-append}
 use Rattle.std.proofs.Math.Seq.{take-append-add}
+use Rattle.ev_isa.specs.Word.{is_canonical}
 use Rattle.ev_isa.specs.Pages.{text_base}
 use Rattle.ev_isa.specs.Spelling.{spelling}
 use Rattle.ev_isa.specs.Reading.{reading}
 use Rattle.ev_isa.specs.declared.instruction.AluOp.TheVariants.{Add}
 use Rattle.ev_isa.specs.declared.instruction.Ins.{Ins}
 use Rattle.ev_isa.specs.declared.instruction.Ins.TheVariants.{MovImm, Alu, Jmp, Syscall}
+use Rattle.ev_body.specs.declared.image.Image.{Image}
+use Rattle.ev_body.specs.declared.image.TaskSpec.{TaskSpec}
+use Rattle.ev_body.specs.WellFormed.{IsImage}
 use Rattle.ev_code.specs.Coding.{IsEncodable}
 use Rattle.ev_code.proofs.Spelled.{spelling_length}
 use Rattle.ev_code.proofs.ReadingForms.{reading_again}
+use Rattle.ev_abstract.specs.Machine.{no_task}
 use Rattle.ev_abstract.specs.UserCode.{text_bytes}
+use Rattle.ev_built.specs.Built.{IsBuilt}
 use Rattle.ev_built.specs.Program.{spelled, instruction_from, begins, leads_to, all_lead, is_built_instruction, all_built, AllEncodable, IsProgram}
 use Rattle.ev_symbolic.proofs.Values.{and_left, and_right}
+use Rattle.ev_symbolic.proofs.Blocks.{unsome}
+use Rattle.ev_refine.specs.Relation.{first_start}
 
 -- today's instructions have bytes
 spelling_some : (i : Ins) → is_built_instruction i ≡ true → 0 < length (spelling i)
@@ -113,3 +121,23 @@ reads text start program p x h = pick (instruction_from text_base program x) ref
     pick : (o : Option Ins) → instruction_from text_base program x ≡ o → is_some o ≡ true → Reads program text x
     pick None q k = absurd (cc)
     pick (Some i) q k = found i (stands_at program text_base program x i q p.built p.encodable p.closed)
+
+-- an address where an instruction begins is canonical, since the text is short
+low_canonical : (a : ℕ) → a < 0x410000 → is_canonical a ≡ true
+low_canonical a h = ap (λ b. b || (a / 2 ^ 47 == 2 ^ 17 - 1)) (eq-eqb (a / 2 ^ 47) 0 (let e : a / 140737488355328 ≡ 0 = omega arith in e))
+
+pub task_canonical : (image : Image) → IsImage image → (start : ℕ) (program : List Ins) → IsProgram image.text start program
+    → (x : ℕ) → begins program x ≡ true → is_canonical x ≡ true
+task_canonical image formed start program p x h = low_canonical x (omega (arith, (reads image.text start program p x h).to, formed.text_fits))
+
+-- the program of an image that runs today
+pub first_program : (image : Image) (built : IsBuilt image) → IsProgram image.text (first_start image) built.program
+first_program image built = subst (λ a. IsProgram image.text a built.program)
+    (sym (ap (λ (ts : List (List TaskSpec)). (get_or (get_or ts 0 []) 0 no_task).start) built.one_task)) built.is_program
+
+-- of every program that the text is, the instruction that is read leads to the beginning of one
+pub leads_again : (image : Image) (x : ℕ) (i : Ins) (program : List Ins) → IsProgram image.text (first_start image) program
+    → reading (text_bytes image.text x) ≡ Some i → begins program x ≡ true → begins program (leads_to x i) ≡ true
+leads_again image x i program p is h =
+    let r : Reads program image.text x = reads image.text (first_start image) program p x h in
+    subst (λ j. begins program (leads_to x j) ≡ true) (unsome r.ins i (sym r.is ∙ is)) r.leads

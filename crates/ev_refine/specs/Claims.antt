@@ -19,19 +19,19 @@ use Rattle.ev_concrete.specs.Shown.{shown}
 
 -- ---- the step theorem
 
-module _ (mode : Mode) (image : Image) (built : IsBuilt image) where
+module _ (mode : Mode) (image : Image) where
   -- an edge: the abstract state stays, and fewer edges are left
   pub record MakesEdge (left : NatMap ℕ) (s : System) (m : Machine) (p : ℕ) : Type 0 where
     pub hidden : is_visible (marks_of mode image) s p ≡ false
     pub now_left : ℕ
     pub fewer : now_left < left p
-    pub stands : Stands mode image built (put_at left p now_left) (concrete_step image.processors s p).0 m
+    pub stands : Stands mode image (put_at left p now_left) (concrete_step image.processors s p).0 m
 
   -- a visible step: the abstract machine makes one with the same entries
   pub record MakesTurn (left : NatMap ℕ) (s : System) (m : Machine) (p : ℕ) : Type 0 where
     pub seen : is_visible (marks_of mode image) s p ≡ true
     pub now_left : ℕ
-    pub stands : Stands mode image built (put_at left p now_left) (concrete_step image.processors s p).0 (turn image m p).0
+    pub stands : Stands mode image (put_at left p now_left) (concrete_step image.processors s p).0 (turn image m p).0
     pub entries : shown (marks_of mode image) s p ≡ (turn image m p).1
 
   -- one concrete step, which writes over no live word
@@ -41,34 +41,34 @@ module _ (mode : Mode) (image : Image) (built : IsBuilt image) where
 
 -- each concrete step is an edge or visible
 abbrev pub Refines : Type 0
-Refines = (mode : Mode) (image : Image) (built : IsBuilt image) → mode_is_built mode ≡ true → IsImage image → (left : NatMap ℕ) (s : System) (m : Machine) → Stands mode image built left s m
-    → (p : ℕ) → p < image.processors → Simulated mode image built left s m p
+Refines = (mode : Mode) (image : Image) → IsBuilt image → mode_is_built mode ≡ true → IsImage image → (left : NatMap ℕ) (s : System) (m : Machine) → Stands mode image left s m
+    → (p : ℕ) → p < image.processors → Simulated mode image left s m p
 
 -- the opening of the one stands for that of the other
 abbrev pub Opens : Type 0
-Opens = (mode : Mode) (image : Image) (built : IsBuilt image) → mode_is_built mode ≡ true → IsImage image → Stands mode image built (λ p. 0) (opening_system mode image) (opening image)
+Opens = (mode : Mode) (image : Image) → IsBuilt image → mode_is_built mode ≡ true → IsImage image → Stands mode image (λ p. 0) (opening_system mode image) (opening image)
 
 -- ---- runs of edges, turns and scripts
 
 -- any number of edges, and after as many as are left the next step is visible
-pub record Settles (mode : Mode) (image : Image) (built : IsBuilt image) (left : NatMap ℕ) (s : System) (m : Machine) (p : ℕ) : Type 0 where
-  pub after : (k : ℕ) → (now_left : ℕ) × Stands mode image built (put_at left p now_left) (edges k (marks_of mode image) image.processors s p).0 m
+pub record Settles (mode : Mode) (image : Image) (left : NatMap ℕ) (s : System) (m : Machine) (p : ℕ) : Type 0 where
+  pub after : (k : ℕ) → (now_left : ℕ) × Stands mode image (put_at left p now_left) (edges k (marks_of mode image) image.processors s p).0 m
   pub seen : (k : ℕ) → left p ≤ k → is_visible (marks_of mode image) (edges k (marks_of mode image) image.processors s p).0 p ≡ true
 
 abbrev pub AllSettle : Type 0
-AllSettle = (mode : Mode) (image : Image) (built : IsBuilt image) → mode_is_built mode ≡ true → IsImage image → (left : NatMap ℕ) (s : System) (m : Machine) → Stands mode image built left s m
-    → (p : ℕ) → p < image.processors → Settles mode image built left s m p
+AllSettle = (mode : Mode) (image : Image) → IsBuilt image → mode_is_built mode ≡ true → IsImage image → (left : NatMap ℕ) (s : System) (m : Machine) → Stands mode image left s m
+    → (p : ℕ) → p < image.processors → Settles mode image left s m p
 
 -- a turn of the one is a turn of the other
 abbrev pub TurnsFollow : Type 0
-TurnsFollow = (mode : Mode) (image : Image) (built : IsBuilt image) → mode_is_built mode ≡ true → IsImage image → (left : NatMap ℕ) (s : System) (m : Machine) → Stands mode image built left s m
+TurnsFollow = (mode : Mode) (image : Image) → IsBuilt image → mode_is_built mode ≡ true → IsImage image → (left : NatMap ℕ) (s : System) (m : Machine) → Stands mode image left s m
     → (p : ℕ) → p < image.processors
-    → (now_left : ℕ) × Stands mode image built (put_at left p now_left) (concrete_turn (marks_of mode image) image.processors s p).0 (turn image m p).0
+    → (now_left : ℕ) × Stands mode image (put_at left p now_left) (concrete_turn (marks_of mode image) image.processors s p).0 (turn image m p).0
 
 -- after every script of today's lines the concrete run stands for the abstract one
 abbrev pub RunsFollow : Type 0
-RunsFollow = (mode : Mode) (image : Image) (built : IsBuilt image) → mode_is_built mode ≡ true → IsImage image → (script : List Line) → IsScript image script → list_all line_is_built script ≡ true
-    → (left : NatMap ℕ) × Stands mode image built left (concrete_run mode image script).0 (run image script)
+RunsFollow = (mode : Mode) (image : Image) → IsBuilt image → mode_is_built mode ≡ true → IsImage image → (script : List Line) → IsScript image script → list_all line_is_built script ≡ true
+    → (left : NatMap ℕ) × Stands mode image left (concrete_run mode image script).0 (run image script)
 
 -- ---- what the relation says to those who make the steps
 
@@ -84,5 +84,5 @@ pub record Tells (mode : Mode) (image : Image) (s : System) (m : Machine) (p : �
   pub gs : (processor m p).bodies ≡ [] → (s.cpus p).msrs.gs_base ≡ (task (processor m p)).gs
 
 abbrev pub StandsTells : Type 0
-StandsTells = (mode : Mode) (image : Image) (built : IsBuilt image) → mode_is_built mode ≡ true → IsImage image → (left : NatMap ℕ) (s : System) (m : Machine) → Stands mode image built left s m
+StandsTells = (mode : Mode) (image : Image) → IsBuilt image → mode_is_built mode ≡ true → IsImage image → (left : NatMap ℕ) (s : System) (m : Machine) → Stands mode image left s m
     → (p : ℕ) → p < image.processors → Tells mode image s m p

@@ -1,9 +1,10 @@
 -- When a state of the concrete machine stands for one of the abstract machine. Own.
 -- The abstract machine's contexts are matched from the last down: an activation stands over the processor that its return restores.
 use Rattle.std.specs.Prelude.{◌≡◌, ℕ, ◌+◌, ◌*◌, ◌<◌, ◌≤◌, true, false, ◌==◌, if◌then◌else◌, List, [], ◌∷◌, length, get_or, drop, slice_get, Option, Some, None}
-use Rattle.ev_isa.specs.Word.{NatMap, no_numbers}
+use Rattle.ev_isa.specs.Word.{NatMap, is_canonical, no_numbers}
 use Rattle.ev_isa.specs.Flags.{Flags, flags_word}
 use Rattle.ev_isa.specs.Pages.{text_base}
+use Rattle.ev_isa.specs.declared.instruction.Ins.{Ins}
 use Rattle.ev_isa.specs.declared.mode.Mode.{Mode}
 use Rattle.ev_isa.specs.declared.mode.Mode.TheVariants.{Idt, Fred}
 use Rattle.ev_body.specs.declared.item.Item.{Item}
@@ -16,13 +17,12 @@ use Rattle.ev_mem.specs.Memory.{Memory}
 use Rattle.ev_listing.specs.AddressMap.{pcpu, user_table, idt_base, task_words, task_selector, stack_top, fred_page, body_code}
 use Rattle.ev_listing.specs.Expansion.{item_address}
 use Rattle.ev_abstract.specs.Context.{BodyContext}
-use Rattle.ev_abstract.specs.Machine.{Machine, processor, task}
+use Rattle.ev_abstract.specs.Machine.{Machine, processor, task, no_task}
 use Rattle.ev_abstract.specs.Machine as abstract
 use Rattle.ev_abstract.specs.Run.{item_at}
 use Rattle.ev_concrete.specs.Opening.{listings, code_of, opening_word, opening_apic, opening_cpu, regions}
 use Rattle.ev_concrete.specs.ConcreteRun.{System}
-use Rattle.ev_built.specs.Built.{IsBuilt}
-use Rattle.ev_built.specs.Program.{begins}
+use Rattle.ev_built.specs.Program.{begins, IsProgram}
 use Rattle.ev_symbolic.specs.Agrees.{Env, untracked, At}
 use Rattle.ev_table.specs.Table.{code_table}
 use Rattle.ev_activation.specs.Activation.{Kind, SystemCall, Spot, AtEntry, AtItem, AtExit}
@@ -60,24 +60,32 @@ pub data IsFixed (a : ℕ) : Type 0 where
 
 -- ---- the task of a processor
 
--- the processor p as the running task has it; CR2 is any
+-- the processor p as its task r has it, where the task is t; CR2 is any
 abbrev pub task_processor : Mode → Image → ℕ → ℕ → Task → ℕ → Processor
-task_processor mode image p running t cr2 = record (opening_cpu mode image p) {
+task_processor mode image p r t cr2 = record (opening_cpu mode image p) {
   regs = t.regs;
   rip = t.rip;
   flags = flags_word t.flags;
-  gs = task_selector p running;
+  gs = task_selector p r;
   cr2 = cr2;
-  msrs = record ((opening_cpu mode image p).msrs) { gs_base = t.gs; rsp = stack_top p running ∷ drop 1 (opening_cpu mode image p).msrs.rsp };
+  msrs = record ((opening_cpu mode image p).msrs) { gs_base = t.gs; rsp = stack_top p r ∷ drop 1 (opening_cpu mode image p).msrs.rsp };
 }
 
-module _ (mode : Mode) (image : Image) (built : IsBuilt image) where
-  -- the processor c runs the task; its RIP is at an instruction of user code
-  pub record RunsTask (p : ℕ) (x : abstract.Processor) (c : Processor) : Type 0 where
-    pub is : c ≡ task_processor mode image p x.running (task x) c.cr2
-    pub gs : (task x).gs ≡ 0
-    pub long : length (task x).regs ≡ 16
-    pub at : begins built.program (task x).rip ≡ true
+-- where the first task begins, and whether RIP is at an instruction of user code, as far as the text is a program
+abbrev pub first_start : Image → ℕ
+first_start image = (get_or (get_or image.tasks 0 []) 0 no_task).start
+
+abbrev pub IsInProgram : Image → ℕ → Type 0
+IsInProgram image rip = (program : List Ins) → IsProgram image.text (first_start image) program → begins program rip ≡ true
+
+module _ (mode : Mode) (image : Image) where
+  -- the processor c runs its task r, which is t; its RIP is at an instruction of user code
+  pub record RunsTask (p r : ℕ) (t : Task) (c : Processor) : Type 0 where
+    pub is : c ≡ task_processor mode image p r t c.cr2
+    pub gs : t.gs ≡ 0
+    pub long : length t.regs ≡ 16
+    pub canonical : is_canonical t.rip ≡ true
+    pub at : IsInProgram image t.rip
 
   -- ---- an activation
 
@@ -177,10 +185,10 @@ module _ (mode : Mode) (image : Image) (built : IsBuilt image) where
   abbrev pub StandsOver : Kind → List BodyContext → Type 0
   StandsOver SystemCall below = below ≡ []
 
-  -- Each context stands on the one before it, and the first on the task.
-  abbrev pub Chain : ℕ → ℕ → abstract.Processor → List BodyContext → Processor → Memory → Type 0
-  Chain p left x [] c m = RunsTask p x c
-  Chain p left x (b ∷ below) c m = (w : Processor) × (κ : Kind) × StandsOver κ below × IsContext b × Chain p left x below w m × Active p left κ w b c m
+  -- Each context stands on the one before it, and the first on the task r, which is t.
+  abbrev pub Chain : ℕ → ℕ → ℕ → Task → List BodyContext → Processor → Memory → Type 0
+  Chain p left r t [] c m = RunsTask p r t c
+  Chain p left r t (b ∷ below) c m = (w : Processor) × (κ : Kind) × StandsOver κ below × IsContext b × Chain p left r t below w m × Active p left κ w b c m
 
   -- ---- the machines
 
@@ -202,7 +210,7 @@ module _ (mode : Mode) (image : Image) (built : IsBuilt image) where
     pub top_is : s.memory.words (pcpu p + 0x10) ≡ stack_top p x.running
     pub task_is : s.memory.words (pcpu p + 0x18) ≡ task_words p x.running
     pub depth : length (s.activations p) ≡ length x.bodies
-    pub chain : Chain p left x x.bodies (s.cpus p) s.memory
+    pub chain : Chain p left x.running (task x) x.bodies (s.cpus p) s.memory
 
   -- The state s of the concrete machine stands for m; of each processor, at most `left` edges come before a visible step.
   pub record Stands (left : NatMap ℕ) (s : System) (m : Machine) : Type 0 where
