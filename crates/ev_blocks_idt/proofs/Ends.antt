@@ -53,7 +53,7 @@ unfolding leave_end idt_lines idt_listings spelling four_bytes size places dista
 leave_regs SystemCall = refl
 
 -- what else the return asks and keeps
-pub leave_gs : (κ : Kind) → ((leave_end κ).gs ≡ X 60) × ((leave_end κ).kernel_gs ≡ P gs_tag 0) × ((leave_end κ).selector ≡ X 61) × ((leave_end κ).cr2 ≡ X 62) × ((leave_end κ).rsp0 ≡ P 16 0) × ((leave_end κ).blocked ≡ false)
+pub leave_gs : (κ : Kind) → ((leave_end κ).gs ≡ X 60) × ((leave_end κ).kernel_gs ≡ P gs_tag 0) × ((leave_end κ).selector ≡ X 61) × ((leave_end κ).cr2 ≡ Some (X 62)) × ((leave_end κ).rsp0 ≡ P 16 0) × ((leave_end κ).blocked ≡ false)
 unfolding leave_end idt_lines idt_listings spelling four_bytes size places distance
 leave_gs SystemCall = (refl, refl, refl, refl, refl, refl)
 

@@ -279,7 +279,7 @@ module _ (mode : Mode) (image : Image) (built : IsBuilt image) (good : IsImage i
           gs = st.agrees.gs ∙ same.gs;
           kernel_gs = st.agrees.kernel_gs ∙ same.kernel_gs;
           selector = st.agrees.selector ∙ same.selector;
-          cr2 = st.agrees.cr2 ∙ same.cr2;
+          cr2 = same.cr2 st.cpu.cr2 st.agrees.cr2;
           levels = st.agrees.levels ∙ ap (λ y. y ∷ e.rest.msrs.rsp) same.rsp0;
           blocked = st.agrees.blocked ∙ sym io.blocked;
           rest = st.agrees.rest;

@@ -26,7 +26,7 @@ use Rattle.ev_abstract.specs.Context.{BodyContext}
 use Rattle.ev_symbolic.specs.Value.{M}
 use Rattle.ev_symbolic.specs.State.{Loc, in_win}
 use Rattle.ev_symbolic.specs.Openings.{below}
-use Rattle.ev_symbolic.specs.Agrees.{Env, untracked, eval, addr, Known, Agrees}
+use Rattle.ev_symbolic.specs.Agrees.{Env, untracked, eval, addr, Known, IsTold, Agrees}
 use Rattle.ev_symbolic.proofs.Values.{add_shift}
 use Rattle.ev_symbolic.proofs.Words.{found_ok, accessible}
 use Rattle.ev_symbolic.proofs.Sound.{executes}
@@ -146,7 +146,7 @@ module _ (image : Image) where
         let rest : untracked by_frame ≡ record (rest_in Fred image SystemCall w) { cpl = 3; cs = 0x33; ss = 0x2b } =
         ap {A = Processor} {B = Processor} (λ y. record y { cpl = 3; cs = 0x33; ss = 0x2b; nmi_blocked = y.nmi_blocked && not (bit 18 0x220700010002002b) }) a.rest
         ∙ ap {A = Bool} {B = Processor} (λ n. record (rest_in Fred image SystemCall w) { cpl = 3; cs = 0x33; ss = 0x2b; nmi_blocked = n }) nmi in
-        returned Fred p hp q t hq w r by_frame rest (ap (λ xs. set xs 4 (v 20)) regs ∙ sym saved.regs) refl (ap modelled saved.framed.flags) (a.cr2 ∙ ap (eval e) z.3 ∙ saved.framed.cr2) (a.selector ∙ ap (eval e) z.2 ∙ saved.framed.selector) refl
+        returned Fred p hp q t hq w r by_frame rest (ap (λ xs. set xs 4 (v 20)) regs ∙ sym saved.regs) refl (ap modelled saved.framed.flags) (subst (λ o. IsTold e o c.cr2) z.3 a.cr2 ∙ saved.framed.cr2) (a.selector ∙ ap (eval e) z.2 ∙ saved.framed.selector) refl
         (a.kernel_gs ∙ ap (eval e) z.1 ∙ saved.framed.gs) (a.gs ∙ ap (eval e) z.0) (a.levels ∙ ap (λ y. eval e y ∷ drop 1 w.msrs.rsp) z.4)
 
     eretu_gives : eretu c m ≡ Went w m.words 0
@@ -185,7 +185,7 @@ module _ (image : Image) where
     unfolding eval
     by_registers_is =
         let z = idt_ends.leave_gs SystemCall in
-        returned Idt p hp q t hq w r by_registers (ap {A = Processor} {B = Processor} (λ y. record y { cpl = 3; cs = 0x33; ss = 0x2b }) a.rest) registers rcx (ap modelled r11) (a.cr2 ∙ ap (eval env) z.3 ∙ saved.framed.cr2) (a.selector ∙ ap (eval env) z.2 ∙ saved.framed.selector) refl
+        returned Idt p hp q t hq w r by_registers (ap {A = Processor} {B = Processor} (λ y. record y { cpl = 3; cs = 0x33; ss = 0x2b }) a.rest) registers rcx (ap modelled r11) (subst (λ o. IsTold env o c.cr2) z.3 a.cr2 ∙ saved.framed.cr2) (a.selector ∙ ap (eval env) z.2 ∙ saved.framed.selector) refl
         (a.gs ∙ ap (eval env) z.0 ∙ saved.framed.gs) (a.kernel_gs ∙ ap (eval env) z.1) (a.levels ∙ ap (λ y. eval env y ∷ drop 1 w.msrs.rsp) z.4)
 
     sysretq_gives : sysretq c m.words ≡ Went w m.words 0

@@ -15,7 +15,7 @@ use Rattle.ev_concrete.specs.ConcreteRun.{is_return, is_repeated}
 use Rattle.ev_symbolic.specs.Value.{M, V, K, P, X, FVar}
 use Rattle.ev_symbolic.specs.State.{SS, Win, Ground, absolute, sreg}
 use Rattle.ev_symbolic.specs.Run.{moved, sstep, brun}
-use Rattle.ev_symbolic.specs.Agrees.{Env, eval, eval_flags, addr, Known, Cell}
+use Rattle.ev_symbolic.specs.Agrees.{Env, eval, eval_flags, addr, Known, IsTold, Cell}
 use Rattle.ev_symbolic.specs.Join.{Joins, env_after}
 use Rattle.ev_symbolic.specs.Openings.{at_base, all_regs}
 use Rattle.ev_activation.specs.Activation.{SystemCall, Spot, AtEntry, AtItem, AtExit}
@@ -111,7 +111,7 @@ pub record SaysSame (e u : Env) (W : List Win) (o : SS) : Type 0 where
   pub gs : eval e o.gs ≡ eval u o.gs
   pub kernel_gs : eval e o.kernel_gs ≡ eval u o.kernel_gs
   pub selector : eval e o.selector ≡ eval u o.selector
-  pub cr2 : eval e o.cr2 ≡ eval u o.cr2
+  pub cr2 : (a : ℕ) → IsTold e o.cr2 a → IsTold u o.cr2 a
   pub rsp0 : eval e o.rsp0 ≡ eval u o.rsp0
   pub words : (m : NatMap ℕ) → Known e W m o.words → Known u W m o.words
 
@@ -119,8 +119,8 @@ pub record SaysSame (e u : Env) (W : List Win) (o : SS) : Type 0 where
 pub any_item : (mode : Mode) (image : Image) (p : ℕ) (w : Processor) (b b' : BodyContext) (v : ℕ → ℕ) (f : Flags)
     → SaysSame (here mode image p SystemCall w b v f) (here mode image p SystemCall w b' v f) (ground_of mode).known (block_of mode SystemCall AtItem).opening
 unfolding eval eval_flags
-any_item Fred image p w b b' v f = record { regs = refl; flags = refl; gs = refl; kernel_gs = refl; selector = refl; cr2 = refl; rsp0 = refl; words = λ m h. h }
-any_item Idt image p w b b' v f = record { regs = refl; flags = refl; gs = refl; kernel_gs = refl; selector = refl; cr2 = refl; rsp0 = refl; words = λ m h. h }
+any_item Fred image p w b b' v f = record { regs = refl; flags = refl; gs = refl; kernel_gs = refl; selector = refl; cr2 = λ a h. h; rsp0 = refl; words = λ m h. h }
+any_item Idt image p w b b' v f = record { regs = refl; flags = refl; gs = refl; kernel_gs = refl; selector = refl; cr2 = λ a h. h; rsp0 = refl; words = λ m h. h }
 
 -- and the exit opens with what an item has
 pub exit_opening : (mode : Mode) → (block_of mode SystemCall AtExit).opening ≡ record ((block_of mode SystemCall AtItem).opening) { rip = absolute (other_exit mode) }

@@ -13,8 +13,8 @@ use Rattle.ev_proc.specs.ProcessorStep.{executed, ran, fetched, step_by, next_of
 use Rattle.ev_symbolic.specs.Value.{V, K, P, X, B, FVar, number}
 use Rattle.ev_symbolic.specs.State.{Loc, Word, SS, Win, Line, Ground, Block, in_win, loc_eq, find}
 use Rattle.ev_symbolic.specs.Run.{line_at, sstep, bstep, bnext, brun, every_from, every}
-use Rattle.ev_symbolic.specs.Agrees.{Env, untracked, eval, addr, eval_flags, Known, Open, Cell, Code, edge_cell, Stands, Agrees, with_words, Far, Within, Foreign, FactsHold, Described, AreTops, Fits, StepsIf, At}
-use Rattle.ev_symbolic.specs.Join.{inst, Joins, env_after}
+use Rattle.ev_symbolic.specs.Agrees.{Env, untracked, eval, addr, eval_flags, Known, Open, Cell, Code, edge_cell, Stands, IsTold, Agrees, with_words, Far, Within, Foreign, FactsHold, Described, AreTops, Fits, StepsIf, At}
+use Rattle.ev_symbolic.specs.Join.{inst, JoinsTold, Joins, env_after}
 use Rattle.ev_symbolic.specs.Machine.{Fetches, Inside}
 use Rattle.ev_symbolic.proofs.Values.{and_left, and_right}
 use Rattle.ev_symbolic.proofs.Words.{loc_same, Found, found_ok}
@@ -168,7 +168,7 @@ joined e θ G U s c m o g j d f hr hm hs hc hu hb hp hf ho hk hw = record {
   gs = ap (λ x. x.gs_base) hm ∙ g.gs ∙ tells s.gs o.gs j.gs;
   kernel_gs = ap (λ x. x.kernel_gs_base) hm ∙ g.kernel_gs ∙ tells s.kernel_gs o.kernel_gs j.kernel_gs;
   selector = hs ∙ g.selector ∙ tells s.selector o.selector j.selector;
-  cr2 = hc ∙ g.cr2 ∙ tells s.cr2 o.cr2 j.cr2;
+  cr2 = told o.cr2 s.cr2 j.cr2 g.cr2;
   levels = ap (λ x. x.rsp) hm ∙ g.levels ∙ ap (λ x. x ∷ e.rest.msrs.rsp) (tells s.rsp0 o.rsp0 j.rsp0);
   blocked = hb;
   rest = hu ∙ g.rest;
@@ -179,6 +179,10 @@ joined e θ G U s c m o g j d f hr hm hs hc hu hb hp hf ho hk hw = record {
   where
     tells : (x y : V) → inst θ y ≡ x → eval e x ≡ eval (env_after e θ f) y
     tells x y q = ap (eval e) (sym q) ∙ inst_ok e θ f y
+
+    told : (x y : Option V) → JoinsTold θ x y → IsTold e y c.cr2 → IsTold (env_after e θ f) x d.cr2
+    told None y q r = tt
+    told (Some v) y q r = let is : c.cr2 ≡ eval e (inst θ v) = subst (λ z. IsTold e z c.cr2) q r in hc ∙ is ∙ inst_ok e θ f v
 
 -- the list of the levels' RSP as an opening has it
 pub levels_split : (xs : List ℕ) → length xs ≡ 4 → xs ≡ get_or xs 0 0 ∷ drop 1 xs

@@ -27,8 +27,8 @@ use Rattle.ev_fred.specs.FredDelivery.{lkgs, with_kernel_gs}
 use Rattle.ev_proc.specs.ProcessorStep.{has_fred, executed, ran, fault, after_exec, after_outcome, after_read, after_write, write_msr, special, low32}
 use Rattle.ev_symbolic.specs.Value.{M, Op, OAdd, OSub, OAnd, OShl, OShr, V, K, P, X, B, F, FVar, FOp, v_eq, norm, number, sop, op_of, left_by, sholds}
 use Rattle.ev_symbolic.specs.State.{Loc, Word, SS, Descriptor, Ground, in_win, in_text, loc_of, shift, find, write, sreg, is_listed, descriptor_of}
-use Rattle.ev_symbolic.specs.Run.{moved, sload, sstore, pushed_rsp, spush, spush_at, sat, salu, sjump, sjump_to, sjcc, slkgs, smov_gs, is_msr, srdmsr, is_word, swrmsr, sstep}
-use Rattle.ev_symbolic.specs.Agrees.{Env, untracked, eval, addr, status, eval_flags, Known, Described, AreTops, IsOpen, Grounded, Agrees, Within, Steps, StepsIf}
+use Rattle.ev_symbolic.specs.Run.{moved, sload, sstore, pushed_rsp, spush, spush_at, sat, salu, sjump, sjump_to, sjcc, slkgs, sread_cr2, smov_gs, is_msr, srdmsr, is_word, swrmsr, sstep}
+use Rattle.ev_symbolic.specs.Agrees.{Env, untracked, eval, addr, status, eval_flags, Known, Described, AreTops, IsOpen, Grounded, IsTold, Agrees, Within, Steps, StepsIf}
 use Rattle.ev_symbolic.proofs.FlagBits.{flags_back}
 use Rattle.ev_symbolic.proofs.Values.{and_left, and_right, v_same, sop_ok, nop_ok, left_ok, status_ok, left_shift_value, left_shift_status, right_shift_value, right_shift_status, TellsBool, holds_ok}
 use Rattle.ev_symbolic.proofs.Words.{win_below, text_below, Names, names_ok, shift_ok, Found, found_ok, put_same, without_ok, shared_ok, within_put, within_put_shared, accessible, set_ok}
@@ -257,7 +257,7 @@ module _ (e : Env) (G : Ground) (h : Grounded e G) where
 
   quiet : (i : Ins) (next : ℕ) (nl : Loc) (s : SS) (c : Processor) (m : Memory) → Agrees e G s c m → next ≡ addr e nl
       → (regs : List ℕ) (sregs : List V) → length regs ≡ length c.regs → regs ≡ map (eval e) sregs
-      → (cr2 : ℕ) (vcr2 : V) → cr2 ≡ eval e vcr2 → (sel : ℕ) (vsel : V) → sel ≡ eval e vsel
+      → (cr2 : ℕ) (vcr2 : Option V) → IsTold e vcr2 cr2 → (sel : ℕ) (vsel : V) → sel ≡ eval e vsel
       → (gs : ℕ) (vgs : V) → gs ≡ eval e vgs → (kernel : ℕ) (vkernel : V) → kernel ≡ eval e vkernel
       → ((a : Apic) (nmi : Bool) → executed c a m nmi (Some i) ≡ ran (record c { regs = regs; rip = next; cr2 = cr2; gs = sel; sti_blocked = false; msrs = record c.msrs { gs_base = gs; kernel_gs_base = kernel } }) a m.words nmi)
       → Steps e G i (record (moved s sregs nl) { cr2 = vcr2; selector = vsel; gs = vgs; kernel_gs = vkernel }) c m
@@ -392,6 +392,16 @@ module _ (e : Env) (G : Ground) (h : Grounded e G) where
             within = λ x far far'. refl;
           }
 
+  read_cr2_ok : (d next : ℕ) (nl : Loc) (s : SS) (c : Processor) (m : Memory) → Agrees e G s c m
+      → c.rip + length (spelling (ReadCr2 d)) ≡ next → next ≡ addr e nl
+      → (o : Option V) → IsTold e o c.cr2 → StepsIf e G (ReadCr2 d) (sread_cr2 nl s d o) c m
+  unfolding exec
+  read_cr2_ok d next nl s c m g hn hl None q = tt
+  read_cr2_ok d next nl s c m g hn hl (Some v) q =
+      quiet (ReadCr2 d) next nl s c m g hl (set c.regs d c.cr2) (set s.regs d v) (length-set c.regs d c.cr2) (set_ok e c.regs s.regs d c.cr2 v g.regs q)
+      c.cr2 s.cr2 g.cr2 c.gs s.selector g.selector c.msrs.gs_base s.gs g.gs c.msrs.kernel_gs_base s.kernel_gs g.kernel_gs
+      (executes c m (ReadCr2 d) next _ (kernel_ok s c m g) hn refl)
+
   -- ---- every instruction
 
   pub step_ok : (i : Ins) (next : ℕ) (nl : Loc) (s : SS) (c : Processor) (m : Memory) → Agrees e G s c m → c.rip + length (spelling i) ≡ next → next ≡ addr e nl → StepsIf e G i (sstep G i nl s) c m
@@ -428,8 +438,8 @@ module _ (e : Env) (G : Ground) (h : Grounded e G) where
   step_ok (Push r) next nl s c m g hn hl = push_ok (Push r) next nl (get_or c.regs r 0) (sreg s r) s c m g hn hl (reg_ok s c m g r) refl
   step_ok (PushImm i) next nl s c m g hn hl = push_ok (PushImm i) next nl (sign_extend i) (K (sign_extend i)) s c m g hn hl refl refl
   step_ok (Pop d) next nl s c m g hn hl = load_ok (Pop d) next nl d (get_or c.regs 4 0) (sreg s 4) (ss 0) s c m (set c.regs 4 ((get_or c.regs 4 0 + 8) % M)) (set s.regs 4 (sop OAdd (sreg s 4) (K 8))) (length-set c.regs 4 _) g hn hl (set_ok e c.regs s.regs 4 _ (sop OAdd (sreg s 4) (K 8)) g.regs (sat_ok s (sreg s 4) _ 8 (reg_ok s c m g 4))) (reg_ok s c m g 4) refl
-  step_ok (ReadCr2 d) next nl s c m g hn hl = quiet (ReadCr2 d) next nl s c m g hl (set c.regs d c.cr2) (set s.regs d s.cr2) (length-set c.regs d c.cr2) (set_ok e c.regs s.regs d c.cr2 s.cr2 g.regs g.cr2) c.cr2 s.cr2 g.cr2 c.gs s.selector g.selector c.msrs.gs_base s.gs g.gs c.msrs.kernel_gs_base s.kernel_gs g.kernel_gs (executes c m (ReadCr2 d) next _ (kernel_ok s c m g) hn refl)
-  step_ok (WriteCr2 r) next nl s c m g hn hl = quiet (WriteCr2 r) next nl s c m g hl c.regs s.regs refl g.regs (get_or c.regs r 0) (sreg s r) (reg_ok s c m g r) c.gs s.selector g.selector c.msrs.gs_base s.gs g.gs c.msrs.kernel_gs_base s.kernel_gs g.kernel_gs (executes c m (WriteCr2 r) next _ (kernel_ok s c m g) hn refl)
+  step_ok (ReadCr2 d) next nl s c m g hn hl = read_cr2_ok d next nl s c m g hn hl s.cr2 g.cr2
+  step_ok (WriteCr2 r) next nl s c m g hn hl = quiet (WriteCr2 r) next nl s c m g hl c.regs s.regs refl g.regs (get_or c.regs r 0) (Some (sreg s r)) (reg_ok s c m g r) c.gs s.selector g.selector c.msrs.gs_base s.gs g.gs c.msrs.kernel_gs_base s.kernel_gs g.kernel_gs (executes c m (WriteCr2 r) next _ (kernel_ok s c m g) hn refl)
   step_ok Nop next nl s c m g hn hl = plain Nop next s c m g hn (task c next) m.words refl s.regs nl s.flags s.words g.regs refl hl (flags_ok s c m g) g.words (λ x far far'. refl)
   step_ok Swapgs next nl s c m g hn hl = swapgs_ok next nl s c m g hn hl G.fred refl
   step_ok (Lkgs r) next nl s c m g hn hl = lkgs_ok r next nl s c m g hn hl (descriptor_of (sreg s r) G.descriptors) (selected_ok e (sreg s r) G.descriptors h.descriptors)

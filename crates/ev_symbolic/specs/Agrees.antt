@@ -134,6 +134,11 @@ pub record Fits (code : Code) (e : Env) (b : Block) : Type 0 where
   pub spaced : Spaced code
   pub stands : Stands code e b.lines
 
+-- a number is the value that is told of it, if one is
+abbrev pub IsTold : Env → Option V → ℕ → Type 0
+IsTold e None a = Unit {0}
+IsTold e (Some v) a = a ≡ eval e v
+
 pub record Agrees (e : Env) (G : Ground) (s : SS) (c : Processor) (m : Memory) : Type 0 where
   pub regs : c.regs ≡ map (eval e) s.regs
   pub rip : c.rip ≡ addr e s.rip
@@ -141,7 +146,7 @@ pub record Agrees (e : Env) (G : Ground) (s : SS) (c : Processor) (m : Memory) :
   pub gs : c.msrs.gs_base ≡ eval e s.gs
   pub kernel_gs : c.msrs.kernel_gs_base ≡ eval e s.kernel_gs
   pub selector : c.gs ≡ eval e s.selector
-  pub cr2 : c.cr2 ≡ eval e s.cr2
+  pub cr2 : IsTold e s.cr2 c.cr2
   pub levels : c.msrs.rsp ≡ eval e s.rsp0 ∷ e.rest.msrs.rsp
   pub blocked : c.sti_blocked ≡ s.blocked
   pub rest : untracked c ≡ e.rest

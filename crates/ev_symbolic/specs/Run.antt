@@ -58,6 +58,11 @@ abbrev pub smov_gs : Loc → SS → Option Descriptor → Option SS
 smov_gs next s None = None
 smov_gs next s (Some d) = Some (record (moved s s.regs next) { selector = d.selector; gs = d.base })
 
+-- CR2 is read only where it is told
+abbrev pub sread_cr2 : Loc → SS → ℕ → Option V → Option SS
+sread_cr2 next s d None = None
+sread_cr2 next s d (Some v) = Some (moved s (set s.regs d v) next)
+
 -- whether a register names an MSR
 abbrev pub is_msr : ℕ → V → Bool
 is_msr n (K k) = k % 2 ^ 32 == n
@@ -100,8 +105,8 @@ sstep G (JmpReg r) next s = sjump_to G s (loc_of (sreg s r))
 sstep G (Push r) next s = spush G next s (sreg s r)
 sstep G (PushImm i) next s = spush G next s (K (sign_extend i))
 sstep G (Pop d) next s = sload next s (set s.regs 4 (sop OAdd (sreg s 4) (K 8))) d (loc_of (sreg s 4))
-sstep G (ReadCr2 d) next s = Some (moved s (set s.regs d s.cr2) next)
-sstep G (WriteCr2 r) next s = Some (record (moved s s.regs next) { cr2 = sreg s r })
+sstep G (ReadCr2 d) next s = sread_cr2 next s d s.cr2
+sstep G (WriteCr2 r) next s = Some (record (moved s s.regs next) { cr2 = Some (sreg s r) })
 sstep G Nop next s = Some (moved s s.regs next)
 sstep G Swapgs next s = if G.fred then None else Some (record (moved s s.regs next) { gs = s.kernel_gs; kernel_gs = s.gs })
 sstep G (Lkgs r) next s = slkgs next s (descriptor_of (sreg s r) G.descriptors)

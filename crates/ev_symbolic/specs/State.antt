@@ -31,7 +31,7 @@ pub record SS : Type 0 where
   pub gs : V  -- the GS base
   pub kernel_gs : V
   pub selector : V  -- what the register GS holds
-  pub cr2 : V
+  pub cr2 : Option V  -- where it is told
   pub rsp0 : V  -- RSP of level 0
   pub blocked : Bool  -- the blocking by STI
   pub words : List Word  -- newest first
