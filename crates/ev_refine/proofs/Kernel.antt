@@ -135,14 +135,15 @@ module _ (mode : Mode) (image : Image) (built : IsBuilt image) (good : IsImage i
     -- ---- what a step gives
 
     edge : (v : ℕ → ℕ) (f : Flags) (cell : Cell) → code c.rip ≡ Some cell → cell.mark ≡ false → is_return (Some cell.ins) ≡ false → is_user c ≡ false
-        → (cpu : Processor) (words : NatMap ℕ) → Executes cell.ins cpu words → Within (env b v f) (ground_of mode).own (ground_of mode).shared s.memory.words words
+        → (cpu : Processor) (words : NatMap ℕ) → Executes cell.ins cpu words → cpu.nmi_blocked ≡ false
+        → Within (env b v f) (ground_of mode).own (ground_of mode).shared s.memory.words words
         → (now : ℕ) → now < left p → Active mode image p now SystemCall w b cpu (with_words s.memory words) → Result
-    edge v f cell hc hm hr hu cpu words he wrote now fewer act =
+    edge v f cell hc hm hr hu cpu words he hb wrote now fewer act =
         let run : Runs s p cpu words = runs cell hc hu cpu words he in
         let few : left p ≤ most_edges mode image = on.few in
         let chain : Chain mode image p now x.running (task x) x.bodies cpu (with_words s.memory words) = subst (λ bs. Chain mode image p now x.running (task x) bs cpu (with_words s.memory words)) (sym bodies) (w, SystemCall, refl, ctx, r, act) in
         let there : StandsOn mode image p now (after_ran s p cpu words) x = stands_on_after mode image built p (left p) now s x cpu words x.bodies on (omega arith) (leaves_mark mode image facts p small hp w b v f top s.memory.words words wrote) (leaves_top mode image facts p small hp w b v f top s.memory.words words wrote) (leaves_task mode image facts p small hp w b v f top s.memory.words words wrote)
-        (ap length (ran_stays s p cpu cell.ins (fetches c.rip cell hc).1 hr) ∙ on.depth) chain in (
+        (ap length (ran_stays s p cpu cell.ins (fetches c.rip cell hc).1 hr) ∙ on.depth) hb chain in (
           inl (record {
             hidden = hidden (marks_of mode image) s p first hu (facts.unmarked c.rip cell hc hm);
             now_left = now;
@@ -154,13 +155,14 @@ module _ (mode : Mode) (image : Image) (built : IsBuilt image) (good : IsImage i
         )
 
     visible : (v : ℕ → ℕ) (f : Flags) (cell : Cell) → code c.rip ≡ Some cell → cell.mark ≡ true → is_user c ≡ false
-        → (cpu : Processor) (words : NatMap ℕ) → Executes cell.ins cpu words → Within (env b v f) (ground_of mode).own (ground_of mode).shared s.memory.words words
+        → (cpu : Processor) (words : NatMap ℕ) → Executes cell.ins cpu words → cpu.nmi_blocked ≡ false
+        → Within (env b v f) (ground_of mode).own (ground_of mode).shared s.memory.words words
         → (bs : List BodyContext) → length (activations_by s p (s.activations p) cpu Stepped.Ran) ≡ length bs
         → (now : ℕ) → now ≤ most_edges mode image → Chain mode image p now x.running (task x) bs cpu (with_words s.memory words)
         → (es : List Entry) → shown_always p (length (s.activations p)) c s.memory.words (Some cell.ins) ≡ es → turn image m p ≡ (with_processor m p (record x { bodies = bs }), es) → Result
-    visible v f cell hc hm hu cpu words he wrote bs depth now few chain es hes ht =
+    visible v f cell hc hm hu cpu words he hb wrote bs depth now few chain es hes ht =
         let run : Runs s p cpu words = runs cell hc hu cpu words he in
-        let there : StandsOn mode image p now (after_ran s p cpu words) (record x { bodies = bs }) = stands_on_after mode image built p (left p) now s x cpu words bs on few (leaves_mark mode image facts p small hp w b v f top s.memory.words words wrote) (leaves_top mode image facts p small hp w b v f top s.memory.words words wrote) (leaves_task mode image facts p small hp w b v f top s.memory.words words wrote) depth chain in
+        let there : StandsOn mode image p now (after_ran s p cpu words) (record x { bodies = bs }) = stands_on_after mode image built p (left p) now s x cpu words bs on few (leaves_mark mode image facts p small hp w b v f top s.memory.words words wrote) (leaves_top mode image facts p small hp w b v f top s.memory.words words wrote) (leaves_task mode image facts p small hp w b v f top s.memory.words words wrote) depth hb chain in
         let placed : StandsOn mode image p now (after_ran s p cpu words) (put_at m.processors p (record x { bodies = bs }) p) = subst (StandsOn mode image p now (after_ran s p cpu words)) (sym (at_same m.processors p p (record x { bodies = bs }) refl)) there in
         let all : Stands mode image (put_at left p now) (after_ran s p cpu words) (with_processor m p (record x { bodies = bs })) = stands_after mode image built left s m (with_processor m p (record x { bodies = bs })) p now cpu words h hp (leaves_fixed mode image facts p small hp w b v f top s.memory.words words wrote) refl refl placed in
         let turned : Stands mode image (put_at left p now) (after_ran s p cpu words) (turn image m p).0 = subst (λ z. Stands mode image (put_at left p now) (after_ran s p cpu words) z.0) (sym ht) all in (
@@ -202,7 +204,7 @@ module _ (mode : Mode) (image : Image) (built : IsBuilt image) (good : IsImage i
         let run = runs_to_end mode spot in
         let i : Inside code (block spot) (suc k) (env b v f) c s.memory = goes_on code (block spot) S (end_of mode spot) run k (env b v f) c s.memory at lt in
         let next = earlier (block spot) (suc k) (S - suc k) (end_of mode spot) (ap (brun (block spot)) (let q : (S - suc k) + suc k ≡ S = omega arith in q) ∙ run) in
-        edge v f (edge_cell i.ins i.next) i.stands refl (stays_inside code (block spot) k (env b v f) c s.memory at next.0 next.1 i.ins i.next i.stands) (ap is_user at.agrees.rest) i.cpu i.words i.runs
+        edge v f (edge_cell i.ins i.next) i.stands refl (stays_inside code (block spot) k (env b v f) c s.memory at next.0 next.1 i.ins i.next i.stands) (ap is_user at.agrees.rest) i.cpu i.words i.runs (i.blocking ∙ on.blocking)
         (subst (λ g. Within (env b v f) g.own g.shared s.memory.words i.words) (ground_is mode spot) i.within) (edges_of mode spot (suc k)) (one_less mode spot k (left p) enough lt)
         (record { spot = spot; k = suc k; var = v; flags = f; within = lt; enough = omega arith; at = i.there; means = means; long = i.long ∙ long })
 
@@ -233,7 +235,7 @@ module _ (mode : Mode) (image : Image) (built : IsBuilt image) (good : IsImage i
         (target ∙ low ∙ ap (λ y. (y + 0) % M) (sym place_is) ∙ ap (addr e) (sym io.rip)) refl io.flags open_at.0 open_at.1 in
         edge v f cell hc refl refl hu cpu s.memory.words
         (executes c s.memory (JmpReg 0) cell.next (Done cpu s.memory.words) hu (sym (facts.spaced c.rip cell hc)) (jump_by_register c s.memory 0 cell.next (ap is_canonical target ∙ fine.0)))
-        (λ y far far'. refl) (edges_of mode AtItem 0) (less_in_item mode (left p) enough)
+        on.blocking (λ y far far'. refl) (edges_of mode AtItem 0) (less_in_item mode (left p) enough)
         (record {
           spot = AtItem;
           k = 0;
@@ -298,7 +300,7 @@ module _ (mode : Mode) (image : Image) (built : IsBuilt image) (good : IsImage i
           means = record { saved = means.saved; locals = means.locals };
           long = st.long ∙ long;
         } in
-        visible v f cell hc refl hu st.cpu st.words st.runs st.within (onward b ∷ [])
+        visible v f cell hc refl hu st.cpu st.words st.runs (st.blocking ∙ on.blocking) st.within (onward b ∷ [])
         (ap length (ran_stays s p st.cpu cell.ins (fetches c.rip cell hc).1 refl) ∙ on.depth ∙ ap length bodies) (edges_of mode AtItem 0) (few_in_item mode image)
         (w, SystemCall, refl, on_next, r, act)
         (Entry.Log p (local b q) ∷ []) (ap (λ y. Entry.Log p y ∷ []) (local_is e io.rsp c.regs b.locals (a.regs ∙ ap (map (eval e)) io.regs) means.locals q lo hq))
@@ -333,7 +335,7 @@ module _ (mode : Mode) (image : Image) (built : IsBuilt image) (good : IsImage i
         } in
         edge v f rc.cell hc rc.unmarked (ap (λ i. is_return (Some i)) rc.jump) hu cpu s.memory.words
         (executes c s.memory rc.cell.ins rc.cell.next (Done cpu s.memory.words) hu (sym (facts.spaced c.rip rc.cell hc)) run)
-        (λ y far far'. refl) (edges_of mode AtExit 0) (less_in_exit mode k (left p) enough)
+        on.blocking (λ y far far'. refl) (edges_of mode AtExit 0) (less_in_exit mode k (left p) enough)
         (record {
           spot = AtExit;
           k = 0;
@@ -357,8 +359,8 @@ module _ (mode : Mode) (image : Image) (built : IsBuilt image) (good : IsImage i
         let cell : Cell = task_return_cell mode in
         let is : IsReturn cell = task_returns mode in
         let hc : code c.rip ≡ Some cell = ap code rip ∙ facts.return_cell in
-        let does : Executes cell.ins w s.memory.words = returns image mode p small x.running (task x) on.running w r b v f c s.memory a means.saved cell.next (sym (facts.spaced c.rip cell hc)) in
-        visible v f cell hc is.marked hu w s.memory.words does (λ y far far'. refl) []
+        let does : Executes cell.ins w s.memory.words = returns image mode p small x.running (task x) on.running w r b v f c s.memory a means.saved cell.next (sym (facts.spaced c.rip cell hc)) on.blocking in
+        visible v f cell hc is.marked hu w s.memory.words does (ap (λ (y : Processor). y.nmi_blocked) r.is) (λ y far far'. refl) []
         (ap length (ran_returns s p w cell.ins (fetches c.rip cell hc).1 is.returns hu (not_repeated mode c w rip)) ∙ none_left (s.activations p) (on.depth ∙ ap length bodies)) 0 (omega arith)
         r [] (is.silent p (length (s.activations p)) c s.memory.words) (ret_turn means.ret)
 

@@ -67,6 +67,7 @@ module _ (mode : Mode) (image : Image) (built : IsBuilt image) where
         waiting = ap (λ (ts : List TaskSpec). numbers_from 1 (length ts - 1)) specs;
         nmi = refl;
         latch = refl;
+        blocking = refl;
         pending = refl;
         apic = refl;
         resched = refl;

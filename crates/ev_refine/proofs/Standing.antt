@@ -99,15 +99,16 @@ module _ (mode : Mode) (image : Image) (built : IsBuilt image) where
   -- of this processor, where only its bodies have changed
   pub stands_on_after : (p left now : ℕ) (s : System) (x : abstract.Processor) (cpu : Processor) (words : NatMap ℕ) (bs : List BodyContext) → StandsOn mode image p left s x → now ≤ most_edges mode image
       → words (pcpu p + 0x20) ≡ s.memory.words (pcpu p + 0x20) → words (pcpu p + 0x10) ≡ s.memory.words (pcpu p + 0x10) → words (pcpu p + 0x18) ≡ s.memory.words (pcpu p + 0x18)
-      → length (activations_by s p (s.activations p) cpu Stepped.Ran) ≡ length bs
+      → length (activations_by s p (s.activations p) cpu Stepped.Ran) ≡ length bs → cpu.nmi_blocked ≡ false
       → Chain mode image p now x.running (task x) bs cpu (with_words s.memory words)
       → StandsOn mode image p now (after_ran s p cpu words) (record x { bodies = bs })
-  stands_on_after p left now s x cpu words bs o few mark top current depth chain = record {
+  stands_on_after p left now s x cpu words bs o few mark top current depth blocking chain = record {
     few = few;
     running = o.running;
     waiting = o.waiting;
     nmi = o.nmi;
     latch = at_same s.latches p p (s.latches p) refl ∙ o.latch;
+    blocking = ap (λ (c : Processor). c.nmi_blocked) (at_same s.cpus p p cpu refl) ∙ blocking;
     pending = o.pending;
     apic = at_same s.apics p p (s.apics p) refl ∙ o.apic;
     resched = o.resched;

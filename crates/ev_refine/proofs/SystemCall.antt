@@ -97,6 +97,7 @@ module _ (mode : Mode) (image : Image) (p n : ℕ) (t : Task) (cr2 next body : �
     pub words : NatMap ℕ
     pub frame : Option ℕ
     pub runs : (a : Apic) (nmi : Bool) → executed caller a m nmi (Some Syscall) ≡ arrival cpu words frame a nmi
+    pub blocking : cpu.nmi_blocked ≡ false
     pub active : Active mode image p (most_edges mode image) SystemCall over context cpu (with_words m words)
     pub stays : (a : ℕ) → (a < 0xffffc90000000000) ⊎ (0xffffffff81000000 ≤ a) → words a ≡ m.words a
     pub saved : saved_rip (has_fred caller) cpu words call_event frame ≡ next

@@ -159,6 +159,7 @@ module _ (image : Image) (built : IsBuilt image) (p n : ℕ) (t : Task) (cr2 nex
       words = words_after m.words;
       frame = Some frame_at;
       runs = λ a nmi. runs a m nmi ready.next_is frame_open;
+      blocking = refl;
       active = record {
         spot = AtEntry;
         k = 0;

@@ -119,6 +119,7 @@ module _ (image : Image) (p n : ℕ) (t : Task) (cr2 next body : ℕ) where
       words = m.words;
       frame = None;
       runs = λ a nmi. runs a m nmi ready.next_is;
+      blocking = refl;
       active = record {
         spot = AtEntry;
         k = 0;

@@ -115,6 +115,7 @@ module _ (mode : Mode) (image : Image) (formed : IsImage image) (built : IsBuilt
         waiting = u.on.waiting;
         nmi = u.on.nmi;
         latch = put_same s.latches p false;
+        blocking = ap (λ (z : Processor). z.nmi_blocked) (put_same s.cpus p d);
         pending = u.on.pending;
         apic = put_same s.apics p opening_apic;
         resched = u.on.resched;

@@ -85,6 +85,7 @@ module _ (mode : Mode) (image : Image) (built : IsBuilt image) where
       waiting = o.waiting;
       nmi = o.nmi;
       latch = o.latch;
+      blocking = o.blocking;
       pending = o.pending;
       apic = o.apic;
       resched = o.resched;

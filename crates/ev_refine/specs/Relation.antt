@@ -203,6 +203,7 @@ module _ (mode : Mode) (image : Image) where
     pub waiting : x.waiting ≡ []
     pub nmi : x.nmi ≡ false
     pub latch : s.latches p ≡ false
+    pub blocking : (s.cpus p).nmi_blocked ≡ false
     pub pending : x.pending ≡ no_numbers
     pub apic : s.apics p ≡ opening_apic
     pub resched : x.resched ≡ false

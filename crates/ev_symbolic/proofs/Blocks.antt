@@ -59,6 +59,7 @@ inside code b k e c m at s h = with_line (line_at at.state.rip b.lines) (line_ok
       };
       long = r.long;
       same = r.agrees.rest ∙ sym at.agrees.rest;
+      blocking = r.blocking;
       within = r.within;
     }
 

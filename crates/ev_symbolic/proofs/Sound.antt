@@ -143,6 +143,7 @@ module _ (e : Env) (G : Ground) (h : Grounded e G) where
     words = words;
     runs = executes c m i next (Done (with_effect (completed c) t) words) (kernel_ok s c m g) hn hx;
     long = hl;
+    blocking = refl;
     agrees = record {
       regs = hr;
       rip = hp;
@@ -266,6 +267,7 @@ module _ (e : Env) (G : Ground) (h : Grounded e G) where
     words = m.words;
     runs = hx;
     long = hlen;
+    blocking = refl;
     agrees = record {
       regs = hr;
       rip = hl;
@@ -374,6 +376,7 @@ module _ (e : Env) (G : Ground) (h : Grounded e G) where
                 ∙ ap (λ x. write_msr c a m nmi next 0x1cc x) value_is
                 ∙ ap (λ b. after_write c a m nmi next (given b (record c.msrs { rsp = set c.msrs.rsp 0 n }))) top;
             long = refl;
+            blocking = refl;
             agrees = record {
               regs = g.regs;
               rip = hl;

@@ -24,7 +24,7 @@ pub record Env : Type 0 where
   pub flags : Flags
   pub rest : Processor
 
--- a processor with blanks for all that a symbolic state tells of it
+-- a processor with blanks for all that a symbolic state tells of it, and for the blocking of NMIs, which no block changes
 abbrev pub untracked : Processor → Processor
 untracked c = record c {
   regs = [];
@@ -32,6 +32,7 @@ untracked c = record c {
   flags = 0;
   cr2 = 0;
   gs = 0;
+  nmi_blocked = false;
   sti_blocked = false;
   msrs = record c.msrs { gs_base = 0; kernel_gs_base = 0; rsp = drop 1 c.msrs.rsp };
 }
@@ -172,6 +173,7 @@ pub record Steps (e : Env) (G : Ground) (i : Ins) (s : SS) (c : Processor) (m : 
   pub words : NatMap ℕ
   pub runs : (a : Apic) (nmi : Bool) → executed c a m nmi (Some i) ≡ ran cpu a words nmi
   pub long : length cpu.regs ≡ length c.regs
+  pub blocking : cpu.nmi_blocked ≡ c.nmi_blocked
   pub agrees : Agrees e G s cpu (with_words m words)
   pub within : Within e G.own G.shared m.words words
 

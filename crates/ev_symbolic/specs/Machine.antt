@@ -24,4 +24,5 @@ pub record Inside (code : Code) (b : Block) (k : ℕ) (e : Env) (c : Processor) 
   pub there : At code b k e cpu (with_words m words)
   pub long : length cpu.regs ≡ length c.regs
   pub same : untracked cpu ≡ untracked c
+  pub blocking : cpu.nmi_blocked ≡ c.nmi_blocked
   pub within : Within e b.ground.own b.ground.shared m.words words
