@@ -36,7 +36,7 @@ enter_line SystemCall = refl
 
 pub enter_joins : (κ : Kind) → Joins (enter_end κ) (enter_values κ) fred_ground.known (item κ).opening
 unfolding enter_end fred_lines fred_listings spelling four_bytes size places distance
-enter_joins SystemCall = record { regs = refl; gs = refl; kernel_gs = refl; selector = refl; cr2 = refl; rsp0 = refl; words = refl; inside = refl }
+enter_joins SystemCall = record { regs = refl; gs = refl; kernel_gs = refl; selector = refl; cr2 = tt; rsp0 = refl; words = refl; inside = refl }
 
 pub enter_on_stack : (κ : Kind) → StaysOnStack (enter κ)
 unfolding fred_lines fred_listings spelling four_bytes size places distance
@@ -61,9 +61,9 @@ unfolding leave_end fred_lines fred_listings spelling four_bytes size places dis
 leave_words SystemCall = refl
 
 -- what else the return asks and keeps
-pub leave_gs : (κ : Kind) → ((leave_end κ).gs ≡ P gs_tag 0) × ((leave_end κ).kernel_gs ≡ X 60) × ((leave_end κ).selector ≡ X 61) × ((leave_end κ).cr2 ≡ Some (X 62)) × ((leave_end κ).rsp0 ≡ P 16 0) × ((leave_end κ).blocked ≡ false)
+pub leave_gs : (κ : Kind) → ((leave_end κ).gs ≡ P gs_tag 0) × ((leave_end κ).kernel_gs ≡ X 60) × ((leave_end κ).selector ≡ X 61) × ((leave_end κ).rsp0 ≡ P 16 0) × ((leave_end κ).blocked ≡ false)
 unfolding leave_end fred_lines fred_listings spelling four_bytes size places distance
-leave_gs SystemCall = (refl, refl, refl, refl, refl, refl)
+leave_gs SystemCall = (refl, refl, refl, refl, refl)
 
 pub leave_on_stack : (κ : Kind) → StaysOnStack (leave κ)
 unfolding fred_lines fred_listings spelling four_bytes size places distance

@@ -36,7 +36,7 @@ enter_line SystemCall = refl
 
 pub enter_joins : (κ : Kind) → Joins (enter_end κ) (enter_values κ) idt_ground.known (item κ).opening
 unfolding enter_end idt_lines idt_listings spelling four_bytes size places distance
-enter_joins SystemCall = record { regs = refl; gs = refl; kernel_gs = refl; selector = refl; cr2 = refl; rsp0 = refl; words = refl; inside = refl }
+enter_joins SystemCall = record { regs = refl; gs = refl; kernel_gs = refl; selector = refl; cr2 = tt; rsp0 = refl; words = refl; inside = refl }
 
 -- ---- the exit
 
@@ -53,9 +53,9 @@ unfolding leave_end idt_lines idt_listings spelling four_bytes size places dista
 leave_regs SystemCall = refl
 
 -- what else the return asks and keeps
-pub leave_gs : (κ : Kind) → ((leave_end κ).gs ≡ X 60) × ((leave_end κ).kernel_gs ≡ P gs_tag 0) × ((leave_end κ).selector ≡ X 61) × ((leave_end κ).cr2 ≡ Some (X 62)) × ((leave_end κ).rsp0 ≡ P 16 0) × ((leave_end κ).blocked ≡ false)
+pub leave_gs : (κ : Kind) → ((leave_end κ).gs ≡ X 60) × ((leave_end κ).kernel_gs ≡ P gs_tag 0) × ((leave_end κ).selector ≡ X 61) × ((leave_end κ).rsp0 ≡ P 16 0) × ((leave_end κ).blocked ≡ false)
 unfolding leave_end idt_lines idt_listings spelling four_bytes size places distance
-leave_gs SystemCall = (refl, refl, refl, refl, refl, refl)
+leave_gs SystemCall = (refl, refl, refl, refl, refl)
 
 -- ---- both
 

@@ -10,7 +10,7 @@ use Rattle.ev_symbolic.specs.Run.{brun}
 use Rattle.ev_symbolic.specs.Openings.{word, gs_tag, win_below, win_at, words_from, opening, end_or}
 use Rattle.ev_blocks_idt.specs.Blocks.{idt_lines, idt_ground, over}
 
--- bit 63 of the GS base is 0 for the task's, as NBODY tests it
+-- bit 63 of the GS base is 0 for the task's, as NBODY tests it; NBODY reads CR2
 abbrev pub nmi : Block
 nmi =
     over
@@ -20,7 +20,11 @@ nmi =
       facts = record { val = B OShr (B OShr (X 60) (K 32)) (K 31); is = 0 } ∷ [];
     })
     idt_lines
-    (record (opening nmi_entry (P 16 (M - 0x28)) (words_from 16 (M - 0x28) (X 21 ∷ K 0x33 ∷ X 23 ∷ X 24 ∷ K 0x2b ∷ []) ++ word (absolute (user_table + 0x10)) (X 25) ∷ [])) { gs = X 60; kernel_gs = P gs_tag 0 })
+    (record (opening nmi_entry (P 16 (M - 0x28)) (words_from 16 (M - 0x28) (X 21 ∷ K 0x33 ∷ X 23 ∷ X 24 ∷ K 0x2b ∷ []) ++ word (absolute (user_table + 0x10)) (X 25) ∷ [])) {
+      gs = X 60;
+      kernel_gs = P gs_tag 0;
+      cr2 = Some (X 62);
+    })
     66
 
 unfoldable pub nmi_end : SS

@@ -44,7 +44,7 @@ use Rattle.ev_symbolic.proofs.Sound.{executes, reg_ok, step_ok}
 use Rattle.ev_symbolic.proofs.Blocks.{earlier, goes_on, at_end, cell_step, joined}
 use Rattle.ev_activation.specs.Activation.{Kind, SystemCall, Spot, AtEntry, AtItem, AtExit}
 use Rattle.ev_table.specs.Table.{code_table, other_exit, body_jump, task_return, task_return_cell, RetCell}
-use Rattle.ev_refine.specs.Relation.{block_of, edges_of, item_place, address_of_item, RunsTask, here, top_of, rest_in, InItem, Leaving, Means, Active, IsContext, StandsOver, Chain, most_edges, StandsOn, Stands}
+use Rattle.ev_refine.specs.Relation.{block_of, edges_of, item_place, address_of_item, RunsTask, here, top_of, rest_in, InItem, Leaving, Means, Active, IsContext, StandsOver, Beneath, keeps_cr2, Chain, most_edges, StandsOn, Stands}
 use Rattle.ev_refine.specs.Claims.{MakesEdge, MakesTurn}
 use Rattle.ev_concrete.specs.Shown.{shown_always}
 use Rattle.ev_refine.proofs.Facts.{Facts}
@@ -53,7 +53,7 @@ use Rattle.ev_refine.proofs.ModeFacts.{is_fred}
 use Rattle.ev_refine.proofs.Spots.{ground_of, ground_is, end_of, runs_to_end, no_steps, entry_ends, exit_ends, jumps_to_body, values_of, opens_item, OpensItem, item_opening, SaysSame, any_item, exit_opening, exit_at, exit_canonical, log_moves, begins_body, means_item, controls, IsReturn, task_returns, not_repeated, one_less, less_in_item, less_in_exit, few_in_item}
 use Rattle.ev_refine.proofs.Fits.{fits_at, opens_at, leaves_fixed, leaves_mark, leaves_top, leaves_task}
 use Rattle.ev_refine.proofs.Instructions.{stays_inside, jumped, jump_by_register, jump}
-use Rattle.ev_refine.proofs.Standing.{instruction_first, hidden, seen, after_ran, Runs, ran_step, ran_safe, ran_shown, ran_stays, ran_returns, stands_on_after, stands_after}
+use Rattle.ev_refine.proofs.Standing.{instruction_first, hidden, seen, after_ran, Runs, ran_step, ran_safe, ran_shown, ran_stays, ran_returns, with_cr2, stands_on_after, stands_after}
 use Rattle.ev_refine.proofs.Return.{returns}
 use Rattle.ev_refine.proofs.Items.{Today, IsLog, IsRet, which, behind_log, local_is}
 
@@ -141,7 +141,7 @@ module _ (mode : Mode) (image : Image) (built : IsBuilt image) (good : IsImage i
     edge v f cell hc hm hr hu cpu words he hb wrote now fewer act =
         let run : Runs s p cpu words = runs cell hc hu cpu words he in
         let few : left p ≤ most_edges mode image = on.few in
-        let chain : Chain mode image p now x.running (task x) x.bodies cpu (with_words s.memory words) = subst (λ bs. Chain mode image p now x.running (task x) bs cpu (with_words s.memory words)) (sym bodies) (w, SystemCall, refl, ctx, r, act) in
+        let chain : Chain mode image p now x.running (task x) x.bodies cpu (with_words s.memory words) = subst (λ bs. Chain mode image p now x.running (task x) bs cpu (with_words s.memory words)) (sym bodies) (w, SystemCall, refl, ctx, λ a. with_cr2 mode image p x.running (task x) w a r, act) in
         let there : StandsOn mode image p now (after_ran s p cpu words) x = stands_on_after mode image built p (left p) now s x cpu words x.bodies on (omega arith) (leaves_mark mode image facts p small hp w b v f top s.memory.words words wrote) (leaves_top mode image facts p small hp w b v f top s.memory.words words wrote) (leaves_task mode image facts p small hp w b v f top s.memory.words words wrote)
         (ap length (ran_stays s p cpu cell.ins (fetches c.rip cell hc).1 hr) ∙ on.depth) hb chain in (
           inl (record {
@@ -302,7 +302,7 @@ module _ (mode : Mode) (image : Image) (built : IsBuilt image) (good : IsImage i
         } in
         visible v f cell hc refl hu st.cpu st.words st.runs (st.blocking ∙ on.blocking) st.within (onward b ∷ [])
         (ap length (ran_stays s p st.cpu cell.ins (fetches c.rip cell hc).1 refl) ∙ on.depth ∙ ap length bodies) (edges_of mode AtItem 0) (few_in_item mode image)
-        (w, SystemCall, refl, on_next, r, act)
+        (w, SystemCall, refl, on_next, λ a. with_cr2 mode image p x.running (task x) w a r, act)
         (Entry.Log p (local b q) ∷ []) (ap (λ y. Entry.Log p y ∷ []) (local_is e io.rsp c.regs b.locals (a.regs ∙ ap (map (eval e)) io.regs) means.locals q lo hq))
         (log_turn q (ap (λ o. item_at o b.place) is ∙ hi))
 
@@ -359,10 +359,11 @@ module _ (mode : Mode) (image : Image) (built : IsBuilt image) (good : IsImage i
         let cell : Cell = task_return_cell mode in
         let is : IsReturn cell = task_returns mode in
         let hc : code c.rip ≡ Some cell = ap code rip ∙ facts.return_cell in
-        let does : Executes cell.ins w s.memory.words = returns image mode p small x.running (task x) on.running w r b v f c s.memory a means.saved cell.next (sym (facts.spaced c.rip cell hc)) on.blocking in
-        visible v f cell hc is.marked hu w s.memory.words does (ap (λ (y : Processor). y.nmi_blocked) r.is) (λ y far far'. refl) []
-        (ap length (ran_returns s p w cell.ins (fetches c.rip cell hc).1 is.returns hu (not_repeated mode c w rip)) ∙ none_left (s.activations p) (on.depth ∙ ap length bodies)) 0 (omega arith)
-        r [] (is.silent p (length (s.activations p)) c s.memory.words) (ret_turn means.ret)
+        let back : Processor = record w { cr2 = c.cr2 } in
+        let does : Executes cell.ins back s.memory.words = returns image mode p small x.running (task x) on.running w r b v f c s.memory a means.saved cell.next (sym (facts.spaced c.rip cell hc)) on.blocking in
+        visible v f cell hc is.marked hu back s.memory.words does (ap (λ (y : Processor). y.nmi_blocked) r.is) (λ y far far'. refl) []
+        (ap length (ran_returns s p back cell.ins (fetches c.rip cell hc).1 is.returns hu (not_repeated mode c back rip)) ∙ none_left (s.activations p) (on.depth ∙ ap length bodies)) 0 (omega arith)
+        (with_cr2 mode image p x.running (task x) w c.cr2 r) [] (is.silent p (length (s.activations p)) c s.memory.words) (ret_turn means.ret)
 
     -- ---- every step
 
@@ -393,5 +394,7 @@ module _ (mode : Mode) (image : Image) (built : IsBuilt image) (good : IsImage i
       chain : Chain mode image p (left p) x.running (task x) (b ∷ below) c s.memory
       chain = subst (λ bs. Chain mode image p (left p) x.running (task x) bs c s.memory) hb on.chain
 
-      go : (w : Processor) (κ : Kind) → StandsOver mode image κ below → IsContext mode image b → Chain mode image p (left p) x.running (task x) below w s.memory → Active mode image p (left p) κ w b c s.memory → Result
-      go w SystemCall none ctx under act = act_step b (hb ∙ ap (λ bs. b ∷ bs) none) ctx w (subst (λ bs. Chain mode image p (left p) x.running (task x) bs w s.memory) none under) act
+      go : (w : Processor) (κ : Kind) → StandsOver mode image κ below → IsContext mode image b
+          → Beneath mode image (keeps_cr2 mode image κ) (λ v. Chain mode image p (left p) x.running (task x) below v s.memory) w
+          → Active mode image p (left p) κ w b c s.memory → Result
+      go w SystemCall none ctx under act = act_step b (hb ∙ ap (λ bs. b ∷ bs) none) ctx w (subst (λ bs. Chain mode image p (left p) x.running (task x) bs w s.memory) none (under w.cr2)) act

@@ -1,5 +1,5 @@
 -- The return of an activation to the task: ERETU and SYSRETQ give exactly the processor that the activation stands over.
-use Rattle.std.proofs.Common.{◌≡◌, ℕ, ◌+◌, ◌-◌, ◌%◌, ◌<◌, Bool, true, false, not, ◌&&◌, List, [], ◌∷◌, get_or, set, drop, map, length, Some, None, refl, sym, ap, ◌∙◌, subst, arith}
+use Rattle.std.proofs.Common.{◌≡◌, ℕ, ◌+◌, ◌-◌, ◌%◌, ◌<◌, Bool, true, false, not, ◌&&◌, List, [], ◌∷◌, get_or, set, drop, map, length, Some, None, refl, sym, ap, ◌∙◌, arith}
 use Rattle.std.specs.Prelude.{if◌then◌else◌, ◌==◌}
 use Rattle.ev_isa.specs.Word.{wrap, bit, is_canonical}
 use Rattle.ev_isa.specs.Flags.{Flags, modelled}
@@ -26,7 +26,7 @@ use Rattle.ev_abstract.specs.Context.{BodyContext}
 use Rattle.ev_symbolic.specs.Value.{M}
 use Rattle.ev_symbolic.specs.State.{Loc, in_win}
 use Rattle.ev_symbolic.specs.Openings.{below}
-use Rattle.ev_symbolic.specs.Agrees.{Env, untracked, eval, addr, Known, IsTold, Agrees}
+use Rattle.ev_symbolic.specs.Agrees.{Env, untracked, eval, addr, Known, Agrees}
 use Rattle.ev_symbolic.proofs.Values.{add_shift}
 use Rattle.ev_symbolic.proofs.Words.{found_ok, accessible}
 use Rattle.ev_symbolic.proofs.Sound.{executes}
@@ -65,9 +65,9 @@ module _ (image : Image) where
 
     -- at the task's privilege, with the rest as the activation left it
     returned : (d : Processor) → untracked d ≡ record (rest_in mode image SystemCall w) { cpl = 3; cs = 0x33; ss = 0x2b } → d.nmi_blocked ≡ false
-        → d.regs ≡ w.regs → d.rip ≡ w.rip → d.flags ≡ modelled w.flags → d.cr2 ≡ w.cr2 → d.gs ≡ w.gs → d.sti_blocked ≡ false
-        → d.msrs.gs_base ≡ w.msrs.gs_base → d.msrs.kernel_gs_base ≡ (pcpu p + 0) % M → d.msrs.rsp ≡ (top_of mode image SystemCall w + 0) % M ∷ drop 1 w.msrs.rsp → d ≡ w
-    returned d rest blocking regs rip flags cr2 gs sti base kernel levels =
+        → d.regs ≡ w.regs → d.rip ≡ w.rip → d.flags ≡ modelled w.flags → d.gs ≡ w.gs → d.sti_blocked ≡ false
+        → d.msrs.gs_base ≡ w.msrs.gs_base → d.msrs.kernel_gs_base ≡ (pcpu p + 0) % M → d.msrs.rsp ≡ (top_of mode image SystemCall w + 0) % M ∷ drop 1 w.msrs.rsp → d ≡ record w { cr2 = d.cr2 }
+    returned d rest blocking regs rip flags gs sti base kernel levels =
         let s : w ≡ _ = r.is in
         let h_cpl : 3 ≡ w.cpl = sym (ap (λ (y : Processor). y.cpl) s) in
         let h_cs : 0x33 ≡ w.cs = sym (ap (λ (y : Processor). y.cs) s) in
@@ -75,7 +75,7 @@ module _ (image : Image) where
         let h_level : 0 ≡ w.level = sym (ap (λ (y : Processor). y.level) s) in
         let h_rest : untracked d ≡ untracked w = rest ∙ (λ i. record (untracked w) { cpl = h_cpl i; cs = h_cs i; ss = h_ss i; level = h_level i }) in
         let h_top : get_or w.msrs.rsp 0 0 ≡ stack_top p 0 = ap (λ (y : Processor). get_or y.msrs.rsp 0 0) s ∙ ap (stack_top p) hq in
-        whole d w h_rest (blocking ∙ sym (ap (λ (y : Processor). y.nmi_blocked) s)) regs rip (flags ∙ sym (kept w.flags t.flags (ap (λ (y : Processor). y.flags) s))) cr2 gs (sti ∙ sym (ap (λ (y : Processor). y.sti_blocked) s))
+        whole d (record w { cr2 = d.cr2 }) h_rest (blocking ∙ sym (ap (λ (y : Processor). y.nmi_blocked) s)) regs rip (flags ∙ sym (kept w.flags t.flags (ap (λ (y : Processor). y.flags) s))) refl gs (sti ∙ sym (ap (λ (y : Processor). y.sti_blocked) s))
         base (kernel ∙ area_low ∙ sym (ap (λ (y : Processor). y.msrs.kernel_gs_base) s)) (levels ∙ ap (λ n. n ∷ drop 1 w.msrs.rsp) (top_low (get_or w.msrs.rsp 0 0) h_top) ∙ sym (levels_split w.msrs.rsp (ap (λ (y : Processor). length y.msrs.rsp) s)))
       where
         area_low : (pcpu p + 0) % M ≡ pcpu p
@@ -140,16 +140,16 @@ module _ (image : Image) where
     abbrev by_frame : Processor
     by_frame = record (gs_exchanged (fred_returned c w.rip (v 19) (v 20) 0x220700010002002b)) { cs = 0x33; ss = 0x2b; cpl = 3 }
 
-    by_frame_is : by_frame ≡ w
+    by_frame_is : by_frame ≡ record w { cr2 = c.cr2 }
     unfolding eval
     by_frame_is =
         let z = fred_ends.leave_gs SystemCall in
         let rest : untracked by_frame ≡ record (rest_in Fred image SystemCall w) { cpl = 3; cs = 0x33; ss = 0x2b } =
         ap {A = Processor} {B = Processor} (λ y. record y { cpl = 3; cs = 0x33; ss = 0x2b }) a.rest in
-        returned Fred p hp q t hq w r by_frame rest (ap (λ n. n && not (bit 18 0x220700010002002b)) hb) (ap (λ xs. set xs 4 (v 20)) regs ∙ sym saved.regs) refl (ap modelled saved.framed.flags) (subst (λ o. IsTold e o c.cr2) z.3 a.cr2 ∙ saved.framed.cr2) (a.selector ∙ ap (eval e) z.2 ∙ saved.framed.selector) refl
-        (a.kernel_gs ∙ ap (eval e) z.1 ∙ saved.framed.gs) (a.gs ∙ ap (eval e) z.0) (a.levels ∙ ap (λ y. eval e y ∷ drop 1 w.msrs.rsp) z.4)
+        returned Fred p hp q t hq w r by_frame rest (ap (λ n. n && not (bit 18 0x220700010002002b)) hb) (ap (λ xs. set xs 4 (v 20)) regs ∙ sym saved.regs) refl (ap modelled saved.framed.flags) (a.selector ∙ ap (eval e) z.2 ∙ saved.framed.selector) refl
+        (a.kernel_gs ∙ ap (eval e) z.1 ∙ saved.framed.gs) (a.gs ∙ ap (eval e) z.0) (a.levels ∙ ap (λ y. eval e y ∷ drop 1 w.msrs.rsp) z.3)
 
-    eretu_gives : eretu c m ≡ Went w m.words 0
+    eretu_gives : eretu c m ≡ Went (record w { cr2 = c.cr2 }) m.words 0
     unfolding eretu
     eretu_gives =
         let level : c.level ≡ 0 = ap (λ (y : Processor). y.level) a.rest in
@@ -181,14 +181,14 @@ module _ (image : Image) where
     abbrev by_registers : Processor
     by_registers = record c { rip = get_or c.regs 1 0; flags = modelled (get_or c.regs 11 0); cs = 0x33; ss = 0x2b; cpl = 3; sti_blocked = false }
 
-    by_registers_is : by_registers ≡ w
+    by_registers_is : by_registers ≡ record w { cr2 = c.cr2 }
     unfolding eval
     by_registers_is =
         let z = idt_ends.leave_gs SystemCall in
-        returned Idt p hp q t hq w r by_registers (ap {A = Processor} {B = Processor} (λ y. record y { cpl = 3; cs = 0x33; ss = 0x2b }) a.rest) hb registers rcx (ap modelled r11) (subst (λ o. IsTold env o c.cr2) z.3 a.cr2 ∙ saved.framed.cr2) (a.selector ∙ ap (eval env) z.2 ∙ saved.framed.selector) refl
-        (a.gs ∙ ap (eval env) z.0 ∙ saved.framed.gs) (a.kernel_gs ∙ ap (eval env) z.1) (a.levels ∙ ap (λ y. eval env y ∷ drop 1 w.msrs.rsp) z.4)
+        returned Idt p hp q t hq w r by_registers (ap {A = Processor} {B = Processor} (λ y. record y { cpl = 3; cs = 0x33; ss = 0x2b }) a.rest) hb registers rcx (ap modelled r11) (a.selector ∙ ap (eval env) z.2 ∙ saved.framed.selector) refl
+        (a.gs ∙ ap (eval env) z.0 ∙ saved.framed.gs) (a.kernel_gs ∙ ap (eval env) z.1) (a.levels ∙ ap (λ y. eval env y ∷ drop 1 w.msrs.rsp) z.3)
 
-    sysretq_gives : sysretq c m.words ≡ Went w m.words 0
+    sysretq_gives : sysretq c m.words ≡ Went (record w { cr2 = c.cr2 }) m.words 0
     unfolding sysretq
     sysretq_gives =
         let met : Outcome = Met c (gp 0) in
@@ -199,7 +199,7 @@ module _ (image : Image) where
 
   pub returns : (mode : Mode) (p : ℕ) → p < 32 → (q : ℕ) (t : Task) → q ≡ 0 → (w : Processor) → RunsTask mode image p q t w → (b : BodyContext) (v : ℕ → ℕ) (f : Flags) (c : Processor) (m : Memory)
       → Agrees (here mode image p SystemCall w b v f) (ground_of mode) (end_of mode AtExit) c m → Saved mode image v w → (next : ℕ) → c.rip + length (spelling (task_return_cell mode).ins) ≡ next → c.nmi_blocked ≡ false
-      → (n : Apic) (nmi : Bool) → executed c n m nmi (Some (task_return_cell mode).ins) ≡ ran w n m.words nmi
+      → (n : Apic) (nmi : Bool) → executed c n m nmi (Some (task_return_cell mode).ins) ≡ ran (record w { cr2 = c.cr2 }) n m.words nmi
   unfolding exec special
   returns Fred p hp q t hq w r b v f c m a saved next hn hb n nmi =
       executes c m Eretu next Special (ap is_user a.rest) hn refl n nmi

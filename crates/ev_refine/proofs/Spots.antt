@@ -151,11 +151,11 @@ module _ (image : Image) where
   pub means_item : (mode : Mode) (e : Env) (w : Processor) (b : BodyContext) (f : Flags) → Means mode image SystemCall AtEntry e.var w b → InItem mode image (env_after e (values_of mode) f).var w b
   unfolding eval
   means_item Fred e w b f means = record {
-    saved = record { framed = record { rip = means.framed.rip; flags = means.framed.flags; gs = means.framed.gs; selector = means.framed.selector; cr2 = means.framed.cr2 }; regs = means.regs };
+    saved = record { framed = record { rip = means.framed.rip; flags = means.framed.flags; gs = means.framed.gs; selector = means.framed.selector }; regs = means.regs };
     locals = means.locals ∙ (λ i. sym means.error i ∷ 0x100 ∷ sym means.info i ∷ 0 ∷ 0 ∷ 0 ∷ 0 ∷ 0 ∷ []);
   }
   means_item Idt e w b f means = record {
-    saved = record { framed = record { rip = means.rip; flags = means.flags; gs = means.gs; selector = means.selector; cr2 = means.cr2 }; regs = means.regs };
+    saved = record { framed = record { rip = means.rip; flags = means.flags; gs = means.gs; selector = means.selector }; regs = means.regs };
     locals = means.locals;
   }
 

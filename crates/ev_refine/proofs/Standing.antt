@@ -10,6 +10,7 @@ use Rattle.ev_event.specs.Boundary.{first_of}
 use Rattle.ev_body.specs.declared.image.Image.{Image}
 use Rattle.ev_listing.specs.AddressMap.{pcpu}
 use Rattle.ev_listing.specs.Marks.{Never, Always}
+use Rattle.ev_effect.specs.Task.{Task}
 use Rattle.ev_state.specs.Processor.{Processor, is_user, interrupts_on}
 use Rattle.ev_apic.specs.declared.apic.Apic.{Apic}
 use Rattle.ev_apic.specs.Apic.{next_vector}
@@ -24,7 +25,7 @@ use Rattle.ev_concrete.specs.LiveWords.{IsSafeStep, overwrites}
 use Rattle.ev_event.specs.declared.frame_note.FrameNote.{FrameNote}
 use Rattle.ev_built.specs.Built.{IsBuilt}
 use Rattle.ev_symbolic.specs.Agrees.{with_words}
-use Rattle.ev_refine.specs.Relation.{IsFixed, Chain, most_edges, StandsOn, Stands}
+use Rattle.ev_refine.specs.Relation.{IsFixed, RunsTask, Chain, most_edges, StandsOn, Stands}
 use Rattle.ev_concrete.specs.Shown.{shown, shown_always, shown_by, told_at}
 use Rattle.ev_refine.proofs.Maps.{at_same}
 
@@ -92,6 +93,19 @@ ran_returns s p cpu i hi hr hu hl =
     ap (λ b. if b && not (is_user (s.cpus p)) && not (is_repeated (s.cpus p) cpu) then without_last (s.activations p) else s.activations p) (ap is_return hi ∙ hr)
     ∙ ap (λ b. if not b && not (is_repeated (s.cpus p) cpu) then without_last (s.activations p) else s.activations p) hu
     ∙ ap (λ b. if not b then without_last (s.activations p) else s.activations p) hl
+
+-- ---- what stands beneath an activation
+
+-- the task, with another CR2
+pub with_cr2 : (mode : Mode) (image : Image) (p r : ℕ) (t : Task) (w : Processor) (a : ℕ) → RunsTask mode image p r t w
+    → RunsTask mode image p r t (record w { cr2 = a })
+with_cr2 mode image p r t w a h = record {
+  is = ap (λ (y : Processor). record y { cr2 = a }) h.is;
+  gs = h.gs;
+  long = h.long;
+  canonical = h.canonical;
+  at = h.at;
+}
 
 -- ---- the relation after it
 

@@ -133,7 +133,7 @@ module _ (image : Image) (built : IsBuilt image) (p n : ℕ) (t : Task) (cr2 nex
       gs = (let e : pcpu p ≡ (pcpu p + 0) % M = omega arith in e);
       kernel_gs = refl;
       selector = refl;
-      cr2 = refl;
+      cr2 = tt;
       levels = ap (λ z. z ∷ env.rest.msrs.rsp) (let e : stack_top p n ≡ (stack_top p n + 0) % M = omega arith in e);
       blocked = refl;
       rest = refl;
@@ -144,7 +144,7 @@ module _ (image : Image) (built : IsBuilt image) (p n : ℕ) (t : Task) (cr2 nex
 
     entering : Entering Fred image SystemCall var (call.over Fred image p n t cr2 next body) (call.context Fred image p n t cr2 next body)
     entering = record {
-      framed = record { rip = refl; flags = refl; gs = refl; selector = refl; cr2 = refl };
+      framed = record { rip = refl; flags = refl; gs = refl; selector = refl };
       regs = ap (λ xs. set (set xs 1 next) 11 (flags_word t.flags)) (listed_is t.regs ready.long);
       error = refl;
       info = refl;

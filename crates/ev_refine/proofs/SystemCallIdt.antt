@@ -90,7 +90,7 @@ module _ (image : Image) (p n : ℕ) (t : Task) (cr2 next body : ℕ) where
       gs = refl;
       kernel_gs = (let e : pcpu p ≡ (pcpu p + 0) % M = omega arith in e);
       selector = refl;
-      cr2 = refl;
+      cr2 = tt;
       levels = ap (λ z. z ∷ env.rest.msrs.rsp) (let e : stack_top p n ≡ (stack_top p n + 0) % M = omega arith in e);
       blocked = refl;
       rest = refl;
@@ -105,7 +105,6 @@ module _ (image : Image) (p n : ℕ) (t : Task) (cr2 next body : ℕ) where
       flags = refl;
       gs = refl;
       selector = refl;
-      cr2 = refl;
       regs = ap (λ xs. set (set xs 1 next) 11 (flags_word t.flags)) (listed_is t.regs ready.long);
       code = refl;
       place = refl;

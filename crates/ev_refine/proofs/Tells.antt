@@ -1,5 +1,5 @@
 -- What the relation says to those who make the steps.
-use Rattle.std.proofs.Common.{◌≡◌, ℕ, ◌+◌, ◌<◌, arith, true, false, List, [], ◌∷◌, refl, sym, ap, ◌∙◌, subst}
+use Rattle.std.proofs.Common.{◌≡◌, ℕ, ◌+◌, ◌<◌, arith, Bool, true, false, List, [], ◌∷◌, refl, sym, ap, ◌∙◌, subst}
 use Rattle.ev_isa.specs.Word.{NatMap}
 use Rattle.ev_isa.specs.declared.mode.Mode.{Mode}
 use Rattle.ev_isa.specs.declared.mode.Mode.TheVariants.{Idt, Fred}
@@ -12,7 +12,7 @@ use Rattle.ev_abstract.specs.Machine.{Machine, processor, task}
 use Rattle.ev_concrete.specs.ConcreteRun.{System}
 use Rattle.ev_proc.specs.ProcessorStep.{has_fred}
 use Rattle.ev_activation.specs.Activation.{Kind, SystemCall}
-use Rattle.ev_refine.specs.Relation.{Stands, Chain, rest_in, InTables}
+use Rattle.ev_refine.specs.Relation.{Stands, Beneath, keeps_cr2, Chain, rest_in, InTables}
 use Rattle.ev_refine.specs.Claims.{Tells}
 use Rattle.ev_refine.proofs.Facts.{Facts, HasFixed}
 use Rattle.ev_refine.proofs.ModeFacts.{is_fred}
@@ -37,10 +37,16 @@ module _ (mode : Mode) (image : Image) where
   kind_kept : (p : ℕ) (κ : Kind) (w : Processor) → Kept p w → Kept p (rest_in mode image κ w)
   kind_kept p SystemCall w k = record { fred = k.fred; idt = k.idt; tss = k.tss }
 
+  -- what stands beneath an activation stands with the CR2 that it has
+  over_any : (C : Processor → Type 0) (b : Bool) (w : Processor) → Beneath mode image b C w → C w
+  over_any C true w h = h
+  over_any C false w h = h w.cr2
+
   pub chain_kept : (p left r : ℕ) (t : Task) (bs : List BodyContext) (c : Processor) (m : Memory) → Chain mode image p left r t bs c m → Kept p c
   chain_kept p left r t [] c m h = record { fred = ap has_fred h.is ∙ mode_fred mode; idt = ap (λ (c : Processor). c.idt) h.is; tss = ap (λ (c : Processor). c.tss) h.is }
   chain_kept p left r t (b ∷ below) c m h =
-      let k : Kept p (rest_in mode image h.1 h.0) = kind_kept p h.1 h.0 (chain_kept p left r t below h.0 m h.4) in
+      let k : Kept p (rest_in mode image h.1 h.0) = kind_kept p h.1 h.0
+      (chain_kept p left r t below h.0 m (over_any (λ v. Chain mode image p left r t below v m) (keeps_cr2 mode image h.1) h.0 h.4)) in
       let same : untracked c ≡ rest_in mode image h.1 h.0 = h.5.at.agrees.rest in
       record { fred = ap has_fred same ∙ k.fred; idt = ap (λ (c : Processor). c.idt) same ∙ k.idt; tss = ap (λ (c : Processor). c.tss) same ∙ k.tss }
 

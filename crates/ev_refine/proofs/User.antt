@@ -40,6 +40,7 @@ use Rattle.ev_activation.specs.Activation.{SystemCall}
 use Rattle.ev_refine.specs.Relation.{IsFixed, InText, InTables, InTasks, InCode, task_processor, RunsTask, IsContext, Chain, most_edges, StandsOn, Stands}
 use Rattle.ev_concrete.specs.Shown.{shown_by, saved_rip, key_of}
 use Rattle.ev_refine.specs.Claims.{MakesTurn}
+use Rattle.ev_refine.proofs.Standing.{with_cr2}
 use Rattle.ev_refine.proofs.Facts.{Facts}
 use Rattle.ev_refine.proofs.UserState.{put_same, TurnsTo, makes_turn, is_safe, stands_again, stands_acted}
 use Rattle.ev_refine.proofs.UserStep.{Makes, makes}
@@ -161,7 +162,7 @@ module _ (mode : Mode) (image : Image) (formed : IsImage image) (built : IsBuilt
         at = λ program is. ap (λ (q : Task). begins program q.rip) task_is ∙ sym (ap (λ i. begins program (leads_to t.rip i)) hi) ∙ u.leads program is;
       } in
       let is_context : IsContext mode image b = record { item = call.item; is = call.first; interrupts = refl; service = refl; calls = refl } in
-      let chain : Chain mode image p most y.running (task y) (b ∷ []) d (with_words s.memory words') = (w, SystemCall, refl, is_context, runs, begun.active) in
+      let chain : Chain mode image p most y.running (task y) (b ∷ []) d (with_words s.memory words') = (w, SystemCall, refl, is_context, λ a. with_cr2 mode image p n (task y) w a runs, begun.active) in
       let stands_on : StandsOn mode image p most s' y = record {
         few = omega arith;
         running = u.on.running;

@@ -1,6 +1,6 @@
 -- When a state of the concrete machine stands for one of the abstract machine. Own.
 -- The abstract machine's contexts are matched from the last down: an activation stands over the processor that its return restores.
-use Rattle.std.specs.Prelude.{◌≡◌, ℕ, ◌+◌, ◌*◌, ◌<◌, ◌≤◌, true, false, ◌==◌, if◌then◌else◌, List, [], ◌∷◌, length, get_or, drop, slice_get, Option, Some, None}
+use Rattle.std.specs.Prelude.{◌≡◌, ℕ, ◌+◌, ◌*◌, ◌<◌, ◌≤◌, Bool, true, false, ◌==◌, if◌then◌else◌, List, [], ◌∷◌, length, get_or, drop, slice_get, Option, Some, None}
 use Rattle.ev_isa.specs.Word.{NatMap, is_canonical, no_numbers}
 use Rattle.ev_isa.specs.Flags.{Flags, flags_word}
 use Rattle.ev_isa.specs.Pages.{text_base}
@@ -111,7 +111,6 @@ module _ (mode : Mode) (image : Image) where
     pub flags : v 19 ≡ w.flags
     pub gs : v 60 ≡ w.msrs.gs_base
     pub selector : v 61 ≡ w.gs
-    pub cr2 : v 62 ≡ w.cr2
 
   -- at the entry under FRED: the registers of the task are still there, and RCX and R11 are those that SYSCALL leaves
   pub record Entering (κ : Kind) (v : ℕ → ℕ) (w : Processor) (b : BodyContext) : Type 0 where
@@ -129,7 +128,6 @@ module _ (mode : Mode) (image : Image) where
     pub flags : v 11 ≡ w.flags
     pub gs : v 60 ≡ w.msrs.gs_base
     pub selector : v 61 ≡ w.gs
-    pub cr2 : v 62 ≡ w.cr2
     pub regs : w.regs ≡ v 0 ∷ v 1 ∷ v 2 ∷ v 3 ∷ v 4 ∷ v 5 ∷ v 6 ∷ v 7 ∷ v 8 ∷ v 9 ∷ v 10 ∷ v 11 ∷ v 12 ∷ v 13 ∷ v 14 ∷ v 15 ∷ []
     pub code : v 24 ≡ body_code b.body
     pub place : b.place ≡ 0
@@ -185,10 +183,19 @@ module _ (mode : Mode) (image : Image) where
   abbrev pub StandsOver : Kind → List BodyContext → Type 0
   StandsOver SystemCall below = below ≡ []
 
+  -- whether the return from an activation of this kind restores CR2; else what stands beneath it stands with any
+  abbrev pub keeps_cr2 : Kind → Bool
+  keeps_cr2 SystemCall = false
+
+  abbrev pub Beneath : Bool → (Processor → Type 0) → Processor → Type 0
+  Beneath true C w = C w
+  Beneath false C w = (a : ℕ) → C (record w { cr2 = a })
+
   -- Each context stands on the one before it, and the first on the task r, which is t.
   abbrev pub Chain : ℕ → ℕ → ℕ → Task → List BodyContext → Processor → Memory → Type 0
   Chain p left r t [] c m = RunsTask p r t c
-  Chain p left r t (b ∷ below) c m = (w : Processor) × (κ : Kind) × StandsOver κ below × IsContext b × Chain p left r t below w m × Active p left κ w b c m
+  Chain p left r t (b ∷ below) c m =
+      (w : Processor) × (κ : Kind) × StandsOver κ below × IsContext b × Beneath (keeps_cr2 κ) (λ v. Chain p left r t below v m) w × Active p left κ w b c m
 
   -- ---- the machines
 

@@ -36,7 +36,7 @@ abbrev pub words_from : ℕ → ℕ → List V → List Word
 words_from t o [] = []
 words_from t o (v ∷ vs) = word (at_base t o) v ∷ words_from t (o + 8) vs
 
--- a state with kernel GS: 60 the kernel GS base, 61 the selector, 62 CR2
+-- a state with kernel GS: 60 the kernel GS base, 61 the selector; of CR2 nothing is told
 abbrev pub opening : ℕ → V → List Word → SS
 opening a rsp words = record {
   regs = all_regs rsp;
@@ -45,7 +45,7 @@ opening a rsp words = record {
   gs = P gs_tag 0;
   kernel_gs = X 60;
   selector = X 61;
-  cr2 = Some (X 62);
+  cr2 = None;
   rsp0 = P 16 0;
   blocked = false;
   words = words;
