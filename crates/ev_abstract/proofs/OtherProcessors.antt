@@ -70,11 +70,13 @@ kick_own m to false q = refl
 queue_own : (m : Machine) (p q : ℕ) (queue : List CallId) → own (with_queue m p queue) q ≡ own m q
 queue_own m p q queue = put_same m p q (record (processor m p) { queue = queue }) refl
 
-guarded_own : (image : Image) (m : Machine) (p q a : ℕ) (code : Option ℕ) (s : Step) → q ≢ p → own s.0 q ≡ own m q → own (guarded image m p a code s).0 q ≡ own m q
+guarded_own : (image : Image) (m : Machine) (p q a : ℕ) (code : Option ℕ) (s : Step) → q ≢ p → own s.0 q ≡ own m q
+    → own (guarded image m p a code s).0 q ≡ own m q
 guarded_own image m p q a None s h k = k
 guarded_own image m p q a (Some code) s h k = simp (put_other, h)
 
-called_own : (m : Machine) (p q : ℕ) (c : BodyContext) (k : CallId) (state : CallState) (to func s : ℕ) → q ≢ p → own (called m p c k state to func s).0 q ≡ own m q
+called_own : (m : Machine) (p q : ℕ) (c : BodyContext) (k : CallId) (state : CallState) (to func s : ℕ) → q ≢ p
+    → own (called m p c k state to func s).0 q ≡ own m q
 called_own m p q c k Free to func s h = simp (put_other, queue_own, record_own, h)
 called_own m p q c k _ to func s h = simp (put_other, h)
 
@@ -107,7 +109,8 @@ task_own : (image : Image) (m : Machine) (p q : ℕ) (s : UserStep) → q ≢ p 
 task_own image m p q (Goes t words) h = simp (put_other, words_own, h)
 task_own image m p q (Raises saved e) h = simp (put_other, h)
 
-possible_item_own : (image : Image) (m : Machine) (p q : ℕ) (c : BodyContext) (item : Option Item) → q ≢ p → own (item_or_nothing image m p c item).0 q ≡ own m q
+possible_item_own : (image : Image) (m : Machine) (p q : ℕ) (c : BodyContext) (item : Option Item) → q ≢ p
+    → own (item_or_nothing image m p c item).0 q ≡ own m q
 possible_item_own image m p q c None h = refl
 possible_item_own image m p q c (Some item) h = item_own image m p q c item h
 

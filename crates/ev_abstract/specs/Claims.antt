@@ -22,7 +22,8 @@ ChainsAreLegal = (image : Image) (script : List Line) (p : ℕ) → IsImage imag
 
 -- so there are no more than the bound
 abbrev pub DepthIsBounded : Type 0
-DepthIsBounded = (image : Image) (bound : ℕ) (script : List Line) (p : ℕ) → IsImage image → IsAcceptedWith image bound → IsScript image script → p < image.processors
+DepthIsBounded = (image : Image) (bound : ℕ) (script : List Line) (p : ℕ) → IsImage image → IsAcceptedWith image bound → IsScript image script
+    → p < image.processors
     → length (standing_bodies (processor (run image script) p)) ≤ bound
 
 -- each call runs at most once and is done before it is reported

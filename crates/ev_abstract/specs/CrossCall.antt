@@ -57,4 +57,5 @@ start_of (Some b) func = function_start b func
 abbrev pub at_first_call : Image → Machine → BodyContext → List CallId → BodyContext
 at_first_call image m c [] = at_place (record c { calls = [] }) (after_take (slice_get image.bodies c.body))
 at_first_call image m c (k ∷ ks) =
-    at_place (with_local (with_local (record c { calls = k ∷ ks }) 9 (record_of m k).arg) 10 k.from) (start_of (slice_get image.bodies c.body) (record_of m k).func)
+    at_place (with_local (with_local (record c { calls = k ∷ ks }) 9 (record_of m k).arg) 10 k.from)
+    (start_of (slice_get image.bodies c.body) (record_of m k).func)

@@ -17,7 +17,8 @@ bit_is k n =
 
 pub clear_bit : (n k : ℕ) → n < 2 ^ 64 → k < 64 → bit_and n (bit_not w64 (1 * 2 ^ k % 2 ^ 64)) ≡ with_bit n k false
 clear_bit n k hn hk =
-    rw (one_shl k 64 hk, and_comm n (2 ^ 64 - 1 - 2 ^ k)) (omega (arith, and-not 64 (2 ^ k) n (pow_below k 64 hk) hn, and_comm (2 ^ k) n, and_pow n k, bit_is k n))
+    rw (one_shl k 64 hk, and_comm n (2 ^ 64 - 1 - 2 ^ k))
+    (omega (arith, and-not 64 (2 ^ k) n (pow_below k 64 hk) hn, and_comm (2 ^ k) n, and_pow n k, bit_is k n))
 
 or_same : (n k : ℕ) → bit_at n k ≡ 1 → (i : ℕ) → bit_at (bit_or n (2 ^ k)) i ≡ bit_at n i
 or_same n k one i = bit_at_or n (2 ^ k) i ∙ elim (cases_eq i k) [

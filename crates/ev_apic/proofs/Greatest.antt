@@ -9,9 +9,19 @@ use Rattle.ev_apic.specs.Vectors.{vectors_of, IsGreatestBelow, GreatestIsGreates
 -- the number n is not in the set
 one_more : (n : ℕ) (s : NatSet) (o : Option ℕ) → s n ≡ false → IsGreatestBelow n s o → IsGreatestBelow (suc n) s o
 one_more n s None e h = λ u below. elim (cases_order u n) [ inl same ↦ rw same e | inr (inl under) ↦ h u under | inr (inr over) ↦ absurd (omega arith) ]
-one_more n s (Some v) e h = (omega (arith, h.0), h.1, λ u above below. elim (cases_order u n) [ inl same ↦ rw same e | inr (inl under) ↦ h.2 u above under | inr (inr over) ↦ absurd (omega arith) ])
+one_more n s (Some v) e h = (
+  omega (arith, h.0),
+  h.1,
+  λ u above below. elim (cases_order u n) [
+    | inl same ↦ rw same e
+    | inr (inl under) ↦ h.2 u above under
+    | inr (inr over) ↦ absurd
+        (omega arith)
+  ],
+)
 
-at : (n : ℕ) (s : NatSet) (b : Bool) → s n ≡ b → IsGreatestBelow n s (greatest_below n s) → IsGreatestBelow (suc n) s (elim b [ true ↦ Some n | false ↦ greatest_below n s ])
+at : (n : ℕ) (s : NatSet) (b : Bool) → s n ≡ b → IsGreatestBelow n s (greatest_below n s)
+    → IsGreatestBelow (suc n) s (elim b [ true ↦ Some n | false ↦ greatest_below n s ])
 at n s true e h = (omega arith, e, λ u above below. absurd (omega arith))
 at n s false e h = one_more n s (greatest_below n s) e h
 
@@ -40,7 +50,12 @@ of_class c s v = s v && nat_lt c (v / 16)
 pub above : (n : ℕ) (s : NatSet) (c v : ℕ) → greatest_below n s ≡ Some v → c < v / 16 → greatest_below n (of_class c s) ≡ Some v
 above n s c v e h =
     let g : IsGreatestBelow n s (Some v) = rw e at (greatest_law n s) in
-    greatest_is n (of_class c s) (Some v) (g.0, and_from (s v) (nat_lt c (v / 16)) g.1 (lt-ltb c (v / 16) h), λ u over below. and_left (s u) (nat_lt c (u / 16)) (g.2 u over below))
+    greatest_is n (of_class c s) (Some v) (
+      g.0,
+      and_from (s v) (nat_lt c (v / 16)) g.1 (lt-ltb c (v / 16) h),
+      λ u over below. and_left (s u)
+          (nat_lt c (u / 16)) (g.2 u over below),
+    )
 
 pub not_above : (n : ℕ) (s : NatSet) (c v : ℕ) → greatest_below n s ≡ Some v → v / 16 ≤ c → greatest_below n (of_class c s) ≡ None
 not_above n s c v e h =

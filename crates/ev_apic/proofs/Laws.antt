@@ -17,7 +17,8 @@ at_same m k i x e = rw (eq-eqb i k e, put_at) refl
 at_other : (m : ℕ → Bool) (k i : ℕ) (x : Bool) → i ≢ k → put_at m k x i ≡ m i
 at_other m k i x e = rw (ne_eqb i k e, put_at) refl
 
-put : (ws : List ℕ) (v : ℕ) (b : Bool) → length ws ≡ 4 → ((i : ℕ) → get_or ws i 0 < 2 ^ 64) → v < 256 → (u : ℕ) → vectors_of (with_vector ws v b) u ≡ put_at (vectors_of ws) v b u
+put : (ws : List ℕ) (v : ℕ) (b : Bool) → length ws ≡ 4 → ((i : ℕ) → get_or ws i 0 < 2 ^ 64) → v < 256 → (u : ℕ)
+    → vectors_of (with_vector ws v b) u ≡ put_at (vectors_of ws) v b u
 unfolding with_vector
 put ws v b len fits hv u =
     let x : ℕ = with_bit (get_or ws (v / 64) 0) (v % 64) b in
@@ -61,11 +62,19 @@ as_long (x ∷ xs) [] e = refl
 as_long (x ∷ xs) (y ∷ ys) e = ap (λ (n : ℕ). suc n) (as_long xs ys (omega arith))
 
 pub unites : UnitedIsUnion
-unites xs ys e = (λ v. ap (λ (n : ℕ). bit (v % 64) n) (together xs ys (v / 64) e) ∙ bit_of_or (get_or xs (v / 64) 0) (get_or ys (v / 64) 0) (v % 64), as_long xs ys e)
+unites xs ys e = (
+  λ v. ap (λ (n : ℕ). bit (v % 64) n) (together xs ys (v / 64) e) ∙ bit_of_or (get_or xs (v / 64) 0) (get_or ys (v / 64) 0)
+      (v % 64),
+  as_long xs ys e,
+)
 
 is_next : (a : Apic) (o : Option ℕ) → IsGreatestBelow 256 (of_class (priority_class a) (vectors_of a.irr)) o → IsNextVector a o
 is_next a None h = λ u below requests.
-    elim (and_cases (vectors_of a.irr u) (nat_lt (priority_class a) (u / 16)) (h u below)) [ inl none ↦ cc | inr low ↦ ltb-false (priority_class a) (u / 16) low ]
+    elim (and_cases (vectors_of a.irr u) (nat_lt (priority_class a) (u / 16)) (h u below)) [
+      | inl none ↦ cc
+      | inr low ↦ ltb-false (priority_class a)
+          (u / 16) low
+    ]
 is_next a (Some v) h =
     let both = and_parts (vectors_of a.irr v) (nat_lt (priority_class a) (v / 16)) h.1 in (
       h.0,

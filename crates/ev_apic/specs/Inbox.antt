@@ -27,4 +27,5 @@ with_mail a m = record a { irr = united a.irr m.vectors }
 -- the law of two sets together
 abbrev pub UnitedIsUnion : Type 0
 UnitedIsUnion =
-    (xs ys : List ℕ) → length xs ≡ length ys → ((v : ℕ) → vectors_of (united xs ys) v ≡ (vectors_of xs v || vectors_of ys v)) × (length (united xs ys) ≡ length xs)
+    (xs ys : List ℕ) → length xs ≡ length ys → ((v : ℕ) → vectors_of (united xs ys) v ≡ (vectors_of xs v || vectors_of ys v))
+    × (length (united xs ys) ≡ length xs)

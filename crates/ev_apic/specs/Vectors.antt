@@ -27,4 +27,5 @@ GreatestIsGreatest = (n : ℕ) (s : NatSet) → IsGreatestBelow n s (greatest_be
 abbrev pub WithVectorPuts : Type 0
 WithVectorPuts =
     (ws : List ℕ) (v : ℕ) (b : Bool) → length ws ≡ 4 → ((i : ℕ) → get_or ws i 0 < 2 ^ 64) → v < 256
-    → ((u : ℕ) → vectors_of (with_vector ws v b) u ≡ put_at (vectors_of ws) v b u) × (length (with_vector ws v b) ≡ 4) × ((i : ℕ) → get_or (with_vector ws v b) i 0 < 2 ^ 64)
+    → ((u : ℕ) → vectors_of (with_vector ws v b) u ≡ put_at (vectors_of ws) v b u) × (length (with_vector ws v b) ≡ 4)
+    × ((i : ℕ) → get_or (with_vector ws v b) i 0 < 2 ^ 64)

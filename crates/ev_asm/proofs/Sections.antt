@@ -30,7 +30,8 @@ linkable env s h =
     let l = both (all_reach env s.address s.stmts) _ k.1 in
     record { counts = k.0; reach = l.0; room = ltb-true _ _ l.1 }
 
-pub linkable_at : (env : Places) (ss : List Section) (n : ℕ) (s : Section) → list_all (is_linkable env) ss ≡ true → n < length ss → s ≡ get_or ss n s → IsLinkable env s
+pub linkable_at : (env : Places) (ss : List Section) (n : ℕ) (s : Section) → list_all (is_linkable env) ss ≡ true → n < length ss → s ≡ get_or ss n s
+    → IsLinkable env s
 linkable_at env [] n s h lt e = absurd (omega arith)
 linkable_at env (x ∷ xs) zero s h lt e = linkable env s (ap (is_linkable env) e ∙ (both (is_linkable env x) (list_all (is_linkable env) xs) h).0)
 linkable_at env (x ∷ xs) (suc n) s h lt e = linkable_at env xs n s ((both (is_linkable env x) (list_all (is_linkable env) xs) h).1) (omega arith) e
@@ -48,48 +49,57 @@ pub is_not_given : (b : Bool) → not b ≡ false → b ≡ true
 is_not_given true h = refl
 is_not_given false h = absurd cc
 
-new_by : (b : Bool) (n name : Name) (ss : List Stmt) (a : ℕ) (rest : Places) → is_name n name ≡ b → (is_new_name (stmt_labels ss) name ≡ true → place (places a ss ++ rest) name ≡ place rest name)
+new_by : (b : Bool) (n name : Name) (ss : List Stmt) (a : ℕ) (rest : Places) → is_name n name ≡ b
+    → (is_new_name (stmt_labels ss) name ≡ true → place (places a ss ++ rest) name ≡ place rest name)
     → is_new_name (n ∷ stmt_labels ss) name ≡ true → place ((n, a) ∷ places a ss ++ rest) name ≡ place rest name
 new_by true n name ss a rest e more h = let k = rw e at h in absurd cc
 new_by false n name ss a rest e more h = let k = rw e at h in rw e (more k)
 
 -- a label that the statements don't give is behind them
-pub place_behind : (ss : List Stmt) (a : ℕ) (rest : Places) (name : Name) → is_new_name (stmt_labels ss) name ≡ true → place (places a ss ++ rest) name ≡ place rest name
+pub place_behind : (ss : List Stmt) (a : ℕ) (rest : Places) (name : Name) → is_new_name (stmt_labels ss) name ≡ true
+    → place (places a ss ++ rest) name ≡ place rest name
 unfolding places
 place_behind [] a rest name h = refl
 place_behind (Label n ∷ ss) a rest name h = new_by (is_name n name) n name ss a rest refl (λ k. place_behind ss a rest name k) h
 place_behind (Plain i ∷ ss) a rest name h = place_behind ss (a + size (Plain i)) rest name h
 place_behind (Jump c n ∷ ss) a rest name h = place_behind ss (a + size (Jump c n)) rest name h
 
-given_by : (b : Bool) (n name : Name) (ss : List Stmt) (a : ℕ) (rest : Places) → is_name n name ≡ b → (is_new_name (stmt_labels ss) name ≡ false → place (places a ss ++ rest) name ≡ place (places a ss) name)
+given_by : (b : Bool) (n name : Name) (ss : List Stmt) (a : ℕ) (rest : Places) → is_name n name ≡ b
+    → (is_new_name (stmt_labels ss) name ≡ false → place (places a ss ++ rest) name ≡ place (places a ss) name)
     → is_new_name (n ∷ stmt_labels ss) name ≡ false → place ((n, a) ∷ places a ss ++ rest) name ≡ place ((n, a) ∷ places a ss) name
 given_by true n name ss a rest e more h = rw e refl
 given_by false n name ss a rest e more h = let k = rw e at h in rw e (more k)
 
 -- one that they give is among them
-pub place_here : (ss : List Stmt) (a : ℕ) (rest : Places) (name : Name) → is_new_name (stmt_labels ss) name ≡ false → place (places a ss ++ rest) name ≡ place (places a ss) name
+pub place_here : (ss : List Stmt) (a : ℕ) (rest : Places) (name : Name) → is_new_name (stmt_labels ss) name ≡ false
+    → place (places a ss ++ rest) name ≡ place (places a ss) name
 unfolding places
 place_here [] a rest name h = absurd cc
 place_here (Label n ∷ ss) a rest name h = given_by (is_name n name) n name ss a rest refl (λ k. place_here ss a rest name k) h
 place_here (Plain i ∷ ss) a rest name h = place_here ss (a + size (Plain i)) rest name h
 place_here (Jump c n ∷ ss) a rest name h = place_here ss (a + size (Jump c n)) rest name h
 
-pub places_step : (ss : List Section) (n m : ℕ) (s : Section) (name : Name) (W : ℕ) → n < length ss → m ≡ suc n → s ≡ get_or ss n s → is_new_name (stmt_labels s.stmts) name ≡ true
+pub places_step : (ss : List Section) (n m : ℕ) (s : Section) (name : Name) (W : ℕ) → n < length ss → m ≡ suc n → s ≡ get_or ss n s
+    → is_new_name (stmt_labels s.stmts) name ≡ true
     → place (section_places (drop n ss)) name ≡ W → place (section_places (drop m ss)) name ≡ W
 places_step ss n m s name W lt k e h w =
-    rw k (sym (place_behind s.stmts s.address (section_places (drop (suc n) ss)) name h) ∙ ap (λ (x : List Section). place (section_places x) name) (sym (section_at ss n s lt e)) ∙ w)
+    rw k (sym (place_behind s.stmts s.address (section_places (drop (suc n) ss)) name h) ∙ ap (λ (x : List Section). place (section_places x) name)
+    (sym (section_at ss n s lt e)) ∙ w)
 
-pub places_stop : (ss : List Section) (n : ℕ) (s : Section) (name : Name) (W : ℕ) → n < length ss → s ≡ get_or ss n s → is_new_name (stmt_labels s.stmts) name ≡ false
+pub places_stop : (ss : List Section) (n : ℕ) (s : Section) (name : Name) (W : ℕ) → n < length ss → s ≡ get_or ss n s
+    → is_new_name (stmt_labels s.stmts) name ≡ false
     → place (section_places (drop n ss)) name ≡ W → place (places s.address s.stmts) name ≡ W
 places_stop ss n s name W lt e h w =
-    sym (place_here s.stmts s.address (section_places (drop (suc n) ss)) name h) ∙ ap (λ (x : List Section). place (section_places x) name) (sym (section_at ss n s lt e)) ∙ w
+    sym (place_here s.stmts s.address (section_places (drop (suc n) ss)) name h) ∙ ap (λ (x : List Section). place (section_places x) name)
+    (sym (section_at ss n s lt e)) ∙ w
 
 pub places_end : (ss : List Section) (n : ℕ) (name : Name) (W : ℕ) → length ss ≤ n → place (section_places (drop n ss)) name ≡ W → 0 ≡ W
 places_end ss n name W le w = sym (ap (λ (x : List Section). place (section_places x) name) (drop_all n ss le)) ∙ w
 
 -- ---- jumps
 
-pub near : (env : Places) (a : ℕ) (s : Stmt) (c : _) (name : Name) (p k : ℕ) → s ≡ Jump c name → reaches env a s ≡ true → k ≡ size s → p ≡ place env name → (p ≤ a + k + 2147483647) × (a + k ≤ p + 2147483647)
+pub near : (env : Places) (a : ℕ) (s : Stmt) (c : _) (name : Name) (p k : ℕ) → s ≡ Jump c name → reaches env a s ≡ true → k ≡ size s → p ≡ place env name
+    → (p ≤ a + k + 2147483647) × (a + k ≤ p + 2147483647)
 unfolding reaches
 near env a s c name p k e h l q =
     let f : reaches env a (Jump c name) ≡ true = sym (ap (reaches env a) e) ∙ h in
@@ -99,7 +109,8 @@ near env a s c name p k e h l q =
     let y = leb-true _ _ b.1 in
     (omega (arith, x, g, q), omega (arith, y, g, q))
 
-pub reach_step : (env : Places) (stmts : List Stmt) (n m a b : ℕ) (s : Stmt) → n < length stmts → m ≡ suc n → s ≡ get_or stmts n s → b ≡ a + size s → all_reach env a (drop n stmts) ≡ true
+pub reach_step : (env : Places) (stmts : List Stmt) (n m a b : ℕ) (s : Stmt) → n < length stmts → m ≡ suc n → s ≡ get_or stmts n s → b ≡ a + size s
+    → all_reach env a (drop n stmts) ≡ true
     → (reaches env a s ≡ true) × (all_reach env b (drop m stmts) ≡ true)
 unfolding all_reach
 reach_step env stmts n m a b s lt k e l h =
@@ -109,10 +120,12 @@ reach_step env stmts n m a b s lt k e l h =
 
 -- ---- blocks
 
-pub blocks_step : (env : Places) (ss : List Section) (n m : ℕ) (s : Section) (b : Block) (done more W : List Block) → n < length ss → m ≡ suc n → s ≡ get_or ss n s → b ≡ block_in env s → more ≡ done ++ b ∷ []
+pub blocks_step : (env : Places) (ss : List Section) (n m : ℕ) (s : Section) (b : Block) (done more W : List Block) → n < length ss → m ≡ suc n
+    → s ≡ get_or ss n s → b ≡ block_in env s → more ≡ done ++ b ∷ []
     → done ++ map (block_in env) (drop n ss) ≡ W → more ++ map (block_in env) (drop m ss) ≡ W
 blocks_step env ss n m s b done more W lt k e l g w =
-    rw (k, g, l) (append_assoc done (block_in env s ∷ []) (map (block_in env) (drop (suc n) ss)) ∙ ap (λ (x : List Section). done ++ map (block_in env) x) (sym (section_at ss n s lt e)) ∙ w)
+    rw (k, g, l) (append_assoc done (block_in env s ∷ []) (map (block_in env) (drop (suc n) ss)) ∙ ap (λ (x : List Section). done ++ map (block_in env) x)
+    (sym (section_at ss n s lt e)) ∙ w)
 
 pub blocks_end : (env : Places) (ss : List Section) (n : ℕ) (done W : List Block) → length ss ≤ n → done ++ map (block_in env) (drop n ss) ≡ W → done ≡ W
 blocks_end env ss n done W le w = sym (append-nil done) ∙ ap (λ (x : List Section). done ++ map (block_in env) x) (sym (drop_all n ss le)) ∙ w

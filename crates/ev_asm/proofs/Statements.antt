@@ -38,16 +38,19 @@ same_name (x ∷ xs) (y ∷ ys) = rw (same_name xs ys) refl
 
 -- ---- the first statement with a test
 
-pub first_at_step : (t : List Stmt → Stmt → Bool) (stmts : List Stmt) (n m : ℕ) (s : Stmt) (W : Option ℕ) → n < length stmts → m ≡ suc n → s ≡ get_or stmts n s → t (take n stmts) s ≡ false
+pub first_at_step : (t : List Stmt → Stmt → Bool) (stmts : List Stmt) (n m : ℕ) (s : Stmt) (W : Option ℕ) → n < length stmts → m ≡ suc n
+    → s ≡ get_or stmts n s → t (take n stmts) s ≡ false
     → first_at t n (take n stmts) (drop n stmts) ≡ W → first_at t m (take m stmts) (drop m stmts) ≡ W
 unfolding first_at
 first_at_step t stmts n m s W lt k e h w =
     let d = split_at stmts n s lt e in
     let f = front_at stmts n s lt e in
-    let here : first_at t n (take n stmts) (s ∷ drop (suc n) stmts) ≡ first_at t (suc n) (take n stmts ++ s ∷ []) (drop (suc n) stmts) = rw (h, first_at) refl in
+    let here : first_at t n (take n stmts) (s ∷ drop (suc n) stmts) ≡ first_at t (suc n) (take n stmts ++ s ∷ []) (drop (suc n) stmts) =
+    rw (h, first_at) refl in
     rw (k, f) (sym here ∙ ap (first_at t n (take n stmts)) (sym d) ∙ w)
 
-pub first_at_stop : (t : List Stmt → Stmt → Bool) (stmts : List Stmt) (n : ℕ) (s : Stmt) (W : Option ℕ) → n < length stmts → s ≡ get_or stmts n s → t (take n stmts) s ≡ true
+pub first_at_stop : (t : List Stmt → Stmt → Bool) (stmts : List Stmt) (n : ℕ) (s : Stmt) (W : Option ℕ) → n < length stmts → s ≡ get_or stmts n s
+    → t (take n stmts) s ≡ true
     → first_at t n (take n stmts) (drop n stmts) ≡ W → Some n ≡ W
 unfolding first_at
 first_at_stop t stmts n s W lt e h w =
@@ -55,13 +58,15 @@ first_at_stop t stmts n s W lt e h w =
     let here : first_at t n (take n stmts) (s ∷ drop (suc n) stmts) ≡ Some n = rw (h, first_at) refl in
     sym here ∙ ap (first_at t n (take n stmts)) (sym d) ∙ w
 
-pub first_at_end : (t : List Stmt → Stmt → Bool) (stmts : List Stmt) (n : ℕ) (W : Option ℕ) → length stmts ≤ n → first_at t n (take n stmts) (drop n stmts) ≡ W → None ≡ W
+pub first_at_end : (t : List Stmt → Stmt → Bool) (stmts : List Stmt) (n : ℕ) (W : Option ℕ) → length stmts ≤ n
+    → first_at t n (take n stmts) (drop n stmts) ≡ W → None ≡ W
 unfolding first_at
 first_at_end t stmts n W le w = sym (ap (first_at t n (take n stmts)) (drop_all n stmts le)) ∙ w
 
 -- ---- the first that is too large
 
-pub large_step : (stmts : List Stmt) (n m left less : ℕ) (s : Stmt) (W : Option ℕ) → n < length stmts → m ≡ suc n → s ≡ get_or stmts n s → size s ≤ left → less ≡ left - size s
+pub large_step : (stmts : List Stmt) (n m left less : ℕ) (s : Stmt) (W : Option ℕ) → n < length stmts → m ≡ suc n → s ≡ get_or stmts n s → size s ≤ left
+    → less ≡ left - size s
     → first_too_large n left (drop n stmts) ≡ W → first_too_large m less (drop m stmts) ≡ W
 unfolding first_too_large
 large_step stmts n m left less s W lt k e le l w =
@@ -70,7 +75,8 @@ large_step stmts n m left less s W lt k e le l w =
     let here : first_too_large n left (s ∷ drop (suc n) stmts) ≡ first_too_large (suc n) (left - size s) (drop (suc n) stmts) = rw (h, first_too_large) refl in
     rw (k, l) (sym here ∙ ap (first_too_large n left) (sym d) ∙ w)
 
-pub large_stop : (stmts : List Stmt) (n left : ℕ) (s : Stmt) (W : Option ℕ) → n < length stmts → s ≡ get_or stmts n s → left < size s → first_too_large n left (drop n stmts) ≡ W → Some n ≡ W
+pub large_stop : (stmts : List Stmt) (n left : ℕ) (s : Stmt) (W : Option ℕ) → n < length stmts → s ≡ get_or stmts n s → left < size s
+    → first_too_large n left (drop n stmts) ≡ W → Some n ≡ W
 unfolding first_too_large
 large_stop stmts n left s W lt e le w =
     let d = split_at stmts n s lt e in
@@ -83,7 +89,8 @@ unfolding first_too_large
 large_end stmts n left W le w = sym (ap (first_too_large n left) (drop_all n stmts le)) ∙ w
 
 -- what is nowhere too large fits
-pub fits_by : (t : Bool) (n left : ℕ) (s : Stmt) (ss : List Stmt) → ltb left (size s) ≡ t → (let u : Option ℕ = elim t [ true ↦ Some n | false ↦ first_too_large (suc n) (left - size s) ss ] in u) ≡ None
+pub fits_by : (t : Bool) (n left : ℕ) (s : Stmt) (ss : List Stmt) → ltb left (size s) ≡ t
+    → (let u : Option ℕ = elim t [ true ↦ Some n | false ↦ first_too_large (suc n) (left - size s) ss ] in u) ≡ None
     → (size s ≤ left) × (first_too_large (suc n) (left - size s) ss ≡ None)
 fits_by true n left s ss e h = absurd cc
 fits_by false n left s ss e h = (ltb-false _ _ e, h)
@@ -98,7 +105,8 @@ total_fits (s ∷ ss) n left h =
 
 -- ---- labels
 
-pub gives_not : (s : Stmt) (ss : List Stmt) (name : Name) → gives_label s name ≡ false → is_new_name (stmt_labels (s ∷ ss)) name ≡ is_new_name (stmt_labels ss) name
+pub gives_not : (s : Stmt) (ss : List Stmt) (name : Name) → gives_label s name ≡ false
+    → is_new_name (stmt_labels (s ∷ ss)) name ≡ is_new_name (stmt_labels ss) name
 unfolding gives_label
 gives_not (Label n) ss name h = rw h refl
 gives_not (Plain i) ss name h = refl
@@ -110,7 +118,8 @@ gives_yes (Label n) ss name h = rw h refl
 gives_yes (Plain i) ss name h = absurd cc
 gives_yes (Jump c n) ss name h = absurd cc
 
-pub label_step : (stmts : List Stmt) (n m : ℕ) (s : Stmt) (name : Name) (W : Bool) → n < length stmts → m ≡ suc n → s ≡ get_or stmts n s → gives_label s name ≡ false
+pub label_step : (stmts : List Stmt) (n m : ℕ) (s : Stmt) (name : Name) (W : Bool) → n < length stmts → m ≡ suc n → s ≡ get_or stmts n s
+    → gives_label s name ≡ false
     → is_new_name (stmt_labels (drop n stmts)) name ≡ W → is_new_name (stmt_labels (drop m stmts)) name ≡ W
 label_step stmts n m s name W lt k e h w =
     rw k (sym (gives_not s (drop (suc n) stmts) name h) ∙ ap (λ (x : List Stmt). is_new_name (stmt_labels x) name) (sym (split_at stmts n s lt e)) ∙ w)
@@ -125,7 +134,8 @@ label_end stmts n name W le w = sym w ∙ ap (λ (x : List Stmt). is_new_name (s
 
 -- ---- places
 
-place_not : (s : Stmt) (ss : List Stmt) (a : ℕ) (name : Name) → gives_label s name ≡ false → place (places a (s ∷ ss)) name ≡ place (places (a + size s) ss) name
+place_not : (s : Stmt) (ss : List Stmt) (a : ℕ) (name : Name) → gives_label s name ≡ false
+    → place (places a (s ∷ ss)) name ≡ place (places (a + size s) ss) name
 unfolding gives_label places size
 place_not (Label n) ss a name h = let e : a + 0 ≡ a = omega arith in rw (h, e) refl
 place_not (Plain i) ss a name h = refl
@@ -137,12 +147,14 @@ place_yes (Label n) ss a name h = rw h refl
 place_yes (Plain i) ss a name h = absurd cc
 place_yes (Jump c n) ss a name h = absurd cc
 
-pub place_step : (stmts : List Stmt) (n m a b : ℕ) (s : Stmt) (name : Name) (W : ℕ) → n < length stmts → m ≡ suc n → s ≡ get_or stmts n s → gives_label s name ≡ false → b ≡ a + size s
+pub place_step : (stmts : List Stmt) (n m a b : ℕ) (s : Stmt) (name : Name) (W : ℕ) → n < length stmts → m ≡ suc n → s ≡ get_or stmts n s
+    → gives_label s name ≡ false → b ≡ a + size s
     → place (places a (drop n stmts)) name ≡ W → place (places b (drop m stmts)) name ≡ W
 place_step stmts n m a b s name W lt k e h l w =
     rw (k, l) (sym (place_not s (drop (suc n) stmts) a name h) ∙ ap (λ (x : List Stmt). place (places a x) name) (sym (split_at stmts n s lt e)) ∙ w)
 
-pub place_stop : (stmts : List Stmt) (n a : ℕ) (s : Stmt) (name : Name) (W : ℕ) → n < length stmts → s ≡ get_or stmts n s → gives_label s name ≡ true → place (places a (drop n stmts)) name ≡ W → a ≡ W
+pub place_stop : (stmts : List Stmt) (n a : ℕ) (s : Stmt) (name : Name) (W : ℕ) → n < length stmts → s ≡ get_or stmts n s → gives_label s name ≡ true
+    → place (places a (drop n stmts)) name ≡ W → a ≡ W
 place_stop stmts n a s name W lt e h w =
     sym (place_yes s (drop (suc n) stmts) a name h) ∙ ap (λ (x : List Stmt). place (places a x) name) (sym (split_at stmts n s lt e)) ∙ w
 
@@ -150,12 +162,14 @@ pub place_end : (stmts : List Stmt) (n a : ℕ) (name : Name) (W : ℕ) → leng
 unfolding places
 place_end stmts n a name W le w = sym (ap (λ (x : List Stmt). place (places a x) name) (drop_all n stmts le)) ∙ w
 
-pub total_step : (stmts : List Stmt) (n m : ℕ) (s : Stmt) → n < length stmts → m ≡ suc n → s ≡ get_or stmts n s → total_size (drop n stmts) ≡ size s + total_size (drop m stmts)
+pub total_step : (stmts : List Stmt) (n m : ℕ) (s : Stmt) → n < length stmts → m ≡ suc n → s ≡ get_or stmts n s
+    → total_size (drop n stmts) ≡ size s + total_size (drop m stmts)
 total_step stmts n m s lt k e = rw k (ap total_size (split_at stmts n s lt e))
 
 -- a label that is there stands between the first address and the last
 place_bounds_by : (t : Bool) (s : Stmt) (ss : List Stmt) (a : ℕ) (name : Name) → gives_label s name ≡ t
-    → (is_new_name (stmt_labels ss) name ≡ false → (a + size s ≤ place (places (a + size s) ss) name) × (place (places (a + size s) ss) name ≤ (a + size s) + total_size ss))
+    → (is_new_name (stmt_labels ss) name ≡ false → (a + size s ≤ place (places (a + size s) ss) name)
+    × (place (places (a + size s) ss) name ≤ (a + size s) + total_size ss))
     → is_new_name (stmt_labels (s ∷ ss)) name ≡ false → (a ≤ place (places a (s ∷ ss)) name) × (place (places a (s ∷ ss)) name ≤ a + total_size (s ∷ ss))
 place_bounds_by true s ss a name e below h = let k = place_yes s ss a name e in (omega (arith, k), omega (arith, k))
 place_bounds_by false s ss a name e below h =
@@ -163,21 +177,25 @@ place_bounds_by false s ss a name e below h =
     let r = below (sym (gives_not s ss name e) ∙ h) in
     (omega (arith, k, r.0), omega (arith, k, r.1))
 
-pub place_bounds : (stmts : List Stmt) (a : ℕ) (name : Name) → is_new_name (stmt_labels stmts) name ≡ false → (a ≤ place (places a stmts) name) × (place (places a stmts) name ≤ a + total_size stmts)
+pub place_bounds : (stmts : List Stmt) (a : ℕ) (name : Name) → is_new_name (stmt_labels stmts) name ≡ false → (a ≤ place (places a stmts) name)
+    × (place (places a stmts) name ≤ a + total_size stmts)
 place_bounds [] a name h = absurd cc
 place_bounds (s ∷ ss) a name h = place_bounds_by (gives_label s name) s ss a name refl (λ k. place_bounds ss (a + size s) name k) h
 
 -- no statement that stands there jumps nowhere
-pub none_lost_by : (t : List Stmt → Stmt → Bool) (n : ℕ) (before : List Stmt) (s : Stmt) (ss : List Stmt) (b : Bool) → t before s ≡ b → (let u : Option ℕ = elim b [ true ↦ Some n | false ↦ first_at t (suc n) (before ++ s ∷ []) ss ] in u) ≡ None
+pub none_lost_by : (t : List Stmt → Stmt → Bool) (n : ℕ) (before : List Stmt) (s : Stmt) (ss : List Stmt) (b : Bool) → t before s ≡ b
+    → (let u : Option ℕ = elim b [ true ↦ Some n | false ↦ first_at t (suc n) (before ++ s ∷ []) ss ] in u) ≡ None
     → (t before s ≡ false) × (first_at t (suc n) (before ++ s ∷ []) ss ≡ None)
 none_lost_by t n before s ss true e h = absurd cc
 none_lost_by t n before s ss false e h = (e, h)
 
-pub none_at : (t : Stmt → Bool) (stmts : List Stmt) (n : ℕ) (before : List Stmt) (k : ℕ) (s : Stmt) → first_at (λ x y. t y) n before stmts ≡ None → k < length stmts → s ≡ get_or stmts k s → t s ≡ false
+pub none_at : (t : Stmt → Bool) (stmts : List Stmt) (n : ℕ) (before : List Stmt) (k : ℕ) (s : Stmt) → first_at (λ x y. t y) n before stmts ≡ None
+    → k < length stmts → s ≡ get_or stmts k s → t s ≡ false
 unfolding first_at
 none_at t [] n before k s h lt e = absurd (omega arith)
 none_at t (x ∷ xs) n before zero s h lt e = ap t e ∙ (none_lost_by (λ y z. t z) n before x xs (t x) refl h).0
-none_at t (x ∷ xs) n before (suc k) s h lt e = none_at t xs (suc n) (before ++ x ∷ []) k s ((none_lost_by (λ y z. t z) n before x xs (t x) refl h).1) (omega arith) e
+none_at t (x ∷ xs) n before (suc k) s h lt e = none_at t xs (suc n) (before ++ x ∷ []) k s ((none_lost_by (λ y z. t z) n before x xs (t x) refl h).1)
+    (omega arith) e
 
 -- ---- bytes
 
@@ -188,17 +206,21 @@ bytes_size env a (Plain i) = refl
 bytes_size env a (Jump None name) = refl
 bytes_size env a (Jump (Some c) name) = refl
 
-pub code_step : (env : Places) (stmts : List Stmt) (n m a b : ℕ) (s : Stmt) (done more W : List ℕ) → n < length stmts → m ≡ suc n → s ≡ get_or stmts n s → b ≡ a + size s → more ≡ done ++ stmt_bytes env a s
+pub code_step : (env : Places) (stmts : List Stmt) (n m a b : ℕ) (s : Stmt) (done more W : List ℕ) → n < length stmts → m ≡ suc n → s ≡ get_or stmts n s
+    → b ≡ a + size s → more ≡ done ++ stmt_bytes env a s
     → done ++ code env a (drop n stmts) ≡ W → more ++ code env b (drop m stmts) ≡ W
 unfolding code
 code_step env stmts n m a b s done more W lt k e l g w =
-    rw (k, l, g) (append_assoc done (stmt_bytes env a s) (code env (a + size s) (drop (suc n) stmts)) ∙ ap (λ (x : List Stmt). done ++ code env a x) (sym (split_at stmts n s lt e)) ∙ w)
+    rw (k, l, g) (append_assoc done (stmt_bytes env a s) (code env (a + size s) (drop (suc n) stmts)) ∙ ap (λ (x : List Stmt). done ++ code env a x)
+    (sym (split_at stmts n s lt e)) ∙ w)
 
-pub addresses_step : (stmts : List Stmt) (n m a b : ℕ) (s : Stmt) (done more W : List ℕ) → n < length stmts → m ≡ suc n → s ≡ get_or stmts n s → b ≡ a + size s → more ≡ done ++ a ∷ []
+pub addresses_step : (stmts : List Stmt) (n m a b : ℕ) (s : Stmt) (done more W : List ℕ) → n < length stmts → m ≡ suc n → s ≡ get_or stmts n s
+    → b ≡ a + size s → more ≡ done ++ a ∷ []
     → done ++ addresses_of a (drop n stmts) ≡ W → more ++ addresses_of b (drop m stmts) ≡ W
 unfolding addresses_of
 addresses_step stmts n m a b s done more W lt k e l g w =
-    rw (k, l, g) (append_assoc done (a ∷ []) (addresses_of (a + size s) (drop (suc n) stmts)) ∙ ap (λ (x : List Stmt). done ++ addresses_of a x) (sym (split_at stmts n s lt e)) ∙ w)
+    rw (k, l, g) (append_assoc done (a ∷ []) (addresses_of (a + size s) (drop (suc n) stmts)) ∙ ap (λ (x : List Stmt). done ++ addresses_of a x)
+    (sym (split_at stmts n s lt e)) ∙ w)
 
 pub code_end : (env : Places) (stmts : List Stmt) (n a : ℕ) (done W : List ℕ) → length stmts ≤ n → done ++ code env a (drop n stmts) ≡ W → done ≡ W
 unfolding code
@@ -215,14 +237,16 @@ unfolding leads_nowhere
 leads_to names s c name e h = sym (ap (leads_nowhere names) e) ∙ h
 
 -- a jump and its label are no further apart than all statements
-pub near : (stmts : List Stmt) (base at k : ℕ) (s : Stmt) (c : Option Cond) (name : Name) (p : ℕ) → s ≡ Jump c name → k ≡ size s → leads_nowhere (stmt_labels stmts) s ≡ false → total_size stmts ≤ 131072
+pub near : (stmts : List Stmt) (base at k : ℕ) (s : Stmt) (c : Option Cond) (name : Name) (p : ℕ) → s ≡ Jump c name → k ≡ size s
+    → leads_nowhere (stmt_labels stmts) s ≡ false → total_size stmts ≤ 131072
     → base ≤ at → at + size s ≤ base + total_size stmts → p ≡ place (places base stmts) name → (p ≤ at + k + 131072) × (at + k ≤ p + 131072)
 near stmts base at k s c name p e l h t starts ends q =
     let r = place_bounds stmts base name (leads_to (stmt_labels stmts) s c name e h) in
     (omega (arith, r.0, r.1), omega (arith, r.0, r.1))
 
 -- what holds of every statement of the list holds where none stands in the way
-pub all_lead : (stmts : List Stmt) → first_at (λ before s. leads_nowhere (stmt_labels stmts) s) 0 [] stmts ≡ None → (k : ℕ) (s : Stmt) → k < length stmts → s ≡ get_or stmts k s → leads_nowhere (stmt_labels stmts) s ≡ false
+pub all_lead : (stmts : List Stmt) → first_at (λ before s. leads_nowhere (stmt_labels stmts) s) 0 [] stmts ≡ None → (k : ℕ) (s : Stmt) → k < length stmts
+    → s ≡ get_or stmts k s → leads_nowhere (stmt_labels stmts) s ≡ false
 all_lead stmts h k s lt e = none_at (λ y. leads_nowhere (stmt_labels stmts) y) stmts 0 [] k s h lt e
 
 pub kept : {X : Type 0} (t : Bool) (x a b : X) → t ≡ true → x ≡ cond t a b → x ≡ a

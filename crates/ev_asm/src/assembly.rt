@@ -80,7 +80,8 @@ fn statement(stmts: &[Stmt], base: u64, at: u64, s: &Stmt) -> ArrayVec<u8, 15>
 /// The bytes and the places of statements that can be assembled.
 fn written(alloc: Global, stmts: &[Stmt], base: u64) -> Result<Text, AsmFault>
     requires counts { are_instructions stmts.now ≡ true }
-    requires leads { (k : ℕ) (s : Stmt) → k < length stmts.now → s ≡ slice_index_or stmts.now k s → leads_nowhere (stmt_labels stmts.now) s ≡ false }
+    requires leads { (k : ℕ) (s : Stmt) → k < length stmts.now → s ≡ slice_index_or stmts.now k s
+        → leads_nowhere (stmt_labels stmts.now) s ≡ false }
     requires limit { total_size stmts.now ≤ 131072 }
     requires room { base + total_size stmts.now < 2 ^ 64 }
     ensures { (result ≡ Err AsmFault.NoMemory) ⊎ (result ≡ Ok (text_of base stmts.now)) }

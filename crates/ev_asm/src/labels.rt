@@ -77,7 +77,8 @@ pub fn second_label(stmts: &[Stmt]) -> Option<usize>
 
 /// The first statement that jumps to a label that is not there.
 pub fn lost_jump(stmts: &[Stmt]) -> Option<usize>
-    ensures { result ≡ first_at (λ before s. leads_nowhere (stmt_labels stmts.now) s) 0 [] stmts.now }
+    ensures { result ≡ first_at (λ before s. leads_nowhere (stmt_labels stmts.now) s) 0 []
+        stmts.now }
 {
     for (n, s) in stmts.iter().enumerate() {
         if is_lost(stmts, s) {

@@ -21,7 +21,8 @@ pub enter_run : (κ : Kind) → brun (enter κ) 45 ≡ Some (enter_end κ)
 unfolding enter_end fred_lines fred_listings spelling four_bytes size places distance
 enter_run SystemCall = refl
 
-pub enter_regs : (κ : Kind) → (enter_end κ).regs ≡ X 24 ∷ K user_table ∷ K 0x220700010002002b ∷ X 3 ∷ P 16 (M - 0xc0) ∷ X 5 ∷ X 16 ∷ K 0x100 ∷ X 22 ∷ K 0 ∷ K 0 ∷ K 0 ∷ K 0 ∷ K 0 ∷ K 0 ∷ X 15 ∷ []
+pub enter_regs : (κ : Kind) → (enter_end κ).regs ≡ X 24 ∷ K user_table ∷ K 0x220700010002002b ∷ X 3 ∷ P 16 (M - 0xc0) ∷ X 5 ∷ X 16 ∷ K 0x100 ∷ X 22 ∷ K 0
+    ∷ K 0 ∷ K 0 ∷ K 0 ∷ K 0 ∷ K 0 ∷ X 15 ∷ []
 unfolding enter_end fred_lines fred_listings spelling four_bytes size places distance
 enter_regs SystemCall = refl
 
@@ -30,7 +31,8 @@ pub enter_rip : (κ : Kind) → (enter_end κ).rip ≡ absolute 0xffffffff810002
 unfolding enter_end fred_lines fred_listings spelling four_bytes size places distance
 enter_rip SystemCall = refl
 
-pub enter_line : (κ : Kind) → line_at (enter_end κ).rip fred_lines ≡ Some (record { at = absolute 0xffffffff810002bd; ins = JmpReg 0; next = absolute 0xffffffff810002bf })
+pub enter_line : (κ : Kind)
+    → line_at (enter_end κ).rip fred_lines ≡ Some (record { at = absolute 0xffffffff810002bd; ins = JmpReg 0; next = absolute 0xffffffff810002bf })
 unfolding enter_end fred_lines fred_listings spelling four_bytes size places distance
 enter_line SystemCall = refl
 
@@ -61,7 +63,8 @@ unfolding leave_end fred_lines fred_listings spelling four_bytes size places dis
 leave_words SystemCall = refl
 
 -- what else the return asks and keeps
-pub leave_gs : (κ : Kind) → ((leave_end κ).gs ≡ P gs_tag 0) × ((leave_end κ).kernel_gs ≡ X 60) × ((leave_end κ).selector ≡ X 61) × ((leave_end κ).rsp0 ≡ P 16 0) × ((leave_end κ).blocked ≡ false)
+pub leave_gs : (κ : Kind) → ((leave_end κ).gs ≡ P gs_tag 0) × ((leave_end κ).kernel_gs ≡ X 60) × ((leave_end κ).selector ≡ X 61)
+    × ((leave_end κ).rsp0 ≡ P 16 0) × ((leave_end κ).blocked ≡ false)
 unfolding leave_end fred_lines fred_listings spelling four_bytes size places distance
 leave_gs SystemCall = (refl, refl, refl, refl, refl)
 
@@ -72,7 +75,16 @@ leave_on_stack SystemCall = refl
 -- ---- both
 
 pub enters : AllEnter
-enters κ = record { runs = enter_run κ; jump = _; jumps = enter_line κ; by_rax = refl; code = ap (λ (xs : List V). get_or xs 0 (K 0)) (enter_regs κ); joins = enter_joins κ; on_stack = enter_on_stack κ }
+enters κ = record {
+  runs = enter_run κ;
+  jump = _;
+  jumps = enter_line κ;
+  by_rax = refl;
+  code =
+      ap (λ (xs : List V). get_or xs 0 (K 0)) (enter_regs κ);
+  joins = enter_joins κ;
+  on_stack = enter_on_stack κ;
+}
 
 pub leaves : AllLeave
 leaves κ = record { runs = leave_run κ; regs = leave_regs κ; words = leave_words κ; on_stack = leave_on_stack κ }

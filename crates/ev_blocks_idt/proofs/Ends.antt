@@ -21,7 +21,8 @@ pub enter_run : (κ : Kind) → brun (enter κ) 42 ≡ Some (enter_end κ)
 unfolding enter_end idt_lines idt_listings spelling four_bytes size places distance
 enter_run SystemCall = refl
 
-pub enter_regs : (κ : Kind) → (enter_end κ).regs ≡ X 24 ∷ K user_table ∷ X 2 ∷ X 3 ∷ P 16 (M - 0xb0) ∷ X 5 ∷ K 0 ∷ K 0x100 ∷ K 0 ∷ K 0 ∷ K 0 ∷ K 0 ∷ K 0 ∷ K 0 ∷ K 0 ∷ X 15 ∷ []
+pub enter_regs : (κ : Kind) → (enter_end κ).regs ≡ X 24 ∷ K user_table ∷ X 2 ∷ X 3 ∷ P 16 (M - 0xb0) ∷ X 5 ∷ K 0 ∷ K 0x100 ∷ K 0 ∷ K 0 ∷ K 0 ∷ K 0 ∷ K 0
+    ∷ K 0 ∷ K 0 ∷ X 15 ∷ []
 unfolding enter_end idt_lines idt_listings spelling four_bytes size places distance
 enter_regs SystemCall = refl
 
@@ -30,7 +31,8 @@ pub enter_rip : (κ : Kind) → (enter_end κ).rip ≡ absolute 0xffffffff810031
 unfolding enter_end idt_lines idt_listings spelling four_bytes size places distance
 enter_rip SystemCall = refl
 
-pub enter_line : (κ : Kind) → line_at (enter_end κ).rip idt_lines ≡ Some (record { at = absolute 0xffffffff810031bb; ins = JmpReg 0; next = absolute 0xffffffff810031bd })
+pub enter_line : (κ : Kind)
+    → line_at (enter_end κ).rip idt_lines ≡ Some (record { at = absolute 0xffffffff810031bb; ins = JmpReg 0; next = absolute 0xffffffff810031bd })
 unfolding enter_end idt_lines idt_listings spelling four_bytes size places distance
 enter_line SystemCall = refl
 
@@ -53,14 +55,23 @@ unfolding leave_end idt_lines idt_listings spelling four_bytes size places dista
 leave_regs SystemCall = refl
 
 -- what else the return asks and keeps
-pub leave_gs : (κ : Kind) → ((leave_end κ).gs ≡ X 60) × ((leave_end κ).kernel_gs ≡ P gs_tag 0) × ((leave_end κ).selector ≡ X 61) × ((leave_end κ).rsp0 ≡ P 16 0) × ((leave_end κ).blocked ≡ false)
+pub leave_gs : (κ : Kind) → ((leave_end κ).gs ≡ X 60) × ((leave_end κ).kernel_gs ≡ P gs_tag 0) × ((leave_end κ).selector ≡ X 61)
+    × ((leave_end κ).rsp0 ≡ P 16 0) × ((leave_end κ).blocked ≡ false)
 unfolding leave_end idt_lines idt_listings spelling four_bytes size places distance
 leave_gs SystemCall = (refl, refl, refl, refl, refl)
 
 -- ---- both
 
 pub enters : AllEnter
-enters κ = record { runs = enter_run κ; jump = _; jumps = enter_line κ; by_rax = refl; code = ap (λ (xs : List V). get_or xs 0 (K 0)) (enter_regs κ); joins = enter_joins κ }
+enters κ = record {
+  runs = enter_run κ;
+  jump = _;
+  jumps = enter_line κ;
+  by_rax = refl;
+  code =
+      ap (λ (xs : List V). get_or xs 0 (K 0)) (enter_regs κ);
+  joins = enter_joins κ;
+}
 
 pub leaves : AllLeave
 leaves κ = let g = leave_gs κ in record { runs = leave_run κ; regs = leave_regs κ; gs = g.0; kernel_gs = g.1 }

@@ -20,7 +20,8 @@ nmi =
       facts = record { val = B OShr (B OShr (X 60) (K 32)) (K 31); is = 0 } ∷ [];
     })
     idt_lines
-    (record (opening nmi_entry (P 16 (M - 0x28)) (words_from 16 (M - 0x28) (X 21 ∷ K 0x33 ∷ X 23 ∷ X 24 ∷ K 0x2b ∷ []) ++ word (absolute (user_table + 0x10)) (X 25) ∷ [])) {
+    (record (opening nmi_entry (P 16 (M - 0x28))
+    (words_from 16 (M - 0x28) (X 21 ∷ K 0x33 ∷ X 23 ∷ X 24 ∷ K 0x2b ∷ []) ++ word (absolute (user_table + 0x10)) (X 25) ∷ [])) {
       gs = X 60;
       kernel_gs = P gs_tag 0;
       cr2 = Some (X 62);

@@ -52,4 +52,5 @@ abbrev pub filled_keys : List Key
 filled_keys = Sys ∷ Db ∷ Bp ∷ Ud ∷ Ss ∷ Gp ∷ Pf ∷ Ac ∷ []
 
 abbrev pub fill : List Body → List Body
-fill bodies = bodies ++ map (λ key. record { key = key; side = User; items = Ret ∷ []; parts = [] }) (filter (λ key. is_none (first_body 0 bodies (key_number key) User)) filled_keys)
+fill bodies = bodies ++ map (λ key. record { key = key; side = User; items = Ret ∷ []; parts = [] })
+    (filter (λ key. is_none (first_body 0 bodies (key_number key) User)) filled_keys)

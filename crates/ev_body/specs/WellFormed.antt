@@ -115,7 +115,8 @@ is_body bytes b =
 
 -- no two bodies have one key and a side in common
 abbrev pub is_apart : Body → Body → Bool
-is_apart b c = not (key_number b.key == key_number c.key) || not ((covers b.side User && covers c.side User) || (covers b.side Side.Kernel && covers c.side Side.Kernel))
+is_apart b c = not (key_number b.key == key_number c.key) || not
+    ((covers b.side User && covers c.side User) || (covers b.side Side.Kernel && covers c.side Side.Kernel))
 
 abbrev pub are_apart : List Body → Bool
 are_apart [] = true

@@ -53,7 +53,8 @@ sib_again : (s : ℕ) (n : ℤ) (rest : List ℕ) → FitsSigned w32 n → sib_a
 unfolding sib_at
 sib_again s n rest f = rw (eq-eqb s s refl) (immediate_again n rest f)
 
-displacement_again : (m : ℕ) (n : ℤ) (rest : List ℕ) → m / 64 ≡ 2 → FitsSigned w32 n → displacement_at m ((sib_if (m % 8 == 4) ++ four_bytes n) ++ rest) ≡ Ok (n, rest)
+displacement_again : (m : ℕ) (n : ℤ) (rest : List ℕ) → m / 64 ≡ 2 → FitsSigned w32 n
+    → displacement_at m ((sib_if (m % 8 == 4) ++ four_bytes n) ++ rest) ≡ Ok (n, rest)
 unfolding displacement_at
 displacement_again m n rest e f = rw (eq-eqb (m / 64) 2 e) (by (m % 8 == 4))
   where
@@ -85,18 +86,21 @@ reg_back x s b form h e = omega arith
 pub rm_back : (x s b form : ℕ) → b < 16 → b / 8 ≡ x % 2 → rm_field x (modrm form s b) ≡ b
 rm_back x s b form h e = omega arith
 
-memory_again : (x s b : ℕ) (n : ℤ) (rest : List ℕ) → IsRexOf x s b → s < 16 → b < 16 → FitsSigned w32 n → memory_at x (memory s b n ++ rest) ≡ Ok ((s, b, n), rest)
+memory_again : (x s b : ℕ) (n : ℤ) (rest : List ℕ) → IsRexOf x s b → s < 16 → b < 16 → FitsSigned w32 n
+    → memory_at x (memory s b n ++ rest) ≡ Ok ((s, b, n), rest)
 unfolding memory_at
 memory_again x s b n rest r h k f =
     let low : modrm 2 s b % 8 ≡ b % 8 = omega arith in
     let read : displacement_at (modrm 2 s b) ((sib_if (b % 8 == 4) ++ four_bytes n) ++ rest) ≡ Ok (n, rest) =
-    subst (λ (y : ℕ). displacement_at (modrm 2 s b) ((sib_if (y == 4) ++ four_bytes n) ++ rest) ≡ Ok (n, rest)) low (displacement_again (modrm 2 s b) n rest (omega arith) f) in
+    subst (λ (y : ℕ). displacement_at (modrm 2 s b) ((sib_if (y == 4) ++ four_bytes n) ++ rest) ≡ Ok (n, rest)) low
+    (displacement_again (modrm 2 s b) n rest (omega arith) f) in
     rw read (ap (λ (d : ℕ × ℕ). Ok ((d.0, d.1, n), rest)) (λ i. (reg_back x s b 2 h r.reg i, rm_back x s b 2 k r.base i)))
 
 absolute_again : (x s : ℕ) (n : ℤ) (rest : List ℕ) → s < 16 → s / 8 ≡ x / 4 % 2 → FitsSigned w32 n → absolute_at x (absolute s n ++ rest) ≡ Ok ((s, n), rest)
 unfolding absolute_at
 absolute_again x s n rest h e f =
-    rw (eq-eqb (modrm 0 s 4 / 64) 0 (omega arith), eq-eqb (modrm 0 s 4 % 8) 4 (omega arith), sib_again 0x25 n rest f) (ap (λ (y : ℕ). Ok ((y, n), rest)) (reg_back x s 4 0 h e))
+    rw (eq-eqb (modrm 0 s 4 / 64) 0 (omega arith), eq-eqb (modrm 0 s 4 % 8) 4 (omega arith), sib_again 0x25 n rest f)
+    (ap (λ (y : ℕ). Ok ((y, n), rest)) (reg_back x s 4 0 h e))
 
 -- ---- behind REX.W
 
@@ -104,26 +108,32 @@ wide_first : (x : ℕ) (rest : List ℕ) → is_wide x ≡ true → instruction_
 unfolding instruction_at behind_at
 wide_first x rest h = rw h refl
 
-two_registers : (x s b : ℕ) → IsRexOf x s b → s < 16 → b < 16 → (make : ℕ → ℕ → Ins) → (rest : List ℕ) → (let u : Read Ins = Ok (make (rm_field x (modrm 3 s b)) (reg_field x (modrm 3 s b)), rest) in u) ≡ Ok (make b s, rest)
+two_registers : (x s b : ℕ) → IsRexOf x s b → s < 16 → b < 16 → (make : ℕ → ℕ → Ins) → (rest : List ℕ)
+    → (let u : Read Ins = Ok (make (rm_field x (modrm 3 s b)) (reg_field x (modrm 3 s b)), rest) in u) ≡ Ok (make b s, rest)
 two_registers x s b r h k make rest = ap (λ (d : ℕ × ℕ). Ok (make d.0 d.1, rest)) (λ i. (rm_back x s b 3 k r.base i, reg_back x s b 3 h r.reg i))
 
 mov_reg_again : (x d s : ℕ) (rest : List ℕ) → IsRexOf x s d → d < 16 → s < 16 → wide_at x (0x89 ∷ registers s d ++ rest) ≡ Ok (MovReg d s, rest)
 unfolding wide_at move_at
 mov_reg_again x d s rest r h k = rw (eq-eqb (modrm 3 s d / 64) 3 (omega arith)) (two_registers x s d r k h MovReg rest)
 
-store_again : (x b s : ℕ) (n : ℤ) (rest : List ℕ) → IsRexOf x s b → b < 16 → s < 16 → FitsSigned w32 n → wide_at x (0x89 ∷ memory s b n ++ rest) ≡ Ok (Store b n s, rest)
+store_again : (x b s : ℕ) (n : ℤ) (rest : List ℕ) → IsRexOf x s b → b < 16 → s < 16 → FitsSigned w32 n
+    → wide_at x (0x89 ∷ memory s b n ++ rest) ≡ Ok (Store b n s, rest)
 unfolding wide_at move_at
 store_again x b s n rest r h k f =
     let low : modrm 2 s b % 8 ≡ b % 8 = omega arith in
     let read : displacement_at (modrm 2 s b) ((sib_if (b % 8 == 4) ++ four_bytes n) ++ rest) ≡ Ok (n, rest) =
-    subst (λ (y : ℕ). displacement_at (modrm 2 s b) ((sib_if (y == 4) ++ four_bytes n) ++ rest) ≡ Ok (n, rest)) low (displacement_again (modrm 2 s b) n rest (omega arith) f) in
-    rw (ne_eqb (modrm 2 s b / 64) 3 (λ q. omega arith), read) (ap (λ (d : ℕ × ℕ). Ok (Store d.0 n d.1, rest)) (λ i. (rm_back x s b 2 h r.base i, reg_back x s b 2 k r.reg i)))
+    subst (λ (y : ℕ). displacement_at (modrm 2 s b) ((sib_if (y == 4) ++ four_bytes n) ++ rest) ≡ Ok (n, rest)) low
+    (displacement_again (modrm 2 s b) n rest (omega arith) f) in
+    rw (ne_eqb (modrm 2 s b / 64) 3 (λ q. omega arith), read)
+    (ap (λ (d : ℕ × ℕ). Ok (Store d.0 n d.1, rest)) (λ i. (rm_back x s b 2 h r.base i, reg_back x s b 2 k r.reg i)))
 
-load_again : (x d b : ℕ) (n : ℤ) (rest : List ℕ) → IsRexOf x d b → d < 16 → b < 16 → FitsSigned w32 n → wide_at x (0x8b ∷ memory d b n ++ rest) ≡ Ok (Load d b n, rest)
+load_again : (x d b : ℕ) (n : ℤ) (rest : List ℕ) → IsRexOf x d b → d < 16 → b < 16 → FitsSigned w32 n
+    → wide_at x (0x8b ∷ memory d b n ++ rest) ≡ Ok (Load d b n, rest)
 unfolding wide_at load_at
 load_again x d b n rest r h k f = rw (memory_again x d b n rest r h k f) refl
 
-xchg_again : (x b s : ℕ) (n : ℤ) (rest : List ℕ) → IsRexOf x s b → s < 16 → b < 16 → FitsSigned w32 n → wide_at x (0x87 ∷ memory s b n ++ rest) ≡ Ok (Xchg b n s, rest)
+xchg_again : (x b s : ℕ) (n : ℤ) (rest : List ℕ) → IsRexOf x s b → s < 16 → b < 16 → FitsSigned w32 n
+    → wide_at x (0x87 ∷ memory s b n ++ rest) ≡ Ok (Xchg b n s, rest)
 unfolding wide_at xchg_at
 xchg_again x b s n rest r h k f = rw (memory_again x s b n rest r h k f) refl
 
@@ -131,7 +141,8 @@ alu_again : (op : AluOp) (x d s : ℕ) (rest : List ℕ) → IsRexOf x s d → d
 unfolding alu_at
 alu_again op x d s rest r h k = rw (eq-eqb (modrm 3 s d / 64) 3 (omega arith)) (two_registers x s d r k h (Alu op) rest)
 
-alu_wide_again : (op : AluOp) (x d s : ℕ) (rest : List ℕ) → IsRexOf x s d → d < 16 → s < 16 → wide_at x ((8 * alu_number op + 1) ∷ registers s d ++ rest) ≡ Ok (Alu op d s, rest)
+alu_wide_again : (op : AluOp) (x d s : ℕ) (rest : List ℕ) → IsRexOf x s d → d < 16 → s < 16
+    → wide_at x ((8 * alu_number op + 1) ∷ registers s d ++ rest) ≡ Ok (Alu op d s, rest)
 unfolding wide_at arithmetic_at alu_opcode alu_of
 alu_wide_again Add x d s rest r h k = alu_again Add x d s rest r h k
 alu_wide_again Or x d s rest r h k = alu_again Or x d s rest r h k
@@ -145,7 +156,8 @@ no_reg : (x d : ℕ) → IsRexOf x 0 d → x / 4 % 2 == 0 ≡ true
 no_reg x d r = eq-eqb (x / 4 % 2) 0 (omega (arith, r.reg))
 
 -- a number that names one register at most
-one_register_first : (x op : ℕ) (rest : List ℕ) → x / 4 % 2 == 0 ≡ true → op == 0x89 ≡ false → op == 0x8b ≡ false → op == 0x87 ≡ false → alu_opcode op ≡ None → wide_at x (op ∷ rest) ≡ one_register_at x op rest
+one_register_first : (x op : ℕ) (rest : List ℕ) → x / 4 % 2 == 0 ≡ true → op == 0x89 ≡ false → op == 0x8b ≡ false → op == 0x87 ≡ false
+    → alu_opcode op ≡ None → wide_at x (op ∷ rest) ≡ one_register_at x op rest
 unfolding wide_at arithmetic_at
 one_register_first x op rest e a b c d = rw (a, b, c, d, e) refl
 
@@ -158,15 +170,18 @@ alu_number_low Sub d = let e : modrm 3 5 d / 8 % 8 ≡ 5 = omega arith in ap alu
 alu_number_low Xor d = let e : modrm 3 6 d / 8 % 8 ≡ 6 = omega arith in ap alu_of e
 alu_number_low Cmp d = let e : modrm 3 7 d / 8 % 8 ≡ 7 = omega arith in ap alu_of e
 
-alu_immediate_again : (op : AluOp) (x d : ℕ) (i : ℤ) (rest : List ℕ) → IsRexOf x 0 d → d < 16 → FitsSigned w32 i → alu_immediate_at x (modrm 3 (alu_number op) d ∷ four_bytes i ++ rest) ≡ Ok (AluImm op d i, rest)
+alu_immediate_again : (op : AluOp) (x d : ℕ) (i : ℤ) (rest : List ℕ) → IsRexOf x 0 d → d < 16 → FitsSigned w32 i
+    → alu_immediate_at x (modrm 3 (alu_number op) d ∷ four_bytes i ++ rest) ≡ Ok (AluImm op d i, rest)
 unfolding alu_immediate_at alu_number_at
 alu_immediate_again op x d i rest r h f =
-    rw (eq-eqb (modrm 3 (alu_number op) d / 64) 3 (top op), alu_number_low op d, immediate_again i rest f) (ap (λ (y : ℕ). Ok (AluImm op y i, rest)) (rm_back x (alu_number op) d 3 h r.base))
+    rw (eq-eqb (modrm 3 (alu_number op) d / 64) 3 (top op), alu_number_low op d, immediate_again i rest f)
+    (ap (λ (y : ℕ). Ok (AluImm op y i, rest)) (rm_back x (alu_number op) d 3 h r.base))
   where
     top : (op : AluOp) → modrm 3 (alu_number op) d / 64 ≡ 3
     top op = omega arith
 
-alu_immediate_wide : (op : AluOp) (x d : ℕ) (i : ℤ) (rest : List ℕ) → IsRexOf x 0 d → d < 16 → FitsSigned w32 i → wide_at x (0x81 ∷ (registers (alu_number op) d ++ four_bytes i) ++ rest) ≡ Ok (AluImm op d i, rest)
+alu_immediate_wide : (op : AluOp) (x d : ℕ) (i : ℤ) (rest : List ℕ) → IsRexOf x 0 d → d < 16 → FitsSigned w32 i
+    → wide_at x (0x81 ∷ (registers (alu_number op) d ++ four_bytes i) ++ rest) ≡ Ok (AluImm op d i, rest)
 unfolding one_register_at alu_opcode alu_of
 alu_immediate_wide op x d i rest r h f =
     one_register_first x 0x81 (modrm 3 (alu_number op) d ∷ four_bytes i ++ rest) (no_reg x d r) refl refl refl refl ∙ alu_immediate_again op x d i rest r h f
@@ -179,11 +194,13 @@ no_alu op e = by (op % 8 == 1)
     by true = ap alu_of e
     by false = refl
 
-mov_immediate_again : (x d n : ℕ) (rest : List ℕ) → IsRexOf x 0 d → d < 16 → n < 2 ^ 64 → wide_at x ((0xb8 + d % 8) ∷ to_le_bytes w64 n ++ rest) ≡ Ok (MovImm d n, rest)
+mov_immediate_again : (x d n : ℕ) (rest : List ℕ) → IsRexOf x 0 d → d < 16 → n < 2 ^ 64
+    → wide_at x ((0xb8 + d % 8) ∷ to_le_bytes w64 n ++ rest) ≡ Ok (MovImm d n, rest)
 unfolding one_register_at mov_immediate_at
 mov_immediate_again x d n rest r h f =
     let low : (0xb8 + d % 8) / 8 ≡ 23 = omega arith in
-    one_register_first x (0xb8 + d % 8) (to_le_bytes w64 n ++ rest) (no_reg x d r) (ne_eqb _ _ (λ q. omega arith)) (ne_eqb _ _ (λ q. omega arith)) (ne_eqb _ _ (λ q. omega arith)) (no_alu (0xb8 + d % 8) low)
+    one_register_first x (0xb8 + d % 8) (to_le_bytes w64 n ++ rest) (no_reg x d r) (ne_eqb _ _ (λ q. omega arith)) (ne_eqb _ _ (λ q. omega arith))
+    (ne_eqb _ _ (λ q. omega arith)) (no_alu (0xb8 + d % 8) low)
     ∙ rw (eq-eqb ((0xb8 + d % 8) / 8) 23 low, word_again n rest f) (ap (λ (y : ℕ). Ok (MovImm y n, rest)) (opcode_back x d h r.base))
   where
     opcode_back : (x d : ℕ) → d < 16 → d / 8 ≡ x % 2 → 8 * (x % 2) + (0xb8 + d % 8) % 8 ≡ d
@@ -195,7 +212,8 @@ unfolding store_immediate_at
 store_immediate_again x b n i rest r h f g =
     let low : modrm 2 0 b % 8 ≡ b % 8 = omega arith in
     let read : displacement_at (modrm 2 0 b) ((sib_if (b % 8 == 4) ++ four_bytes n) ++ (four_bytes i ++ rest)) ≡ Ok (n, four_bytes i ++ rest) =
-    subst (λ (y : ℕ). displacement_at (modrm 2 0 b) ((sib_if (y == 4) ++ four_bytes n) ++ (four_bytes i ++ rest)) ≡ Ok (n, four_bytes i ++ rest)) low (displacement_again (modrm 2 0 b) n (four_bytes i ++ rest) (omega arith) f) in
+    subst (λ (y : ℕ). displacement_at (modrm 2 0 b) ((sib_if (y == 4) ++ four_bytes n) ++ (four_bytes i ++ rest)) ≡ Ok (n, four_bytes i ++ rest)) low
+    (displacement_again (modrm 2 0 b) n (four_bytes i ++ rest) (omega arith) f) in
     rw (eq-eqb (modrm 2 0 b / 8 % 8) 0 (omega arith), read, immediate_again i rest g) (ap (λ (y : ℕ). Ok (StoreImm y n i, rest)) (rm_back x 0 b 2 h r.base))
 
 store_immediate_wide : (x b : ℕ) (n i : ℤ) (rest : List ℕ) → IsRexOf x 0 b → b < 16 → FitsSigned w32 n → FitsSigned w32 i
@@ -212,7 +230,8 @@ shift_again x d n rest r h c = rw (eq-eqb (modrm 3 4 d / 8) 28 (omega arith), c)
 shift_right_again : (x d n : ℕ) (rest : List ℕ) → IsRexOf x 0 d → d < 16 → is_count n ≡ true → shift_at x (modrm 3 5 d ∷ n ∷ rest) ≡ Ok (Shr d n, rest)
 unfolding shift_at count_at
 shift_right_again x d n rest r h c =
-    rw (ne_eqb (modrm 3 5 d / 8) 28 (λ q. omega arith), eq-eqb (modrm 3 5 d / 8) 29 (omega arith), c) (ap (λ (y : ℕ). Ok (Shr y n, rest)) (rm_back x 5 d 3 h r.base))
+    rw (ne_eqb (modrm 3 5 d / 8) 28 (λ q. omega arith), eq-eqb (modrm 3 5 d / 8) 29 (omega arith), c)
+    (ap (λ (y : ℕ). Ok (Shr y n, rest)) (rm_back x 5 d 3 h r.base))
 
 shl_wide : (x d n : ℕ) (rest : List ℕ) → IsRexOf x 0 d → d < 16 → is_count n ≡ true → wide_at x (0xc1 ∷ modrm 3 4 d ∷ n ∷ rest) ≡ Ok (Shl d n, rest)
 unfolding one_register_at alu_opcode alu_of
@@ -259,11 +278,13 @@ locked_first : (x : ℕ) (rest : List ℕ) → is_wide x ≡ true → instructio
 unfolding instruction_at behind_at locked_at locked_wide_at
 locked_first x rest h = rw h refl
 
-cmpxchg_again : (x b s : ℕ) (n : ℤ) (rest : List ℕ) → IsRexOf x s b → s < 16 → b < 16 → FitsSigned w32 n → exchange_at x (0xb1 ∷ memory s b n ++ rest) ≡ Ok (CmpXchg b n s, rest)
+cmpxchg_again : (x b s : ℕ) (n : ℤ) (rest : List ℕ) → IsRexOf x s b → s < 16 → b < 16 → FitsSigned w32 n
+    → exchange_at x (0xb1 ∷ memory s b n ++ rest) ≡ Ok (CmpXchg b n s, rest)
 unfolding exchange_at
 cmpxchg_again x b s n rest r h k f = rw (memory_again x s b n rest r h k f) refl
 
-xadd_again : (x b s : ℕ) (n : ℤ) (rest : List ℕ) → IsRexOf x s b → s < 16 → b < 16 → FitsSigned w32 n → exchange_at x (0xc1 ∷ memory s b n ++ rest) ≡ Ok (Xadd b n s, rest)
+xadd_again : (x b s : ℕ) (n : ℤ) (rest : List ℕ) → IsRexOf x s b → s < 16 → b < 16 → FitsSigned w32 n
+    → exchange_at x (0xc1 ∷ memory s b n ++ rest) ≡ Ok (Xadd b n s, rest)
 unfolding exchange_at
 xadd_again x b s n rest r h k f = rw (memory_again x s b n rest r h k f) refl
 
@@ -287,7 +308,8 @@ either_prefix r P h low high = elim (cases_lt r 8) [
   | inr le ↦ subst P (sym ((short_high r h le).is)) (high (short_high r h le))
 ]
 
-with_register_again : (make : ℕ → Ins) (x upper r : ℕ) (rest : List ℕ) → r < 16 → r / 8 ≡ x % 2 → with_register_at make x upper ((8 * upper + r % 8) ∷ rest) ≡ Ok (make r, rest)
+with_register_again : (make : ℕ → Ins) (x upper r : ℕ) (rest : List ℕ) → r < 16 → r / 8 ≡ x % 2
+    → with_register_at make x upper ((8 * upper + r % 8) ∷ rest) ≡ Ok (make r, rest)
 unfolding with_register_at
 with_register_again make x upper r rest lt h = rw (register_again x upper r rest lt h) refl
 
@@ -301,7 +323,8 @@ push_narrow x s rest h e = rw (eq-eqb ((0x50 + s % 8) / 8) 10 (omega arith)) (ap
 
 pop_narrow : (x s : ℕ) (rest : List ℕ) → s < 16 → s / 8 ≡ x % 2 → narrow_at x (0x58 + s % 8) rest ≡ Ok (Pop s, rest)
 unfolding narrow_at
-pop_narrow x s rest h e = rw (ne_eqb ((0x58 + s % 8) / 8) 10 (λ q. omega arith), eq-eqb ((0x58 + s % 8) / 8) 11 (omega arith)) (ap (λ (y : ℕ). Ok (Pop y, rest)) (opcode_back x s 0x58 h e refl))
+pop_narrow x s rest h e = rw (ne_eqb ((0x58 + s % 8) / 8) 10 (λ q. omega arith), eq-eqb ((0x58 + s % 8) / 8) 11 (omega arith))
+    (ap (λ (y : ℕ). Ok (Pop y, rest)) (opcode_back x s 0x58 h e refl))
 
 -- an opcode that is no prefix and stands alone
 narrow_first : (op : ℕ) (rest : List ℕ) → 0x50 ≤ op → op < 0x60 → instruction_at (op ∷ rest) ≡ narrow_at 0x40 op rest
@@ -411,7 +434,8 @@ again (MovImm d n) rest f c = let r = rex_of 0 d (omega arith) f.0 in wide_first
 again (MovReg d s) rest f c = let r = rex_of s d f.1 f.0 in wide_first (rex s d) _ r.wide ∙ mov_reg_again (rex s d) d s rest r f.0 f.1
 again (Load d b n) rest f c = let r = rex_of d b f.0 f.1 in wide_first (rex d b) _ r.wide ∙ load_again (rex d b) d b n rest r f.0 f.1 f.2
 again (Store b n s) rest f c = let r = rex_of s b f.2 f.0 in wide_first (rex s b) _ r.wide ∙ store_again (rex s b) b s n rest r f.0 f.2 f.1
-again (StoreImm b n i) rest f c = let r = rex_of 0 b (omega arith) f.0 in wide_first (rex 0 b) _ r.wide ∙ store_immediate_wide (rex 0 b) b n i rest r f.0 f.1 f.2
+again (StoreImm b n i) rest f c = let r = rex_of 0 b (omega arith) f.0 in
+    wide_first (rex 0 b) _ r.wide ∙ store_immediate_wide (rex 0 b) b n i rest r f.0 f.1 f.2
 again (GsLoad d n) rest f c = gs_first d _ f.0 ∙ gs_load_again d n rest f.0 f.1
 again (GsStore n s) rest f c = gs_first s _ f.1 ∙ gs_store_again s n rest f.1 f.0
 again (GsPush n) rest f c = gs_push_again n rest f

@@ -40,7 +40,8 @@ pub record IsNumber {X : Type 0} (n : ℕ) (W : X → Type 0) (text : X → List
 abbrev number_at : {X : Type 0} → ℕ → (List ℕ → X) → List ℕ → Read X
 number_at n value bytes = cond (ltb (length bytes) n) (Err Short) (Ok (value (take n bytes), drop n bytes))
 
-stable_by : {X : Type 0} (n : ℕ) (value : List ℕ → X) (bytes more : List ℕ) (t : Bool) → ltb (length bytes) n ≡ t → Extends {X = X} more (cond t (Err Short) (Ok (value (take n bytes), drop n bytes))) (number_at n value (bytes ++ more))
+stable_by : {X : Type 0} (n : ℕ) (value : List ℕ → X) (bytes more : List ℕ) (t : Bool) → ltb (length bytes) n ≡ t
+    → Extends {X = X} more (cond t (Err Short) (Ok (value (take n bytes), drop n bytes))) (number_at n value (bytes ++ more))
 stable_by n value bytes more true e = tt
 stable_by n value bytes more false e =
     let le : n ≤ length bytes = ltb-false _ _ e in
@@ -141,7 +142,12 @@ unfolding register_at
 register_field rex upper h =
     next _ _ _ _ _ (8 * upper) (omega arith) (live _ [] (rm_field rex (8 * upper)) refl (rw (eq-eqb (8 * upper / 8) upper (omega arith)) refl))
     (λ x. choose _ _ _ _ (x / 8 == upper) _ _
-    (λ t. let e : x / 8 ≡ upper = eqb-true _ _ t in done _ _ _ _ (rm_field rex x) (λ v. ((omega arith, omega arith), λ bytes. let k : x ≡ 8 * upper + (8 * (rex % 2) + x % 8) % 8 = omega arith in ap (λ (y : ℕ). y ∷ bytes) k)))
+    (λ t. let e : x / 8 ≡ upper = eqb-true _ _ t in
+    done _ _ _ _ (rm_field rex x) (λ v. (
+      (omega arith, omega arith),
+      λ bytes. let k : x ≡ 8 * upper + (8 * (rex % 2) + x % 8) % 8 = omega arith in
+          ap (λ (y : ℕ). y ∷ bytes) k,
+    )))
     (λ t. stop _ _ _ _))
 
 -- ---- displacements
@@ -164,7 +170,8 @@ displacement_field m =
     (λ t. let e : m / 64 ≡ 2 = eqb-true _ _ t in by e (m % 8 == 4))
     (λ t. stop _ _ _ _)
   where
-    by : m / 64 ≡ 2 → (b : Bool) → IsField (λ n. FitsSigned w32 n × (m / 64 ≡ 2)) (λ n. sib_if b ++ four_bytes n) (λ bytes. if b then sib_at 0x24 bytes else immediate_at bytes)
+    by : m / 64 ≡ 2 → (b : Bool) → IsField (λ n. FitsSigned w32 n × (m / 64 ≡ 2)) (λ n. sib_if b ++ four_bytes n) (λ bytes. if b then sib_at 0x24 bytes else
+        immediate_at bytes)
     by e true = tail _ _ _ _ _ _ _ (sib_field 0x24 (omega arith)) (λ v n w. ((w, e), λ bytes. refl))
     by e false = tail _ _ _ _ _ _ _ immediate_field (λ v n w. ((w, e), λ bytes. refl))
 
@@ -177,7 +184,8 @@ pub record IsMemory (rex : ℕ) (e : ℕ × ℕ × ℤ) : Type 0 where
   pub high_reg : e.0 / 8 ≡ rex / 4 % 2
   pub high_base : e.1 / 8 ≡ rex % 2
 
-memory_back : (rex m : ℕ) (n : ℤ) (bytes : List ℕ) → m < 256 → m / 64 ≡ 2 → m ∷ (sib_if (m % 8 == 4) ++ four_bytes n) ++ bytes ≡ memory (reg_field rex m) (rm_field rex m) n ++ bytes
+memory_back : (rex m : ℕ) (n : ℤ) (bytes : List ℕ) → m < 256 → m / 64 ≡ 2 → m ∷ (sib_if (m % 8 == 4) ++ four_bytes n) ++ bytes ≡ memory (reg_field rex m)
+    (rm_field rex m) n ++ bytes
 memory_back rex m n bytes h e =
     let k : m ≡ modrm 2 (reg_field rex m) (rm_field rex m) = omega arith in
     let l : m % 8 ≡ rm_field rex m % 8 = omega arith in
@@ -189,7 +197,11 @@ memory_field rex =
     next _ _ _ _ _ 0x80 (omega arith) (live _ (0 ∷ 0 ∷ 0 ∷ 0 ∷ []) (reg_field rex 0x80, rm_field rex 0x80, pos 0) refl refl)
     (λ x. field _ _ _ _ _ _ _ _ (displacement_field x)
     (λ n. done _ _ _ _ (reg_field rex x, rm_field rex x, n)
-    (λ v. (record { reg = omega arith; base = omega arith; fits = v.1.0; high_reg = omega arith; high_base = omega arith }, λ bytes. memory_back rex x n bytes v.0.1 v.1.1)))
+    (λ v. (
+      record { reg = omega arith; base = omega arith; fits = v.1.0; high_reg = omega arith; high_base = omega arith },
+      λ bytes. memory_back rex x n
+          bytes v.0.1 v.1.1,
+    )))
     (λ n. live _ [] (reg_field rex x, rm_field rex x, n) refl refl))
 
 pub and_true : (a b : Bool) → (a && b) ≡ true → (a ≡ true) × (b ≡ true)
@@ -206,6 +218,10 @@ absolute_field rex =
     let low : x % 8 ≡ 4 = eqb-true _ _ h.1 in
     field _ _ _ _ _ _ _ _ (sib_field 0x25 (omega arith))
     (λ n. done _ _ _ _ (reg_field rex x, n)
-    (λ v. ((omega arith, v.1, omega arith), λ bytes. let k : x ≡ modrm 0 (reg_field rex x) 4 = omega arith in ap (λ (y : ℕ). y ∷ 0x25 ∷ four_bytes n ++ bytes) k)))
+    (λ v. (
+      (omega arith, v.1, omega arith),
+      λ bytes. let k : x ≡ modrm 0 (reg_field rex x) 4 = omega arith in
+          ap (λ (y : ℕ). y ∷ 0x25 ∷ four_bytes n ++ bytes) k,
+    )))
     (λ n. live _ [] (reg_field rex x, n) refl refl))
     (λ t. stop _ _ _ _))

@@ -43,9 +43,11 @@ move_reads x r =
     next _ _ _ _ _ 0xc0 (omega arith) (live _ [] (MovReg (rm_field x 0xc0) (reg_field x 0xc0)) refl refl)
     (λ m. choose _ _ _ _ (m / 64 == 3) _ _
     (λ t. let e : m / 64 ≡ 3 = eqb-true _ _ t in
-    done _ _ _ _ (MovReg (rm_field x m) (reg_field x m)) (λ v. (record { fields = (omega arith, omega arith); counts = refl }, λ bytes. two_registers_back x m 0x89 bytes r v.1 e)))
+    done _ _ _ _ (MovReg (rm_field x m) (reg_field x m))
+    (λ v. (record { fields = (omega arith, omega arith); counts = refl }, λ bytes. two_registers_back x m 0x89 bytes r v.1 e)))
     (λ t. field _ _ _ _ _ _ _ _ (displacement_field m)
-    (λ n. done _ _ _ _ (Store (rm_field x m) n (reg_field x m)) (λ v. (record { fields = (omega arith, v.1.0, omega arith); counts = refl }, λ bytes. memory_back x 0x89 m n bytes r v.0.1 v.1.1)))
+    (λ n. done _ _ _ _ (Store (rm_field x m) n (reg_field x m))
+    (λ v. (record { fields = (omega arith, v.1.0, omega arith); counts = refl }, λ bytes. memory_back x 0x89 m n bytes r v.0.1 v.1.1)))
     (λ n. live _ [] (Store (rm_field x m) n (reg_field x m)) refl refl)))
 
 pub alu_reads : (op : AluOp) (x : ℕ) → IsRex x → IsReader (Unit {0}) (λ bytes. x ∷ (8 * alu_number op + 1) ∷ bytes) (alu_at op x)
@@ -54,7 +56,8 @@ alu_reads op x r =
     next _ _ _ _ _ 0xc0 (omega arith) (live _ [] (Alu op (rm_field x 0xc0) (reg_field x 0xc0)) refl refl)
     (λ m. choose _ _ _ _ (m / 64 == 3) _ _
     (λ t. let e : m / 64 ≡ 3 = eqb-true _ _ t in
-    done _ _ _ _ (Alu op (rm_field x m) (reg_field x m)) (λ v. (record { fields = (omega arith, omega arith); counts = refl }, λ bytes. two_registers_back x m (8 * alu_number op + 1) bytes r v.1 e)))
+    done _ _ _ _ (Alu op (rm_field x m) (reg_field x m))
+    (λ v. (record { fields = (omega arith, omega arith); counts = refl }, λ bytes. two_registers_back x m (8 * alu_number op + 1) bytes r v.1 e)))
     (λ t. stop _ _ _ _))
 
 -- ---- operations by their numbers
@@ -65,7 +68,8 @@ pub number_step : {A : Type 0} (number : A → ℕ) (n k : ℕ) (a x : A) (rest 
 number_step number n k a x rest at others true e h = let same_number : n ≡ k = eqb-true n k e in cc
 number_step number n k a x rest at others false e h = others h
 
-alu_step : (n k : ℕ) (a op : AluOp) (rest : Option AluOp) → k ≡ alu_number a → (rest ≡ Some op → n ≡ alu_number op) → cond (n == k) (Some a) rest ≡ Some op → n ≡ alu_number op
+alu_step : (n k : ℕ) (a op : AluOp) (rest : Option AluOp) → k ≡ alu_number a → (rest ≡ Some op → n ≡ alu_number op) → cond (n == k) (Some a) rest ≡ Some op
+    → n ≡ alu_number op
 alu_step n k a op rest at others h = number_step alu_number n k a op rest at others (n == k) refl h
 
 pub alu_of_back : (n : ℕ) (op : AluOp) → alu_of n ≡ Some op → n ≡ alu_number op
@@ -88,7 +92,8 @@ alu_opcode_back n op h = by (n % 8 == 1) refl h
 one_register_back : (x : ℕ) (m : ℕ) → IsRex x → x / 4 % 2 ≡ 0 → x ≡ rex 0 (rm_field x m)
 one_register_back x m r z = omega (arith, r.wide, r.no_index)
 
-alu_number_reads : (o : Option AluOp) (x m : ℕ) → alu_of (m / 8 % 8) ≡ o → IsRex x → x / 4 % 2 ≡ 0 → m / 64 ≡ 3 → IsReader (Unit {0} × (m < 256)) (λ bytes. x ∷ 0x81 ∷ m ∷ bytes) (alu_number_at o (rm_field x m))
+alu_number_reads : (o : Option AluOp) (x m : ℕ) → alu_of (m / 8 % 8) ≡ o → IsRex x → x / 4 % 2 ≡ 0 → m / 64 ≡ 3
+    → IsReader (Unit {0} × (m < 256)) (λ bytes. x ∷ 0x81 ∷ m ∷ bytes) (alu_number_at o (rm_field x m))
 unfolding alu_number_at spelling is_instruction
 alu_number_reads None x m o r z e = stop _ _ _ _
 alu_number_reads (Some op) x m o r z e =
@@ -119,13 +124,15 @@ alu_immediate_reads x r z =
 -- ---- what has one register behind REX.W
 
 store_back : (x m : ℕ) (n i : ℤ) (bytes : List ℕ) → IsRex x → x / 4 % 2 ≡ 0 → m < 256 → m / 64 ≡ 2 → m / 8 % 8 ≡ 0
-    → x ∷ 0xc7 ∷ m ∷ (sib_if (m % 8 == 4) ++ four_bytes n) ++ (four_bytes i ++ bytes) ≡ (rex 0 (rm_field x m) ∷ 0xc7 ∷ memory 0 (rm_field x m) n ++ four_bytes i) ++ bytes
+    → x ∷ 0xc7 ∷ m ∷ (sib_if (m % 8 == 4) ++ four_bytes n) ++ (four_bytes i ++ bytes)
+    ≡ (rex 0 (rm_field x m) ∷ 0xc7 ∷ memory 0 (rm_field x m) n ++ four_bytes i) ++ bytes
 store_back x m n i bytes r z h e g =
     let j : x ≡ rex 0 (rm_field x m) = one_register_back x m r z in
     let k : m ≡ modrm 2 0 (rm_field x m) = omega arith in
     let l : m % 8 ≡ rm_field x m % 8 = omega arith in
     ap (λ (d : ℕ × ℕ × ℕ). d.0 ∷ 0xc7 ∷ d.1 ∷ (sib_if (d.2 == 4) ++ four_bytes n) ++ (four_bytes i ++ bytes)) (λ i. (j i, k i, l i))
-    ∙ ap (λ (t : List ℕ). rex 0 (rm_field x m) ∷ 0xc7 ∷ modrm 2 0 (rm_field x m) ∷ t) (sym (append_assoc (sib_if (rm_field x m % 8 == 4) ++ four_bytes n) (four_bytes i) bytes))
+    ∙ ap (λ (t : List ℕ). rex 0 (rm_field x m) ∷ 0xc7 ∷ modrm 2 0 (rm_field x m) ∷ t)
+    (sym (append_assoc (sib_if (rm_field x m % 8 == 4) ++ four_bytes n) (four_bytes i) bytes))
 
 store_live : (x m : ℕ) (n : ℤ) → IsLive (λ bytes. immediate_at bytes >>= λ i. Ok (StoreImm (rm_field x m) n i.0, i.1))
 unfolding immediate_at zeros
@@ -147,7 +154,8 @@ store_immediate_reads x r z =
     (λ t. let g : m / 8 % 8 ≡ 0 = eqb-true _ _ t in
     field _ _ _ _ _ _ _ _ (displacement_field m)
     (λ n. field _ _ _ _ _ _ _ _ immediate_field
-    (λ i. done _ _ _ _ (StoreImm (rm_field x m) n i) (λ v. (record { fields = (omega arith, v.0.1.0, v.1); counts = refl }, λ bytes. store_back x m n i bytes r z v.0.0.1 v.0.1.1 g)))
+    (λ i. done _ _ _ _ (StoreImm (rm_field x m) n i)
+    (λ v. (record { fields = (omega arith, v.0.1.0, v.1); counts = refl }, λ bytes. store_back x m n i bytes r z v.0.0.1 v.0.1.1 g)))
     (λ i. live _ [] (StoreImm (rm_field x m) n i) refl refl))
     (λ n. store_live x m n))
     (λ t. stop _ _ _ _))
@@ -170,12 +178,14 @@ shift_reads x r z =
     (λ m. choose _ _ _ _ (m / 8 == 28) _ _
     (λ t. let e : m / 8 ≡ 28 = eqb-true _ _ t in
     field _ _ _ _ _ _ _ _ count_field
-    (λ n. done _ _ _ _ (Shl (rm_field x m) n) (λ v. (record { fields = (omega arith, v.1.1); counts = v.1.0 }, λ bytes. shift_back x m 28 4 n bytes r z e refl (omega arith))))
+    (λ n. done _ _ _ _ (Shl (rm_field x m) n)
+    (λ v. (record { fields = (omega arith, v.1.1); counts = v.1.0 }, λ bytes. shift_back x m 28 4 n bytes r z e refl (omega arith))))
     (λ n. live _ [] (Shl (rm_field x m) n) refl refl))
     (λ t. choose _ _ _ _ (m / 8 == 29) _ _
     (λ t. let e : m / 8 ≡ 29 = eqb-true _ _ t in
     field _ _ _ _ _ _ _ _ count_field
-    (λ n. done _ _ _ _ (Shr (rm_field x m) n) (λ v. (record { fields = (omega arith, v.1.1); counts = v.1.0 }, λ bytes. shift_back x m 29 5 n bytes r z e refl (omega arith))))
+    (λ n. done _ _ _ _ (Shr (rm_field x m) n)
+    (λ v. (record { fields = (omega arith, v.1.1); counts = v.1.0 }, λ bytes. shift_back x m 29 5 n bytes r z e refl (omega arith))))
     (λ n. live _ [] (Shr (rm_field x m) n) refl refl))
     (λ t. stop _ _ _ _)))
 
@@ -183,7 +193,8 @@ sysretq_reads : IsReader (Unit {0}) (λ bytes. 0x48 ∷ 0x0f ∷ bytes) sysretq_
 unfolding sysretq_at spelling is_instruction
 sysretq_reads =
     next _ _ _ _ _ 0x07 (omega arith) (live _ [] Sysretq refl refl)
-    (λ x. pick _ (λ y bytes. 0x48 ∷ 0x0f ∷ y ∷ bytes) _ _ x 0x07 _ _ (done _ _ _ _ Sysretq (λ v. (record { fields = tt; counts = refl }, λ bytes. refl))) (stop _ _ _ _))
+    (λ x. pick _ (λ y bytes. 0x48 ∷ 0x0f ∷ y ∷ bytes) _ _ x 0x07 _ _ (done _ _ _ _ Sysretq (λ v. (record { fields = tt; counts = refl }, λ bytes. refl)))
+    (stop _ _ _ _))
 
 return_reads : (op : ℕ) → IsReader (Unit {0}) (λ bytes. 0x48 ∷ op ∷ bytes) (return_at op)
 unfolding return_at spelling is_instruction
@@ -222,14 +233,24 @@ load_reads : (x : ℕ) → IsRex x → IsReader (Unit {0}) (λ bytes. x ∷ 0x8b
 unfolding load_at spelling is_instruction
 load_reads x r =
     field _ _ _ _ _ _ _ _ (memory_field x)
-    (λ e. done _ _ _ _ (Load e.0 e.1 e.2) (λ v. (record { fields = (v.1.reg, v.1.base, v.1.fits); counts = refl }, λ bytes. ap (λ (y : ℕ). y ∷ 0x8b ∷ memory e.0 e.1 e.2 ++ bytes) (rex_of_memory x e r v.1))))
+    (λ e. done _ _ _ _ (Load e.0 e.1 e.2)
+    (λ v. (
+      record { fields = (v.1.reg, v.1.base, v.1.fits); counts = refl },
+      λ bytes. ap (λ (y : ℕ). y ∷ 0x8b ∷ memory e.0 e.1 e.2 ++ bytes)
+          (rex_of_memory x e r v.1),
+    )))
     (λ e. live _ [] (Load e.0 e.1 e.2) refl refl)
 
 xchg_reads : (x : ℕ) → IsRex x → IsReader (Unit {0}) (λ bytes. x ∷ 0x87 ∷ bytes) (xchg_at x)
 unfolding xchg_at spelling is_instruction
 xchg_reads x r =
     field _ _ _ _ _ _ _ _ (memory_field x)
-    (λ e. done _ _ _ _ (Xchg e.1 e.2 e.0) (λ v. (record { fields = (v.1.base, v.1.fits, v.1.reg); counts = refl }, λ bytes. ap (λ (y : ℕ). y ∷ 0x87 ∷ memory e.0 e.1 e.2 ++ bytes) (rex_of_memory x e r v.1))))
+    (λ e. done _ _ _ _ (Xchg e.1 e.2 e.0)
+    (λ v. (
+      record { fields = (v.1.base, v.1.fits, v.1.reg); counts = refl },
+      λ bytes. ap (λ (y : ℕ). y ∷ 0x87 ∷ memory e.0 e.1 e.2 ++ bytes)
+          (rex_of_memory x e r v.1),
+    )))
     (λ e. live _ [] (Xchg e.1 e.2 e.0) refl refl)
 
 arithmetic_reads : (o : Option AluOp) (x op : ℕ) → alu_opcode op ≡ o → IsRex x → IsReader (Unit {0}) (λ bytes. x ∷ op ∷ bytes) (arithmetic_at o x op)
@@ -290,11 +311,21 @@ gs_word_reads x r =
     next _ _ _ _ _ 0x8b (omega arith) (gs_load_live x)
     (λ op. pick _ (λ y bytes. 0x65 ∷ x ∷ y ∷ bytes) _ _ op 0x8b _ _
     (field _ _ _ _ _ _ _ _ (absolute_field x)
-    (λ e. done _ _ _ _ (GsLoad e.0 e.1) (λ v. (record { fields = (v.1.0, v.1.1); counts = refl }, λ bytes. ap (λ (y : ℕ). 0x65 ∷ y ∷ 0x8b ∷ absolute e.0 e.1 ++ bytes) (rex_of_reg x e.0 r v.1.2))))
+    (λ e. done _ _ _ _ (GsLoad e.0 e.1)
+    (λ v. (
+      record { fields = (v.1.0, v.1.1); counts = refl },
+      λ bytes. ap (λ (y : ℕ). 0x65 ∷ y ∷ 0x8b ∷ absolute e.0 e.1 ++ bytes)
+          (rex_of_reg x e.0 r v.1.2),
+    )))
     (λ e. live _ [] (GsLoad e.0 e.1) refl refl))
     (pick _ (λ y bytes. 0x65 ∷ x ∷ y ∷ bytes) _ _ op 0x89 _ _
     (field _ _ _ _ _ _ _ _ (absolute_field x)
-    (λ e. done _ _ _ _ (GsStore e.1 e.0) (λ v. (record { fields = (v.1.1, v.1.0); counts = refl }, λ bytes. ap (λ (y : ℕ). 0x65 ∷ y ∷ 0x89 ∷ absolute e.0 e.1 ++ bytes) (rex_of_reg x e.0 r v.1.2))))
+    (λ e. done _ _ _ _ (GsStore e.1 e.0)
+    (λ v. (
+      record { fields = (v.1.1, v.1.0); counts = refl },
+      λ bytes. ap (λ (y : ℕ). 0x65 ∷ y ∷ 0x89 ∷ absolute e.0 e.1 ++ bytes)
+          (rex_of_reg x e.0 r v.1.2),
+    )))
     (λ e. live _ [] (GsStore e.1 e.0) refl refl))
     (stop _ _ _ _)))
 
@@ -335,11 +366,21 @@ exchange_reads x r =
     next _ _ _ _ _ 0xb1 (omega arith) (exchange_tail x)
     (λ op. pick _ (λ y bytes. 0xf0 ∷ x ∷ 0x0f ∷ y ∷ bytes) _ _ op 0xb1 _ _
     (field _ _ _ _ _ _ _ _ (memory_field x)
-    (λ e. done _ _ _ _ (CmpXchg e.1 e.2 e.0) (λ v. (record { fields = (v.1.base, v.1.fits, v.1.reg); counts = refl }, λ bytes. ap (λ (y : ℕ). 0xf0 ∷ y ∷ 0x0f ∷ 0xb1 ∷ memory e.0 e.1 e.2 ++ bytes) (rex_of_memory x e r v.1))))
+    (λ e. done _ _ _ _ (CmpXchg e.1 e.2 e.0)
+    (λ v. (
+      record { fields = (v.1.base, v.1.fits, v.1.reg); counts = refl },
+      λ bytes. ap
+          (λ (y : ℕ). 0xf0 ∷ y ∷ 0x0f ∷ 0xb1 ∷ memory e.0 e.1 e.2 ++ bytes) (rex_of_memory x e r v.1),
+    )))
     (λ e. live _ [] (CmpXchg e.1 e.2 e.0) refl refl))
     (pick _ (λ y bytes. 0xf0 ∷ x ∷ 0x0f ∷ y ∷ bytes) _ _ op 0xc1 _ _
     (field _ _ _ _ _ _ _ _ (memory_field x)
-    (λ e. done _ _ _ _ (Xadd e.1 e.2 e.0) (λ v. (record { fields = (v.1.base, v.1.fits, v.1.reg); counts = refl }, λ bytes. ap (λ (y : ℕ). 0xf0 ∷ y ∷ 0x0f ∷ 0xc1 ∷ memory e.0 e.1 e.2 ++ bytes) (rex_of_memory x e r v.1))))
+    (λ e. done _ _ _ _ (Xadd e.1 e.2 e.0)
+    (λ v. (
+      record { fields = (v.1.base, v.1.fits, v.1.reg); counts = refl },
+      λ bytes. ap
+          (λ (y : ℕ). 0xf0 ∷ y ∷ 0x0f ∷ 0xc1 ∷ memory e.0 e.1 e.2 ++ bytes) (rex_of_memory x e r v.1),
+    )))
     (λ e. live _ [] (Xadd e.1 e.2 e.0) refl refl))
     (stop _ _ _ _)))
 

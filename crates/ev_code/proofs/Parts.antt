@@ -64,7 +64,8 @@ ok_is x y e = cc
 
 -- ---- leaves
 
-pub done : {X : Type 0} (V : Type 0) (f : List ℕ → List ℕ) (W : X → Type 0) (text : X → List ℕ) (x : X) → (V → W x × ((bytes : List ℕ) → f bytes ≡ text x ++ bytes))
+pub done : {X : Type 0} (V : Type 0) (f : List ℕ → List ℕ) (W : X → Type 0) (text : X → List ℕ) (x : X)
+    → (V → W x × ((bytes : List ℕ) → f bytes ≡ text x ++ bytes))
     → Reads V f W text (λ bytes. Ok (x, bytes))
 done {X = X} V f W text x h = record {
   stable = λ bytes more. refl;
@@ -88,12 +89,14 @@ bind_ok : {A B : Type 0} (r : Result A DecodeFault) (f : A → Result B DecodeFa
 bind_ok (Ok x) f y e = (x, refl, e)
 bind_ok (Err d) f y e = absurd cc
 
-extends_bind : {X Y : Type 0} (more : List ℕ) (u v : Read X) (q : X × List ℕ → Read Y) → Extends more u v → ((x : X) → IsStable (λ bytes. q (x, bytes))) → Extends more (u >>= q) (v >>= q)
+extends_bind : {X Y : Type 0} (more : List ℕ) (u v : Read X) (q : X × List ℕ → Read Y) → Extends more u v → ((x : X) → IsStable (λ bytes. q (x, bytes)))
+    → Extends more (u >>= q) (v >>= q)
 extends_bind more (Ok e) v q h k = rw h (k e.0 e.1 more)
 extends_bind more (Err Unknown) v q h k = rw h refl
 extends_bind more (Err Short) v q h k = tt
 
-stable_bind : {X Y : Type 0} (r : List ℕ → Read X) (q : X × List ℕ → Read Y) → IsStable r → ((x : X) → IsStable (λ bytes. q (x, bytes))) → IsStable (λ bytes. r bytes >>= q)
+stable_bind : {X Y : Type 0} (r : List ℕ → Read X) (q : X × List ℕ → Read Y) → IsStable r → ((x : X) → IsStable (λ bytes. q (x, bytes)))
+    → IsStable (λ bytes. r bytes >>= q)
 stable_bind r q h k bytes more = extends_bind more (r bytes) (r (bytes ++ more)) q (h bytes more) k
 
 extends_ok : {X : Type 0} (more rest : List ℕ) (u v : Read X) (x : X) → Extends more u v → u ≡ Ok (x, rest) → v ≡ Ok (x, rest ++ more)
@@ -119,15 +122,19 @@ trim_by r q bytes (Err Short) at stable trim after live short =
       bytes = first.bytes ++ rest.bytes;
       value = rest.value;
       are_bytes = bytes_append first.bytes rest.bytes first.are_bytes rest.are_bytes;
-      taken = rw (sym (append_assoc bytes first.bytes rest.bytes)) (rw (extends_ok rest.bytes [] (r (bytes ++ first.bytes)) (r ((bytes ++ first.bytes) ++ rest.bytes)) first.value (stable (bytes ++ first.bytes) rest.bytes) first.taken) rest.taken);
+      taken = rw (sym (append_assoc bytes first.bytes rest.bytes))
+          (rw (extends_ok rest.bytes [] (r (bytes ++ first.bytes)) (r ((bytes ++ first.bytes) ++ rest.bytes)) first.value
+          (stable (bytes ++ first.bytes) rest.bytes) first.taken) rest.taken);
     }
 
-trim_bind : {X Y : Type 0} (r : List ℕ → Read X) (q : X × List ℕ → Read Y) → IsStable r → IsTrim r → ((x : X) → IsTrim (λ rest. q (x, rest))) → ((x : X) → IsLive (λ rest. q (x, rest)))
+trim_bind : {X Y : Type 0} (r : List ℕ → Read X) (q : X × List ℕ → Read Y) → IsStable r → IsTrim r → ((x : X) → IsTrim (λ rest. q (x, rest)))
+    → ((x : X) → IsLive (λ rest. q (x, rest)))
     → IsTrim (λ bytes. r bytes >>= q)
 trim_bind r q stable trim after live bytes short = trim_by r q bytes (r bytes) refl stable trim after live short
 
 -- a field, and what stands behind it
-pub field : {X Y : Type 0} (V : Type 0) (f : List ℕ → List ℕ) (U : Y → Type 0) (whole : Y → List ℕ) (W : X → Type 0) (text : X → List ℕ) (r : List ℕ → Read X) (q : X × List ℕ → Read Y)
+pub field : {X Y : Type 0} (V : Type 0) (f : List ℕ → List ℕ) (U : Y → Type 0) (whole : Y → List ℕ) (W : X → Type 0) (text : X → List ℕ)
+    (r : List ℕ → Read X) (q : X × List ℕ → Read Y)
     → IsField W text r → ((x : X) → Reads (V × W x) (λ bytes. f (text x ++ bytes)) U whole (λ bytes. q (x, bytes))) → ((x : X) → IsLive (λ bytes. q (x, bytes)))
     → Reads V f U whole (λ bytes. r bytes >>= q)
 field V f U whole W text r q first after live = record {
@@ -146,8 +153,15 @@ stable_byte : {Y : Type 0} (q : ℕ × List ℕ → Read Y) → ((x : ℕ) → I
 stable_byte q h [] more = tt
 stable_byte q h (x ∷ bytes) more = h x bytes more
 
-trim_byte : {Y : Type 0} (q : ℕ × List ℕ → Read Y) (x : ℕ) → x < 256 → IsLive (λ bytes. q (x, bytes)) → ((x : ℕ) → IsTrim (λ bytes. q (x, bytes))) → IsTrim (λ bytes. byte_at bytes >>= q)
-trim_byte q x lt live h [] short = record { bytes = x ∷ live.bytes; value = live.value; are_bytes = bytes_cons x live.bytes lt live.are_bytes; taken = live.taken }
+trim_byte : {Y : Type 0} (q : ℕ × List ℕ → Read Y) (x : ℕ) → x < 256 → IsLive (λ bytes. q (x, bytes)) → ((x : ℕ) → IsTrim (λ bytes. q (x, bytes)))
+    → IsTrim (λ bytes. byte_at bytes >>= q)
+trim_byte q x lt live h [] short = record {
+  bytes = x ∷ live.bytes;
+  value = live.value;
+  are_bytes = bytes_cons x live.bytes lt live.are_bytes;
+  taken =
+      live.taken;
+}
 trim_byte q x lt live h (y ∷ bytes) short = h y bytes short
 
 takes_byte : {Y : Type 0} (V : Type 0) (f : List ℕ → List ℕ) (U : Y → Type 0) (whole : Y → List ℕ) (q : ℕ × List ℕ → Read Y)
@@ -157,7 +171,8 @@ takes_byte V f U whole q h v [] e are t = absurd cc
 takes_byte V f U whole q h v (x ∷ bytes) e are t = (h x).takes (v, are 0) bytes e (bytes_rest x bytes are) t
 
 -- a byte and what stands behind it: x is a byte with which it goes on
-pub next : {Y : Type 0} (V : Type 0) (f : List ℕ → List ℕ) (U : Y → Type 0) (whole : Y → List ℕ) (q : ℕ × List ℕ → Read Y) (x : ℕ) → x < 256 → IsLive (λ bytes. q (x, bytes))
+pub next : {Y : Type 0} (V : Type 0) (f : List ℕ → List ℕ) (U : Y → Type 0) (whole : Y → List ℕ) (q : ℕ × List ℕ → Read Y) (x : ℕ) → x < 256
+    → IsLive (λ bytes. q (x, bytes))
     → ((x : ℕ) → Reads (V × (x < 256)) (λ bytes. f (x ∷ bytes)) U whole (λ bytes. q (x, bytes))) → Reads V f U whole (λ bytes. byte_at bytes >>= q)
 next V f U whole q x lt live h = record {
   stable = stable_byte q (λ y. (h y).stable);
@@ -194,7 +209,8 @@ tail V f U whole W text r first h = record {
 }
 
 -- what holds with no premise
-pub under : {X : Type 0} (V : Type 0) (f : List ℕ → List ℕ) (W : X → Type 0) (text : X → List ℕ) (r : List ℕ → Read X) → Reads (Unit {0}) f W text r → Reads V f W text r
+pub under : {X : Type 0} (V : Type 0) (f : List ℕ → List ℕ) (W : X → Type 0) (text : X → List ℕ) (r : List ℕ → Read X) → Reads (Unit {0}) f W text r
+    → Reads V f W text r
 under V f W text r h = record { stable = h.stable; trim = h.trim; takes = λ v bytes e are t. h.takes tt bytes e are t }
 
 -- a choice of this byte

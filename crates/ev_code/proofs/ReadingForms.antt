@@ -56,19 +56,22 @@ test_self : (i : Ins) (rest : List ℕ) → IsEncodable i → test (spelling i +
 test_self i rest e = rw (e.counts, prefix_of_append (spelling i) rest) refl
 
 found_by : (i j : Ins) (rest : List ℕ) (js : List Ins) → IsEncodable i → (is_prefix (spelling j) (spelling i ++ rest) ≡ true → FieldsRead j)
-    → (t : Bool) → test (spelling i ++ rest) j ≡ t → (find (test (spelling i ++ rest)) js ≡ Some i) ⊎ (j ≡ i) → cond t (Some j) (find (test (spelling i ++ rest)) js) ≡ Some i
+    → (t : Bool) → test (spelling i ++ rest) j ≡ t → (find (test (spelling i ++ rest)) js ≡ Some i) ⊎ (j ≡ i)
+    → cond t (Some j) (find (test (spelling i ++ rest)) js) ≡ Some i
 found_by i j rest js e reads true t k =
     let p = and_true (is_instruction j) (is_prefix (spelling j) (spelling i ++ rest)) t in
     ap (λ (x : Ins). Some x) (only_one i j rest e (reads p.1) t)
 found_by i j rest js e reads false t (inl k) = k
 found_by i j rest js e reads false t (inr k) = absurd (let yes = test_self i rest e in let no = sym t ∙ ap (test (spelling i ++ rest)) k ∙ yes in cc)
 
-found_here : (i j : Ins) (rest : List ℕ) (js : List Ins) → IsEncodable i → (is_prefix (spelling j) (spelling i ++ rest) ≡ true → FieldsRead j) → (find (test (spelling i ++ rest)) js ≡ Some i) ⊎ (j ≡ i)
+found_here : (i j : Ins) (rest : List ℕ) (js : List Ins) → IsEncodable i → (is_prefix (spelling j) (spelling i ++ rest) ≡ true → FieldsRead j)
+    → (find (test (spelling i ++ rest)) js ≡ Some i) ⊎ (j ≡ i)
     → find (test (spelling i ++ rest)) (j ∷ js) ≡ Some i
 found_here i j rest js e reads k = found_by i j rest js e reads (test (spelling i ++ rest) j) refl k
 
 -- the candidate at place n is found
-pub found_at : (i : Ins) (rest : List ℕ) (js : List Ins) (n : ℕ) → IsEncodable i → EachReads (spelling i ++ rest) js → n < length js → get_or js n Nop ≡ i → find (test (spelling i ++ rest)) js ≡ Some i
+pub found_at : (i : Ins) (rest : List ℕ) (js : List Ins) (n : ℕ) → IsEncodable i → EachReads (spelling i ++ rest) js → n < length js → get_or js n Nop ≡ i
+    → find (test (spelling i ++ rest)) js ≡ Some i
 found_at i rest [] n e reads lt h = absurd (omega arith)
 found_at i rest (j ∷ js) zero e reads lt h = found_here i j rest js e reads.0 (inr h)
 found_at i rest (j ∷ js) (suc n) e reads lt h = found_here i j rest js e reads.0 (inl (found_at i rest js n e reads.1 (omega arith) h))
@@ -119,7 +122,8 @@ memory_low : (s b : ℕ) → modrm 2 s b % 8 ≡ b % 8
 memory_low s b = omega arith
 
 -- behind a ModRM byte at place 2, with the SIB byte and without
-two_here : (x op m y : ℕ) (n : ℤ) (rest : List ℕ) → m % 8 ≡ y % 8 → FitsSigned w32 n → signed_at (x ∷ op ∷ m ∷ (sib_if (y % 8 == 4) ++ four_bytes n) ++ rest) (behind (x ∷ op ∷ m ∷ (sib_if (y % 8 == 4) ++ four_bytes n) ++ rest) 2) ≡ n
+two_here : (x op m y : ℕ) (n : ℤ) (rest : List ℕ) → m % 8 ≡ y % 8 → FitsSigned w32 n
+    → signed_at (x ∷ op ∷ m ∷ (sib_if (y % 8 == 4) ++ four_bytes n) ++ rest) (behind (x ∷ op ∷ m ∷ (sib_if (y % 8 == 4) ++ four_bytes n) ++ rest) 2) ≡ n
 unfolding signed_at behind
 two_here x op m y n rest e f = rw e (by (y % 8 == 4))
   where
@@ -128,7 +132,8 @@ two_here x op m y n rest e f = rw e (by (y % 8 == 4))
     by false = signed_here n rest f
 
 four_here : (l x z op m y : ℕ) (n : ℤ) (rest : List ℕ) → m % 8 ≡ y % 8 → FitsSigned w32 n
-    → signed_at (l ∷ x ∷ z ∷ op ∷ m ∷ (sib_if (y % 8 == 4) ++ four_bytes n) ++ rest) (behind (l ∷ x ∷ z ∷ op ∷ m ∷ (sib_if (y % 8 == 4) ++ four_bytes n) ++ rest) 4) ≡ n
+    → signed_at (l ∷ x ∷ z ∷ op ∷ m ∷ (sib_if (y % 8 == 4) ++ four_bytes n) ++ rest)
+    (behind (l ∷ x ∷ z ∷ op ∷ m ∷ (sib_if (y % 8 == 4) ++ four_bytes n) ++ rest) 4) ≡ n
 unfolding signed_at behind
 four_here l x z op m y n rest e f = rw e (by (y % 8 == 4))
   where
@@ -138,11 +143,13 @@ four_here l x z op m y n rest e f = rw e (by (y % 8 == 4))
 
 -- and the number behind that displacement
 after_here : (x op m y : ℕ) (n i : ℤ) (rest : List ℕ) → m % 8 ≡ y % 8 → FitsSigned w32 i
-    → signed_at (x ∷ op ∷ m ∷ (sib_if (y % 8 == 4) ++ four_bytes n) ++ (four_bytes i ++ rest)) (behind (x ∷ op ∷ m ∷ (sib_if (y % 8 == 4) ++ four_bytes n) ++ (four_bytes i ++ rest)) 2 + 4) ≡ i
+    → signed_at (x ∷ op ∷ m ∷ (sib_if (y % 8 == 4) ++ four_bytes n) ++ (four_bytes i ++ rest))
+    (behind (x ∷ op ∷ m ∷ (sib_if (y % 8 == 4) ++ four_bytes n) ++ (four_bytes i ++ rest)) 2 + 4) ≡ i
 unfolding signed_at behind four_bytes
 after_here x op m y n i rest e f = rw e (by (y % 8 == 4))
   where
-    by : (t : Bool) → cast_signed w32 (from_le_bytes w32 (drop ((if t then 4 else 3) + 4) (x ∷ op ∷ m ∷ (sib_if t ++ four_bytes n) ++ (four_bytes i ++ rest)))) ≡ i
+    by : (t : Bool) → cast_signed w32
+        (from_le_bytes w32 (drop ((if t then 4 else 3) + 4) (x ∷ op ∷ m ∷ (sib_if t ++ four_bytes n) ++ (four_bytes i ++ rest)))) ≡ i
     by true = signed_here i rest f
     by false = signed_here i rest f
 
@@ -262,9 +269,19 @@ each_reads b = (
                                                                                           (
                                                                                             λ p. signed_fits b 4,
                                                                                             (
-                                                                                              λ p. (rm_small b 1 4, signed_fits b (behind b 4), reg_small b 1 4),
+                                                                                              λ p. (
+                                                                                                rm_small b 1 4,
+                                                                                                signed_fits b
+                                                                                                    (behind b 4),
+                                                                                                reg_small b 1 4,
+                                                                                              ),
                                                                                               (
-                                                                                                λ p. (rm_small b 1 4, signed_fits b (behind b 4), reg_small b 1 4),
+                                                                                                λ p. (
+                                                                                                  rm_small b 1 4,
+                                                                                                  signed_fits b
+                                                                                                      (behind b 4),
+                                                                                                  reg_small b 1 4,
+                                                                                                ),
                                                                                                 (
                                                                                                   λ p. omega arith,
                                                                                                   (
@@ -371,23 +388,28 @@ mov_reg_place d s rest h k = (24, omega arith, λ i. MovReg (rm_spelled s d 3 k 
 
 load_place : (d b : ℕ) (n : ℤ) (rest : List ℕ) → d < 16 → b < 16 → FitsSigned w32 n → PlaceOf (spelling (Load d b n) ++ rest) (Load d b n)
 unfolding forms plain_forms wide_forms prefixed_forms narrow_forms spelling rm_at reg_at
-load_place d b n rest h k f = (25, omega arith, λ i. Load (reg_spelled d b 2 h k i) (rm_spelled d b 2 h k i) (two_here (rex d b) 0x8b (modrm 2 d b) b n rest (memory_low d b) f i))
+load_place d b n rest h k f =
+    (25, omega arith, λ i. Load (reg_spelled d b 2 h k i) (rm_spelled d b 2 h k i) (two_here (rex d b) 0x8b (modrm 2 d b) b n rest (memory_low d b) f i))
 
 store_place : (b s : ℕ) (n : ℤ) (rest : List ℕ) → b < 16 → s < 16 → FitsSigned w32 n → PlaceOf (spelling (Store b n s) ++ rest) (Store b n s)
 unfolding forms plain_forms wide_forms prefixed_forms narrow_forms spelling rm_at reg_at
-store_place b s n rest k h f = (26, omega arith, λ i. Store (rm_spelled s b 2 h k i) (two_here (rex s b) 0x89 (modrm 2 s b) b n rest (memory_low s b) f i) (reg_spelled s b 2 h k i))
+store_place b s n rest k h f =
+    (26, omega arith, λ i. Store (rm_spelled s b 2 h k i) (two_here (rex s b) 0x89 (modrm 2 s b) b n rest (memory_low s b) f i) (reg_spelled s b 2 h k i))
 
 xchg_place : (b s : ℕ) (n : ℤ) (rest : List ℕ) → b < 16 → s < 16 → FitsSigned w32 n → PlaceOf (spelling (Xchg b n s) ++ rest) (Xchg b n s)
 unfolding forms plain_forms wide_forms prefixed_forms narrow_forms spelling rm_at reg_at
-xchg_place b s n rest k h f = (30, omega arith, λ i. Xchg (rm_spelled s b 2 h k i) (two_here (rex s b) 0x87 (modrm 2 s b) b n rest (memory_low s b) f i) (reg_spelled s b 2 h k i))
+xchg_place b s n rest k h f =
+    (30, omega arith, λ i. Xchg (rm_spelled s b 2 h k i) (two_here (rex s b) 0x87 (modrm 2 s b) b n rest (memory_low s b) f i) (reg_spelled s b 2 h k i))
 
-store_imm_place : (b : ℕ) (n j : ℤ) (rest : List ℕ) → b < 16 → FitsSigned w32 n → FitsSigned w32 j → PlaceOf (spelling (StoreImm b n j) ++ rest) (StoreImm b n j)
+store_imm_place : (b : ℕ) (n j : ℤ) (rest : List ℕ) → b < 16 → FitsSigned w32 n → FitsSigned w32 j
+    → PlaceOf (spelling (StoreImm b n j) ++ rest) (StoreImm b n j)
 unfolding forms plain_forms wide_forms prefixed_forms narrow_forms spelling rm_at
 store_imm_place b n j rest k f g = (
   27,
   omega arith,
   ap (λ (y : List ℕ). get_or (forms (rex 0 b ∷ 0xc7 ∷ modrm 2 0 b ∷ y)) 27 Nop) (append_assoc (sib_if (b % 8 == 4) ++ four_bytes n) (four_bytes j) rest)
-      ∙ (λ i. StoreImm (rm_number 0 b 2 k i) (two_here (rex 0 b) 0xc7 (modrm 2 0 b) b n (four_bytes j ++ rest) (memory_low 0 b) f i) (after_here (rex 0 b) 0xc7 (modrm 2 0 b) b n j rest (memory_low 0 b) g i)),
+      ∙ (λ i. StoreImm (rm_number 0 b 2 k i) (two_here (rex 0 b) 0xc7 (modrm 2 0 b) b n (four_bytes j ++ rest) (memory_low 0 b) f i)
+      (after_here (rex 0 b) 0xc7 (modrm 2 0 b) b n j rest (memory_low 0 b) g i)),
 )
 
 shl_place : (d n : ℕ) (rest : List ℕ) → d < 16 → PlaceOf (spelling (Shl d n) ++ rest) (Shl d n)
@@ -430,11 +452,21 @@ gs_push_place n rest f = (45, omega arith, λ i. GsPush (signed_here n rest f i)
 
 cmpxchg_place : (b s : ℕ) (n : ℤ) (rest : List ℕ) → b < 16 → s < 16 → FitsSigned w32 n → PlaceOf (spelling (CmpXchg b n s) ++ rest) (CmpXchg b n s)
 unfolding forms plain_forms wide_forms prefixed_forms narrow_forms spelling rm_at reg_at
-cmpxchg_place b s n rest k h f = (46, omega arith, λ i. CmpXchg (rm_spelled s b 2 h k i) (four_here 0xf0 (rex s b) 0x0f 0xb1 (modrm 2 s b) b n rest (memory_low s b) f i) (reg_spelled s b 2 h k i))
+cmpxchg_place b s n rest k h f = (
+  46,
+  omega arith,
+  λ i. CmpXchg (rm_spelled s b 2 h k i) (four_here 0xf0 (rex s b) 0x0f 0xb1 (modrm 2 s b) b n rest (memory_low s b) f i)
+      (reg_spelled s b 2 h k i),
+)
 
 xadd_place : (b s : ℕ) (n : ℤ) (rest : List ℕ) → b < 16 → s < 16 → FitsSigned w32 n → PlaceOf (spelling (Xadd b n s) ++ rest) (Xadd b n s)
 unfolding forms plain_forms wide_forms prefixed_forms narrow_forms spelling rm_at reg_at
-xadd_place b s n rest k h f = (47, omega arith, λ i. Xadd (rm_spelled s b 2 h k i) (four_here 0xf0 (rex s b) 0x0f 0xc1 (modrm 2 s b) b n rest (memory_low s b) f i) (reg_spelled s b 2 h k i))
+xadd_place b s n rest k h f = (
+  47,
+  omega arith,
+  λ i. Xadd (rm_spelled s b 2 h k i) (four_here 0xf0 (rex s b) 0x0f 0xc1 (modrm 2 s b) b n rest (memory_low s b) f i)
+      (reg_spelled s b 2 h k i),
+)
 
 jmp_place : (n : ℤ) (rest : List ℕ) → FitsSigned w32 n → PlaceOf (spelling (Jmp n) ++ rest) (Jmp n)
 unfolding forms plain_forms wide_forms prefixed_forms narrow_forms spelling signed_at
@@ -554,7 +586,8 @@ reading_again i rest e =
 
 -- ---- what is read begins the bytes
 
-found_passes_by : (b : List ℕ) (y x : Ins) (t : Bool) (rest : Option Ins) → test b y ≡ t → (is_prefix (spelling y) b ≡ true → FieldsRead y) → (rest ≡ Some x → (test b x ≡ true) × FieldsRead x)
+found_passes_by : (b : List ℕ) (y x : Ins) (t : Bool) (rest : Option Ins) → test b y ≡ t → (is_prefix (spelling y) b ≡ true → FieldsRead y)
+    → (rest ≡ Some x → (test b x ≡ true) × FieldsRead x)
     → cond t (Some y) rest ≡ Some x → (test b x ≡ true) × FieldsRead x
 found_passes_by b y x true rest e reads below h =
     let s : y ≡ x = cc in
@@ -567,7 +600,8 @@ found_passes b [] x reads h = absurd cc
 found_passes b (y ∷ js) x reads h = found_passes_by b y x (test b y) (find (test b) js) refl reads.0 (λ k. found_passes b js x reads.1 k) h
 
 -- what bytes read as is an instruction that they begin with, and the reader reads it
-pub reading_begins : (b : List ℕ) (i : Ins) → reading b ≡ Some i → (is_instruction i ≡ true) × ((rest : List ℕ) × (b ≡ spelling i ++ rest) × (instruction_at b ≡ Ok (i, rest)))
+pub reading_begins : (b : List ℕ) (i : Ins) → reading b ≡ Some i
+    → (is_instruction i ≡ true) × ((rest : List ℕ) × (b ≡ spelling i ++ rest) × (instruction_at b ≡ Ok (i, rest)))
 unfolding reading
 reading_begins b i h =
     let k = found_passes b (forms b) i (each_reads b) h in

@@ -20,7 +20,8 @@ use Rattle.ev_code.proofs.FormReads.{number_step, rex_of_wide, wide_reads, gs_re
 pub no_fields : (i : Ins) → FieldsFit i → is_instruction i ≡ true → IsEncodable i
 no_fields i f c = record { fields = f; counts = c }
 
-last_reads : (last : ℕ) (i : Ins) (f : List ℕ → List ℕ) → last < 256 → IsEncodable i → ((bytes : List ℕ) → f (last ∷ bytes) ≡ spelling i ++ bytes) → IsReader (Unit {0}) f (last_at last i)
+last_reads : (last : ℕ) (i : Ins) (f : List ℕ → List ℕ) → last < 256 → IsEncodable i → ((bytes : List ℕ) → f (last ∷ bytes) ≡ spelling i ++ bytes)
+    → IsReader (Unit {0}) f (last_at last i)
 unfolding last_at
 last_reads last i f lt good h =
     next _ _ _ _ _ last lt (live_if last i)
@@ -89,7 +90,8 @@ eretu_reads : IsReader (Unit {0}) (λ bytes. 0xf3 ∷ 0x0f ∷ bytes) eretu_at
 unfolding eretu_at spelling is_instruction last_at
 eretu_reads =
     next _ _ _ _ _ 1 (omega arith) (live _ (0xca ∷ []) Eretu refl refl)
-    (λ y. pick _ (λ z bytes. 0xf3 ∷ 0x0f ∷ z ∷ bytes) _ _ y 1 _ _ (last_reads 0xca Eretu _ (omega arith) (no_fields Eretu tt refl) (λ bytes. refl)) (stop _ _ _ _))
+    (λ y. pick _ (λ z bytes. 0xf3 ∷ 0x0f ∷ z ∷ bytes) _ _ y 1 _ _ (last_reads 0xca Eretu _ (omega arith) (no_fields Eretu tt refl) (λ bytes. refl))
+    (stop _ _ _ _))
 
 rep_reads : IsReader (Unit {0}) (λ bytes. 0xf3 ∷ bytes) rep_at
 unfolding rep_at eretu_at last_at
@@ -116,13 +118,23 @@ narrow_reads rex x s p =
     let lt : rm_field rex x < 16 = omega arith in
     let high : rm_field rex x / 8 ≡ rex % 2 = omega arith in
     let k : x ≡ 0x50 + rm_field rex x % 8 = omega arith in
-    done _ _ _ _ (Push (rm_field rex x)) (λ v. (record { fields = lt; counts = refl }, λ bytes. ap (λ (y : ℕ). s ++ y ∷ bytes) k ∙ prefixed s (short_rex (rm_field rex x)) ((0x50 + rm_field rex x % 8) ∷ []) bytes (p.is _ lt high))))
+    done _ _ _ _ (Push (rm_field rex x))
+    (λ v. (
+      record { fields = lt; counts = refl },
+      λ bytes. ap (λ (y : ℕ). s ++ y ∷ bytes) k ∙ prefixed s (short_rex (rm_field rex x))
+          ((0x50 + rm_field rex x % 8) ∷ []) bytes (p.is _ lt high),
+    )))
     (λ t. choose _ _ _ _ (x / 8 == 11) _ _
     (λ t. let e : x / 8 ≡ 11 = eqb-true _ _ t in
     let lt : rm_field rex x < 16 = omega arith in
     let high : rm_field rex x / 8 ≡ rex % 2 = omega arith in
     let k : x ≡ 0x58 + rm_field rex x % 8 = omega arith in
-    done _ _ _ _ (Pop (rm_field rex x)) (λ v. (record { fields = lt; counts = refl }, λ bytes. ap (λ (y : ℕ). s ++ y ∷ bytes) k ∙ prefixed s (short_rex (rm_field rex x)) ((0x58 + rm_field rex x % 8) ∷ []) bytes (p.is _ lt high))))
+    done _ _ _ _ (Pop (rm_field rex x))
+    (λ v. (
+      record { fields = lt; counts = refl },
+      λ bytes. ap (λ (y : ℕ). s ++ y ∷ bytes) k ∙ prefixed s (short_rex (rm_field rex x))
+          ((0x58 + rm_field rex x % 8) ∷ []) bytes (p.is _ lt high),
+    )))
     (λ t. pick _ (λ z bytes. s ++ z ∷ bytes) _ _ x 0xff _ _
     (with_register_reads JmpReg rex 28 (λ bytes. s ++ 0xff ∷ bytes) (omega arith)
     (λ r lt h. (record { fields = lt; counts = refl }, λ bytes. prefixed s (short_rex r) (0xff ∷ (224 + r % 8) ∷ []) bytes (p.is r lt h))))
@@ -145,7 +157,8 @@ extended_reads =
 
 -- ---- jumps, and what stands behind 0F
 
-cond_step : (n k : ℕ) (c x : Cond) (rest : Option Cond) → k ≡ 0x80 + cond_number c → (rest ≡ Some x → n ≡ 0x80 + cond_number x) → (let u : Option Cond = if n == k then Some c else rest in u) ≡ Some x → n ≡ 0x80 + cond_number x
+cond_step : (n k : ℕ) (c x : Cond) (rest : Option Cond) → k ≡ 0x80 + cond_number c → (rest ≡ Some x → n ≡ 0x80 + cond_number x)
+    → (let u : Option Cond = if n == k then Some c else rest in u) ≡ Some x → n ≡ 0x80 + cond_number x
 cond_step n k c x rest at others h = number_step (λ d. 0x80 + cond_number d) n k c x rest at others (n == k) refl h
 
 cond_of_back : (n : ℕ) (c : Cond) → cond_of n ≡ Some c → n ≡ 0x80 + cond_number c
@@ -159,7 +172,8 @@ unfolding condition_at spelling is_instruction
 condition_reads None op e = cr2_reads 0x40 op [] no_prefix
 condition_reads (Some c) op e =
     field _ _ _ _ _ _ _ _ immediate_field
-    (λ n. done _ _ _ _ (Jcc c n) (λ v. (record { fields = v.1; counts = refl }, λ bytes. ap (λ (y : ℕ). 0x0f ∷ y ∷ four_bytes n ++ bytes) (cond_of_back op c e))))
+    (λ n. done _ _ _ _ (Jcc c n)
+    (λ v. (record { fields = v.1; counts = refl }, λ bytes. ap (λ (y : ℕ). 0x0f ∷ y ∷ four_bytes n ++ bytes) (cond_of_back op c e))))
     (λ n. live _ [] (Jcc c n) refl refl)
 
 two_byte_reads : IsReader (Unit {0}) (λ bytes. 0x0f ∷ bytes) two_byte_at
@@ -173,7 +187,8 @@ two_byte_reads =
     (pick _ (λ z bytes. 0x0f ∷ z ∷ bytes) _ _ y 0x01 _ _ (last_reads 0xf8 Swapgs _ (omega arith) (no_fields Swapgs tt refl) (λ bytes. refl))
     (under _ _ _ _ _ (condition_reads (cond_of y) y refl)))))))
 
-with_immediate_reads : (make : ℤ → Ins) (f : List ℕ → List ℕ) → ((n : ℤ) → FitsSigned w32 n → IsEncodable (make n) × ((bytes : List ℕ) → f (four_bytes n ++ bytes) ≡ spelling (make n) ++ bytes))
+with_immediate_reads : (make : ℤ → Ins) (f : List ℕ → List ℕ)
+    → ((n : ℤ) → FitsSigned w32 n → IsEncodable (make n) × ((bytes : List ℕ) → f (four_bytes n ++ bytes) ≡ spelling (make n) ++ bytes))
     → IsReader (Unit {0}) f (with_immediate_at make)
 unfolding with_immediate_at
 with_immediate_reads make f h =
@@ -193,8 +208,10 @@ plain_reads x =
     (pick _ (λ z bytes. z ∷ bytes) _ _ x 0xf1 _ _ (done _ _ _ _ Int1 (λ v. (no_fields Int1 tt refl, λ bytes. refl)))
     (pick _ (λ z bytes. z ∷ bytes) _ _ x 0xfa _ _ (done _ _ _ _ Cli (λ v. (no_fields Cli tt refl, λ bytes. refl)))
     (pick _ (λ z bytes. z ∷ bytes) _ _ x 0xfb _ _ (done _ _ _ _ Sti (λ v. (no_fields Sti tt refl, λ bytes. refl)))
-    (pick _ (λ z bytes. z ∷ bytes) _ _ x 0xe9 _ _ (with_immediate_reads Jmp (λ bytes. 0xe9 ∷ bytes) (λ n h. (record { fields = h; counts = refl }, λ bytes. refl)))
-    (pick _ (λ z bytes. z ∷ bytes) _ _ x 0x68 _ _ (with_immediate_reads PushImm (λ bytes. 0x68 ∷ bytes) (λ n h. (record { fields = h; counts = refl }, λ bytes. refl)))
+    (pick _ (λ z bytes. z ∷ bytes) _ _ x 0xe9 _ _
+    (with_immediate_reads Jmp (λ bytes. 0xe9 ∷ bytes) (λ n h. (record { fields = h; counts = refl }, λ bytes. refl)))
+    (pick _ (λ z bytes. z ∷ bytes) _ _ x 0x68 _ _
+    (with_immediate_reads PushImm (λ bytes. 0x68 ∷ bytes) (λ n h. (record { fields = h; counts = refl }, λ bytes. refl)))
     (pick _ (λ z bytes. z ∷ bytes) _ _ x 0xcd _ _ int_reads (narrow_reads 0x40 x [] no_prefix))))))))
 
 behind_reads : (x : ℕ) → IsReader (Unit {0}) (λ bytes. x ∷ bytes) (behind_at x)

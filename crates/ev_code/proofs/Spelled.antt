@@ -40,7 +40,8 @@ one_spelling i j xs ys e f h = ok_parts i j xs ys (sym (read_again i xs e) ∙ a
 
 -- ---- what is cut short
 
-cut_by : (bytes more : List ℕ) (i : Ins) → instruction_at bytes ≡ Err Short → instruction_at (bytes ++ more) ≡ Ok (i, []) → IsEncodable i → bytes ++ more ≡ spelling i ++ [] → IsCutShort bytes
+cut_by : (bytes more : List ℕ) (i : Ins) → instruction_at bytes ≡ Err Short → instruction_at (bytes ++ more) ≡ Ok (i, []) → IsEncodable i
+    → bytes ++ more ≡ spelling i ++ [] → IsCutShort bytes
 cut_by bytes [] i short t e h = absurd (let back = ap instruction_at (append-nil bytes) in cc)
 cut_by bytes (x ∷ more) i short t e h = (i, x, more, e, sym (h ∙ append-nil (spelling i)))
 
@@ -69,7 +70,8 @@ cut_is_short bytes (i, x, more, e, h) =
 pub unknown_is : (bytes : List ℕ) → instruction_at bytes ≡ Err Unknown → (¬ IsCutShort bytes) × ((i : Ins) → IsEncodable i → ¬ BeginsWith bytes i)
 unknown_is bytes u = (λ c. let s = cut_is_short bytes c in cc, λ i e b. let r = ap instruction_at b.1 ∙ read_again i b.0 e in cc)
 
-pub is_unknown_by : (bytes : List ℕ) (r : Read Ins) → IsBytes bytes → instruction_at bytes ≡ r → ¬ IsCutShort bytes → ((i : Ins) → IsEncodable i → ¬ BeginsWith bytes i) → r ≡ Err Unknown
+pub is_unknown_by : (bytes : List ℕ) (r : Read Ins) → IsBytes bytes → instruction_at bytes ≡ r → ¬ IsCutShort bytes
+    → ((i : Ins) → IsEncodable i → ¬ BeginsWith bytes i) → r ≡ Err Unknown
 is_unknown_by bytes (Ok e) are t cut begins = absurd (let k = read_takes bytes e.0 e.1 are t in begins e.0 k.0 (e.1, k.1))
 is_unknown_by bytes (Err Unknown) are t cut begins = refl
 is_unknown_by bytes (Err Short) are t cut begins = absurd (cut (short_is_cut bytes are t))
@@ -108,7 +110,8 @@ spelling_length (ReadCr2 s) = omega (arith, short_length s, length-append (short
 spelling_length (WriteCr2 s) = omega (arith, short_length s, length-append (short_rex s) (0x0f ∷ 0x22 ∷ registers 2 s))
 spelling_length i = omega arith
 
-pub read_size : (bytes : List ℕ) (i : Ins) (rest : List ℕ) → IsBytes bytes → instruction_at bytes ≡ Ok (i, rest) → length bytes ≡ length (spelling i) + length rest
+pub read_size : (bytes : List ℕ) (i : Ins) (rest : List ℕ) → IsBytes bytes → instruction_at bytes ≡ Ok (i, rest)
+    → length bytes ≡ length (spelling i) + length rest
 read_size bytes i rest are t = let k = read_takes bytes i rest are t in ap length k.1 ∙ length-append (spelling i) rest
 
 -- ---- what `decode` answers
@@ -143,13 +146,15 @@ pub ok_not_unknown : (bytes : List ℕ) (i : Ins) (rest : List ℕ) (n : ℕ) �
     → (answer i n ≡ refusal Unknown) ↔ (¬ IsCutShort bytes × ((j : Ins) → IsEncodable j → ¬ BeginsWith bytes j))
 ok_not_unknown bytes i rest n are t = (λ h. absurd cc, λ h. absurd (let k = read_takes bytes i rest are t in h.1 i k.0 (rest, k.1)))
 
-pub err_decoded : (bytes : List ℕ) (f : DecodeFault) → instruction_at bytes ≡ Err f → (j : Ins) (more : List ℕ) → IsEncodable j → bytes ≡ spelling j ++ more → refusal f ≡ answer j (length (spelling j))
+pub err_decoded : (bytes : List ℕ) (f : DecodeFault) → instruction_at bytes ≡ Err f → (j : Ins) (more : List ℕ) → IsEncodable j → bytes ≡ spelling j ++ more
+    → refusal f ≡ answer j (length (spelling j))
 err_decoded bytes f t j more e h = absurd (let r = ap instruction_at h ∙ read_again j more e in cc)
 
 pub err_short : (bytes : List ℕ) (f : DecodeFault) → IsBytes bytes → instruction_at bytes ≡ Err f → (refusal f ≡ refusal Short) ↔ IsCutShort bytes
 err_short bytes f are t = (λ h. let e : f ≡ Short = cc in short_is_cut bytes are (rw (← e) t), λ h. let s = cut_is_short bytes h in cc)
 
-pub err_unknown : (bytes : List ℕ) (f : DecodeFault) → IsBytes bytes → instruction_at bytes ≡ Err f → (refusal f ≡ refusal Unknown) ↔ (¬ IsCutShort bytes × ((j : Ins) → IsEncodable j → ¬ BeginsWith bytes j))
+pub err_unknown : (bytes : List ℕ) (f : DecodeFault) → IsBytes bytes → instruction_at bytes ≡ Err f
+    → (refusal f ≡ refusal Unknown) ↔ (¬ IsCutShort bytes × ((j : Ins) → IsEncodable j → ¬ BeginsWith bytes j))
 err_unknown bytes f are t = (
   λ h. let e : f ≡ Unknown = cc in unknown_is bytes (rw (← e) t),
   λ h. let s = is_unknown_by bytes (instruction_at bytes) are refl h.0 h.1 in cc,

@@ -47,13 +47,17 @@ fn instruction(bytes: &[u8]) -> Result<(Ins, &[u8]), DecodeFault>
 /// that end within an instruction, as no bytes do, and `Unknown` for bytes that begin none.
 pub fn decode(bytes: &[u8]) -> Result<(Ins, u8), DecodeFault>
     // What is decoded is spelled so.
-    ensures spelled { IfOk result (λ x. IsEncodable x.0 × BeginsWith bytes.now x.0 × (x.1 ≡ length (spelling x.0))) }
+    ensures spelled { IfOk result
+        (λ x. IsEncodable x.0 × BeginsWith bytes.now x.0 × (x.1 ≡ length (spelling x.0))) }
     // What is spelled is decoded, whatever follows.
-    ensures decoded { (i : Ins) (rest : List ℕ) → IsEncodable i → bytes.now ≡ spelling i ++ rest → result ≡ Ok (i, length (spelling i)) }
+    ensures decoded { (i : Ins) (rest : List ℕ) → IsEncodable i → bytes.now ≡ spelling i ++ rest
+        → result ≡ Ok (i, length (spelling i)) }
     ensures short { (result ≡ Err DecodeFault.Short) ↔ IsCutShort bytes.now }
-    ensures unknown { (result ≡ Err DecodeFault.Unknown) ↔ (¬ IsCutShort bytes.now × ((i : Ins) → IsEncodable i → ¬ BeginsWith bytes.now i)) }
+    ensures unknown { (result ≡ Err DecodeFault.Unknown)
+        ↔ (¬ IsCutShort bytes.now × ((i : Ins) → IsEncodable i → ¬ BeginsWith bytes.now i)) }
     // It answers what the definition reads.
-    ensures reading { MatchResult result (λ x. reading bytes.now ≡ Some x.0) (λ _. reading bytes.now ≡ None) }
+    ensures reading { MatchResult result (λ x. reading bytes.now ≡ Some x.0)
+        (λ _. reading bytes.now ≡ None) }
 {
     match instruction(bytes) {
         Ok((found, rest)) => {
@@ -66,11 +70,14 @@ pub fn decode(bytes: &[u8]) -> Result<(Ins, u8), DecodeFault>
 
 /// No spelling begins another: bytes begin with one instruction at most. Own.
 pub fn one_instruction()
-    ensures { (i j : Ins) (xs ys : List ℕ) → IsEncodable i → IsEncodable j → spelling i ++ xs ≡ spelling j ++ ys → (i ≡ j) × (xs ≡ ys) }
+    ensures { (i j : Ins) (xs ys : List ℕ) → IsEncodable i → IsEncodable j
+        → spelling i ++ xs ≡ spelling j ++ ys → (i ≡ j) × (xs ≡ ys) }
 {}
 
 /// Bytes read as what they begin with, and as nothing else. Own.
 pub fn reading_law()
-    ensures spelled { (i : Ins) (rest : List ℕ) → IsEncodable i → reading (spelling i ++ rest) ≡ Some i }
-    ensures begins { (bytes : List ℕ) (i : Ins) → reading bytes ≡ Some i → (is_instruction i ≡ true) × BeginsWith bytes i }
+    ensures spelled { (i : Ins) (rest : List ℕ) → IsEncodable i
+        → reading (spelling i ++ rest) ≡ Some i }
+    ensures begins { (bytes : List ℕ) (i : Ins) → reading bytes ≡ Some i
+        → (is_instruction i ≡ true) × BeginsWith bytes i }
 {}

@@ -211,7 +211,8 @@ behind fs r = (r.0, fs ++ r.1)
 
 abbrev pub concrete_lines : Marks → ℕ → System → List Line → System × List Noted
 concrete_lines marks n s [] = (s, [])
-concrete_lines marks n s (l ∷ ls) = let r : System × List FrameNote = concrete_line marks n s l in behind (noted (processor_of l) r.1) (concrete_lines marks n r.0 ls)
+concrete_lines marks n s (l ∷ ls) = let r : System × List FrameNote = concrete_line marks n s l in
+    behind (noted (processor_of l) r.1) (concrete_lines marks n r.0 ls)
 
 -- every processor of the list is settled, in order
 abbrev pub all_settled : Marks → ℕ → System → List ℕ → System × List Noted

@@ -157,7 +157,8 @@ regions image =
     flat_map stack_regions (numbers_from 0 image.processors)
     ++ map (λ p. region (pcpu p) 0x10000 RegionKind.Kernel) (numbers_from 0 image.processors)
     ++ region user_table (8 * 257) RegionKind.Kernel ∷ region kernel_table (8 * 257) RegionKind.Kernel ∷ region idt_base 0x1000 RegionKind.Kernel
-    ∷ region page_map (8 * 257) RegionKind.Kernel ∷ region cells_base 0x800 RegionKind.Kernel ∷ region (task_words 0 0) (0x100 * image.processors) RegionKind.Kernel
+    ∷ region page_map (8 * 257) RegionKind.Kernel ∷ region cells_base 0x800 RegionKind.Kernel ∷ region (task_words 0 0)
+    (0x100 * image.processors) RegionKind.Kernel
     ∷ region fred_page (code_end - fred_page) RegionKind.Kernel ∷ region (body_code 0) (0x20000 * length image.bodies) RegionKind.Kernel
     ∷ region text_base 0x10000 RegionKind.Text
     ∷ map (λ i. region (page_base + 0x1000 * i) 0x1000 (RegionKind.Page i)) (numbers_from 0 256)

@@ -30,7 +30,8 @@ side_after image l s = record s { system = (concrete_line s.marks image.processo
 abbrev pub line_text_of : Image → Bool → List Entry → Line → List ModeRun → Text
 line_text_of image frames es l [] = []
 line_text_of image frames es l (s ∷ ss) =
-    shown_frames frames s.mode (noted (processor_of l) (concrete_line s.marks image.processors s.system l).1) ++ trace_text (mode_text s.mode) es ++ line_text_of image frames es l ss
+    shown_frames frames s.mode (noted (processor_of l) (concrete_line s.marks image.processors s.system l).1) ++ trace_text (mode_text s.mode) es
+    ++ line_text_of image frames es l ss
 
 -- the end of a mode's text: the frames of settling, the tasks or `busy` of the abstract machine, the totals
 abbrev pub settling : Image → ModeRun → System × List Noted
@@ -39,7 +40,8 @@ settling image s = all_settled s.marks image.processors s.system (numbers_from 0
 abbrev pub end_text : Image → Bool → Machine → List ModeRun → Text
 end_text image frames m [] = []
 end_text image frames m (s ∷ ss) =
-    shown_frames frames s.mode (settling image s).1 ++ all_end_lines (mode_text s.mode) m 0 image.processors ++ totals_text (mode_text s.mode) (settling image s).0.totals
+    shown_frames frames s.mode (settling image s).1 ++ all_end_lines (mode_text s.mode) m 0 image.processors ++ totals_text (mode_text s.mode)
+    (settling image s).0.totals
     ++ end_text image frames m ss
 
 abbrev pub script_text : Image → Bool → Machine → List ModeRun → List Line → Text

@@ -69,15 +69,20 @@ posted_below key f (suc k) a q s h = pick (f a) (λ t. posted_below key f k (suc
 pub posted_filter : (key : SendKey) (f : ℕ → Bool) (k a q : ℕ) (s : System) → a ≤ q → q < a + k
     → (posted s key (filter f (numbers_from a k))).inboxes q ≡ (if f q then mailed (s.inboxes q) key else s.inboxes q)
 posted_filter key f zero a q s h l = absurd (omega arith)
-posted_filter key f (suc k) a q s h l = ⊎_elim (λ p. here p.1 (f a) refl) (λ p. there p.1 (f a) (λ t. posted_filter key f k (suc a) q t (omega (arith, p.1)) (omega arith))) (eqb_tells q a)
+posted_filter key f (suc k) a q s h l =
+    ⊎_elim (λ p. here p.1 (f a) refl) (λ p. there p.1 (f a) (λ t. posted_filter key f k (suc a) q t (omega (arith, p.1)) (omega arith))) (eqb_tells q a)
   where
-    here : q ≡ a → (b : Bool) → f a ≡ b → (posted s key (if b then a ∷ filter f (numbers_from (suc a) k) else filter f (numbers_from (suc a) k))).inboxes q ≡ (if f q then mailed (s.inboxes q) key else s.inboxes q)
-    here e true t = posted_below key f k (suc a) q (mailed_at s key a) (omega arith) ∙ ap (put_at s.inboxes a (mailed (s.inboxes a) key)) e ∙ put_same s.inboxes a _
+    here : q ≡ a → (b : Bool) → f a ≡ b → (posted s key (if b then a ∷ filter f (numbers_from (suc a) k) else filter f (numbers_from (suc a) k))).inboxes q
+        ≡ (if f q then mailed (s.inboxes q) key else s.inboxes q)
+    here e true t = posted_below key f k (suc a) q (mailed_at s key a) (omega arith) ∙ ap (put_at s.inboxes a (mailed (s.inboxes a) key)) e
+        ∙ put_same s.inboxes a _
         ∙ sym (ap (λ b. if b then mailed (s.inboxes q) key else s.inboxes q) (ap f e ∙ t) ∙ ap (λ x. mailed (s.inboxes x) key) e)
     here e false t = posted_below key f k (suc a) q s (omega arith) ∙ sym (ap (λ b. if b then mailed (s.inboxes q) key else s.inboxes q) (ap f e ∙ t))
 
-    there : (q ≡ a → ⊥) → (b : Bool) → ((t : System) → (posted t key (filter f (numbers_from (suc a) k))).inboxes q ≡ (if f q then mailed (t.inboxes q) key else t.inboxes q))
-        → (posted s key (if b then a ∷ filter f (numbers_from (suc a) k) else filter f (numbers_from (suc a) k))).inboxes q ≡ (if f q then mailed (s.inboxes q) key else s.inboxes q)
+    there : (q ≡ a → ⊥) → (b : Bool)
+        → ((t : System) → (posted t key (filter f (numbers_from (suc a) k))).inboxes q ≡ (if f q then mailed (t.inboxes q) key else t.inboxes q))
+        → (posted s key (if b then a ∷ filter f (numbers_from (suc a) k) else filter f (numbers_from (suc a) k))).inboxes q
+        ≡ (if f q then mailed (s.inboxes q) key else s.inboxes q)
     there d true rest = rest (mailed_at s key a) ∙ ap (λ x. if f q then mailed x key else x) (put_other s.inboxes a _ q d)
     there d false rest = rest s
 
@@ -86,17 +91,23 @@ all_numbers zero a = refl
 all_numbers (suc k) a = ap (λ xs. a ∷ xs) (all_numbers k (suc a))
 
 pub posted_one : (key : SendKey) (t q : ℕ) (s : System) → (posted s key (t ∷ [])).inboxes q ≡ (if q == t then mailed (s.inboxes q) key else s.inboxes q)
-posted_one key t q s = ⊎_elim (λ p. same p.0 p.1) (λ p. put_other s.inboxes t _ q p.1 ∙ sym (ap (λ b. if b then mailed (s.inboxes q) key else s.inboxes q) p.0)) (eqb_tells q t)
+posted_one key t q s = ⊎_elim (λ p. same p.0 p.1)
+    (λ p. put_other s.inboxes t _ q p.1 ∙ sym (ap (λ b. if b then mailed (s.inboxes q) key else s.inboxes q) p.0)) (eqb_tells q t)
   where
     same : (q == t) ≡ true → q ≡ t → (posted s key (t ∷ [])).inboxes q ≡ (if q == t then mailed (s.inboxes q) key else s.inboxes q)
-    same b e = ap (put_at s.inboxes t (mailed (s.inboxes t) key)) e ∙ put_same s.inboxes t _ ∙ sym (ap (λ c. if c then mailed (s.inboxes q) key else s.inboxes q) b ∙ ap (λ x. mailed (s.inboxes x) key) e)
+    same b e = ap (put_at s.inboxes t (mailed (s.inboxes t) key)) e ∙ put_same s.inboxes t _
+        ∙ sym (ap (λ c. if c then mailed (s.inboxes q) key else s.inboxes q) b ∙ ap (λ x. mailed (s.inboxes x) key) e)
 
 pub eqb_swap : (a b : ℕ) → (a == b) ≡ (b == a)
 eqb_swap a b = ⊎_elim (λ p. p.0 ∙ sym (eq-eqb b a (sym p.1))) (λ p. p.0 ∙ sym (differs b a (λ e. p.1 (sym e)))) (eqb_tells a b)
 
-pub inbox_after : (n p q : ℕ) (key : SendKey) (target : Target) (s : System) → q < n → (posted s key (targets n p target)).inboxes q ≡ (if is_target target p q then mailed (s.inboxes q) key else s.inboxes q)
-inbox_after n p q key (One t) s h = ⊎_elim (λ b. ap (λ c. (posted s key (if c then t ∷ [] else [])).inboxes q) b.0 ∙ posted_one key t q s ∙ ap (λ c. if c then mailed (s.inboxes q) key else s.inboxes q) (eqb_swap q t))
-    (λ b. ap (λ c. (posted s key (if c then t ∷ [] else [])).inboxes q) b.0 ∙ sym (ap (λ c. if c then mailed (s.inboxes q) key else s.inboxes q) (differs t q (λ e. omega (arith, b.1))))) (leb_tells (suc t) n)
+pub inbox_after : (n p q : ℕ) (key : SendKey) (target : Target) (s : System) → q < n
+    → (posted s key (targets n p target)).inboxes q ≡ (if is_target target p q then mailed (s.inboxes q) key else s.inboxes q)
+inbox_after n p q key (One t) s h =
+    ⊎_elim (λ b. ap (λ c. (posted s key (if c then t ∷ [] else [])).inboxes q) b.0 ∙ posted_one key t q s
+    ∙ ap (λ c. if c then mailed (s.inboxes q) key else s.inboxes q) (eqb_swap q t))
+    (λ b. ap (λ c. (posted s key (if c then t ∷ [] else [])).inboxes q) b.0
+    ∙ sym (ap (λ c. if c then mailed (s.inboxes q) key else s.inboxes q) (differs t q (λ e. omega (arith, b.1))))) (leb_tells (suc t) n)
 inbox_after n p q key Myself s h = posted_one key p q s
 inbox_after n p q key All s h = ap (λ ts. (posted s key ts).inboxes q) (all_numbers n 0) ∙ posted_filter key (λ x. true) n 0 q s (omega arith) (omega arith)
 inbox_after n p q key Others s h = posted_filter key (λ x. not (x == p)) n 0 q s (omega arith) (omega arith)
@@ -109,9 +120,11 @@ own_after n p q (Stepped.Delivered e (Some a)) s h = refl
 own_after n p q Stepped.Ran s h = refl
 own_after n p q Stepped.Shutdown s h = refl
 own_after n p q (Stepped.Sent m) s h =
-    ap (λ x. local_of x q) (posted_keeps s m.key (targets n p m.target)) ∙ ap (λ x. record (local_of s q) { inbox = x }) (inbox_after n p q m.key m.target s h) ∙ into (is_target m.target p q)
+    ap (λ x. local_of x q) (posted_keeps s m.key (targets n p m.target)) ∙ ap (λ x. record (local_of s q) { inbox = x })
+    (inbox_after n p q m.key m.target s h) ∙ into (is_target m.target p q)
   where
-    into : (b : Bool) → record (local_of s q) { inbox = if b then mailed (s.inboxes q) m.key else s.inboxes q } ≡ (if b then record (local_of s q) { inbox = mailed (s.inboxes q) m.key } else local_of s q)
+    into : (b : Bool) → record (local_of s q) { inbox = if b then mailed (s.inboxes q) m.key else s.inboxes q }
+        ≡ (if b then record (local_of s q) { inbox = mailed (s.inboxes q) m.key } else local_of s q)
     into true = refl
     into false = refl
 
@@ -121,9 +134,11 @@ rest_after n p (Stepped.Delivered e None) s = (refl, refl)
 rest_after n p (Stepped.Delivered e (Some a)) s = (refl, refl)
 rest_after n p Stepped.Ran s = (refl, refl)
 rest_after n p Stepped.Shutdown s = (refl, refl)
-rest_after n p (Stepped.Sent m) s = (ap (λ x. x.cpus) (posted_keeps s m.key (targets n p m.target)), ap (λ x. x.memory) (posted_keeps s m.key (targets n p m.target)))
+rest_after n p (Stepped.Sent m) s =
+    (ap (λ x. x.cpus) (posted_keeps s m.key (targets n p m.target)), ap (λ x. x.memory) (posted_keeps s m.key (targets n p m.target)))
 
-pub totals_after : (n p : ℕ) (st : Stepped) (s t : System) → s.totals ≡ record t.totals { steps = suc t.totals.steps } → (acted n s p st).0.totals ≡ counted t.totals st
+pub totals_after : (n p : ℕ) (st : Stepped) (s t : System) → s.totals ≡ record t.totals { steps = suc t.totals.steps }
+    → (acted n s p st).0.totals ≡ counted t.totals st
 totals_after n p (Stepped.Delivered e None) s t h = h
 totals_after n p (Stepped.Delivered e (Some a)) s t h = ap (λ (x : Totals). record x { frames = suc x.frames; low = lower a x.low }) h
 totals_after n p Stepped.Ran s t h = h

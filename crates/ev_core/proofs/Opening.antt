@@ -30,21 +30,25 @@ repeated x (suc n) (suc i) h = repeated x n i (omega arith)
 
 module _ (mode : Mode) (image : Image) where
   pub open_shows : (v : Parts) → v.cpus ≡ map (opening_cpu mode image) (numbers_from 0 image.processors) → v.locals ≡ replicate (length v.cpus) start
-      → memory v.mem ≡ opening_memory mode image → v.totals ≡ record { steps = 0; frames = 0; low = None } → Shows image.processors v (opening_system mode image)
+      → memory v.mem ≡ opening_memory mode image → v.totals ≡ record { steps = 0; frames = 0; low = None }
+      → Shows image.processors v (opening_system mode image)
   unfolding opening_system
   open_shows v cpus locals mem totals =
       let count : length v.cpus ≡ image.processors = ap length cpus ∙ counted_numbers (opening_cpu mode image) image.processors 0 in record {
         processors = count;
-        cpu = λ p lt. ap (λ xs. slice_get xs p) cpus ∙ numbered (opening_cpu mode image) image.processors 0 p lt ∙ (let e : 0 + p ≡ p = omega arith in ap (λ k. Some (opening_cpu mode image k)) e);
+        cpu = λ p lt. ap (λ xs. slice_get xs p) cpus ∙ numbered (opening_cpu mode image) image.processors 0 p lt
+            ∙ (let e : 0 + p ≡ p = omega arith in ap (λ k. Some (opening_cpu mode image k)) e);
         own = λ p lt. ap (λ xs. slice_get xs p) locals ∙ repeated start (length v.cpus) p (subst (λ k. p < k) (sym count) lt);
         memory = mem;
         totals = totals;
       }
 
-  pub open_run : (v : MachineView) → CanRun mode image → marks_in v.places ≡ marks_of mode image → Shows image.processors v.parts (opening_system mode image) → IsRun mode image [] v
+  pub open_run : (v : MachineView) → CanRun mode image → marks_in v.places ≡ marks_of mode image
+      → Shows image.processors v.parts (opening_system mode image) → IsRun mode image [] v
   open_run v can marks shows = record { can = can; script_is = refl; lines_built = refl; at = record { marks = marks; shows = shows } }
 
-  pub open_stands : (v : MachineView) → CanRun mode image → marks_in v.places ≡ marks_of mode image → Shows image.processors v.parts (opening_system mode image) → IsStanding v
+  pub open_stands : (v : MachineView) → CanRun mode image → marks_in v.places ≡ marks_of mode image
+      → Shows image.processors v.parts (opening_system mode image) → IsStanding v
   open_stands v can marks shows = record {
     mode = mode;
     image = image;

@@ -33,27 +33,38 @@ module _ (n p : ℕ) (s : System) where
   next = step (s.cpus p) (s.apics p) s.memory (s.latches p)
 
   pub own_there : (r : After) (q : ℕ) → put_at (local_of s) p (local_after (s.cpus p) (local_of s p) s.memory r) q ≡ local_of (after_step s p r) q
-  own_there r q = ⊎_elim (λ e. subst (λ x. put_at (local_of s) p (local_after (s.cpus p) (local_of s p) s.memory r) x ≡ local_of (after_step s p r) x) (sym e.1) here) (λ e. there e.1) (eqb_tells q p)
+  own_there r q = ⊎_elim (λ e. subst (λ x. put_at (local_of s) p (local_after (s.cpus p) (local_of s p) s.memory r) x ≡ local_of (after_step s p r) x)
+      (sym e.1) here) (λ e. there e.1) (eqb_tells q p)
     where
-      depth : depth_after (length (s.activations p)) (ends (s.cpus p) r.cpu (instruction_at s.memory.words (s.cpus p).rip)) r.step ≡ length (put_at s.activations p (activations_by s p (s.activations p) r.cpu r.step) p)
+      depth : depth_after (length (s.activations p)) (ends (s.cpus p) r.cpu (instruction_at s.memory.words (s.cpus p).rip)) r.step ≡ length
+          (put_at s.activations p (activations_by s p (s.activations p) r.cpu r.step) p)
       depth = sym (depth_is s p (s.activations p) r.cpu r.step) ∙ ap length (sym (put_same s.activations p (activations_by s p (s.activations p) r.cpu r.step)))
 
       here : put_at (local_of s) p (local_after (s.cpus p) (local_of s p) s.memory r) p ≡ local_of (after_step s p r) p
-      here = put_same (local_of s) p _ ∙ (λ i. record { apic = sym (put_same s.apics p r.apic) i; latch = sym (put_same s.latches p r.nmi) i; inbox = s.inboxes p; depth = depth i })
+      here = put_same (local_of s) p _
+          ∙ (λ i. record { apic = sym (put_same s.apics p r.apic) i; latch = sym (put_same s.latches p r.nmi) i; inbox = s.inboxes p; depth = depth i })
 
       there : (q ≡ p → ⊥) → put_at (local_of s) p (local_after (s.cpus p) (local_of s p) s.memory r) q ≡ local_of (after_step s p r) q
       there d = put_other (local_of s) p _ q d
-          ∙ (λ i. record { apic = sym (put_other s.apics p r.apic q d) i; latch = sym (put_other s.latches p r.nmi q d) i; inbox = s.inboxes q; depth = length (sym (put_other s.activations p (activations_by s p (s.activations p) r.cpu r.step) q d) i) })
+          ∙ (λ i. record {
+            apic = sym (put_other s.apics p r.apic q d) i;
+            latch = sym (put_other s.latches p r.nmi q d) i;
+            inbox = s.inboxes q;
+            depth =
+                length (sym (put_other s.activations p (activations_by s p (s.activations p) r.cpu r.step) q d) i);
+          })
 
   -- the parts after the step
-  pub stepped_shows : (mark : Mark) (v w : Parts) (c' : Processor) (l' : Local) (m' : Memory) (made : Made) → Shows n v s → p < n → length v.locals ≡ n → LocalStep mark p (s.cpus p) (local_of s p) s.memory c' l' m' made
+  pub stepped_shows : (mark : Mark) (v w : Parts) (c' : Processor) (l' : Local) (m' : Memory) (made : Made) → Shows n v s → p < n → length v.locals ≡ n
+      → LocalStep mark p (s.cpus p) (local_of s p) s.memory c' l' m' made
       → w.cpus ≡ set v.cpus p c'
       → ((q : ℕ) (x : Local) → slice_get (set v.locals p l') q ≡ Some x → slice_get w.locals q ≡ Some (after_act made.stepped p q x))
       → length w.cpus ≡ n → memory w.mem ≡ m' → w.totals ≡ counted v.totals made.stepped → Shows n w (concrete_step n s p).0
   unfolding concrete_step
   stepped_shows mark v w c' l' m' made h lt same is cpus locals len mem totals = record {
     processors = len;
-    cpu = λ q b. subst (λ xs. slice_get xs q ≡ Some (put_at s.cpus p next.cpu q)) (sym (cpus ∙ ap (set v.cpus p) is.cpu)) (put_shown v.cpus s.cpus n p next.cpu (subst (λ k. p < k) (sym h.processors) lt) h.cpu q b)
+    cpu = λ q b. subst (λ xs. slice_get xs q ≡ Some (put_at s.cpus p next.cpu q)) (sym (cpus ∙ ap (set v.cpus p) is.cpu))
+        (put_shown v.cpus s.cpus n p next.cpu (subst (λ k. p < k) (sym h.processors) lt) h.cpu q b)
         ∙ ap (λ f. Some (f q)) (sym (rest_after n p next.step (after_step s p next)).0);
     own = λ q b. locals q _ (put_shown v.locals (local_of s) n p l' (subst (λ k. p < k) (sym same) lt) h.own q b)
         ∙ ap (λ x. Some (after_act made.stepped p q (put_at (local_of s) p x q))) is.own
@@ -61,14 +72,16 @@ module _ (n p : ℕ) (s : System) where
         ∙ ap (λ x. Some (after_act next.step p q x)) (own_there next q)
         ∙ ap (λ x. Some x) (sym (own_after n p q next.step (after_step s p next) b));
     memory = mem ∙ is.memory ∙ sym (rest_after n p next.step (after_step s p next)).1;
-    totals = totals ∙ ap (λ st. counted v.totals st) is.step ∙ ap (λ t. counted t next.step) h.totals ∙ sym (totals_after n p next.step (after_step s p next) s refl);
+    totals = totals ∙ ap (λ st. counted v.totals st) is.step ∙ ap (λ t. counted t next.step) h.totals
+        ∙ sym (totals_after n p next.step (after_step s p next) s refl);
   }
 
   pub stepped_frame : (mark : Mark) (c' : Processor) (l' : Local) (m' : Memory) (made : Made)
       → LocalStep mark p (s.cpus p) (local_of s p) s.memory c' l' m' made → frame_by c' m'.words made.stepped ≡ (concrete_step n s p).1
   unfolding concrete_step
   stepped_frame mark c' l' m' made is =
-      ap (λ c. frame_by c m'.words made.stepped) (is.cpu ∙ sym (put_same s.cpus p next.cpu)) ∙ ap (λ m. frame_by (put_at s.cpus p next.cpu p) m.words made.stepped) is.memory
+      ap (λ c. frame_by c m'.words made.stepped) (is.cpu ∙ sym (put_same s.cpus p next.cpu))
+      ∙ ap (λ m. frame_by (put_at s.cpus p next.cpu p) m.words made.stepped) is.memory
       ∙ ap (λ st. frame_by (put_at s.cpus p next.cpu p) next.words st) is.step ∙ frames_after n p next.step (after_step s p next)
 
   pub stepped_entry : (marks : Marks) (mark : Mark) (rip : ℕ) (c' : Processor) (l' : Local) (m' : Memory) (made : Made)
@@ -85,7 +98,8 @@ module _ (n p : ℕ) (s : System) where
 pub same_value : {X : Type 0} (a b : X) → Some a ≡ Some b → a ≡ b
 same_value a b e = cc
 
-pub read_is : {X : Type 0} (xs : List X) (m : ℕ → X) (n k : ℕ) (x : X) → k < length xs → k < n → x ≡ get_or xs k x → ((i : ℕ) → i < n → slice_get xs i ≡ Some (m i)) → x ≡ m k
+pub read_is : {X : Type 0} (xs : List X) (m : ℕ → X) (n k : ℕ) (x : X) → k < length xs → k < n → x ≡ get_or xs k x
+    → ((i : ℕ) → i < n → slice_get xs i ≡ Some (m i)) → x ≡ m k
 read_is xs m n k x lt ltn e each = same_value x (m k) (sym (slice_get_read xs (length xs) k x refl lt e) ∙ each k ltn)
 
 -- the processor that is read is the system's
@@ -96,13 +110,15 @@ read_cpu v w n p s c is h lt e =
     read_is v.cpus s.cpus n p c lc (subst (λ k. p < k) hv.processors lc) e hv.cpu
 
 -- what a step asks, of the parts v that are seen as w
-pub can_enter : (v w : Parts) (p : ℕ) (x : Processor) → v ≡ w → p < length w.cpus → CanStep w p → x ≡ get_or v.cpus p x → HasEntries x (memory v.mem) × IsInCode x (memory v.mem)
+pub can_enter : (v w : Parts) (p : ℕ) (x : Processor) → v ≡ w → p < length w.cpus → CanStep w p → x ≡ get_or v.cpus p x
+    → HasEntries x (memory v.mem) × IsInCode x (memory v.mem)
 can_enter v w p x is lt can e =
     let c : CanStep v p = subst (λ y. CanStep y p) (sym is) can in
     let g : slice_get v.cpus p ≡ Some x = slice_get_read v.cpus (length v.cpus) p x refl (subst (λ y. p < length y.cpus) (sym is) lt) e in
     (c.entries x g, c.in_code x g)
 
-pub can_deepen : (v w : Parts) (p : ℕ) (x : Local) → v ≡ w → length v.locals ≡ length v.cpus → p < length w.cpus → CanStep w p → x ≡ get_or v.locals p x → x.depth < 255
+pub can_deepen : (v w : Parts) (p : ℕ) (x : Local) → v ≡ w → length v.locals ≡ length v.cpus → p < length w.cpus → CanStep w p → x ≡ get_or v.locals p x
+    → x.depth < 255
 can_deepen v w p x is same lt can e =
     let c : CanStep v p = subst (λ y. CanStep y p) (sym is) can in
     c.depth x (slice_get_read v.locals (length v.locals) p x refl (subst (λ k. p < k) (sym same) (subst (λ y. p < length y.cpus) (sym is) lt)) e)
@@ -114,7 +130,8 @@ moved_step mark v w n p s c l c' l' m' made is h same lt e f step =
     let hv : Shows n v s = subst (λ y. Shows n y s) (sym is) h in
     let lc : p < length v.cpus = subst (λ y. p < length y.cpus) (sym is) lt in
     let ln : p < n = subst (λ k. p < k) hv.processors lc in
-    moved mark p s c l (memory v.mem) c' l' m' made (read_is v.cpus s.cpus n p c lc ln e hv.cpu) (read_is v.locals (local_of s) n p l (subst (λ k. p < k) (sym same) lc) ln f hv.own) hv.memory step
+    moved mark p s c l (memory v.mem) c' l' m' made (read_is v.cpus s.cpus n p c lc ln e hv.cpu)
+    (read_is v.locals (local_of s) n p l (subst (λ k. p < k) (sym same) lc) ln f hv.own) hv.memory step
 
 -- whether the next step is visible, told from what p has
 seen_there : (k : Mark) (s : System) (p : ℕ) → is_seen k (still (s.cpus p) (local_of s p) s.memory) (s.cpus p) ≡ is_seen k s (s.cpus p)
@@ -123,18 +140,21 @@ seen_there Always s p = refl
 seen_there IfNonzero s p = refl
 seen_there IfEqual s p = refl
 
-still_visible : (marks : Marks) (s : System) (p : ℕ) (x : Next) → is_visible_by marks (still (s.cpus p) (local_of s p) s.memory) p (s.cpus p) x ≡ is_visible_by marks s p (s.cpus p) x
+still_visible : (marks : Marks) (s : System) (p : ℕ) (x : Next) → is_visible_by marks (still (s.cpus p) (local_of s p) s.memory) p (s.cpus p) x
+    ≡ is_visible_by marks s p (s.cpus p) x
 still_visible marks s p Next.Nmi = refl
 still_visible marks s p (Next.Interrupt v) = refl
 still_visible marks s p Next.Debug = ap (λ b. is_user (s.cpus p) || b) (seen_there (mark_at marks (s.cpus p).rip) s p)
 still_visible marks s p Next.Instruction = ap (λ b. is_user (s.cpus p) || b) (seen_there (mark_at marks (s.cpus p).rip) s p)
 
-pub visible_there : (marks : Marks) (v w : Parts) (n p : ℕ) (s : System) (c : Processor) (l : Local) → v ≡ w → Shows n w s → length v.locals ≡ length v.cpus → p < length w.cpus
+pub visible_there : (marks : Marks) (v w : Parts) (n p : ℕ) (s : System) (c : Processor) (l : Local) → v ≡ w → Shows n w s → length v.locals ≡ length v.cpus
+    → p < length w.cpus
     → c ≡ get_or v.cpus p c → l ≡ get_or v.locals p l → is_visible marks (still c l (memory v.mem)) p ≡ is_visible marks s p
 unfolding is_visible
 visible_there marks v w n p s c l is h same lt e f =
     let hv : Shows n v s = subst (λ y. Shows n y s) (sym is) h in
     let lc : p < length v.cpus = subst (λ y. p < length y.cpus) (sym is) lt in
     let ln : p < n = subst (λ k. p < k) hv.processors lc in
-    (λ i. is_visible marks (still (read_is v.cpus s.cpus n p c lc ln e hv.cpu i) (read_is v.locals (local_of s) n p l (subst (λ k. p < k) (sym same) lc) ln f hv.own i) (hv.memory i)) p)
+    (λ i. is_visible marks (still (read_is v.cpus s.cpus n p c lc ln e hv.cpu i)
+    (read_is v.locals (local_of s) n p l (subst (λ k. p < k) (sym same) lc) ln f hv.own i) (hv.memory i)) p)
     ∙ still_visible marks s p (next_of (s.cpus p) (s.apics p) (s.latches p))

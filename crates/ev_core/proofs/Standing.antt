@@ -33,7 +33,8 @@ module _ (mode : Mode) (image : Image) where
   bodies_few p left r t [] c m h = omega arith
   bodies_few p left r t (b ∷ below) c m h = let l = over_few h.1 below h.2 in omega arith
 
-module _ (mode : Mode) (image : Image) (can : CanRun mode image) (left : NatMap ℕ) (s : System) (m : abstract.Machine) (stands : Stands mode image left s m) (p : ℕ) (lt : p < image.processors) where
+module _ (mode : Mode) (image : Image) (can : CanRun mode image) (left : NatMap ℕ) (s : System) (m : abstract.Machine) (stands : Stands mode image left s m)
+    (p : ℕ) (lt : p < image.processors) where
   pub depth_few : length (s.activations p) ≤ 1
   depth_few =
       let on = stands.each p lt in
@@ -44,9 +45,12 @@ module _ (mode : Mode) (image : Image) (can : CanRun mode image) (left : NatMap 
   pub can_step : (v : Parts) → Shows image.processors v s → CanStep v p
   can_step v h =
       let told : Tells mode image s m p = tells mode image can.built can.mode_built can.image_is left s m stands p lt in record {
-        entries = λ c e. subst (λ y. HasEntries y (memory v.mem)) (same_value (s.cpus p) c (sym (h.cpu p lt) ∙ e)) (subst (λ y. HasEntries (s.cpus p) y) (sym h.memory) told.entries);
-        in_code = λ c e. subst (λ y. IsInCode y (memory v.mem)) (same_value (s.cpus p) c (sym (h.cpu p lt) ∙ e)) (subst (λ y. IsInCode (s.cpus p) y) (sym h.memory) told.in_code);
-        depth = λ l e. let d : length (s.activations p) ≡ l.depth = ap (λ (y : Local). y.depth) (same_value (local_of s p) l (sym (h.own p lt) ∙ e)) in let f = depth_few in omega arith;
+        entries = λ c e. subst (λ y. HasEntries y (memory v.mem)) (same_value (s.cpus p) c (sym (h.cpu p lt) ∙ e))
+            (subst (λ y. HasEntries (s.cpus p) y) (sym h.memory) told.entries);
+        in_code = λ c e. subst (λ y. IsInCode y (memory v.mem)) (same_value (s.cpus p) c (sym (h.cpu p lt) ∙ e))
+            (subst (λ y. IsInCode (s.cpus p) y) (sym h.memory) told.in_code);
+        depth = λ l e. let d : length (s.activations p) ≡ l.depth = ap (λ (y : Local). y.depth) (same_value (local_of s p) l (sym (h.own p lt) ∙ e)) in
+            let f = depth_few in omega arith;
       }
 
   -- before a visible step stand fewer than 1,024 edges
@@ -74,15 +78,19 @@ module _ (v : MachineView) (h : IsStanding v) (p : ℕ) (within : p < length v.p
   lt = subst (λ k. p < k) h.at.shows.processors within
 
   pub no_frames : (k : ℕ) → (edges k seen_marks processors h.system p).1 ≡ []
-  no_frames k = subst (λ marks. (edges k marks processors h.system p).1 ≡ []) (sym h.at.marks) (quiet h.mode h.image h.can h.left h.system h.machine h.stands p lt k)
+  no_frames k = subst (λ marks. (edges k marks processors h.system p).1 ≡ []) (sym h.at.marks)
+      (quiet h.mode h.image h.can h.left h.system h.machine h.stands p lt k)
 
   pub can_step_after : (k : ℕ) (w : Parts) → Shows processors w (edges k seen_marks processors h.system p).0 → CanStep w p
   can_step_after k w shows =
-      let settles : Settles h.mode h.image h.left h.system h.machine p = all_settle h.mode h.image h.can.built h.can.mode_built h.can.image_is h.left h.system h.machine h.stands p lt in
-      can_step h.mode h.image h.can _ _ h.machine (settles.after k).1 p lt w (subst (λ marks. Shows processors w (edges k marks processors h.system p).0) h.at.marks shows)
+      let settles : Settles h.mode h.image h.left h.system h.machine p =
+      all_settle h.mode h.image h.can.built h.can.mode_built h.can.image_is h.left h.system h.machine h.stands p lt in
+      can_step h.mode h.image h.can _ _ h.machine (settles.after k).1 p lt w
+      (subst (λ marks. Shows processors w (edges k marks processors h.system p).0) h.at.marks shows)
 
   pub few_edges : (k : ℕ) → is_visible seen_marks (edges k seen_marks processors h.system p).0 p ≡ false → k + 1 ≤ 1023
-  few_edges k e = hidden_few h.mode h.image h.can h.left h.system h.machine h.stands p lt k (subst (λ marks. is_visible marks (edges k marks processors h.system p).0 p ≡ false) h.at.marks e)
+  few_edges k e = hidden_few h.mode h.image h.can h.left h.system h.machine h.stands p lt k
+      (subst (λ marks. is_visible marks (edges k marks processors h.system p).0 p ≡ false) h.at.marks e)
 
 -- ---- one edge more
 
@@ -93,5 +101,6 @@ module _ (marks : Marks) (n p i j : ℕ) (s : System) (next : j ≡ suc i) (hidd
   pub more_shows : (v : Parts) → Shows n v (concrete_step n (edges i marks n s p).0 p).0 → Shows n v (edges j marks n s p).0
   more_shows v h = subst (λ (r : System × List FrameNote). Shows n v r.0) (sym more) h
 
-  pub more_frames : (fs gs new : List FrameNote) → fs ≡ (edges i marks n s p).1 → new ≡ (concrete_step n (edges i marks n s p).0 p).1 → gs ≡ fs ++ new → gs ≡ (edges j marks n s p).1
+  pub more_frames : (fs gs new : List FrameNote) → fs ≡ (edges i marks n s p).1 → new ≡ (concrete_step n (edges i marks n s p).0 p).1 → gs ≡ fs ++ new
+      → gs ≡ (edges j marks n s p).1
   more_frames fs gs new a b c = c ∙ (λ k. a k ++ b k) ∙ sym (ap (λ (r : System × List FrameNote). r.1) more)

@@ -27,26 +27,37 @@ module _ (v : MachineView) (h : IsStanding v) (p : ℕ) (within : p < length v.p
   lt : p < processors v h p within
   lt = subst (λ k. p < k) h.at.shows.processors within
 
-  pub settled_stands : (w : Parts) → Shows h.image.processors w (settled (seen_marks v h p within) h.image.processors h.system p).0 → IsStanding (record { parts = w; places = v.places })
+  pub settled_stands : (w : Parts) → Shows h.image.processors w (settled (seen_marks v h p within) h.image.processors h.system p).0
+      → IsStanding (record { parts = w; places = v.places })
   settled_stands w shows =
-      let settles : Settles h.mode h.image h.left h.system h.machine p = all_settle h.mode h.image h.can.built h.can.mode_built h.can.image_is h.left h.system h.machine h.stands p lt in record {
+      let settles : Settles h.mode h.image h.left h.system h.machine p =
+      all_settle h.mode h.image h.can.built h.can.mode_built h.can.image_is h.left h.system h.machine h.stands p lt in record {
         mode = h.mode;
         image = h.image;
         can = h.can;
         system = (settled (marks_of h.mode h.image) h.image.processors h.system p).0;
-        at = record { marks = h.at.marks; shows = subst (λ marks. Shows h.image.processors w (settled marks h.image.processors h.system p).0) h.at.marks shows };
+        at = record {
+          marks = h.at.marks;
+          shows = subst (λ marks. Shows h.image.processors w (settled marks h.image.processors h.system p).0) h.at.marks
+              shows;
+        };
         left = _;
         machine = h.machine;
         stands = (settles.after 1024).1;
       }
 
-  pub turned_stands : (w : Parts) → Shows h.image.processors w (concrete_turn (seen_marks v h p within) h.image.processors h.system p).0 → IsStanding (record { parts = w; places = v.places })
+  pub turned_stands : (w : Parts) → Shows h.image.processors w (concrete_turn (seen_marks v h p within) h.image.processors h.system p).0
+      → IsStanding (record { parts = w; places = v.places })
   turned_stands w shows = record {
     mode = h.mode;
     image = h.image;
     can = h.can;
     system = (concrete_turn (marks_of h.mode h.image) h.image.processors h.system p).0;
-    at = record { marks = h.at.marks; shows = subst (λ marks. Shows h.image.processors w (concrete_turn marks h.image.processors h.system p).0) h.at.marks shows };
+    at = record {
+      marks = h.at.marks;
+      shows = subst (λ marks. Shows h.image.processors w (concrete_turn marks h.image.processors h.system p).0) h.at.marks
+          shows;
+    };
     left = _;
     machine = (turn h.image h.machine p).0;
     stands = (turns_follow h.mode h.image h.can.built h.can.mode_built h.can.image_is h.left h.system h.machine h.stands p lt).1;
@@ -58,11 +69,13 @@ all_more : {X : Type 0} (f : X → Bool) (xs : List X) (x : X) → list_all f xs
 all_more f [] x a b = ap (λ c. c && true) b
 all_more f (y ∷ ys) x a b = pick (f y) a (all_more f ys x)
   where
-    pick : (c : Bool) → (c && list_all f ys) ≡ true → (list_all f ys ≡ true → f x ≡ true → list_all f (ys ++ x ∷ []) ≡ true) → (c && list_all f (ys ++ x ∷ [])) ≡ true
+    pick : (c : Bool) → (c && list_all f ys) ≡ true → (list_all f ys ≡ true → f x ≡ true → list_all f (ys ++ x ∷ []) ≡ true)
+        → (c && list_all f (ys ++ x ∷ [])) ≡ true
     pick true h next = next h b
     pick false h next = absurd (cc)
 
-pub line_more : (marks : Marks) (n : ℕ) (s : System) (ls : List Line) (l : Line) → (concrete_lines marks n s (ls ++ l ∷ [])).0 ≡ (concrete_line marks n (concrete_lines marks n s ls).0 l).0
+pub line_more : (marks : Marks) (n : ℕ) (s : System) (ls : List Line) (l : Line)
+    → (concrete_lines marks n s (ls ++ l ∷ [])).0 ≡ (concrete_line marks n (concrete_lines marks n s ls).0 l).0
 line_more marks n s [] l = refl
 line_more marks n s (k ∷ ls) l = line_more marks n (concrete_line marks n s k).0 ls l
 
@@ -88,7 +101,8 @@ module _ (mode : Mode) (image : Image) (script : List Line) (v : MachineView) (r
   unfolding concrete_line
   line_is_turn = refl
 
-  pub run_more : (w : Parts) → Shows image.processors w (concrete_turn marks image.processors reached p).0 → IsRun mode image (script ++ Turn p ∷ []) (record { parts = w; places = v.places })
+  pub run_more : (w : Parts) → Shows image.processors w (concrete_turn marks image.processors reached p).0
+      → IsRun mode image (script ++ Turn p ∷ []) (record { parts = w; places = v.places })
   run_more w shows = record {
     can = r.can;
     script_is = all_more (is_line image) script (Turn p) r.script_is turn_line;
@@ -103,13 +117,15 @@ module _ (mode : Mode) (image : Image) (script : List Line) (v : MachineView) (r
   settled_simulates : (left : NatMap ℕ) × Simulated mode image left (settled marks image.processors reached p).0 (run image script) p
   settled_simulates =
       let follows = runs_follow mode image r.can.built r.can.mode_built r.can.image_is script r.script_is r.lines_built in
-      let settles : Settles mode image follows.0 reached (run image script) p = all_settle mode image r.can.built r.can.mode_built r.can.image_is follows.0 reached (run image script) follows.1 p in_image in
+      let settles : Settles mode image follows.0 reached (run image script) p =
+      all_settle mode image r.can.built r.can.mode_built r.can.image_is follows.0 reached (run image script) follows.1 p in_image in
       (_, refines mode image r.can.built r.can.mode_built r.can.image_is _ _ _ (settles.after 1024).1 p in_image)
 
   pub turn_safe : (k : ℕ) → IsSafeStep mode image (edges k marks image.processors reached p).0 p
   turn_safe k =
       let follows = runs_follow mode image r.can.built r.can.mode_built r.can.image_is script r.script_is r.lines_built in
-      let settles : Settles mode image follows.0 reached (run image script) p = all_settle mode image r.can.built r.can.mode_built r.can.image_is follows.0 reached (run image script) follows.1 p in_image in
+      let settles : Settles mode image follows.0 reached (run image script) p =
+      all_settle mode image r.can.built r.can.mode_built r.can.image_is follows.0 reached (run image script) follows.1 p in_image in
       (refines mode image r.can.built r.can.mode_built r.can.image_is _ _ _ (settles.after k).1 p in_image).safe
 
   abstract_turn : (turn image (run image script) p).1 ≡ entries_of image script (Turn p)
@@ -123,7 +139,8 @@ module _ (mode : Mode) (image : Image) (script : List Line) (v : MachineView) (r
       seen = let follows = runs_follow mode image r.can.built r.can.mode_built r.can.image_is script r.script_is r.lines_built in
           visible_after mode image r.can follows.0 reached (run image script) follows.1 p in_image 1024 (omega arith)
 
-      by_kind : MakesEdge mode image settled_simulates.0 (settled marks image.processors reached p).0 (run image script) p ⊎ MakesTurn mode image settled_simulates.0 (settled marks image.processors reached p).0 (run image script) p
+      by_kind : MakesEdge mode image settled_simulates.0 (settled marks image.processors reached p).0 (run image script) p
+          ⊎ MakesTurn mode image settled_simulates.0 (settled marks image.processors reached p).0 (run image script) p
           → shown marks (settled marks image.processors reached p).0 p ≡ (turn image (run image script) p).1
       by_kind (inl e) = absurd (let a = e.hidden in let b = seen in cc)
       by_kind (inr t) = t.entries

@@ -131,7 +131,8 @@ fn delivery_entry(
     frame: Option<u64>,
 ) -> Entry
     requires { before.now.depth < 255 }
-    ensures { result ≡ shown_delivery p before.now.depth before.now.user before.now.fred cpu.now (memory mem.now).words e.now frame }
+    ensures { result ≡ shown_delivery p before.now.depth before.now.user before.now.fred cpu.now
+        (memory mem.now).words e.now frame }
 {
     let refused = is_refused(before.fred, e);
     let rip = told_rip(refused, saved_rip(before.fred, cpu, mem, e, frame));

@@ -117,7 +117,8 @@ pub(crate) fn local_step(
     requires entries { HasEntries cpu.old (memory mem.old) }
     requires code { IsInCode cpu.old (memory mem.old) }
     requires depth { local.old.depth < 255 }
-    ensures { LocalStep (mark_of mark) p cpu.old local.old (memory mem.old) cpu.new local.new (memory mem.new) result }
+    ensures { LocalStep (mark_of mark) p cpu.old local.old (memory mem.old) cpu.new local.new
+        (memory mem.new) result }
 {
     let rip = cpu.rip;
     let instruction = instruction_at(cpu, mem);

@@ -90,11 +90,19 @@ impl Machine {
     pub fn turn<L: Ledger>(&mut self, p: usize, steps: &mut Steps<L>) -> Turned
         requires place { p < length self.old.parts.cpus }
         requires count { self.old.parts.totals.steps < 2 ^ 62 }
-        ensures run { (mode : Mode) (image : Image) (script : List Line) → IsRun mode image script self.old → IsRun mode image (script ++ Turn p ∷ []) self.new }
-        ensures entry { (mode : Mode) (image : Image) (script : List Line) → IsRun mode image script self.old → optional result.entry ≡ entries_of image script (Turn p) }
-        ensures frames { (mode : Mode) (image : Image) (script : List Line) → IsRun mode image script self.old → result.frames ≡ (concrete_line (marks_of mode image) image.processors (concrete_run mode image script).0 (Turn p)).1 }
-        ensures safe { (mode : Mode) (image : Image) (script : List Line) → IsRun mode image script self.old → (k : ℕ)
-            → IsSafeStep mode image (edges k (marks_of mode image) image.processors (concrete_run mode image script).0 p).0 p }
+        ensures run { (mode : Mode) (image : Image) (script : List Line)
+            → IsRun mode image script self.old → IsRun mode image (script ++ Turn p ∷ []) self.new }
+        ensures entry { (mode : Mode) (image : Image) (script : List Line)
+            → IsRun mode image script self.old
+            → optional result.entry ≡ entries_of image script (Turn p) }
+        ensures frames { (mode : Mode) (image : Image) (script : List Line)
+            → IsRun mode image script self.old
+            → result.frames ≡ (concrete_line (marks_of mode image) image.processors
+            (concrete_run mode image script).0 (Turn p)).1 }
+        ensures safe { (mode : Mode) (image : Image) (script : List Line)
+            → IsRun mode image script self.old → (k : ℕ)
+            → IsSafeStep mode image (edges k (marks_of mode image) image.processors
+            (concrete_run mode image script).0 p).0 p }
         ensures cost { Costs 1024 steps.old steps.new self.old self.new }
         ensures least { steps.old < steps.new }
         ensures same { length self.new.parts.cpus ≡ length self.old.parts.cpus }
@@ -114,10 +122,14 @@ impl Machine {
     pub fn settle<L: Ledger>(&mut self, p: usize, steps: &mut Steps<L>) -> Frames
         requires place { p < length self.old.parts.cpus }
         requires count { self.old.parts.totals.steps < 2 ^ 62 }
-        ensures state { (mode : Mode) (image : Image) (s : System) → IsAt mode image s self.old → IsAt mode image (settled (marks_of mode image) image.processors s p).0 self.new }
-        ensures frames { (mode : Mode) (image : Image) (s : System) → IsAt mode image s self.old → result ≡ (settled (marks_of mode image) image.processors s p).1 }
-        ensures safe { (mode : Mode) (image : Image) (s : System) (can : CanRun mode image) (left : NatMap ℕ) (m : abstract.Machine)
-            → IsAt mode image s self.old → Stands mode image left s m → (k : ℕ) → IsSafeStep mode image (edges k (marks_of mode image) image.processors s p).0 p }
+        ensures state { (mode : Mode) (image : Image) (s : System) → IsAt mode image s self.old
+            → IsAt mode image (settled (marks_of mode image) image.processors s p).0 self.new }
+        ensures frames { (mode : Mode) (image : Image) (s : System) → IsAt mode image s self.old
+            → result ≡ (settled (marks_of mode image) image.processors s p).1 }
+        ensures safe { (mode : Mode) (image : Image) (s : System) (can : CanRun mode image)
+            (left : NatMap ℕ) (m : abstract.Machine)
+            → IsAt mode image s self.old → Stands mode image left s m → (k : ℕ)
+            → IsSafeStep mode image (edges k (marks_of mode image) image.processors s p).0 p }
         ensures cost { Costs 1023 steps.old steps.new self.old self.new }
         ensures same { length self.new.parts.cpus ≡ length self.old.parts.cpus }
     {
@@ -136,7 +148,9 @@ impl Machine {
     /// How many activations of handlers stand on processor p: as many as bodies.
     pub fn depth(&self, p: usize) -> u8
         requires { p < length self.now.parts.cpus }
-        ensures { (mode : Mode) (image : Image) (s : System) (can : CanRun mode image) (left : NatMap ℕ) (m : abstract.Machine) → IsAt mode image s self.now → Stands mode image left s m → result ≡ length (abstract.processor m p).bodies }
+        ensures { (mode : Mode) (image : Image) (s : System) (can : CanRun mode image)
+            (left : NatMap ℕ) (m : abstract.Machine) → IsAt mode image s self.now
+            → Stands mode image left s m → result ≡ length (abstract.processor m p).bodies }
     {
         self.state.locals[p].depth
     }
@@ -145,7 +159,9 @@ impl Machine {
     pub fn task(&self, p: usize, i: usize) -> TaskView
         requires place { p < length self.now.parts.cpus }
         requires task { i ≡ 0 }
-        ensures { (mode : Mode) (image : Image) (s : System) (can : CanRun mode image) (left : NatMap ℕ) (m : abstract.Machine) → IsAt mode image s self.now → Stands mode image left s m → (abstract.processor m p).bodies ≡ []
+        ensures { (mode : Mode) (image : Image) (s : System) (can : CanRun mode image)
+            (left : NatMap ℕ) (m : abstract.Machine) → IsAt mode image s self.now
+            → Stands mode image left s m → (abstract.processor m p).bodies ≡ []
             → IsTaskView result ((abstract.processor m p).tasks i) }
     {
         let cpu = &self.state.cpus[p];

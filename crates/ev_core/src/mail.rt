@@ -23,7 +23,8 @@ fn is_target(target: Target, p: usize, q: usize) -> bool
 /// What p sends goes into the mail of each processor that it is for.
 fn post(locals: &mut Vec<Local>, p: usize, send: &Send)
     ensures same { length locals.new.items ≡ length locals.old.items }
-    ensures sent { (q : ℕ) (l : Local) → slice_get locals.old.items q ≡ Some l → slice_get locals.new.items q ≡ Some (after_send send.now p q l) }
+    ensures sent { (q : ℕ) (l : Local) → slice_get locals.old.items q ≡ Some l
+        → slice_get locals.new.items q ≡ Some (after_send send.now p q l) }
 {
     for q in 0..locals.len() {
         if is_target(send.target, p, q) {
@@ -35,7 +36,8 @@ fn post(locals: &mut Vec<Local>, p: usize, send: &Send)
 /// What a step of p sends goes into the mail of each processor that it is for.
 pub(crate) fn act(locals: &mut Vec<Local>, p: usize, stepped: &Stepped)
     ensures same { length locals.new.items ≡ length locals.old.items }
-    ensures sent { (q : ℕ) (l : Local) → slice_get locals.old.items q ≡ Some l → slice_get locals.new.items q ≡ Some (after_act stepped.now p q l) }
+    ensures sent { (q : ℕ) (l : Local) → slice_get locals.old.items q ≡ Some l
+        → slice_get locals.new.items q ≡ Some (after_act stepped.now p q l) }
 {
     if let Stepped::Sent(send) = stepped {
         post(locals, p, send);

@@ -28,9 +28,13 @@ pub(crate) fn settle<L: Ledger>(
     requires stands { IsStanding (record { parts = state.old; places = places.now }) }
     requires count { state.old.totals.steps < 2 ^ 62 }
     requires empty { frames.old ≡ [] }
-    ensures settled { (n : ℕ) (s : System) → Shows n state.old s → Shows n state.new (settled (marks_in places.now) n s p).0 }
-    ensures frames { (n : ℕ) (s : System) → Shows n state.old s → frames.new ≡ (settled (marks_in places.now) n s p).1 }
-    ensures cost { Costs 1023 steps.old steps.new (record { parts = state.old; places = places.now }) (record { parts = state.new; places = places.now }) }
+    ensures settled { (n : ℕ) (s : System) → Shows n state.old s
+        → Shows n state.new (settled (marks_in places.now) n s p).0 }
+    ensures frames { (n : ℕ) (s : System) → Shows n state.old s
+        → frames.new ≡ (settled (marks_in places.now) n s p).1 }
+    ensures cost { Costs 1023 steps.old steps.new
+        (record { parts = state.old; places = places.now })
+        (record { parts = state.new; places = places.now }) }
     ensures same { length state.new.cpus ≡ length state.old.cpus }
 {
     for _ in 0..MOST_EDGES {

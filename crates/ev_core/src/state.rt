@@ -53,7 +53,8 @@ impl State {
     /// Whether the next step of processor p is visible; else it is an edge.
     pub fn is_visible(&self, places: &Places, p: usize) -> bool
         requires { p < length self.now.cpus }
-        ensures { (n : ℕ) (s : System) → Shows n self.now s → result ≡ is_visible (marks_in places.now) s p }
+        ensures { (n : ℕ) (s : System) → Shows n self.now s
+            → result ≡ is_visible (marks_in places.now) s p }
     {
         let cpu = &self.cpus[p];
         let local = &self.locals[p];
@@ -65,9 +66,12 @@ impl State {
         requires place { p < length self.old.cpus }
         requires can { CanStep self.old p }
         requires count { self.old.totals.steps < 2 ^ 63 }
-        ensures shows { (n : ℕ) (s : System) → Shows n self.old s → Shows n self.new (concrete_step n s p).0 }
-        ensures frame { (n : ℕ) (s : System) → Shows n self.old s → optional result.frame ≡ (concrete_step n s p).1 }
-        ensures entry { (n : ℕ) (s : System) → Shows n self.old s → optional result.entry ≡ shown (marks_in places.now) s p }
+        ensures shows { (n : ℕ) (s : System) → Shows n self.old s
+            → Shows n self.new (concrete_step n s p).0 }
+        ensures frame { (n : ℕ) (s : System) → Shows n self.old s
+            → optional result.frame ≡ (concrete_step n s p).1 }
+        ensures entry { (n : ℕ) (s : System) → Shows n self.old s
+            → optional result.entry ≡ shown (marks_in places.now) s p }
         ensures ticks { steps.new ≡ steps.old + 1 }
         ensures steps { self.new.totals.steps ≡ self.old.totals.steps + 1 }
         ensures same { length self.new.cpus ≡ length self.old.cpus }

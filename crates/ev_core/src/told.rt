@@ -103,7 +103,8 @@ fn again_of(p: u32, depth: u8, mem: &Mem) -> Entry
 #[tactic(auto, unfolding(ev_concrete::specs::Shown::shown_always))]
 fn always_of(p: u32, depth: u8, cpu: &Cpu, mem: &Mem, instruction: &Option<Ins>) -> Option<Entry>
     requires { p < 256 }
-    ensures { optional result ≡ shown_always p depth cpu.now (memory mem.now).words instruction.now }
+    ensures { optional result ≡ shown_always p depth cpu.now
+        (memory mem.now).words instruction.now }
 {
     match *instruction {
         Some(Ins::GsStore(PORT, source)) => Some(Entry::Log {
@@ -129,7 +130,8 @@ pub(crate) fn told_of(
     instruction: &Option<Ins>,
 ) -> Option<Entry>
     requires { p < 256 }
-    ensures { optional result ≡ shown_instruction p depth cpu.now (memory mem.now).words (mark_of mark) instruction.now }
+    ensures { optional result ≡ shown_instruction p depth cpu.now (memory mem.now).words
+        (mark_of mark) instruction.now }
 {
     match mark {
         Mark::Never => None,

@@ -58,7 +58,8 @@ fn is_seen(mark: Mark, cpu: &Cpu, local: &Local, mem: &Mem) -> bool
 #[tactic(auto, unfolding(ev_concrete::specs::ConcreteRun::is_visible))]
 pub(crate) fn is_visible(p: u32, cpu: &Cpu, local: &Local, mem: &Mem, places: &Places) -> bool
     requires { p < 256 }
-    ensures { result ≡ is_visible (marks_in places.now) (still cpu.now local.now (memory mem.now)) p }
+    ensures { result ≡ is_visible (marks_in places.now) (still cpu.now local.now (memory mem.now))
+        p }
 {
     match next(cpu, &local.apic, local.latch) {
         Next::Nmi => !is_inner_nmi(p, cpu, local, mem),

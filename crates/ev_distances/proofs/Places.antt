@@ -39,7 +39,8 @@ cases w ws l h = pick (in_one w l) refl h
     pick false q r = inr r
 
 -- the address of a place in a window that doesn't wrap: its start and a distance
-pub spot : (b off lo len start : ℕ) → off < M → lo < M → (b + lo) % M ≡ start → start + len ≤ M → (off + (M - lo)) % M < len → (b + off) % M ≡ start + (off + (M - lo)) % M
+pub spot : (b off lo len start : ℕ) → off < M → lo < M → (b + lo) % M ≡ start → start + len ≤ M → (off + (M - lo)) % M < len
+    → (b + off) % M ≡ start + (off + (M - lo)) % M
 spot b off lo len start h1 h2 h3 h4 h5 = omega arith
 
 same_off : (b o p : ℕ) → o < M → p < M → (b + o) % M ≡ (b + p) % M → o ≡ p

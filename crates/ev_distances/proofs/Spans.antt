@@ -85,7 +85,8 @@ either_way a b h = pick (nat_le a b) refl
     pick false q = inr (leb-false a b q)
 
 -- another processor's lies a whole stride away, since what is one processor's fits into a stride
-by_processor : (f : Part) (p q n m lo lo' len len' : ℕ) → p < q → q < processors f → n < numbers f → m < numbers f → lo + len ≤ bytes f → lo' + len' ≤ bytes f → (origin f p n + lo) + len ≤ origin f q m + lo'
+by_processor : (f : Part) (p q n m lo lo' len len' : ℕ) → p < q → q < processors f → n < numbers f → m < numbers f → lo + len ≤ bytes f
+    → lo' + len' ≤ bytes f → (origin f p n + lo) + len ≤ origin f q m + lo'
 by_processor Areas p q n m lo lo' len len' h hq hn hm hb hc = omega arith
 by_processor Tables p q n m lo lo' len len' h hq hn hm hb hc = absurd (omega arith)
 by_processor Tasks p q n m lo lo' len len' h hq hn hm hb hc = omega arith
@@ -117,8 +118,11 @@ processors_apart f s t hs ht i j ne =
     let d : t.n < numbers f = subst (λ g. t.n < numbers g) ht j.number in
     let x : s.lo + s.len ≤ bytes f = subst (λ g. s.lo + s.len ≤ bytes g) hs i.fits in
     let y : t.lo + t.len ≤ bytes f = subst (λ g. t.lo + t.len ≤ bytes g) ht j.fits in
-    let r : Ordered (origin f s.p s.n + s.lo) s.len (origin f t.p t.n + t.lo) t.len = ⊎_elim (λ lt. inl (by_processor f s.p t.p s.n t.n s.lo t.lo s.len t.len lt b c d x y)) (λ lt. inr (by_processor f t.p s.p t.n s.n t.lo s.lo t.len s.len lt a d c y x)) (either_way s.p t.p ne) in
-    subst (λ g. Ordered (origin g s.p s.n + s.lo) s.len (start t) t.len) (sym hs) (subst (λ g. Ordered (origin f s.p s.n + s.lo) s.len (origin g t.p t.n + t.lo) t.len) (sym ht) r)
+    let r : Ordered (origin f s.p s.n + s.lo) s.len (origin f t.p t.n + t.lo) t.len =
+    ⊎_elim (λ lt. inl (by_processor f s.p t.p s.n t.n s.lo t.lo s.len t.len lt b c d x y))
+    (λ lt. inr (by_processor f t.p s.p t.n s.n t.lo s.lo t.len s.len lt a d c y x)) (either_way s.p t.p ne) in
+    subst (λ g. Ordered (origin g s.p s.n + s.lo) s.len (start t) t.len) (sym hs)
+    (subst (λ g. Ordered (origin f s.p s.n + s.lo) s.len (origin g t.p t.n + t.lo) t.len) (sym ht) r)
 
 numbers_apart : (f : Part) (s t : Span) → s.part ≡ f → t.part ≡ f → s.p ≡ t.p → IsSpan s → IsSpan t → s.n ≢ t.n → Ordered (start s) s.len (start t) t.len
 numbers_apart f s t hs ht hp i j ne =
@@ -126,20 +130,26 @@ numbers_apart f s t hs ht hp i j ne =
     let d : t.n < numbers f = subst (λ g. t.n < numbers g) ht j.number in
     let x : s.lo + s.len ≤ bytes f = subst (λ g. s.lo + s.len ≤ bytes g) hs i.fits in
     let y : t.lo + t.len ≤ bytes f = subst (λ g. t.lo + t.len ≤ bytes g) ht j.fits in
-    let r : Ordered (origin f s.p s.n + s.lo) s.len (origin f s.p t.n + t.lo) t.len = ⊎_elim (λ lt. inl (by_number f s.p s.n t.n s.lo t.lo s.len t.len lt d x)) (λ lt. inr (by_number f s.p t.n s.n t.lo s.lo t.len s.len lt c y)) (either_way s.n t.n ne) in
-    subst (λ g. Ordered (origin g s.p s.n + s.lo) s.len (start t) t.len) (sym hs) (subst (λ g. Ordered (origin f s.p s.n + s.lo) s.len (origin g t.p t.n + t.lo) t.len) (sym ht) (subst (λ q. Ordered (origin f s.p s.n + s.lo) s.len (origin f q t.n + t.lo) t.len) hp r))
+    let r : Ordered (origin f s.p s.n + s.lo) s.len (origin f s.p t.n + t.lo) t.len =
+    ⊎_elim (λ lt. inl (by_number f s.p s.n t.n s.lo t.lo s.len t.len lt d x)) (λ lt. inr (by_number f s.p t.n s.n t.lo s.lo t.len s.len lt c y))
+    (either_way s.n t.n ne) in
+    subst (λ g. Ordered (origin g s.p s.n + s.lo) s.len (start t) t.len) (sym hs)
+    (subst (λ g. Ordered (origin f s.p s.n + s.lo) s.len (origin g t.p t.n + t.lo) t.len) (sym ht)
+    (subst (λ q. Ordered (origin f s.p s.n + s.lo) s.len (origin f q t.n + t.lo) t.len) hp r))
 
 -- where processors and numbers are the same, the offsets decide
 offsets_apart : (s t : Span) → s.part ≡ t.part → s.p ≡ t.p → s.n ≡ t.n → Ordered s.lo s.len t.lo t.len → Ordered (start s) s.len (start t) t.len
 offsets_apart s t hf hp hn h =
     let r : Ordered (start s) s.len (start s - s.lo + t.lo) t.len = ⊎_elim (λ x. inl (omega arith)) (λ x. inr (omega arith)) h in
-    let same : start s - s.lo ≡ origin t.part t.p t.n = less (origin s.part s.p s.n) s.lo ∙ ap (λ f. origin f s.p s.n) hf ∙ ap (λ p. origin t.part p s.n) hp ∙ ap (λ n. origin t.part t.p n) hn in
+    let same : start s - s.lo ≡ origin t.part t.p t.n = less (origin s.part s.p s.n) s.lo ∙ ap (λ f. origin f s.p s.n) hf ∙ ap (λ p. origin t.part p s.n) hp
+    ∙ ap (λ n. origin t.part t.p n) hn in
     subst (λ o. Ordered (start s) s.len (o + t.lo) t.len) same r
   where
     less : (o lo : ℕ) → o + lo - lo ≡ o
     less o lo = omega arith
 
-ordered : (s t : Span) → s.part ≡ t.part → IsSpan s → IsSpan t → (s.n ≡ t.n → s.p ≡ t.p → Ordered s.lo s.len t.lo t.len) → Ordered (start s) s.len (start t) t.len
+ordered : (s t : Span) → s.part ≡ t.part → IsSpan s → IsSpan t → (s.n ≡ t.n → s.p ≡ t.p → Ordered s.lo s.len t.lo t.len)
+    → Ordered (start s) s.len (start t) t.len
 ordered s t hf i j h =
     ⊎_elim (λ p. ⊎_elim (λ n. offsets_apart s t hf p.1 n.1 (h n.1 p.1)) (λ n. numbers_apart t.part s t hf refl p.1 i j n.1) (eqb_tells s.n t.n))
     (λ p. processors_apart t.part s t hf refl i j p.1) (eqb_tells s.p t.p)
@@ -162,7 +172,8 @@ parts_ordered s t i j h =
     let b = low_ok t.part t.p t.n t.lo in
     let c = high_ok s.part s.p s.n s.lo s.len i.processor i.number i.fits in
     let d = high_ok t.part t.p t.n t.lo t.len j.processor j.number j.fits in
-    ⊎_elim (λ x. inl (below_all (start s) s.len (start t) (high s.part) (low t.part) c x b)) (λ x. inr (below_all (start t) t.len (start s) (high t.part) (low s.part) d x a)) (parts_apart s.part t.part h)
+    ⊎_elim (λ x. inl (below_all (start s) s.len (start t) (high s.part) (low t.part) c x b))
+    (λ x. inr (below_all (start t) t.len (start s) (high t.part) (low s.part) d x a)) (parts_apart s.part t.part h)
   where
     below_all : (x len y hi lo : ℕ) → x + len ≤ hi → hi ≤ lo → lo ≤ y → x + len ≤ y
     below_all x len y hi lo h k l = omega arith
@@ -170,11 +181,13 @@ parts_ordered s t i j h =
 pub apart_ok : (s t : Span) → IsSpan s → IsSpan t → Apart s t → Ordered (start s) s.len (start t) t.len
 apart_ok s t i j h = pick (part_eq s.part t.part) refl h
   where
-    in_part : s.part ≡ t.part → (b : Bool) → (nat_le (s.lo + s.len) t.lo || nat_le (t.lo + t.len) s.lo) ≡ b → DifferUnless b s t → Ordered (start s) s.len (start t) t.len
+    in_part : s.part ≡ t.part → (b : Bool) → (nat_le (s.lo + s.len) t.lo || nat_le (t.lo + t.len) s.lo) ≡ b → DifferUnless b s t
+        → Ordered (start s) s.len (start t) t.len
     in_part hf true q d = ⊎_elim (λ x. by_reason s t hf i j (Before (leb-true _ _ x))) (λ x. by_reason s t hf i j (Behind (leb-true _ _ x))) (or_true _ _ q)
     in_part hf false q d = by_reason s t hf i j d
 
-    pick : (b : Bool) → part_eq s.part t.part ≡ b → DifferUnless (if b then (nat_le (s.lo + s.len) t.lo || nat_le (t.lo + t.len) s.lo) else true) s t → Ordered (start s) s.len (start t) t.len
+    pick : (b : Bool) → part_eq s.part t.part ≡ b → DifferUnless (if b then (nat_le (s.lo + s.len) t.lo || nat_le (t.lo + t.len) s.lo) else true) s t
+        → Ordered (start s) s.len (start t) t.len
     pick true q d = in_part (part_same s.part t.part q) (nat_le (s.lo + s.len) t.lo || nat_le (t.lo + t.len) s.lo) refl d
     pick false q d = parts_ordered s t i j q
 
@@ -210,7 +223,8 @@ fits_M s i = le_both (start s + s.len) (high s.part) M (high_ok s.part s.p s.n s
 
 -- the address of a place in a located window
 pub address : (e : Env) (w : Win) (s : Span) (l : Loc) → Located e w s → In w l → addr e l ≡ start s + (l.off + (M - w.lo)) % M
-address e w s l g h = ap (λ t. (e.base t + l.off) % M) h.tag ∙ spot (e.base w.tag) l.off w.lo w.len (start s) h.small g.small g.starts (shorter (start s) w.len s.len g.len (fits_M s g.is)) h.near
+address e w s l g h = ap (λ t. (e.base t + l.off) % M) h.tag ∙ spot (e.base w.tag) l.off w.lo w.len (start s) h.small g.small g.starts
+    (shorter (start s) w.len s.len g.len (fits_M s g.is)) h.near
   where
     shorter : (x a b : ℕ) → a ≤ b → x + b ≤ M → x + a ≤ M
     shorter x a b h k = omega arith
@@ -243,7 +257,8 @@ never_both s t x y o i j q = ⊎_elim (λ h. over (start s) s.len (start t) x y 
     over : (a len b x y : ℕ) → a + len ≤ b → x < a + len → b ≤ y → x ≡ y → ⊥
     over a len b x y h k l q = absurd (omega arith)
 
-far_from : (e f : Env) (w : Win) (s : Span) (k : Loc) → Located e w s → InWord w k → (O : List Win) (ts : List Span) → AllLocated f O ts → ApartFrom s ts → (l : Loc) → in_win O l ≡ true → addr e k ≡ addr f l → ⊥
+far_from : (e f : Env) (w : Win) (s : Span) (k : Loc) → Located e w s → InWord w k → (O : List Win) (ts : List Span) → AllLocated f O ts → ApartFrom s ts
+    → (l : Loc) → in_win O l ≡ true → addr e k ≡ addr f l → ⊥
 far_from e f w s k g i [] [] ho ha l j q = absurd (cc)
 far_from e f w s k g i [] (t ∷ ts) ho ha l j q = ho
 far_from e f w s k g i (x ∷ xs) [] ho ha l j q = ho

@@ -15,4 +15,5 @@ OthersAreApart = (e : Env) (W O : List Win) (ss ts : List Span) → AllLocated e
 
 -- the kernel reads and writes the words of aligned windows whose intervals are the kernel's
 abbrev pub CoveredIsOpen : Type 0
-CoveredIsOpen = (e : Env) (regions : List Region) (W : List Win) (ss : List Span) → AllLocated e W ss → all_aligned W ss ≡ true → AllCovered regions ss → Open e W regions
+CoveredIsOpen = (e : Env) (regions : List Region) (W : List Win) (ss : List Span) → AllLocated e W ss → all_aligned W ss ≡ true → AllCovered regions ss
+    → Open e W regions

@@ -112,7 +112,8 @@ processor_seen mode image m s p =
     contexts_seen mode image x c x.bodies
     && list_all (λ k. x.slots k == s.memory.words (pcpu p + slot_offset k)) (numbers_from 0 4)
     && (last_passes is_ret image x.bodies || (bit_if 0 x.resched == s.memory.words (pcpu p + 0x20)))
-    && list_all (λ v. beq (x.pending v) (requested (s.apics p) v) && beq (x.mail v) (vectors_of (s.inboxes p).vectors v)) (0x31 ∷ 0x32 ∷ 0x41 ∷ 0xfb ∷ 0xfd ∷ [])
+    && list_all (λ v. beq (x.pending v) (requested (s.apics p) v) && beq (x.mail v) (vectors_of (s.inboxes p).vectors v))
+    (0x31 ∷ 0x32 ∷ 0x41 ∷ 0xfb ∷ 0xfd ∷ [])
     && beq x.mail_nmi (s.inboxes p).nmi
     && (last_passes is_call_item image x.bodies || list_all (record_seen m s p) (numbers_from 0 2))
     && same_calls (reverse x.queue) (calls_from 20 s.memory.words (s.memory.words (pcpu p + 0x30)))
@@ -143,7 +144,13 @@ varied = record {
   bodies = fill (
       body Key.Sys User (Item.Cpu 12 ∷ Item.Set 13 0 ∷ Item.Alu AluOp.Cmp 12 13 ∷ Item.Jcc Cond.Nz 7 ∷ Item.Call 0 1 0 12 ∷ Item.Kick 1 12 ∷ Item.Goto 9
       ∷ Item.Call 0 0 0 12 ∷ Item.Kick 0 12 ∷ Item.AddCell 1 9 ∷ Item.Put 1 9 ∷ Item.Sti ∷ Item.Bp ∷ Item.Wait 0 ∷ Item.Cli ∷ Item.Ret ∷ [])
-      ∷ record { key = Key.Irq 0xfb; side = Both; items = Item.Take ∷ Item.Eoi ∷ Item.Ret ∷ []; parts = record { func = 0; items = Item.Log 9 ∷ Item.SetCell 2 9 ∷ Item.Finish ∷ [] } ∷ [] }
+      ∷ record {
+        key = Key.Irq 0xfb;
+        side = Both;
+        items = Item.Take ∷ Item.Eoi ∷ Item.Ret ∷ [];
+        parts =
+            record { func = 0; items = Item.Log 9 ∷ Item.SetCell 2 9 ∷ Item.Finish ∷ [] } ∷ [];
+      }
       ∷ body (Key.Irq 0xfd) Both (Item.Resched ∷ Item.Eoi ∷ Item.Ret ∷ [])
       ∷ body (Key.Irq 0x31) Both (Item.Sti ∷ Item.Nop ∷ Item.Send 1 (Key.Irq 0xfd) ∷ Item.Cli ∷ Item.Eoi ∷ Item.Ret ∷ [])
       ∷ body (Key.Irq 0x41) Both (Item.Set 9 0x10003000 ∷ Item.Uput 9 7 ∷ Item.Unmap 9 ∷ Item.Send 0 Key.Nmi ∷ Item.Eoi ∷ Item.Ret ∷ [])
@@ -159,7 +166,8 @@ unfolding deciding varied
 varied_kept = refl
 
 unfoldable pub comparing : Unit {0}
-unfolding stepping same_numbers same_task is_ret is_call_item item_of item_passes last_passes place_seen contexts_seen calls_from same_calls is_free record_seen processor_seen shared_seen agrees varied made_lines
+unfolding stepping same_numbers same_task is_ret is_call_item item_of item_passes last_passes place_seen contexts_seen calls_from same_calls is_free
+    record_seen processor_seen shared_seen agrees varied made_lines
 comparing = tt
 
 idt_agrees : agrees Idt varied (made_script varied 1 20) ≡ true

@@ -17,5 +17,7 @@ use Rattle.ev_abstract.specs.Run.{line_step, turn}
 use Rattle.ev_abstract.specs.UserCode.{executed, user_step}
 
 unfoldable pub computing : Unit {0}
-unfolding flags_word flags_of sum difference alu shift_left shift_right holds user_may is_instruction place_of fault_at text_word word_at_start signed_at reg_at rm_at behind wide_forms prefixed_forms narrow_forms plain_forms forms reading four_bytes spelling type_number key_number covers access_event effect choice delivered key_text side_text entry_words state_words item_step opening turn line_step executed user_step digits
+unfolding flags_word flags_of sum difference alu shift_left shift_right holds user_may is_instruction place_of fault_at text_word word_at_start signed_at
+    reg_at rm_at behind wide_forms prefixed_forms narrow_forms plain_forms forms reading four_bytes spelling type_number key_number covers access_event
+    effect choice delivered key_text side_text entry_words state_words item_step opening turn line_step executed user_step digits
 computing = tt

@@ -22,5 +22,8 @@ use Rattle.ev_concrete.specs.RunText.{run_text}
 use Rattle.ev_examples.proofs.Computes.{computing}
 
 unfoldable pub stepping : Unit {0}
-unfolding computing first_of fault_class combine code_bytes gate_bytes gate_in read_gate next_vector sent with_vector msr written idt_delivery iretq syscall_idt sysretq ss_word fred_delivery eretu erets lkgs mov_gs exec deliveries special next_of step size places distance stmt_bytes code saved_offset expansion body_stmts fred_listings idt_listings marks is_visible is_return concrete_step edges concrete_line opening_system listings code_word idt_word pcpu_word opening_word run_text word_there
+unfolding computing first_of fault_class combine code_bytes gate_bytes gate_in read_gate next_vector sent with_vector msr written idt_delivery iretq
+    syscall_idt sysretq ss_word fred_delivery eretu erets lkgs mov_gs exec deliveries special next_of step size places distance stmt_bytes code saved_offset
+    expansion body_stmts fred_listings idt_listings marks is_visible is_return concrete_step edges concrete_line opening_system listings code_word idt_word
+    pcpu_word opening_word run_text word_there
 stepping = tt

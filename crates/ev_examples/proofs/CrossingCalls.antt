@@ -17,7 +17,13 @@ use Rattle.ev_examples.proofs.ComputesConcrete.{stepping}
 use Rattle.ev_examples.proofs.Documents.{body, output_of, start_at, turns}
 
 unfoldable pub call_handler : Body
-call_handler = record { key = Key.Irq 0xfb; side = Both; items = Item.Take ∷ Item.Eoi ∷ Item.Ret ∷ []; parts = record { func = 0; items = Item.Log 9 ∷ Item.Finish ∷ [] } ∷ [] }
+call_handler = record {
+  key = Key.Irq 0xfb;
+  side = Both;
+  items = Item.Take ∷ Item.Eoi ∷ Item.Ret ∷ [];
+  parts =
+      record { func = 0; items = Item.Log 9 ∷ Item.Finish ∷ [] } ∷ [];
+}
 
 -- two processors, and a system call with this body
 unfoldable pub calling : Body → KernelImage

@@ -49,7 +49,20 @@ closed_gate = refl
 -- a breakpoint of the kernel, with RSP aligned down to 64
 unfoldable pub kernel_state : Probe
 kernel_state =
-    record { mode = Fred; cpl = 0; rip = 0xffffffff82000001; flags = 2; rsp = 0xffffc90000003f3d; level = 0; sti = false; nmi = false; stklvls = 0x30020; bad = 0; words = [] }
+    record {
+      mode = Fred;
+      cpl = 0;
+      rip = 0xffffffff82000001;
+      flags = 2;
+      rsp = 0xffffc90000003f3d;
+      level = 0;
+      sti = false;
+      nmi = false;
+      stklvls =
+          0x30020;
+      bad = 0;
+      words = [];
+    }
 
 aligned : report_text (probed kernel_state (software EventType.Int3 3 1)) ≡
     codes "try 3 error 0\nframe ffffc90000003e80 0 ffffffff82000001 10 2 ffffc90000003f3d 1206000300000018 0 0\n"

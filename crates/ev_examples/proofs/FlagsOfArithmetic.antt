@@ -75,7 +75,8 @@ shr_many = refl
 
 -- a number as what the locked forms do: rax, rbx, the word at 1000H, and RFLAGS after the instruction
 unfoldable pub locked : Ins → ℕ → ℕ → ℕ → Option (ℕ × ℕ × ℕ × ℕ)
-locked i rax rbx word = shown (effect (record { fault = λ write a. None; words = λ a. word }) (record { regs = rax ∷ 0 ∷ 0x1000 ∷ rbx ∷ []; rip = 0; flags = flags_of 2; gs = 0 }) i)
+locked i rax rbx word = shown
+    (effect (record { fault = λ write a. None; words = λ a. word }) (record { regs = rax ∷ 0 ∷ 0x1000 ∷ rbx ∷ []; rip = 0; flags = flags_of 2; gs = 0 }) i)
   where
     shown : Result Changed Event → Option (ℕ × ℕ × ℕ × ℕ)
     shown (Ok r) = Some (reg r.0 0, reg r.0 3, r.1 0x1000, flags_word r.0.flags)

@@ -18,7 +18,8 @@ rising = map (λ v. body (Key.Irq v) Both (Item.Sti ∷ Item.Bp ∷ Item.Cli ∷
 
 deep : KernelImage
 deep = simple 20 (Nop ∷ []) (body Key.Sys User (Item.Sti ∷ Item.Nop ∷ Item.Cli ∷ Item.Ret ∷ []) ∷ rising
-    ++ body Key.Bp Kernel (Item.Set 9 0x10000000 ∷ Item.Uget 10 9 ∷ Item.Ret ∷ []) ∷ body Key.Pf Kernel (Item.Map 8 ∷ Item.Ret ∷ []) ∷ body Key.Nmi Both (Item.Bp ∷ Item.Ret ∷ []) ∷ [])
+    ++ body Key.Bp Kernel (Item.Set 9 0x10000000 ∷ Item.Uget 10 9 ∷ Item.Ret ∷ []) ∷ body Key.Pf Kernel (Item.Map 8 ∷ Item.Ret ∷ []) ∷ body Key.Nmi Both
+    (Item.Bp ∷ Item.Ret ∷ []) ∷ [])
 
 deep_kept : rules deep ≡ None
 unfolding deciding deep rising

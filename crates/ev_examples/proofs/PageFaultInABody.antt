@@ -12,7 +12,8 @@ use Rattle.ev_examples.proofs.Documents.{body, output_of, simple, turns}
 
 unfoldable pub write_in_body : KernelImage
 write_in_body = simple 2 (Syscall ∷ [])
-    (body Key.Sys User (Item.Set 9 0x10001000 ∷ Item.Uput 9 7 ∷ Item.Uget 10 9 ∷ Item.Log 10 ∷ Item.Ret ∷ []) ∷ body Key.Pf Kernel (Item.Map 8 ∷ Item.Ret ∷ []) ∷ [])
+    (body Key.Sys User (Item.Set 9 0x10001000 ∷ Item.Uput 9 7 ∷ Item.Uget 10 9 ∷ Item.Log 10 ∷ Item.Ret ∷ []) ∷ body Key.Pf Kernel
+    (Item.Map 8 ∷ Item.Ret ∷ []) ∷ [])
 
 output_with_frames : run_text write_in_body (turns 0 9) (Idt ∷ Fred ∷ []) true ≡
     codes "idt 0 enter sys type 7 user depth 1 error 0 data 0 rip 400002\nfred 0 frame ffffc90000003fc0 0 400002 33 40202 0 220700010002002b 0 0\n"

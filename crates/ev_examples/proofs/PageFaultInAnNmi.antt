@@ -13,7 +13,8 @@ use Rattle.ev_examples.proofs.Documents.{body, output_of, simple, turns, user_li
 
 unfoldable pub fault_in_nmi : KernelImage
 fault_in_nmi = simple 3 (MovImm 3 0x10000000 ∷ Store 3 (pos 0) 3 ∷ Load 1 3 (pos 0) ∷ [])
-    (body Key.Pf User (Item.Log 8 ∷ Item.Ret ∷ []) ∷ body Key.Pf Kernel (Item.Map 8 ∷ Item.Ret ∷ []) ∷ body Key.Nmi Both (Item.Set 9 0x10005000 ∷ Item.Uget 10 9 ∷ Item.Ret ∷ []) ∷ [])
+    (body Key.Pf User (Item.Log 8 ∷ Item.Ret ∷ []) ∷ body Key.Pf Kernel (Item.Map 8 ∷ Item.Ret ∷ []) ∷ body Key.Nmi Both
+    (Item.Set 9 0x10005000 ∷ Item.Uget 10 9 ∷ Item.Ret ∷ []) ∷ [])
 
 unfoldable pub fault_in_nmi_script : ℕ → List Line
 fault_in_nmi_script n = turns 0 2 ++ Arrive 0 Key.Nmi ∷ turns 0 n

@@ -102,7 +102,8 @@ rsp_refused : rules (with_bodies (body Key.Sys User (Item.SetReg 4 8 ∷ Item.Re
 unfolding deciding with_bodies
 rsp_refused = refl
 
-register_refused : rules (with_bodies (body Key.Sys User (Item.Ret ∷ []) ∷ body (Key.Irq 0x31) Both (Item.Eoi ∷ Item.GetReg 8 0 ∷ Item.Ret ∷ []) ∷ [])) ≡ Some (RegisterRule 1 1)
+register_refused : rules (with_bodies (body Key.Sys User (Item.Ret ∷ []) ∷ body (Key.Irq 0x31) Both (Item.Eoi ∷ Item.GetReg 8 0 ∷ Item.Ret ∷ []) ∷ []))
+    ≡ Some (RegisterRule 1 1)
 unfolding deciding with_bodies
 register_refused = refl
 

@@ -14,7 +14,20 @@ use Rattle.ev_examples.proofs.ComputesConcrete.{stepping}
 -- a return of kernel code with RSP below the top of the task's stack, on a level, with NMIs blocked, and these words at RSP
 unfoldable pub returning : Mode → ℕ → List ℕ → Probe
 returning mode level words =
-    record { mode = mode; cpl = 0; rip = 0xffffffff81003400; flags = 2; rsp = 0xffffc90000003f00; level = level; sti = false; nmi = true; stklvls = 0x30020; bad = 0; words = words }
+    record {
+      mode = mode;
+      cpl = 0;
+      rip = 0xffffffff81003400;
+      flags = 2;
+      rsp = 0xffffc90000003f00;
+      level = level;
+      sti = false;
+      nmi = true;
+      stklvls =
+          0x30020;
+      bad = 0;
+      words = words;
+    }
 
 unfoldable pub outcome_text : Outcome → Text
 outcome_text (Went c words frame) = cpu_text c

@@ -69,8 +69,10 @@ pub fn read(cpu: &Cpu, mem: &Mem, bad: Event, a: u64) -> Result<u64, Event>
 /// The word at an address becomes v, or there is the event of the write.
 #[tactic(auto, unfolding(ev_effect::specs::Effect::access_event))]
 pub fn write(cpu: &Cpu, mem: &mut Mem, bad: Event, a: u64, v: u64) -> Result<(), Event>
-    ensures ok { OnOk result (write_word (view (memory mem.old) (is_user cpu.now)) bad a v ≡ Ok (memory mem.new).words) }
-    ensures err { IfErr result (λ e. write_word (view (memory mem.old) (is_user cpu.now)) bad a v ≡ Err e) }
+    ensures ok { OnOk result (write_word (view (memory mem.old) (is_user cpu.now)) bad a v ≡ Ok
+        (memory mem.new).words) }
+    ensures err { IfErr result
+        (λ e. write_word (view (memory mem.old) (is_user cpu.now)) bad a v ≡ Err e) }
     ensures kept { memory mem.new ≡ record (memory mem.old) { words = (memory mem.new).words } }
     ensures unchanged { OnErr result (memory mem.new ≡ memory mem.old) }
 {
@@ -88,8 +90,10 @@ pub fn write(cpu: &Cpu, mem: &mut Mem, bad: Event, a: u64, v: u64) -> Result<(),
 #[tactic(auto, unfolding(ev_effect::specs::Effect::access_event))]
 pub fn exchange(cpu: &Cpu, mem: &mut Mem, bad: Event, a: u64, v: u64) -> Result<u64, Event>
     ensures old { IfOk result (λ w. w ≡ (memory mem.old).words a) }
-    ensures ok { OnOk result (write_word (view (memory mem.old) (is_user cpu.now)) bad a v ≡ Ok (memory mem.new).words) }
-    ensures err { IfErr result (λ e. write_word (view (memory mem.old) (is_user cpu.now)) bad a v ≡ Err e) }
+    ensures ok { OnOk result (write_word (view (memory mem.old) (is_user cpu.now)) bad a v ≡ Ok
+        (memory mem.new).words) }
+    ensures err { IfErr result
+        (λ e. write_word (view (memory mem.old) (is_user cpu.now)) bad a v ≡ Err e) }
     ensures kept { memory mem.new ≡ record (memory mem.old) { words = (memory mem.new).words } }
     ensures unchanged { OnErr result (memory mem.new ≡ memory mem.old) }
 {
@@ -107,8 +111,11 @@ pub fn exchange(cpu: &Cpu, mem: &mut Mem, bad: Event, a: u64, v: u64) -> Result<
 #[tactic(auto, unfolding(ev_effect::specs::Effect::access_event))]
 pub fn exchange_add(cpu: &Cpu, mem: &mut Mem, bad: Event, a: u64, v: u64) -> Result<u64, Event>
     ensures old { IfOk result (λ w. w ≡ (memory mem.old).words a) }
-    ensures ok { OnOk result (write_word (view (memory mem.old) (is_user cpu.now)) bad a (wrap ((memory mem.old).words a + v)) ≡ Ok (memory mem.new).words) }
-    ensures err { IfErr result (λ e. write_word (view (memory mem.old) (is_user cpu.now)) bad a (wrap ((memory mem.old).words a + v)) ≡ Err e) }
+    ensures ok { OnOk result (write_word (view (memory mem.old) (is_user cpu.now)) bad a
+        (wrap ((memory mem.old).words a + v)) ≡ Ok (memory mem.new).words) }
+    ensures err { IfErr result
+        (λ e. write_word (view (memory mem.old) (is_user cpu.now)) bad a
+        (wrap ((memory mem.old).words a + v)) ≡ Err e) }
     ensures kept { memory mem.new ≡ record (memory mem.old) { words = (memory mem.new).words } }
     ensures unchanged { OnErr result (memory mem.new ≡ memory mem.old) }
 {
@@ -133,8 +140,12 @@ pub fn compare_exchange(
     new: u64,
 ) -> Result<u64, Event>
     ensures old { IfOk result (λ w. w ≡ (memory mem.old).words a) }
-    ensures ok { OnOk result (write_word (view (memory mem.old) (is_user cpu.now)) bad a (if old == (memory mem.old).words a then new else (memory mem.old).words a) ≡ Ok (memory mem.new).words) }
-    ensures err { IfErr result (λ e. write_word (view (memory mem.old) (is_user cpu.now)) bad a (if old == (memory mem.old).words a then new else (memory mem.old).words a) ≡ Err e) }
+    ensures ok { OnOk result (write_word (view (memory mem.old) (is_user cpu.now)) bad a
+        (if old == (memory mem.old).words a then new else (memory mem.old).words a) ≡ Ok
+        (memory mem.new).words) }
+    ensures err { IfErr result
+        (λ e. write_word (view (memory mem.old) (is_user cpu.now)) bad a
+        (if old == (memory mem.old).words a then new else (memory mem.old).words a) ≡ Err e) }
     ensures kept { memory mem.new ≡ record (memory mem.old) { words = (memory mem.new).words } }
     ensures unchanged { OnErr result (memory mem.new ≡ memory mem.old) }
 {

@@ -24,7 +24,8 @@ use ev_state::Cpu;
 pub fn exec(cpu: &mut Cpu, mem: &mut Mem, i: Ins, next: u64) -> Outcome
     requires next { is_canonical next ≡ true }
     requires instruction { is_instruction i ≡ true }
-    ensures { after cpu.old (memory mem.old) (exec cpu.old (memory mem.old) i next) ≡ record { cpu = cpu.new; mem = memory mem.new; outcome = result } }
+    ensures { after cpu.old (memory mem.old) (exec cpu.old (memory mem.old) i next)
+        ≡ record { cpu = cpu.new; mem = memory mem.new; outcome = result } }
 {
     match i {
         Ins::MovImm(d, n) => move_imm(cpu, d, n, next),

@@ -19,7 +19,13 @@ use ev_state::Cpu;
 
 /// RIP goes to an address, or #GP(0) is raised at the jump.
 fn jump(cpu: &mut Cpu, to: u64, next: u64) -> Outcome
-    ensures { (m : Memory) → after cpu.old m (jump_effect cpu.old m (jumped (task_at cpu.old next) to)) ≡ record { cpu = cpu.new; mem = m; outcome = result } }
+    ensures { (m : Memory) → after cpu.old m
+        (jump_effect cpu.old m (jumped (task_at cpu.old next) to)) ≡ record {
+          cpu = cpu.new;
+          mem =
+              m;
+          outcome = result;
+        } }
 {
     if is_canonical(to) {
         finish(cpu, to);
@@ -32,7 +38,8 @@ fn jump(cpu: &mut Cpu, to: u64, next: u64) -> Outcome
 /// `jmp L`, by a displacement
 #[tactic(auto, unfolding(crate::specs::Exec::exec, ev_effect::specs::Effect::effect))]
 pub fn jmp(cpu: &mut Cpu, n: i32, next: u64) -> Outcome
-    ensures { (m : Memory) → after cpu.old m (exec cpu.old m (Jmp n) next) ≡ record { cpu = cpu.new; mem = m; outcome = result } }
+    ensures { (m : Memory) → after cpu.old m (exec cpu.old m (Jmp n) next)
+        ≡ record { cpu = cpu.new; mem = m; outcome = result } }
 {
     jump(cpu, displaced(next, n), next)
 }
@@ -40,7 +47,8 @@ pub fn jmp(cpu: &mut Cpu, n: i32, next: u64) -> Outcome
 /// `jmp s`
 #[tactic(auto, unfolding(crate::specs::Exec::exec, ev_effect::specs::Effect::effect))]
 pub fn jmp_reg(cpu: &mut Cpu, s: Reg, next: u64) -> Outcome
-    ensures { (m : Memory) → after cpu.old m (exec cpu.old m (JmpReg s) next) ≡ record { cpu = cpu.new; mem = m; outcome = result } }
+    ensures { (m : Memory) → after cpu.old m (exec cpu.old m (JmpReg s) next)
+        ≡ record { cpu = cpu.new; mem = m; outcome = result } }
 {
     let to = cpu.reg(s);
     jump(cpu, to, next)
@@ -56,7 +64,9 @@ fn is_taken(cpu: &Cpu, c: Cond) -> bool
 /// The jump to an address is taken, or RIP goes to the next instruction.
 fn jump_if(cpu: &mut Cpu, taken: bool, to: u64, next: u64) -> Outcome
     requires { is_canonical next ≡ true }
-    ensures { (m : Memory) → after cpu.old m (jump_effect cpu.old m (if taken then jumped (task_at cpu.old next) to else Ok (task_at cpu.old next))) ≡ record { cpu = cpu.new; mem = m; outcome = result } }
+    ensures { (m : Memory) → after cpu.old m
+        (jump_effect cpu.old m (if taken then jumped (task_at cpu.old next) to else
+        Ok (task_at cpu.old next))) ≡ record { cpu = cpu.new; mem = m; outcome = result } }
 {
     if taken {
         jump(cpu, to, next)
@@ -70,7 +80,8 @@ fn jump_if(cpu: &mut Cpu, taken: bool, to: u64, next: u64) -> Outcome
 #[tactic(auto, unfolding(crate::specs::Exec::exec, ev_effect::specs::Effect::effect))]
 pub fn jcc(cpu: &mut Cpu, c: Cond, n: i32, next: u64) -> Outcome
     requires { is_canonical next ≡ true }
-    ensures { (m : Memory) → after cpu.old m (exec cpu.old m (Jcc c n) next) ≡ record { cpu = cpu.new; mem = m; outcome = result } }
+    ensures { (m : Memory) → after cpu.old m (exec cpu.old m (Jcc c n) next)
+        ≡ record { cpu = cpu.new; mem = m; outcome = result } }
 {
     let taken = is_taken(cpu, c);
     let to = displaced(next, n);

@@ -23,7 +23,8 @@ use ev_state::Cpu;
 #[tactic(auto, unfolding(crate::specs::Exec::exec, ev_effect::specs::Effect::effect))]
 pub fn load(cpu: &mut Cpu, mem: &Mem, d: Reg, b: Reg, n: i32, next: u64) -> Outcome
     requires { is_canonical next ≡ true }
-    ensures { after cpu.old (memory mem.now) (exec cpu.old (memory mem.now) (Load d b n) next) ≡ record { cpu = cpu.new; mem = memory mem.now; outcome = result } }
+    ensures { after cpu.old (memory mem.now) (exec cpu.old (memory mem.now) (Load d b n) next)
+        ≡ record { cpu = cpu.new; mem = memory mem.now; outcome = result } }
 {
     let a = displaced(cpu.reg(b), n);
     match read(cpu, mem, bad_address(b), a) {
@@ -40,7 +41,8 @@ pub fn load(cpu: &mut Cpu, mem: &Mem, d: Reg, b: Reg, n: i32, next: u64) -> Outc
 #[tactic(auto, unfolding(crate::specs::Exec::exec, ev_effect::specs::Effect::effect))]
 pub fn store(cpu: &mut Cpu, mem: &mut Mem, b: Reg, n: i32, s: Reg, next: u64) -> Outcome
     requires { is_canonical next ≡ true }
-    ensures { after cpu.old (memory mem.old) (exec cpu.old (memory mem.old) (Store b n s) next) ≡ record { cpu = cpu.new; mem = memory mem.new; outcome = result } }
+    ensures { after cpu.old (memory mem.old) (exec cpu.old (memory mem.old) (Store b n s) next)
+        ≡ record { cpu = cpu.new; mem = memory mem.new; outcome = result } }
 {
     let a = displaced(cpu.reg(b), n);
     match write(cpu, mem, bad_address(b), a, cpu.reg(s)) {
@@ -56,7 +58,8 @@ pub fn store(cpu: &mut Cpu, mem: &mut Mem, b: Reg, n: i32, s: Reg, next: u64) ->
 #[tactic(auto, unfolding(crate::specs::Exec::exec, ev_effect::specs::Effect::effect))]
 pub fn store_imm(cpu: &mut Cpu, mem: &mut Mem, b: Reg, n: i32, i: i32, next: u64) -> Outcome
     requires { is_canonical next ≡ true }
-    ensures { after cpu.old (memory mem.old) (exec cpu.old (memory mem.old) (StoreImm b n i) next) ≡ record { cpu = cpu.new; mem = memory mem.new; outcome = result } }
+    ensures { after cpu.old (memory mem.old) (exec cpu.old (memory mem.old) (StoreImm b n i) next)
+        ≡ record { cpu = cpu.new; mem = memory mem.new; outcome = result } }
 {
     let a = displaced(cpu.reg(b), n);
     match write(cpu, mem, bad_address(b), a, sign_extend(i)) {
@@ -72,7 +75,8 @@ pub fn store_imm(cpu: &mut Cpu, mem: &mut Mem, b: Reg, n: i32, i: i32, next: u64
 #[tactic(auto, unfolding(crate::specs::Exec::exec, ev_effect::specs::Effect::effect))]
 pub fn gs_load(cpu: &mut Cpu, mem: &Mem, d: Reg, n: i32, next: u64) -> Outcome
     requires { is_canonical next ≡ true }
-    ensures { after cpu.old (memory mem.now) (exec cpu.old (memory mem.now) (GsLoad d n) next) ≡ record { cpu = cpu.new; mem = memory mem.now; outcome = result } }
+    ensures { after cpu.old (memory mem.now) (exec cpu.old (memory mem.now) (GsLoad d n) next)
+        ≡ record { cpu = cpu.new; mem = memory mem.now; outcome = result } }
 {
     let a = displaced(cpu.msrs.gs_base, n);
     match read(cpu, mem, gp(0), a) {
@@ -89,7 +93,8 @@ pub fn gs_load(cpu: &mut Cpu, mem: &Mem, d: Reg, n: i32, next: u64) -> Outcome
 #[tactic(auto, unfolding(crate::specs::Exec::exec, ev_effect::specs::Effect::effect))]
 pub fn gs_store(cpu: &mut Cpu, mem: &mut Mem, n: i32, s: Reg, next: u64) -> Outcome
     requires { is_canonical next ≡ true }
-    ensures { after cpu.old (memory mem.old) (exec cpu.old (memory mem.old) (GsStore n s) next) ≡ record { cpu = cpu.new; mem = memory mem.new; outcome = result } }
+    ensures { after cpu.old (memory mem.old) (exec cpu.old (memory mem.old) (GsStore n s) next)
+        ≡ record { cpu = cpu.new; mem = memory mem.new; outcome = result } }
 {
     let a = displaced(cpu.msrs.gs_base, n);
     match write(cpu, mem, gp(0), a, cpu.reg(s)) {
@@ -105,7 +110,8 @@ pub fn gs_store(cpu: &mut Cpu, mem: &mut Mem, n: i32, s: Reg, next: u64) -> Outc
 #[tactic(auto, unfolding(crate::specs::Exec::exec, ev_effect::specs::Effect::effect))]
 pub fn xchg(cpu: &mut Cpu, mem: &mut Mem, b: Reg, n: i32, s: Reg, next: u64) -> Outcome
     requires { is_canonical next ≡ true }
-    ensures { after cpu.old (memory mem.old) (exec cpu.old (memory mem.old) (Xchg b n s) next) ≡ record { cpu = cpu.new; mem = memory mem.new; outcome = result } }
+    ensures { after cpu.old (memory mem.old) (exec cpu.old (memory mem.old) (Xchg b n s) next)
+        ≡ record { cpu = cpu.new; mem = memory mem.new; outcome = result } }
 {
     let a = displaced(cpu.reg(b), n);
     match exchange(cpu, mem, bad_address(b), a, cpu.reg(s)) {
@@ -122,7 +128,8 @@ pub fn xchg(cpu: &mut Cpu, mem: &mut Mem, b: Reg, n: i32, s: Reg, next: u64) -> 
 #[tactic(auto, unfolding(crate::specs::Exec::exec, ev_effect::specs::Effect::effect, ev_isa::specs::Flags::sum))]
 pub fn xadd(cpu: &mut Cpu, mem: &mut Mem, b: Reg, n: i32, s: Reg, next: u64) -> Outcome
     requires { is_canonical next ≡ true }
-    ensures { after cpu.old (memory mem.old) (exec cpu.old (memory mem.old) (Xadd b n s) next) ≡ record { cpu = cpu.new; mem = memory mem.new; outcome = result } }
+    ensures { after cpu.old (memory mem.old) (exec cpu.old (memory mem.old) (Xadd b n s) next)
+        ≡ record { cpu = cpu.new; mem = memory mem.new; outcome = result } }
 {
     let a = displaced(cpu.reg(b), n);
     let added = cpu.reg(s);
@@ -141,7 +148,8 @@ pub fn xadd(cpu: &mut Cpu, mem: &mut Mem, b: Reg, n: i32, s: Reg, next: u64) -> 
 #[tactic(auto, unfolding(crate::specs::Exec::exec, ev_effect::specs::Effect::effect))]
 pub fn cmpxchg(cpu: &mut Cpu, mem: &mut Mem, b: Reg, n: i32, s: Reg, next: u64) -> Outcome
     requires { is_canonical next ≡ true }
-    ensures { after cpu.old (memory mem.old) (exec cpu.old (memory mem.old) (CmpXchg b n s) next) ≡ record { cpu = cpu.new; mem = memory mem.new; outcome = result } }
+    ensures { after cpu.old (memory mem.old) (exec cpu.old (memory mem.old) (CmpXchg b n s) next)
+        ≡ record { cpu = cpu.new; mem = memory mem.new; outcome = result } }
 {
     let a = displaced(cpu.reg(b), n);
     let rax = cpu.reg(Reg::new(0));

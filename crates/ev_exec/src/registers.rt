@@ -29,7 +29,8 @@ fn store_result(cpu: &mut Cpu, d: Reg, made: (u64, Status), next: u64)
 #[tactic(auto, unfolding(crate::specs::Exec::exec, ev_effect::specs::Effect::effect))]
 pub fn alu_reg(cpu: &mut Cpu, op: AluOp, d: Reg, s: Reg, next: u64) -> Outcome
     requires { is_canonical next ≡ true }
-    ensures { (m : Memory) → after cpu.old m (exec cpu.old m (Alu op d s) next) ≡ record { cpu = cpu.new; mem = m; outcome = result } }
+    ensures { (m : Memory) → after cpu.old m (exec cpu.old m (Alu op d s) next)
+        ≡ record { cpu = cpu.new; mem = m; outcome = result } }
 {
     let made = alu(op, cpu.reg(d), cpu.reg(s));
     store_result(cpu, d, made, next);
@@ -40,7 +41,8 @@ pub fn alu_reg(cpu: &mut Cpu, op: AluOp, d: Reg, s: Reg, next: u64) -> Outcome
 #[tactic(auto, unfolding(crate::specs::Exec::exec, ev_effect::specs::Effect::effect))]
 pub fn alu_imm(cpu: &mut Cpu, op: AluOp, d: Reg, i: i32, next: u64) -> Outcome
     requires { is_canonical next ≡ true }
-    ensures { (m : Memory) → after cpu.old m (exec cpu.old m (AluImm op d i) next) ≡ record { cpu = cpu.new; mem = m; outcome = result } }
+    ensures { (m : Memory) → after cpu.old m (exec cpu.old m (AluImm op d i) next)
+        ≡ record { cpu = cpu.new; mem = m; outcome = result } }
 {
     let made = alu(op, cpu.reg(d), sign_extend(i));
     store_result(cpu, d, made, next);
@@ -53,7 +55,8 @@ pub fn shl(cpu: &mut Cpu, d: Reg, count: u8, next: u64) -> Outcome
     requires next { is_canonical next ≡ true }
     requires above { 1 ≤ count }
     requires below { count < 64 }
-    ensures { (m : Memory) → after cpu.old m (exec cpu.old m (Shl d count) next) ≡ record { cpu = cpu.new; mem = m; outcome = result } }
+    ensures { (m : Memory) → after cpu.old m (exec cpu.old m (Shl d count) next)
+        ≡ record { cpu = cpu.new; mem = m; outcome = result } }
 {
     let made = shift_left(cpu.reg(d), count);
     store_result(cpu, d, made, next);
@@ -66,7 +69,8 @@ pub fn shr(cpu: &mut Cpu, d: Reg, count: u8, next: u64) -> Outcome
     requires next { is_canonical next ≡ true }
     requires above { 1 ≤ count }
     requires below { count < 64 }
-    ensures { (m : Memory) → after cpu.old m (exec cpu.old m (Shr d count) next) ≡ record { cpu = cpu.new; mem = m; outcome = result } }
+    ensures { (m : Memory) → after cpu.old m (exec cpu.old m (Shr d count) next)
+        ≡ record { cpu = cpu.new; mem = m; outcome = result } }
 {
     let made = shift_right(cpu.reg(d), count);
     store_result(cpu, d, made, next);
@@ -77,7 +81,8 @@ pub fn shr(cpu: &mut Cpu, d: Reg, count: u8, next: u64) -> Outcome
 #[tactic(auto, unfolding(crate::specs::Exec::exec, ev_effect::specs::Effect::effect))]
 pub fn move_imm(cpu: &mut Cpu, d: Reg, n: u64, next: u64) -> Outcome
     requires { is_canonical next ≡ true }
-    ensures { (m : Memory) → after cpu.old m (exec cpu.old m (MovImm d n) next) ≡ record { cpu = cpu.new; mem = m; outcome = result } }
+    ensures { (m : Memory) → after cpu.old m (exec cpu.old m (MovImm d n) next)
+        ≡ record { cpu = cpu.new; mem = m; outcome = result } }
 {
     cpu.set_reg(d, n);
     finish(cpu, next);
@@ -88,7 +93,8 @@ pub fn move_imm(cpu: &mut Cpu, d: Reg, n: u64, next: u64) -> Outcome
 #[tactic(auto, unfolding(crate::specs::Exec::exec, ev_effect::specs::Effect::effect))]
 pub fn move_reg(cpu: &mut Cpu, d: Reg, s: Reg, next: u64) -> Outcome
     requires { is_canonical next ≡ true }
-    ensures { (m : Memory) → after cpu.old m (exec cpu.old m (MovReg d s) next) ≡ record { cpu = cpu.new; mem = m; outcome = result } }
+    ensures { (m : Memory) → after cpu.old m (exec cpu.old m (MovReg d s) next)
+        ≡ record { cpu = cpu.new; mem = m; outcome = result } }
 {
     let v = cpu.reg(s);
     cpu.set_reg(d, v);
@@ -100,7 +106,8 @@ pub fn move_reg(cpu: &mut Cpu, d: Reg, s: Reg, next: u64) -> Outcome
 #[tactic(auto, unfolding(crate::specs::Exec::exec, ev_effect::specs::Effect::effect))]
 pub fn nop(cpu: &mut Cpu, next: u64) -> Outcome
     requires { is_canonical next ≡ true }
-    ensures { (m : Memory) → after cpu.old m (exec cpu.old m (Nop) next) ≡ record { cpu = cpu.new; mem = m; outcome = result } }
+    ensures { (m : Memory) → after cpu.old m (exec cpu.old m (Nop) next)
+        ≡ record { cpu = cpu.new; mem = m; outcome = result } }
 {
     finish(cpu, next);
     Outcome::Done

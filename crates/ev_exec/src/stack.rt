@@ -21,7 +21,14 @@ use ev_state::Cpu;
 /// A word is written below RSP, which then moves to it.
 fn push_word(cpu: &mut Cpu, mem: &mut Mem, v: u64, next: u64) -> Outcome
     requires { is_canonical next ≡ true }
-    ensures { after cpu.old (memory mem.old) (changed cpu.old (pushed (view (memory mem.old) (is_user cpu.old)) (task_at cpu.old next) v)) ≡ record { cpu = cpu.new; mem = memory mem.new; outcome = result } }
+    ensures { after cpu.old (memory mem.old)
+        (changed cpu.old (pushed (view (memory mem.old) (is_user cpu.old))
+        (task_at cpu.old next) v)) ≡ record {
+          cpu = cpu.new;
+          mem = memory mem.new;
+          outcome =
+              result;
+        } }
 {
     let a = cpu.rsp().wrapping_sub(8);
     match write(cpu, mem, ss(), a, v) {
@@ -38,7 +45,8 @@ fn push_word(cpu: &mut Cpu, mem: &mut Mem, v: u64, next: u64) -> Outcome
 #[tactic(auto, unfolding(crate::specs::Exec::exec, ev_effect::specs::Effect::effect))]
 pub fn push(cpu: &mut Cpu, mem: &mut Mem, s: Reg, next: u64) -> Outcome
     requires { is_canonical next ≡ true }
-    ensures { after cpu.old (memory mem.old) (exec cpu.old (memory mem.old) (Push s) next) ≡ record { cpu = cpu.new; mem = memory mem.new; outcome = result } }
+    ensures { after cpu.old (memory mem.old) (exec cpu.old (memory mem.old) (Push s) next)
+        ≡ record { cpu = cpu.new; mem = memory mem.new; outcome = result } }
 {
     let v = cpu.reg(s);
     push_word(cpu, mem, v, next)
@@ -48,7 +56,8 @@ pub fn push(cpu: &mut Cpu, mem: &mut Mem, s: Reg, next: u64) -> Outcome
 #[tactic(auto, unfolding(crate::specs::Exec::exec, ev_effect::specs::Effect::effect))]
 pub fn push_imm(cpu: &mut Cpu, mem: &mut Mem, i: i32, next: u64) -> Outcome
     requires { is_canonical next ≡ true }
-    ensures { after cpu.old (memory mem.old) (exec cpu.old (memory mem.old) (PushImm i) next) ≡ record { cpu = cpu.new; mem = memory mem.new; outcome = result } }
+    ensures { after cpu.old (memory mem.old) (exec cpu.old (memory mem.old) (PushImm i) next)
+        ≡ record { cpu = cpu.new; mem = memory mem.new; outcome = result } }
 {
     push_word(cpu, mem, sign_extend(i), next)
 }
@@ -57,7 +66,8 @@ pub fn push_imm(cpu: &mut Cpu, mem: &mut Mem, i: i32, next: u64) -> Outcome
 #[tactic(auto, unfolding(crate::specs::Exec::exec, ev_effect::specs::Effect::effect))]
 pub fn gs_push(cpu: &mut Cpu, mem: &mut Mem, n: i32, next: u64) -> Outcome
     requires { is_canonical next ≡ true }
-    ensures { after cpu.old (memory mem.old) (exec cpu.old (memory mem.old) (GsPush n) next) ≡ record { cpu = cpu.new; mem = memory mem.new; outcome = result } }
+    ensures { after cpu.old (memory mem.old) (exec cpu.old (memory mem.old) (GsPush n) next)
+        ≡ record { cpu = cpu.new; mem = memory mem.new; outcome = result } }
 {
     let a = displaced(cpu.msrs.gs_base, n);
     match read(cpu, mem, gp(0), a) {
@@ -70,7 +80,8 @@ pub fn gs_push(cpu: &mut Cpu, mem: &mut Mem, n: i32, next: u64) -> Outcome
 #[tactic(auto, unfolding(crate::specs::Exec::exec, ev_effect::specs::Effect::effect))]
 pub fn pop(cpu: &mut Cpu, mem: &Mem, d: Reg, next: u64) -> Outcome
     requires { is_canonical next ≡ true }
-    ensures { after cpu.old (memory mem.now) (exec cpu.old (memory mem.now) (Pop d) next) ≡ record { cpu = cpu.new; mem = memory mem.now; outcome = result } }
+    ensures { after cpu.old (memory mem.now) (exec cpu.old (memory mem.now) (Pop d) next)
+        ≡ record { cpu = cpu.new; mem = memory mem.now; outcome = result } }
 {
     let a = cpu.rsp();
     match read(cpu, mem, ss(), a) {

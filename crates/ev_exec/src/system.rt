@@ -25,7 +25,8 @@ fn go_on(cpu: &mut Cpu, next: u64)
 #[tactic(auto, unfolding(crate::specs::Exec::exec))]
 pub fn sti(cpu: &mut Cpu, next: u64) -> Outcome
     requires { is_canonical next ≡ true }
-    ensures { (m : Memory) → after cpu.old m (exec cpu.old m Sti next) ≡ record { cpu = cpu.new; mem = m; outcome = result } }
+    ensures { (m : Memory) → after cpu.old m (exec cpu.old m Sti next)
+        ≡ record { cpu = cpu.new; mem = m; outcome = result } }
 {
     if cpu.is_user() {
         return Outcome::Raise(gp(0));
@@ -40,7 +41,8 @@ pub fn sti(cpu: &mut Cpu, next: u64) -> Outcome
 #[tactic(auto, unfolding(crate::specs::Exec::exec))]
 pub fn cli(cpu: &mut Cpu, next: u64) -> Outcome
     requires { is_canonical next ≡ true }
-    ensures { (m : Memory) → after cpu.old m (exec cpu.old m Cli next) ≡ record { cpu = cpu.new; mem = m; outcome = result } }
+    ensures { (m : Memory) → after cpu.old m (exec cpu.old m Cli next)
+        ≡ record { cpu = cpu.new; mem = m; outcome = result } }
 {
     if cpu.is_user() {
         return Outcome::Raise(gp(0));
@@ -53,7 +55,11 @@ pub fn cli(cpu: &mut Cpu, next: u64) -> Outcome
 /// GS takes a selector, and the GS base its descriptor's base.
 fn set_gs(cpu: &mut Cpu, selector: u16, base: u64)
     requires { base < 2 ^ 32 }
-    ensures { cpu.new ≡ record cpu.old { gs = selector; msrs = record cpu.old.msrs { gs_base = base } } }
+    ensures { cpu.new ≡ record cpu.old {
+      gs = selector;
+      msrs =
+          record cpu.old.msrs { gs_base = base };
+    } }
 {
     cpu.gs = selector;
     cpu.msrs.gs_base = base;
@@ -63,7 +69,8 @@ fn set_gs(cpu: &mut Cpu, selector: u16, base: u64)
 #[tactic(auto, unfolding(crate::specs::Exec::exec, crate::specs::Exec::mov_gs))]
 pub fn mov_gs(cpu: &mut Cpu, s: Reg, next: u64) -> Outcome
     requires { is_canonical next ≡ true }
-    ensures { (m : Memory) → after cpu.old m (exec cpu.old m (MovGs s) next) ≡ record { cpu = cpu.new; mem = m; outcome = result } }
+    ensures { (m : Memory) → after cpu.old m (exec cpu.old m (MovGs s) next)
+        ≡ record { cpu = cpu.new; mem = m; outcome = result } }
 {
     let selector = (cpu.reg(s) % 0x1_0000) as u16;
     match cpu.gdt.base_of(selector) {
@@ -80,7 +87,8 @@ pub fn mov_gs(cpu: &mut Cpu, s: Reg, next: u64) -> Outcome
 #[tactic(auto, unfolding(crate::specs::Exec::exec))]
 pub fn read_cr2(cpu: &mut Cpu, d: Reg, next: u64) -> Outcome
     requires { is_canonical next ≡ true }
-    ensures { (m : Memory) → after cpu.old m (exec cpu.old m (ReadCr2 d) next) ≡ record { cpu = cpu.new; mem = m; outcome = result } }
+    ensures { (m : Memory) → after cpu.old m (exec cpu.old m (ReadCr2 d) next)
+        ≡ record { cpu = cpu.new; mem = m; outcome = result } }
 {
     let address = cpu.cr2;
     cpu.set_reg(d, address);
@@ -92,7 +100,8 @@ pub fn read_cr2(cpu: &mut Cpu, d: Reg, next: u64) -> Outcome
 #[tactic(auto, unfolding(crate::specs::Exec::exec))]
 pub fn write_cr2(cpu: &mut Cpu, s: Reg, next: u64) -> Outcome
     requires { is_canonical next ≡ true }
-    ensures { (m : Memory) → after cpu.old m (exec cpu.old m (WriteCr2 s) next) ≡ record { cpu = cpu.new; mem = m; outcome = result } }
+    ensures { (m : Memory) → after cpu.old m (exec cpu.old m (WriteCr2 s) next)
+        ≡ record { cpu = cpu.new; mem = m; outcome = result } }
 {
     cpu.cr2 = cpu.reg(s);
     go_on(cpu, next);

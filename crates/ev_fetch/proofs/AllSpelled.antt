@@ -24,7 +24,8 @@ use Rattle.ev_fetch.proofs.Bodies.{lie, bodies_lie, bodies_spelled, closed_listi
 
 places_append : (xs ys : List Listing) → all_places (xs ++ ys) ≡ all_places xs ++ all_places ys
 places_append [] ys = refl
-places_append (x ∷ xs) ys = ap (λ e. places x.address (stmts_of x.lines) ++ e) (places_append xs ys) ∙ sym (append_assoc (places x.address (stmts_of x.lines)) (all_places xs) (all_places ys))
+places_append (x ∷ xs) ys = ap (λ e. places x.address (stmts_of x.lines) ++ e) (places_append xs ys)
+    ∙ sym (append_assoc (places x.address (stmts_of x.lines)) (all_places xs) (all_places ys))
 
 first_has : (xs ys : List Listing) (name : Name) → has_place (all_places xs) name ≡ true → has_place (all_places (xs ++ ys)) name ≡ true
 first_has xs ys name h = ap (λ e. has_place e name) (places_append xs ys) ∙ has_first (all_places xs) (all_places ys) name h
@@ -41,9 +42,11 @@ stubs_lie v (suc n) h = let size = stub_size (has_error_code v) v in ((omega ari
 stub_spelled : (env : Places) (t : Bool) (v : ℕ) → v < 256 → InCode (place env (codes "COMMON")) → Each (λ l. IsSpelledWith env l.stmt) (stub_if t v)
 unfolding is_instruction
 stub_spelled env true v h c = (record { fields = record { sfits = omega arith }; counts = refl }, (c, tt))
-stub_spelled env false v h c = (record { fields = record { sfits = omega arith }; counts = refl }, (record { fields = record { sfits = omega arith }; counts = refl }, (c, tt)))
+stub_spelled env false v h c =
+    (record { fields = record { sfits = omega arith }; counts = refl }, (record { fields = record { sfits = omega arith }; counts = refl }, (c, tt)))
 
-stubs_spelled : (env : Places) (v n : ℕ) → v + n ≤ 256 → InCode (place env (codes "COMMON")) → Each (λ b. Each (λ l. IsSpelledWith env l.stmt) b.lines) (stubs v n)
+stubs_spelled : (env : Places) (v n : ℕ) → v + n ≤ 256 → InCode (place env (codes "COMMON"))
+    → Each (λ b. Each (λ l. IsSpelledWith env l.stmt) b.lines) (stubs v n)
 stubs_spelled env v zero h c = tt
 stubs_spelled env v (suc n) h c = (stub_spelled env (has_error_code v) v (omega arith) c, stubs_spelled env (suc v) n (omega arith) c)
 
@@ -58,11 +61,14 @@ common_there : has_place (all_places idt_code) (codes "COMMON") ≡ true
 unfolding size spelling four_bytes places
 common_there = refl
 
-kernel_spelled : (mode : Mode) (env : Places) → ((name : Name) → has_place (all_places (kernel_listings mode)) name ≡ true → InCode (place env name)) → Each (λ b. Each (λ l. IsSpelledWith env l.stmt) b.lines) (kernel_listings mode)
+kernel_spelled : (mode : Mode) (env : Places) → ((name : Name) → has_place (all_places (kernel_listings mode)) name ≡ true → InCode (place env name))
+    → Each (λ b. Each (λ l. IsSpelledWith env l.stmt) b.lines) (kernel_listings mode)
 unfolding idt_listings
 kernel_spelled Idt env known =
-    let own : (name : Name) → has_place (all_places idt_code) name ≡ true → InCode (place env name) = λ name h. known name (first_has idt_code (stubs 0 256) name h) in
-    each_append (λ b. Each (λ l. IsSpelledWith env l.stmt) b.lines) idt_code (stubs 0 256) (closed_listings env (all_places idt_code) own idt_code idt_spelled) (stubs_spelled env 0 256 (omega arith) (own (codes "COMMON") common_there))
+    let own : (name : Name) → has_place (all_places idt_code) name ≡ true → InCode (place env name) =
+    λ name h. known name (first_has idt_code (stubs 0 256) name h) in
+    each_append (λ b. Each (λ l. IsSpelledWith env l.stmt) b.lines) idt_code (stubs 0 256)
+    (closed_listings env (all_places idt_code) own idt_code idt_spelled) (stubs_spelled env 0 256 (omega arith) (own (codes "COMMON") common_there))
 kernel_spelled Fred env known = closed_listings env (all_places fred_listings) known fred_listings fred_spelled
 
 exit_there : has_place (all_places idt_code) (codes "EXIT") ≡ true
@@ -121,7 +127,10 @@ bodies_are_spelled mode image is h =
     let good = is.bodies_given.1 in
     let few = is.bodies_given.0 in
     let lies = each_append LiesInCode bodies kernel (bodies_lie mode image (length image.text) 0 image.bodies good (omega arith)) (kernel_lies mode) in
-    let known : (name : Name) → has_place env name ≡ true → InCode (place env name) = λ name k. place_in_code env name (places_in_code (bodies ++ kernel) lies) k in
+    let known : (name : Name) → has_place env name ≡ true → InCode (place env name) =
+    λ name k. place_in_code env name (places_in_code (bodies ++ kernel) lies) k in
     listings_spelled env (bodies ++ kernel) lies (each_append (λ b. Each (λ l. IsSpelledWith env l.stmt) b.lines) bodies kernel
-    (bodies_spelled mode image is env 0 image.bodies good h (λ key. known (exit_of mode key) (rest_has bodies kernel (exit_of mode key) (kernel_exit mode key))) (λ name k. known name (first_has bodies kernel name k)))
+    (bodies_spelled mode image is env 0 image.bodies good h
+    (λ key. known (exit_of mode key) (rest_has bodies kernel (exit_of mode key) (kernel_exit mode key)))
+    (λ name k. known name (first_has bodies kernel name k)))
     (kernel_spelled mode env (λ name k. known name (rest_has bodies kernel name k))))

@@ -57,8 +57,10 @@ module _ (mode : Mode) (b : ℕ) (key : Key) (function : ℕ → ℕ) where
   label_there : (n : ℕ) (items : List Item) (i : ℕ) → i < length items → Gives (item_label b (n + i)) (expansions mode b key function n items)
   label_there n [] i h = absurd (omega arith)
   label_there n (item ∷ items) zero h = inl (ap (λ x. Label (item_label b x)) (let e : n ≡ n + 0 = omega arith in e))
-  label_there n (item ∷ items) (suc i) h = inr (gives_rest (item_label b (n + suc i)) (expansion mode b key function n item) (expansions mode b key function (suc n) items)
-      (subst (λ x. Gives (item_label b x) (expansions mode b key function (suc n) items)) (let e : suc n + i ≡ n + suc i = omega arith in e) (label_there (suc n) items i (omega arith))))
+  label_there n (item ∷ items) (suc i) h =
+      inr (gives_rest (item_label b (n + suc i)) (expansion mode b key function n item) (expansions mode b key function (suc n) items)
+      (subst (λ x. Gives (item_label b x) (expansions mode b key function (suc n) items)) (let e : suc n + i ≡ n + suc i = omega arith in e)
+      (label_there (suc n) items i (omega arith))))
 
   take_here : (n : ℕ) (item : Item) → is_take item ≡ true → Gives (taken_label b) (expansion mode b key function n item)
   unfolding is_take expansion
@@ -81,19 +83,25 @@ record Bounded (bytes total : ℕ) (item : Item) : Type 0 where
   operands : has_operands bytes low high item ≡ true
   ends : high ≤ total
 
-each_bounded : (bytes total low high : ℕ) (items : List Item) → list_all (has_operands bytes low high) items ≡ true → high ≤ total → Each (Bounded bytes total) items
+each_bounded : (bytes total low high : ℕ) (items : List Item) → list_all (has_operands bytes low high) items ≡ true → high ≤ total
+    → Each (Bounded bytes total) items
 each_bounded bytes total low high [] h l = tt
-each_bounded bytes total low high (item ∷ items) h l =
-    (record { low = low; high = high; operands = and_left _ _ h; ends = l }, each_bounded bytes total low high items (and_right (has_operands bytes low high item) _ h) l)
+each_bounded bytes total low high (item ∷ items) h l = (
+  record { low = low; high = high; operands = and_left _ _ h; ends = l },
+  each_bounded bytes total low high items
+      (and_right (has_operands bytes low high item) _ h) l,
+)
 
-parts_bounded : (bytes total n : ℕ) (parts : List Part) → are_parts bytes n parts ≡ true → n + length (flat_map (λ (part : Part). part.items) parts) ≤ total → Each (Bounded bytes total) (flat_map (λ (part : Part). part.items) parts)
+parts_bounded : (bytes total n : ℕ) (parts : List Part) → are_parts bytes n parts ≡ true → n + length (flat_map (λ (part : Part). part.items) parts) ≤ total
+    → Each (Bounded bytes total) (flat_map (λ (part : Part). part.items) parts)
 parts_bounded bytes total n [] h l = tt
 parts_bounded bytes total n (part ∷ parts) h l =
     let rest = flat_map (λ (part : Part). part.items) parts in
     let sum = length-append part.items rest in
     let front = and_left _ (are_parts bytes (n + length part.items) parts) h in
     each_append (Bounded bytes total) part.items rest
-    (each_bounded bytes total n (n + length part.items) part.items (and_right _ (list_all (has_operands bytes n (n + length part.items)) part.items) front) (omega arith))
+    (each_bounded bytes total n (n + length part.items) part.items (and_right _ (list_all (has_operands bytes n (n + length part.items)) part.items) front)
+    (omega arith))
     (parts_bounded bytes total (n + length part.items) parts (and_right _ (are_parts bytes (n + length part.items) parts) h) (omega arith))
 
 body_bounded : (bytes : ℕ) (b : Body) → is_body bytes b ≡ true → Each (Bounded bytes (length (body_items b))) (body_items b)
@@ -131,8 +139,10 @@ function_small mode image is f = by (first_body 0 image.bodies 0xfb User)
 -- ---- bodies
 
 module _ (mode : Mode) (image : Image) (is : IsImage image) (env : Places) where
-  module _ (b : ℕ) (key : Key) (total : ℕ) (target : (i : ℕ) → i < total → InCode (place env (item_label b i))) (exit : InCode (place env (exit_of mode key))) where
-    items_spelled : (n : ℕ) (items : List Item) → Each (Bounded (length image.text) total) items → list_all (λ item. not (breaks_slots image.processors item)) items ≡ true
+  module _ (b : ℕ) (key : Key) (total : ℕ) (target : (i : ℕ) → i < total → InCode (place env (item_label b i)))
+      (exit : InCode (place env (exit_of mode key))) where
+    items_spelled : (n : ℕ) (items : List Item) → Each (Bounded (length image.text) total) items
+        → list_all (λ item. not (breaks_slots image.processors item)) items ≡ true
         → (list_any is_finish items ≡ true → InCode (place env (taken_label b)))
         → ((name : Name) → Gives name (expansions mode b key (function_address mode image) n items) → InCode (place env name))
         → Each (λ l. IsSpelledWith env l.stmt) (expansions mode b key (function_address mode image) n items)
@@ -143,10 +153,12 @@ module _ (mode : Mode) (image : Image) (is : IsImage image) (env : Places) where
         let few = is.count.1 in (
           tt,
           each_append (λ l. IsSpelledWith env l.stmt) here rest
-              (item_spelled mode b key (function_address mode image) n env (length image.text) h.0.low h.0.high total image.processors is.text_fits few h.0.ends (function_small mode image is) target exit item h.0.operands
+              (item_spelled mode b key (function_address mode image) n env (length image.text) h.0.low h.0.high total image.processors is.text_fits few
+              h.0.ends (function_small mode image is) target exit item h.0.operands
               (not_broken (breaks_slots image.processors item) (and_left _ _ k))
               (λ f. t (or_first (is_finish item) (list_any is_finish items) f)) (λ name own. g name (inr (gives_first name here rest own))))
-              (items_spelled (suc n) items h.1 (and_right (not (breaks_slots image.processors item)) _ k) (λ f. t (or_second (is_finish item) (list_any is_finish items) f)) (λ name own. g name (inr (gives_rest name here rest own)))),
+              (items_spelled (suc n) items h.1 (and_right (not (breaks_slots image.processors item)) _ k)
+              (λ f. t (or_second (is_finish item) (list_any is_finish items) f)) (λ name own. g name (inr (gives_rest name here rest own)))),
         )
       where
         not_broken : (t : Bool) → not t ≡ true → t ≡ false
@@ -157,28 +169,36 @@ module _ (mode : Mode) (image : Image) (is : IsImage image) (env : Places) where
       → ((name : Name) → Gives name (body_stmts mode image n b) → InCode (place env name)) → Each (λ l. IsSpelledWith env l.stmt) (body_stmts mode image n b)
   unfolding body_stmts
   body_spelled n b h s exit g =
-      let k = and_parts (list_all (λ item. not (breaks_slots image.processors item)) (body_items b)) (list_any is_take (body_items b) || not (list_any is_finish (body_items b))) s in
+      let k = and_parts (list_all (λ item. not (breaks_slots image.processors item)) (body_items b))
+      (list_any is_take (body_items b) || not (list_any is_finish (body_items b))) s in
       items_spelled n b.key (length (body_items b))
-      (λ i l. g (item_label n i) (subst (λ x. Gives (item_label n x) (expansions mode n b.key (function_address mode image) 0 (body_items b))) (let e : 0 + i ≡ i = omega arith in e) (label_there mode n b.key (function_address mode image) 0 (body_items b) i l)))
+      (λ i l. g (item_label n i) (subst (λ x. Gives (item_label n x) (expansions mode n b.key (function_address mode image) 0 (body_items b)))
+      (let e : 0 + i ≡ i = omega arith in e) (label_there mode n b.key (function_address mode image) 0 (body_items b) i l)))
       exit 0 (body_items b) (body_bounded (length image.text) b h) k.0
-      (λ f. g (taken_label n) (take_there mode n b.key (function_address mode image) 0 (body_items b) (has_take (list_any is_take (body_items b)) (list_any is_finish (body_items b)) k.1 f))) g
+      (λ f. g (taken_label n) (take_there mode n b.key (function_address mode image) 0 (body_items b)
+      (has_take (list_any is_take (body_items b)) (list_any is_finish (body_items b)) k.1 f))) g
     where
       has_take : (x y : Bool) → (x || not y) ≡ true → y ≡ true → x ≡ true
       has_take true y h q = refl
       has_take false true h q = absurd (cc)
       has_take false false h q = absurd (cc)
 
-  pub bodies_spelled : (n : ℕ) (bs : List Body) → list_all (is_body (length image.text)) bs ≡ true → list_all (has_spelling image.processors) bs ≡ true → ((key : Key) → InCode (place env (exit_of mode key)))
-      → ((name : Name) → has_place (all_places (body_listings mode image n bs)) name ≡ true → InCode (place env name)) → Each (λ b. Each (λ l. IsSpelledWith env l.stmt) b.lines) (body_listings mode image n bs)
+  pub bodies_spelled : (n : ℕ) (bs : List Body) → list_all (is_body (length image.text)) bs ≡ true → list_all (has_spelling image.processors) bs ≡ true
+      → ((key : Key) → InCode (place env (exit_of mode key)))
+      → ((name : Name) → has_place (all_places (body_listings mode image n bs)) name ≡ true → InCode (place env name))
+      → Each (λ b. Each (λ l. IsSpelledWith env l.stmt) b.lines) (body_listings mode image n bs)
   bodies_spelled n [] h s exit g = tt
   bodies_spelled n (b ∷ bs) h s exit g =
       let own = places (body_code n) (stmts_of (body_stmts mode image n b)) in
       let rest = all_places (body_listings mode image (suc n) bs) in (
-        body_spelled n b (and_left _ _ h) (and_left _ _ s) (exit b.key) (λ name l. g name (has_first own rest name (label_placed (body_code n) (body_stmts mode image n b) name l))),
-        bodies_spelled (suc n) bs (and_right (is_body (length image.text) b) _ h) (and_right (has_spelling image.processors b) _ s) exit (λ name l. g name (has_rest own rest name l)),
+        body_spelled n b (and_left _ _ h) (and_left _ _ s) (exit b.key)
+            (λ name l. g name (has_first own rest name (label_placed (body_code n) (body_stmts mode image n b) name l))),
+        bodies_spelled (suc n) bs (and_right (is_body (length image.text) b) _ h) (and_right (has_spelling image.processors b) _ s) exit
+            (λ name l. g name (has_rest own rest name l)),
       )
 
-pub bodies_lie : (mode : Mode) (image : Image) (bytes n : ℕ) (bs : List Body) → list_all (is_body bytes) bs ≡ true → n + length bs ≤ 64 → Each LiesInCode (body_listings mode image n bs)
+pub bodies_lie : (mode : Mode) (image : Image) (bytes n : ℕ) (bs : List Body) → list_all (is_body bytes) bs ≡ true → n + length bs ≤ 64
+    → Each LiesInCode (body_listings mode image n bs)
 bodies_lie mode image bytes n [] h l = tt
 bodies_lie mode image bytes n (b ∷ bs) h l =
     let few = body_size mode image n b (few_items bytes b (and_left _ _ h)) in

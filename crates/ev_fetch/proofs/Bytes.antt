@@ -86,7 +86,8 @@ same_bytes f (x ∷ xs) a h =
 pub begins_with : (f : ℕ → ℕ) (xs : List ℕ) (a n : ℕ) → length xs ≤ n → ((j : ℕ) → j < length xs → f (a + j) ≡ get_or xs j 0)
     → bytes_from f a n ≡ xs ++ bytes_from f (a + length xs) (n - length xs)
 begins_with f xs a n l h =
-    sym (joined f (length xs) (n - length xs) n a (a + length xs) refl (omega arith)) ∙ ap (λ x. x ++ bytes_from f (a + length xs) (n - length xs)) (same_bytes f xs a h)
+    sym (joined f (length xs) (n - length xs) n a (a + length xs) refl (omega arith)) ∙ ap (λ x. x ++ bytes_from f (a + length xs) (n - length xs))
+    (same_bytes f xs a h)
 
 -- a word depends on eight bytes alone
 pub same_word : (xs ys : List ℕ) → ((i : ℕ) → i < 8 → get_or xs i 0 ≡ get_or ys i 0) → from_le_bytes w64 xs ≡ from_le_bytes w64 ys

@@ -53,21 +53,30 @@ encodes i = true
 
 pub encodable : (i : Ins) → encodes i ≡ true → IsEncodable i
 unfolding is_instruction
-encodable (MovImm d n) h = let k = and_parts (nat_lt d 16) (nat_lt n (2 ^ 64)) h in record { fields = (ltb-true d 16 k.0, ltb-true n (2 ^ 64) k.1); counts = refl }
+encodable (MovImm d n) h = let k = and_parts (nat_lt d 16) (nat_lt n (2 ^ 64)) h in
+    record { fields = (ltb-true d 16 k.0, ltb-true n (2 ^ 64) k.1); counts = refl }
 encodable (MovReg d s) h = let k = and_parts (nat_lt d 16) (nat_lt s 16) h in record { fields = (ltb-true d 16 k.0, ltb-true s 16 k.1); counts = refl }
-encodable (Load d b n) h = let k = and_parts (nat_lt d 16) (nat_lt b 16 && fits n) h in let l = and_parts (nat_lt b 16) (fits n) k.1 in record { fields = (ltb-true d 16 k.0, ltb-true b 16 l.0, fits_signed n l.1); counts = refl }
-encodable (Store b n s) h = let k = and_parts (nat_lt b 16) (fits n && nat_lt s 16) h in let l = and_parts (fits n) (nat_lt s 16) k.1 in record { fields = (ltb-true b 16 k.0, fits_signed n l.0, ltb-true s 16 l.1); counts = refl }
-encodable (StoreImm b n i) h = let k = and_parts (nat_lt b 16) (fits n && fits i) h in let l = and_parts (fits n) (fits i) k.1 in record { fields = (ltb-true b 16 k.0, fits_signed n l.0, fits_signed i l.1); counts = refl }
+encodable (Load d b n) h = let k = and_parts (nat_lt d 16) (nat_lt b 16 && fits n) h in let l = and_parts (nat_lt b 16) (fits n) k.1 in
+    record { fields = (ltb-true d 16 k.0, ltb-true b 16 l.0, fits_signed n l.1); counts = refl }
+encodable (Store b n s) h = let k = and_parts (nat_lt b 16) (fits n && nat_lt s 16) h in let l = and_parts (fits n) (nat_lt s 16) k.1 in
+    record { fields = (ltb-true b 16 k.0, fits_signed n l.0, ltb-true s 16 l.1); counts = refl }
+encodable (StoreImm b n i) h = let k = and_parts (nat_lt b 16) (fits n && fits i) h in let l = and_parts (fits n) (fits i) k.1 in
+    record { fields = (ltb-true b 16 k.0, fits_signed n l.0, fits_signed i l.1); counts = refl }
 encodable (GsLoad d n) h = let k = and_parts (nat_lt d 16) (fits n) h in record { fields = (ltb-true d 16 k.0, fits_signed n k.1); counts = refl }
 encodable (GsStore n s) h = let k = and_parts (fits n) (nat_lt s 16) h in record { fields = (fits_signed n k.0, ltb-true s 16 k.1); counts = refl }
 encodable (GsPush n) h = record { fields = fits_signed n h; counts = refl }
 encodable (Alu op d s) h = let k = and_parts (nat_lt d 16) (nat_lt s 16) h in record { fields = (ltb-true d 16 k.0, ltb-true s 16 k.1); counts = refl }
 encodable (AluImm op d i) h = let k = and_parts (nat_lt d 16) (fits i) h in record { fields = (ltb-true d 16 k.0, fits_signed i k.1); counts = refl }
-encodable (Shl d n) h = let k = and_parts (nat_lt d 16) (nat_le 1 n && nat_lt n 64) h in let l = and_parts (nat_le 1 n) (nat_lt n 64) k.1 in let few = ltb-true n 64 l.1 in record { fields = (ltb-true d 16 k.0, omega arith); counts = k.1 }
-encodable (Shr d n) h = let k = and_parts (nat_lt d 16) (nat_le 1 n && nat_lt n 64) h in let l = and_parts (nat_le 1 n) (nat_lt n 64) k.1 in let few = ltb-true n 64 l.1 in record { fields = (ltb-true d 16 k.0, omega arith); counts = k.1 }
-encodable (Xchg b n s) h = let k = and_parts (nat_lt b 16) (fits n && nat_lt s 16) h in let l = and_parts (fits n) (nat_lt s 16) k.1 in record { fields = (ltb-true b 16 k.0, fits_signed n l.0, ltb-true s 16 l.1); counts = refl }
-encodable (CmpXchg b n s) h = let k = and_parts (nat_lt b 16) (fits n && nat_lt s 16) h in let l = and_parts (fits n) (nat_lt s 16) k.1 in record { fields = (ltb-true b 16 k.0, fits_signed n l.0, ltb-true s 16 l.1); counts = refl }
-encodable (Xadd b n s) h = let k = and_parts (nat_lt b 16) (fits n && nat_lt s 16) h in let l = and_parts (fits n) (nat_lt s 16) k.1 in record { fields = (ltb-true b 16 k.0, fits_signed n l.0, ltb-true s 16 l.1); counts = refl }
+encodable (Shl d n) h = let k = and_parts (nat_lt d 16) (nat_le 1 n && nat_lt n 64) h in let l = and_parts (nat_le 1 n) (nat_lt n 64) k.1 in let few =
+    ltb-true n 64 l.1 in record { fields = (ltb-true d 16 k.0, omega arith); counts = k.1 }
+encodable (Shr d n) h = let k = and_parts (nat_lt d 16) (nat_le 1 n && nat_lt n 64) h in let l = and_parts (nat_le 1 n) (nat_lt n 64) k.1 in let few =
+    ltb-true n 64 l.1 in record { fields = (ltb-true d 16 k.0, omega arith); counts = k.1 }
+encodable (Xchg b n s) h = let k = and_parts (nat_lt b 16) (fits n && nat_lt s 16) h in let l = and_parts (fits n) (nat_lt s 16) k.1 in
+    record { fields = (ltb-true b 16 k.0, fits_signed n l.0, ltb-true s 16 l.1); counts = refl }
+encodable (CmpXchg b n s) h = let k = and_parts (nat_lt b 16) (fits n && nat_lt s 16) h in let l = and_parts (fits n) (nat_lt s 16) k.1 in
+    record { fields = (ltb-true b 16 k.0, fits_signed n l.0, ltb-true s 16 l.1); counts = refl }
+encodable (Xadd b n s) h = let k = and_parts (nat_lt b 16) (fits n && nat_lt s 16) h in let l = and_parts (fits n) (nat_lt s 16) k.1 in
+    record { fields = (ltb-true b 16 k.0, fits_signed n l.0, ltb-true s 16 l.1); counts = refl }
 encodable (Jmp n) h = record { fields = fits_signed n h; counts = refl }
 encodable (Jcc c n) h = record { fields = fits_signed n h; counts = refl }
 encodable (JmpReg s) h = record { fields = ltb-true s 16 h; counts = refl }

@@ -28,5 +28,6 @@ pub stays_in_code : StaysInCode
 stays_in_code image m c is e = record {
   ends = λ i fetch read.
       let at = ap (λ rs. fault_at (present_in m) (record { user = is_user c; write = false; fetch = true }) (place_in rs c.rip)) e in
-      ends_well c.rip (length (spelling i)) (spelling_length i) (fetches_far image (present_in m) (record { user = is_user c; write = false; fetch = true }) c.rip is (sym at ∙ fetch));
+      ends_well c.rip (length (spelling i)) (spelling_length i)
+      (fetches_far image (present_in m) (record { user = is_user c; write = false; fetch = true }) c.rip is (sym at ∙ fetch));
 }

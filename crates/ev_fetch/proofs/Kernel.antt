@@ -38,7 +38,8 @@ found_spelled (y ∷ ys) a x h q = pick (y.0 == a) q (found_spelled ys a x h.1)
 
 module _ (mode : Mode) (image : Image) (m : Memory) (is : IsImage image) (a : ℕ) (x : Cell) (found : code_of (listings mode image) a ≡ Some x) where
   inside : Inside (listings mode image) a
-  inside = subst (Inside (listings mode image)) (let e : a + 0 ≡ a = omega arith in e) (inside_there (all_places (listings mode image)) (listings mode image) a x found 0 (spelling_some x.ins))
+  inside = subst (Inside (listings mode image)) (let e : a + 0 ≡ a = omega arith in e)
+      (inside_there (all_places (listings mode image)) (listings mode image) a x found 0 (spelling_some x.ins))
 
   place : place_in (regions image) a ≡ KernelWord
   place = ⊎_elim (λ l. entry_place image a is l.0 l.1) (λ r. body_place image a is r.0 r.1) (listings_inside mode image is a inside)
@@ -46,7 +47,8 @@ module _ (mode : Mode) (image : Image) (m : Memory) (is : IsImage image) (a : �
   from : fred_page ≤ a
   from = ⊎_elim (λ l. l.0) (λ r. let k = r.0 in omega arith) (listings_inside mode image is a inside)
 
-  bytes_there : AreSpelled (kernel_cells mode image) → HoldsCode mode image m.words → code_bytes m.words a ≡ bytes_from (byte_of (opening.code_of (listings mode image))) a 15
+  bytes_there : AreSpelled (kernel_cells mode image) → HoldsCode mode image m.words
+      → code_bytes m.words a ≡ bytes_from (byte_of (opening.code_of (listings mode image))) a 15
   unfolding code_word
   bytes_there spells holds =
       code_back (byte_of (opening.code_of (listings mode image))) (byte_small (all_places (listings mode image)) (listings mode image) spells) m.words a
@@ -56,12 +58,14 @@ module _ (mode : Mode) (image : Image) (m : Memory) (is : IsImage image) (a : �
   reads spells holds =
       let f = byte_of (opening.code_of (listings mode image)) in
       let n = length (spelling x.ins) in
-      ap reading (bytes_there spells holds ∙ begins_with f (spelling x.ins) a 15 (spelling_length x.ins) (byte_there (all_places (listings mode image)) (listings mode image) a x (listings_disjoint mode image is) found))
+      ap reading (bytes_there spells holds ∙ begins_with f (spelling x.ins) a 15 (spelling_length x.ins)
+      (byte_there (all_places (listings mode image)) (listings mode image) a x (listings_disjoint mode image is) found))
       ∙ reading_again x.ins (bytes_from f (a + n) (15 - n)) (found_spelled (kernel_cells mode image) a x spells found)
 
   faultless : m.regions ≡ regions image → fault_at (present_in m) (record { user = false; write = false; fetch = true }) (place_in m.regions a) ≡ None
   unfolding fault_at
-  faultless e = ap (λ rs. fault_at (present_in m) (record { user = false; write = false; fetch = true }) (place_in rs a)) e ∙ ap (fault_at (present_in m) (record { user = false; write = false; fetch = true })) place
+  faultless e = ap (λ rs. fault_at (present_in m) (record { user = false; write = false; fetch = true }) (place_in rs a)) e
+      ∙ ap (fault_at (present_in m) (record { user = false; write = false; fetch = true })) place
 
 pub kernel_fetches : KernelFetches
 kernel_fetches mode image m is spells e holds a x q = (faultless mode image m is a x q e, reads mode image m is a x q spells holds)

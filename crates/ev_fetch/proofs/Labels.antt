@@ -37,7 +37,8 @@ pub place_in_code : (env : Places) (name : Name) → AllInCode env → has_place
 place_in_code [] name h q = absurd (cc)
 place_in_code (e ∷ es) name h q = pick (is_name e.0 name) q (place_in_code es name h.1)
   where
-    pick : (t : Bool) → (if t then true else has_place es name) ≡ true → (has_place es name ≡ true → InCode (place es name)) → InCode (if t then e.1 else place es name)
+    pick : (t : Bool) → (if t then true else has_place es name) ≡ true → (has_place es name ≡ true → InCode (place es name))
+        → InCode (if t then e.1 else place es name)
     pick true w k = h.0
     pick false w k = k w
 
@@ -45,7 +46,8 @@ pub has_first : (xs ys : Places) (name : Name) → has_place xs name ≡ true �
 has_first [] ys name h = absurd (cc)
 has_first (x ∷ xs) ys name h = pick (is_name x.0 name) h (has_first xs ys name)
   where
-    pick : (t : Bool) → (if t then true else has_place xs name) ≡ true → (has_place xs name ≡ true → has_place (xs ++ ys) name ≡ true) → (if t then true else has_place (xs ++ ys) name) ≡ true
+    pick : (t : Bool) → (if t then true else has_place xs name) ≡ true → (has_place xs name ≡ true → has_place (xs ++ ys) name ≡ true)
+        → (if t then true else has_place (xs ++ ys) name) ≡ true
     pick true w k = refl
     pick false w k = k w
 
@@ -89,8 +91,10 @@ unfolding places
 label_placed a [] name h = absurd h
 label_placed a (l ∷ ls) name h = one l.stmt h (λ b. label_placed b ls name)
   where
-    one : (s : Stmt) → (s ≡ Label name) ⊎ Gives name ls → ((b : ℕ) → Gives name ls → has_place (places b (stmts_of ls)) name ≡ true) → has_place (places a (s ∷ stmts_of ls)) name ≡ true
-    one (Label other) (inl e) k = ap (λ t. if t then true else has_place (places a (stmts_of ls)) name) (ap (λ x. is_name x name) (same_label name other e) ∙ same_name name)
+    one : (s : Stmt) → (s ≡ Label name) ⊎ Gives name ls → ((b : ℕ) → Gives name ls → has_place (places b (stmts_of ls)) name ≡ true)
+        → has_place (places a (s ∷ stmts_of ls)) name ≡ true
+    one (Label other) (inl e) k = ap (λ t. if t then true else has_place (places a (stmts_of ls)) name) (ap (λ x. is_name x name) (same_label name other e)
+        ∙ same_name name)
     one (Label other) (inr g) k = has_behind (other, a) (places a (stmts_of ls)) name (k a g)
     one (Plain i) (inl e) k = absurd (cc)
     one (Plain i) (inr g) k = k (a + size (Plain i)) g
@@ -115,7 +119,8 @@ LiesInCode b = (0xffffffff81000000 ≤ b.address) × (end_of b ≤ 0xffffffff828
 
 pub places_in_code : (bs : List Listing) → Each LiesInCode bs → AllInCode (all_places bs)
 places_in_code [] h = tt
-places_in_code (b ∷ bs) h = each_append (λ (e : Name × ℕ). InCode e.1) (places b.address (stmts_of b.lines)) (all_places bs) (labels_in_code b.address (stmts_of b.lines) h.0.0 h.0.1) (places_in_code bs h.1)
+places_in_code (b ∷ bs) h = each_append (λ (e : Name × ℕ). InCode e.1) (places b.address (stmts_of b.lines)) (all_places bs)
+    (labels_in_code b.address (stmts_of b.lines) h.0.0 h.0.1) (places_in_code bs h.1)
 
 -- ---- statements that are spelled
 
@@ -138,7 +143,8 @@ jump_spelled None target next t n = record { fields = far target next t n; count
 jump_spelled (Some c) target next t n = record { fields = far target next t n; counts = refl }
 
 -- statements at an address of the code
-pub cells_spelled : (env : Places) (a : ℕ) (ls : List Marked) → Each (λ l. IsSpelledWith env l.stmt) ls → 0xffffffff81000000 ≤ a → a + total_size (stmts_of ls) ≤ 0xffffffff82800000 → AreSpelled (cells_from env a ls)
+pub cells_spelled : (env : Places) (a : ℕ) (ls : List Marked) → Each (λ l. IsSpelledWith env l.stmt) ls → 0xffffffff81000000 ≤ a
+    → a + total_size (stmts_of ls) ≤ 0xffffffff82800000 → AreSpelled (cells_from env a ls)
 cells_spelled env a [] g l h = tt
 cells_spelled env a (x ∷ xs) g l h = one x.stmt g.0 (omega arith) (omega arith) (cells_spelled env (a + size x.stmt) xs g.1 (omega arith) (omega arith))
   where
@@ -153,7 +159,8 @@ spelled_append [] ys h k = k
 spelled_append (x ∷ xs) ys h k = (h.0, spelled_append xs ys h.1 k)
 
 -- the statements of each listing are good
-pub listings_spelled : (env : Places) (bs : List Listing) → Each LiesInCode bs → Each (λ b. Each (λ l. IsSpelledWith env l.stmt) b.lines) bs → AreSpelled (cells_in env bs)
+pub listings_spelled : (env : Places) (bs : List Listing) → Each LiesInCode bs → Each (λ b. Each (λ l. IsSpelledWith env l.stmt) b.lines) bs
+    → AreSpelled (cells_in env bs)
 listings_spelled env [] h g = tt
 listings_spelled env (b ∷ bs) h g =
     spelled_append (cells_from env b.address b.lines) (cells_in env bs) (cells_spelled env b.address b.lines g.0 h.0.0 h.0.1) (listings_spelled env bs h.1 g.1)

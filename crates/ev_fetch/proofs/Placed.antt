@@ -50,7 +50,8 @@ stands_first y ys base a x p q r = subst (λ (z : Cell). Stands (y ∷ ys) base 
   same = λ j h. ap (λ n. get_or (spelling y.1.ins ++ spelled ys) n 0) (omega arith) ∙ get_or_append_left (spelling y.1.ins) (spelled ys) 0 j h;
 })
 
-stands_later : (y : ℕ × Cell) (ys : Cells) (base a : ℕ) (i : Ins) → y.1.next ≡ base + length (spelling y.1.ins) → Stands ys y.1.next a i → Stands (y ∷ ys) base a i
+stands_later : (y : ℕ × Cell) (ys : Cells) (base a : ℕ) (i : Ins) → y.1.next ≡ base + length (spelling y.1.ins) → Stands ys y.1.next a i
+    → Stands (y ∷ ys) base a i
 stands_later y ys base a i p s =
     let n = length (spelling y.1.ins) in
     let is = s.is in
@@ -59,14 +60,16 @@ stands_later y ys base a i p s =
       off = n + s.off;
       is = omega arith;
       fits = omega (arith, length-append (spelling y.1.ins) (spelled ys));
-      same = λ j h. ap (λ k. get_or (spelling y.1.ins ++ spelled ys) k 0) (let e : n + s.off + j ≡ n + (s.off + j) = omega arith in e) ∙ get_or-append-add (spelling y.1.ins) (spelled ys) (s.off + j) 0 ∙ s.same j h;
+      same = λ j h. ap (λ k. get_or (spelling y.1.ins ++ spelled ys) k 0) (let e : n + s.off + j ≡ n + (s.off + j) = omega arith in e)
+          ∙ get_or-append-add (spelling y.1.ins) (spelled ys) (s.off + j) 0 ∙ s.same j h;
     }
 
 stands_in : (xs : Cells) (base a : ℕ) (x : Cell) → Laid base xs → cell_at xs a ≡ Some x → Stands xs base a x.ins
 stands_in [] base a x h q = absurd (cc)
 stands_in (y ∷ ys) base a x h q = pick (y.0 == a) refl q (stands_in ys y.1.next a x h.2)
   where
-    pick : (t : Bool) → (y.0 == a) ≡ t → (if t then Some y.1 else cell_at ys a) ≡ Some x → (cell_at ys a ≡ Some x → Stands ys y.1.next a x.ins) → Stands (y ∷ ys) base a x.ins
+    pick : (t : Bool) → (y.0 == a) ≡ t → (if t then Some y.1 else cell_at ys a) ≡ Some x → (cell_at ys a ≡ Some x → Stands ys y.1.next a x.ins)
+        → Stands (y ∷ ys) base a x.ins
     pick true r w k = stands_first y ys base a x h.0 (eqb-true y.0 a r) (unsome y.1 x w)
     pick false r w k = stands_later y ys base a x.ins h.1 (k w)
 
@@ -93,7 +96,8 @@ one_of : (xs ys : Cells) (a : ℕ) (x : Cell) → cell_at (xs ++ ys) a ≡ Some 
 one_of [] ys a x h = inr h
 one_of (y ∷ xs) ys a x h = pick (y.0 == a) h (one_of xs ys a x)
   where
-    pick : (t : Bool) → (if t then Some y.1 else cell_at (xs ++ ys) a) ≡ Some x → (cell_at (xs ++ ys) a ≡ Some x → (cell_at xs a ≡ Some x) ⊎ (cell_at ys a ≡ Some x))
+    pick : (t : Bool) → (if t then Some y.1 else cell_at (xs ++ ys) a) ≡ Some x
+        → (cell_at (xs ++ ys) a ≡ Some x → (cell_at xs a ≡ Some x) ⊎ (cell_at ys a ≡ Some x))
         → ((if t then Some y.1 else cell_at xs a) ≡ Some x) ⊎ (cell_at ys a ≡ Some x)
     pick true w k = inl w
     pick false w k = k w
@@ -119,27 +123,33 @@ own_within env b a x q j h =
     (omega arith, omega arith)
 
 -- the bytes of a cell lie in a listing
-pub inside_there : (env : Places) (bs : List Listing) (a : ℕ) (x : Cell) → cell_at (cells_in env bs) a ≡ Some x → (j : ℕ) → j < length (spelling x.ins) → Inside bs (a + j)
+pub inside_there : (env : Places) (bs : List Listing) (a : ℕ) (x : Cell) → cell_at (cells_in env bs) a ≡ Some x → (j : ℕ) → j < length (spelling x.ins)
+    → Inside bs (a + j)
 inside_there env [] a x q j h = absurd (cc)
-inside_there env (b ∷ bs) a x q j h = ⊎_elim (λ l. inl (own_within env b a x l j h)) (λ r. inr (inside_there env bs a x r j h)) (one_of (own_cells env b) (cells_in env bs) a x q)
+inside_there env (b ∷ bs) a x q j h = ⊎_elim (λ l. inl (own_within env b a x l j h)) (λ r. inr (inside_there env bs a x r j h))
+    (one_of (own_cells env b) (cells_in env bs) a x q)
 
 -- a byte of the first listing, and one of a later listing
-first_byte : (env : Places) (b : Listing) (bs : List Listing) (a : ℕ) → IsWithin b a → byte_of (placed_code env (b ∷ bs)) a ≡ get_or (own_code env b) (a - b.address) 0
+first_byte : (env : Places) (b : Listing) (bs : List Listing) (a : ℕ) → IsWithin b a
+    → byte_of (placed_code env (b ∷ bs)) a ≡ get_or (own_code env b) (a - b.address) 0
 first_byte env b bs a w =
     let n = code_length env b.address (stmts_of b.lines) in
     let l = w.0 in
     let k = w.1 in
     ap (λ t. if t then get_or (own_code env b) (a - b.address) 0 else byte_of (placed_code env bs) a)
-    (and_both (nat_le b.address a) (nat_lt a (b.address + length (own_code env b))) (le-leb b.address a l) (lt-ltb a (b.address + length (own_code env b)) (omega arith)))
+    (and_both (nat_le b.address a) (nat_lt a (b.address + length (own_code env b))) (le-leb b.address a l)
+    (lt-ltb a (b.address + length (own_code env b)) (omega arith)))
 
-later_byte : (env : Places) (b : Listing) (bs : List Listing) (a : ℕ) → (IsWithin b a → ⊥) → byte_of (placed_code env (b ∷ bs)) a ≡ byte_of (placed_code env bs) a
+later_byte : (env : Places) (b : Listing) (bs : List Listing) (a : ℕ) → (IsWithin b a → ⊥)
+    → byte_of (placed_code env (b ∷ bs)) a ≡ byte_of (placed_code env bs) a
 later_byte env b bs a w = pick (nat_le b.address a && nat_lt a (b.address + length (own_code env b))) refl
   where
     pick : (t : Bool) → (nat_le b.address a && nat_lt a (b.address + length (own_code env b))) ≡ t
         → (if t then get_or (own_code env b) (a - b.address) 0 else byte_of (placed_code env bs) a) ≡ byte_of (placed_code env bs) a
     pick true q = absurd (w (
       let l = leb-true b.address a (and_left _ _ q) in l,
-      let k = ltb-true a (b.address + length (own_code env b)) (and_right (nat_le b.address a) _ q) in let n = code_length env b.address (stmts_of b.lines) in omega arith,
+      let k = ltb-true a (b.address + length (own_code env b)) (and_right (nat_le b.address a) _ q) in let n =
+          code_length env b.address (stmts_of b.lines) in omega arith,
     ))
     pick false q = refl
 
@@ -152,7 +162,8 @@ own_byte env b bs a x q j h =
     ∙ ap (λ n. get_or (spelled (own_cells env b)) n 0) (let e : a + j - b.address ≡ s.off + j = omega arith in e) ∙ s.same j h
 
 -- the bytes of a cell are its instruction's
-pub byte_there : (env : Places) (bs : List Listing) (a : ℕ) (x : Cell) → Disjoint bs → cell_at (cells_in env bs) a ≡ Some x → (j : ℕ) → j < length (spelling x.ins)
+pub byte_there : (env : Places) (bs : List Listing) (a : ℕ) (x : Cell) → Disjoint bs → cell_at (cells_in env bs) a ≡ Some x → (j : ℕ)
+    → j < length (spelling x.ins)
     → byte_of (placed_code env bs) (a + j) ≡ get_or (spelling x.ins) j 0
 byte_there env [] a x d q j h = absurd (cc)
 byte_there env (b ∷ bs) a x d q j h = ⊎_elim
@@ -176,8 +187,10 @@ spelled_bytes (x ∷ xs) h = bytes_append (spelling x.1.ins) (spelled xs) (spell
 
 pub byte_small : (env : Places) (bs : List Listing) → AreSpelled (cells_in env bs) → (a : ℕ) → byte_of (placed_code env bs) a < 256
 byte_small env [] h a = omega arith
-byte_small env (b ∷ bs) h a = pick (nat_le b.address a && nat_lt a (b.address + length (own_code env b))) (byte_small env bs (rest_spelled (own_cells env b) (cells_in env bs) h) a)
+byte_small env (b ∷ bs) h a = pick (nat_le b.address a && nat_lt a (b.address + length (own_code env b)))
+    (byte_small env bs (rest_spelled (own_cells env b) (cells_in env bs) h) a)
   where
     pick : (t : Bool) → byte_of (placed_code env bs) a < 256 → (if t then get_or (own_code env b) (a - b.address) 0 else byte_of (placed_code env bs) a) < 256
-    pick true k = subst (λ (y : List ℕ). get_or y (a - b.address) 0 < 256) (sym (bytes_spelled env b.address b.lines)) (spelled_bytes (own_cells env b) (first_spelled (own_cells env b) (cells_in env bs) h) (a - b.address))
+    pick true k = subst (λ (y : List ℕ). get_or y (a - b.address) 0 < 256) (sym (bytes_spelled env b.address b.lines))
+        (spelled_bytes (own_cells env b) (first_spelled (own_cells env b) (cells_in env bs) h) (a - b.address))
     pick false k = k

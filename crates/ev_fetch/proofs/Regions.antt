@@ -70,7 +70,8 @@ passed : (xs ys : List Region) (a : ℕ) → Each IsHigh xs → a < 0x1000000000
 passed [] ys a h l = refl
 passed (x ∷ xs) ys a h l = pick (nat_le x.base a && nat_lt a (x.base + 8 * x.words)) refl (passed xs ys a h.1 l)
   where
-    pick : (b : Bool) → (nat_le x.base a && nat_lt a (x.base + 8 * x.words)) ≡ b → place_in (xs ++ ys) a ≡ place_in ys a → (if b then place_by x.kind else place_in (xs ++ ys) a) ≡ place_in ys a
+    pick : (b : Bool) → (nat_le x.base a && nat_lt a (x.base + 8 * x.words)) ≡ b → place_in (xs ++ ys) a ≡ place_in ys a
+        → (if b then place_by x.kind else place_in (xs ++ ys) a) ≡ place_in ys a
     pick true q k = absurd (let low = leb-true x.base a (and_left _ _ q) in let f = h.0.from in omega arith)
     pick false q k = k
 
@@ -82,7 +83,8 @@ area_regions image = flat_map stack_regions (numbers_from 0 image.processors) ++
 
 abbrev table_regions : Image → List Region
 table_regions image =
-    region user_table (8 * 257) Kernel ∷ region kernel_table (8 * 257) Kernel ∷ region idt_base 0x1000 Kernel ∷ region page_map (8 * 257) Kernel ∷ region cells_base 0x800 Kernel
+    region user_table (8 * 257) Kernel ∷ region kernel_table (8 * 257) Kernel ∷ region idt_base 0x1000 Kernel ∷ region page_map (8 * 257) Kernel
+    ∷ region cells_base 0x800 Kernel
     ∷ region (task_words 0 0) (0x100 * image.processors) Kernel ∷ []
 
 abbrev code_regions : Image → List Region
@@ -98,7 +100,9 @@ areas_high : (image : Image) → IsImage image → Each IsHigh (area_regions ima
 areas_high image is =
     let few = is.count.1 in
     each_append IsHigh (flat_map stack_regions (numbers_from 0 image.processors)) (map (λ p. region (pcpu p) 0x10000 Kernel) (numbers_from 0 image.processors))
-    (grouped IsHigh stack_regions 0 image.processors (λ p h. numbered IsHigh (λ n. region (stack_top p n - 0x2000) 0x2000 Kernel) 0 7 (λ n k. record { from = omega arith; to = omega arith; kind = refl })))
+    (grouped IsHigh stack_regions 0 image.processors
+    (λ p h. numbered IsHigh (λ n. region (stack_top p n - 0x2000) 0x2000 Kernel) 0 7
+    (λ n k. record { from = omega arith; to = omega arith; kind = refl })))
     (numbered IsHigh (λ p. region (pcpu p) 0x10000 Kernel) 0 image.processors (λ p h. record { from = omega arith; to = omega arith; kind = refl }))
 
 tables_high : (image : Image) → IsImage image → Each IsHigh (table_regions image)
@@ -109,7 +113,10 @@ tables_high image is =
         record { from = omega arith; to = omega arith; kind = refl },
         (
           record { from = omega arith; to = omega arith; kind = refl },
-          (record { from = omega arith; to = omega arith; kind = refl }, (record { from = omega arith; to = omega arith; kind = refl }, (record { from = omega arith; to = omega arith; kind = refl }, tt))),
+          (
+            record { from = omega arith; to = omega arith; kind = refl },
+            (record { from = omega arith; to = omega arith; kind = refl }, (record { from = omega arith; to = omega arith; kind = refl }, tt)),
+          ),
         ),
       ),
     )
@@ -126,7 +133,8 @@ text_place image a is l h =
     passed (area_regions image) (table_regions image ++ (code_regions image ++ user_regions)) a (areas_high image is) (omega arith)
     ∙ passed (table_regions image) (code_regions image ++ user_regions) a (tables_high image is) (omega arith)
     ∙ passed (code_regions image) user_regions a (code_high image is) (omega arith)
-    ∙ here (region text_base 0x10000 RegionKind.Text) (map (λ i. region (page_base + 0x1000 * i) 0x1000 (RegionKind.Page i)) (numbers_from 0 256)) a l (omega arith)
+    ∙ here (region text_base 0x10000 RegionKind.Text) (map (λ i. region (page_base + 0x1000 * i) 0x1000 (RegionKind.Page i)) (numbers_from 0 256)) a l
+    (omega arith)
 
 code_place : (image : Image) (a : ℕ) → IsImage image → place_in (code_regions image ++ user_regions) a ≡ KernelWord → place_in (regions image) a ≡ KernelWord
 code_place image a is h =
@@ -136,9 +144,11 @@ code_place image a is h =
 -- the kernel's entries and exits, and the bodies
 pub entry_place : (image : Image) (a : ℕ) → IsImage image → fred_page ≤ a → a < code_end → place_in (regions image) a ≡ KernelWord
 entry_place image a is l h =
-    code_place image a is (here (region fred_page (code_end - fred_page) Kernel) (region (body_code 0) (0x20000 * length image.bodies) Kernel ∷ user_regions) a l (omega arith))
+    code_place image a is (here (region fred_page (code_end - fred_page) Kernel)
+    (region (body_code 0) (0x20000 * length image.bodies) Kernel ∷ user_regions) a l (omega arith))
 
-pub body_place : (image : Image) (a : ℕ) → IsImage image → body_code 0 ≤ a → a < body_code 0 + 0x20000 * length image.bodies → place_in (regions image) a ≡ KernelWord
+pub body_place : (image : Image) (a : ℕ) → IsImage image → body_code 0 ≤ a → a < body_code 0 + 0x20000 * length image.bodies
+    → place_in (regions image) a ≡ KernelWord
 body_place image a is l h =
     let code = region fred_page (code_end - fred_page) Kernel in
     let body = region (body_code 0) (0x20000 * length image.bodies) Kernel in
@@ -174,7 +184,8 @@ fetched_far : (present : NatSet) (access : Access) (rs : List Region) (a : ℕ) 
 fetched_far present access [] a h q = absurd (nowhere present access a q)
 fetched_far present access (r ∷ rs) a h q = pick (nat_le r.base a && nat_lt a (r.base + 8 * r.words)) refl q (fetched_far present access rs a h.1)
   where
-    pick : (b : Bool) → (nat_le r.base a && nat_lt a (r.base + 8 * r.words)) ≡ b → fault_at present access (if b then place_by r.kind else place_in rs a) ≡ None → (fault_at present access (place_in rs a) ≡ None → IsFar a) → IsFar a
+    pick : (b : Bool) → (nat_le r.base a && nat_lt a (r.base + 8 * r.words)) ≡ b → fault_at present access (if b then place_by r.kind else place_in rs a)
+        ≡ None → (fault_at present access (place_in rs a) ≡ None → IsFar a) → IsFar a
     pick true e f k = far_in r a h.0 e
     pick false e f k = k f
 
@@ -191,5 +202,6 @@ regions_lie image is =
     (each_append Lies (table_regions image) (code_regions image ++ user_regions) (high_lie (table_regions image) (tables_high image is))
     (each_append Lies (code_regions image) user_regions (high_lie (code_regions image) (code_high image is)) users_lie))
 
-pub fetches_far : (image : Image) (present : NatSet) (access : Access) (a : ℕ) → IsImage image → fault_at present access (place_in (regions image) a) ≡ None → IsFar a
+pub fetches_far : (image : Image) (present : NatSet) (access : Access) (a : ℕ) → IsImage image → fault_at present access (place_in (regions image) a) ≡ None
+    → IsFar a
 fetches_far image present access a is h = fetched_far present access (regions image) a (regions_lie image is) h

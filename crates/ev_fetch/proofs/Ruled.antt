@@ -47,9 +47,11 @@ module _ (test : Item → Bool) (passes : (item : Item) → test item ≡ true �
 
   no_finish : (items : List Item) → list_all test items ≡ true → list_any is_finish items ≡ false
   no_finish [] h = refl
-  no_finish (item ∷ items) h = ap (λ t. t || list_any is_finish items) (plain_finish item (passes item (and_left _ _ h))) ∙ no_finish items (and_right (test item) _ h)
+  no_finish (item ∷ items) h = ap (λ t. t || list_any is_finish items) (plain_finish item (passes item (and_left _ _ h)))
+      ∙ no_finish items (and_right (test item) _ h)
 
-  without_parts : (items : List Item) (parts : List Part) → has_no_parts parts ≡ true → list_all test items ≡ true → list_all test (items ++ flat_map (λ (part : Part). part.items) parts) ≡ true
+  without_parts : (items : List Item) (parts : List Part) → has_no_parts parts ≡ true → list_all test items ≡ true
+      → list_all test (items ++ flat_map (λ (part : Part). part.items) parts) ≡ true
   without_parts [] [] p h = refl
   without_parts (item ∷ items) [] p h = and_both _ _ (and_left _ _ h) (without_parts items [] p (and_right (test item) _ h))
   without_parts items (part ∷ parts) p h = absurd (cc)
@@ -92,16 +94,19 @@ nowhere : (name : ℕ → ℕ → Refusal) (fails : ℕ → Body → Option ℕ)
 nowhere name fails n [] h = tt
 nowhere name fails n (b ∷ bs) h = pick (fails n b) refl h (nowhere name fails (suc n) bs)
   where
-    pick : (o : Option ℕ) → fails n b ≡ o → refusal_at name n o (first_refused name fails (suc n) bs) ≡ None → (first_refused name fails (suc n) bs ≡ None → FailNowhere fails (suc n) bs)
+    pick : (o : Option ℕ) → fails n b ≡ o → refusal_at name n o (first_refused name fails (suc n) bs) ≡ None
+        → (first_refused name fails (suc n) bs ≡ None → FailNowhere fails (suc n) bs)
         → (fails n b ≡ None) × FailNowhere fails (suc n) bs
     pick None q r k = (q, k r)
     pick (Some i) q r k = absurd (cc)
 
-no_item : (test : Item → Bool) (i : ℕ) (items : List Item) → first_item_from i (λ i item. test item) items ≡ None → list_all (λ item. not (test item)) items ≡ true
+no_item : (test : Item → Bool) (i : ℕ) (items : List Item) → first_item_from i (λ i item. test item) items ≡ None
+    → list_all (λ item. not (test item)) items ≡ true
 no_item test i [] h = refl
 no_item test i (item ∷ items) h = pick (test item) h (no_item test (suc i) items)
   where
-    pick : (t : Bool) → (if t then Some i else first_item_from (suc i) (λ i item. test item) items) ≡ None → (first_item_from (suc i) (λ i item. test item) items ≡ None → list_all (λ item. not (test item)) items ≡ true)
+    pick : (t : Bool) → (if t then Some i else first_item_from (suc i) (λ i item. test item) items) ≡ None
+        → (first_item_from (suc i) (λ i item. test item) items ≡ None → list_all (λ item. not (test item)) items ≡ true)
         → (not t && list_all (λ item. not (test item)) items) ≡ true
     pick true q k = absurd (cc)
     pick false q k = k q
@@ -148,7 +153,8 @@ alone xs [] h = append-nil xs
 alone xs (part ∷ parts) h = absurd (cc)
 
 -- a body with a `finish` is the call handler, which has a `take`
-finish_takes : (image : Image) (bytes n : ℕ) (b : Body) → is_body bytes b ≡ true → failing_call image n b ≡ None → list_any is_finish (body_items b) ≡ true → list_any is_take (body_items b) ≡ true
+finish_takes : (image : Image) (bytes n : ℕ) (b : Body) → is_body bytes b ≡ true → failing_call image n b ≡ None → list_any is_finish (body_items b) ≡ true
+    → list_any is_take (body_items b) ≡ true
 finish_takes image bytes n b h q f =
     let h6 = and_left _ (nat_le (length (body_items b)) 256) h in
     let h5 = and_left _ (are_parts bytes (length b.items) b.parts) h6 in
@@ -158,16 +164,20 @@ finish_takes image bytes n b h q f =
     let ends = and_right _ (ends_with is_ret b.items) h3 in
     by (has_no_parts b.parts) (is_call_handler b) refl refl parts ends
   where
-    by : (x y : Bool) → has_no_parts b.parts ≡ x → is_call_handler b ≡ y → (x || y) ≡ true → ends_with is_ret b.items ≡ true → list_any is_take (body_items b) ≡ true
-    by true y p c r ends = absurd (let none : list_any is_finish (body_items b) ≡ false = ap (list_any is_finish) (alone b.items b.parts p) ∙ main_finish b.items ends in cc)
+    by : (x y : Bool) → has_no_parts b.parts ≡ x → is_call_handler b ≡ y → (x || y) ≡ true → ends_with is_ret b.items ≡ true
+        → list_any is_take (body_items b) ≡ true
+    by true y p c r ends = absurd (let none : list_any is_finish (body_items b) ≡ false = ap (list_any is_finish) (alone b.items b.parts p)
+        ∙ main_finish b.items ends in cc)
     by false true p c r ends = any_first is_take b.items (flat_map (λ (part : Part). part.items) b.parts) (takes image n b q c)
     by false false p c r ends = absurd (cc)
 
 each_spelled : (image : Image) (bytes n : ℕ) (bs : List Body) → list_all (is_body bytes) bs ≡ true
-    → FailNowhere (λ n b. first_item_from 0 (λ i item. breaks_slots image.processors item) (body_items b)) n bs → FailNowhere (failing_call image) n bs → list_all (has_spelling image.processors) bs ≡ true
+    → FailNowhere (λ n b. first_item_from 0 (λ i item. breaks_slots image.processors item) (body_items b)) n bs → FailNowhere (failing_call image) n bs
+    → list_all (has_spelling image.processors) bs ≡ true
 each_spelled image bytes n [] h s c = refl
 each_spelled image bytes n (b ∷ bs) h s c = and_both _ _
-    (and_both _ _ (no_item (breaks_slots image.processors) 0 (body_items b) s.0) (by (list_any is_take (body_items b)) (list_any is_finish (body_items b)) (finish_takes image bytes n b (and_left _ _ h) c.0)))
+    (and_both _ _ (no_item (breaks_slots image.processors) 0 (body_items b) s.0)
+    (by (list_any is_take (body_items b)) (list_any is_finish (body_items b)) (finish_takes image bytes n b (and_left _ _ h) c.0)))
     (each_spelled image bytes (suc n) bs (and_right (is_body bytes b) _ h) s.1 c.1)
   where
     by : (x y : Bool) → (y ≡ true → x ≡ true) → (x || not y) ≡ true
@@ -179,7 +189,8 @@ each_spelled image bytes n (b ∷ bs) h s c = and_both _ _
 rules_spelled : (image : Image) → IsImage image → rules image ≡ None → list_all (has_spelling image.processors) image.bodies ≡ true
 unfolding rules
 rules_spelled image is h =
-    let none = none_of (missing_body image ∷ slot_rule image ∷ register_rule image ∷ flag_rule image ∷ if_rule image ∷ eoi_rule image ∷ fault_rule image ∷ nmi_rule image ∷ call_rule image ∷ []) h in
+    let none = none_of (missing_body image ∷ slot_rule image ∷ register_rule image ∷ flag_rule image ∷ if_rule image ∷ eoi_rule image ∷ fault_rule image
+    ∷ nmi_rule image ∷ call_rule image ∷ []) h in
     each_spelled image (length image.text) 0 image.bodies is.bodies_given.1
     (nowhere SlotRule (λ n b. first_item_from 0 (λ i item. breaks_slots image.processors item) (body_items b)) 0 image.bodies none.1.0)
     (nowhere CallRule (failing_call image) 0 image.bodies none.1.1.1.1.1.1.1.1.0)

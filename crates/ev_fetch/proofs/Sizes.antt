@@ -71,7 +71,8 @@ item_size mode b key function n Take = omega arith
 item_size mode b key function n Finish = omega arith
 item_size mode b key function n Ret = omega arith
 
-pub items_size : (mode : Mode) (b : ℕ) (key : Key) (function : ℕ → ℕ) (n : ℕ) (items : List Item) → total_size (stmts_of (expansions mode b key function n items)) ≤ 512 * length items
+pub items_size : (mode : Mode) (b : ℕ) (key : Key) (function : ℕ → ℕ) (n : ℕ) (items : List Item)
+    → total_size (stmts_of (expansions mode b key function n items)) ≤ 512 * length items
 unfolding size
 items_size mode b key function n [] = omega arith
 items_size mode b key function n (item ∷ items) =
@@ -93,7 +94,8 @@ pub few_items : (bytes : ℕ) (b : Body) → is_body bytes b ≡ true → length
 few_items bytes b h = leb-true (length (body_items b)) 256 (and_right _ (nat_le (length (body_items b)) 256) h)
 
 -- the bodies from number n on stand in their own parts
-bodies_inside : (mode : Mode) (image : Image) (bytes n : ℕ) (bs : List Body) → list_all (is_body bytes) bs ≡ true → (a : ℕ) → Inside (body_listings mode image n bs) a
+bodies_inside : (mode : Mode) (image : Image) (bytes n : ℕ) (bs : List Body) → list_all (is_body bytes) bs ≡ true → (a : ℕ)
+    → Inside (body_listings mode image n bs) a
     → (body_code n ≤ a) × (a < body_code n + 0x20000 * length bs)
 bodies_inside mode image bytes n [] h a i = absurd i
 bodies_inside mode image bytes n (b ∷ bs) h a i =
@@ -139,7 +141,8 @@ between low high (b ∷ bs) h a i =
     let p = and_left (nat_le low b.address && nat_le (end_of b) high) _ h in
     let from = leb-true low b.address (and_left _ _ p) in
     let to = leb-true (end_of b) high (and_right (nat_le low b.address) _ p) in
-    ⊎_elim (λ w. let l = w.0 in let k = w.1 in (omega arith, omega arith)) (λ r. between low high bs (and_right (nat_le low b.address && nat_le (end_of b) high) _ h) a r) i
+    ⊎_elim (λ w. let l = w.0 in let k = w.1 in (omega arith, omega arith))
+    (λ r. between low high bs (and_right (nat_le low b.address && nat_le (end_of b) high) _ h) a r) i
 
 apart : (bs : List Listing) → are_apart bs ≡ true → Disjoint bs
 apart [] h = tt
@@ -151,7 +154,8 @@ either_inside (x ∷ xs) ys a h = ⊎_elim (λ w. inl (inl w)) (λ r. ⊎_elim (
 
 both_disjoint : (xs ys : List Listing) → Disjoint xs → Disjoint ys → ((a : ℕ) → Inside xs a → Inside ys a → ⊥) → Disjoint (xs ++ ys)
 both_disjoint [] ys h k f = k
-both_disjoint (x ∷ xs) ys h k f = (λ a w i. ⊎_elim (λ l. h.0 a w l) (λ r. f a (inl w) r) (either_inside xs ys a i), both_disjoint xs ys h.1 k (λ a i j. f a (inr i) j))
+both_disjoint (x ∷ xs) ys h k f =
+    (λ a w i. ⊎_elim (λ l. h.0 a w l) (λ r. f a (inl w) r) (either_inside xs ys a i), both_disjoint xs ys h.1 k (λ a i j. f a (inr i) j))
 
 -- ---- the kernel's own code
 
@@ -167,7 +171,8 @@ stubs_inside : (v n a : ℕ) → Inside (stubs v n) a → (vector_stub v ≤ a) 
 stubs_inside v zero a i = absurd i
 stubs_inside v (suc n) a i =
     let size = stub_size (has_error_code v) v in
-    ⊎_elim (λ w. let l = w.0 in let k = w.1 in (l, omega arith)) (λ r. let k = stubs_inside (suc v) n a r in let l = k.0 in let u = k.1 in (omega arith, omega arith)) i
+    ⊎_elim (λ w. let l = w.0 in let k = w.1 in (l, omega arith)) (λ r. let k = stubs_inside (suc v) n a r in let l = k.0 in let u = k.1 in
+    (omega arith, omega arith)) i
 
 stubs_disjoint : (v n : ℕ) → Disjoint (stubs v n)
 stubs_disjoint v zero = tt
@@ -204,7 +209,8 @@ fred_apart = refl
 
 kernel_inside : (mode : Mode) (a : ℕ) → Inside (kernel_listings mode) a → (fred_page ≤ a) × (a < code_end)
 unfolding idt_listings
-kernel_inside Idt a i = ⊎_elim (λ l. between fred_page code_end idt_code idt_between a l) (λ r. let k = stubs_inside 0 256 a r in let l = k.0 in let u = k.1 in (omega arith, omega arith)) (either_inside idt_code (stubs 0 256) a i)
+kernel_inside Idt a i = ⊎_elim (λ l. between fred_page code_end idt_code idt_between a l) (λ r. let k = stubs_inside 0 256 a r in let l = k.0 in let u =
+    k.1 in (omega arith, omega arith)) (either_inside idt_code (stubs 0 256) a i)
 kernel_inside Fred a i = between fred_page code_end fred_listings fred_between a i
 
 kernel_disjoint : (mode : Mode) → Disjoint (kernel_listings mode)
@@ -219,12 +225,14 @@ pub listings_disjoint : (mode : Mode) (image : Image) → IsImage image → Disj
 unfolding listings
 listings_disjoint mode image is =
     let good = is.bodies_given.1 in
-    both_disjoint (body_listings mode image 0 image.bodies) (kernel_listings mode) (bodies_disjoint mode image (length image.text) 0 image.bodies good) (kernel_disjoint mode)
+    both_disjoint (body_listings mode image 0 image.bodies) (kernel_listings mode) (bodies_disjoint mode image (length image.text) 0 image.bodies good)
+    (kernel_disjoint mode)
     (λ a l r. let low = (bodies_inside mode image (length image.text) 0 image.bodies good a l).0 in let high = (kernel_inside mode a r).1 in omega arith)
 
 -- an address of code is one of the entries and exits, or one of the bodies
 pub listings_inside : (mode : Mode) (image : Image) → IsImage image → (a : ℕ) → Inside (listings mode image) a
     → ((fred_page ≤ a) × (a < code_end)) ⊎ ((body_code 0 ≤ a) × (a < body_code 0 + 0x20000 * length image.bodies))
 unfolding listings
-listings_inside mode image is a i = ⊎_elim (λ l. inr (bodies_inside mode image (length image.text) 0 image.bodies is.bodies_given.1 a l)) (λ r. inl (kernel_inside mode a r))
+listings_inside mode image is a i = ⊎_elim (λ l. inr (bodies_inside mode image (length image.text) 0 image.bodies is.bodies_given.1 a l))
+    (λ r. inl (kernel_inside mode a r))
     (either_inside (body_listings mode image 0 image.bodies) (kernel_listings mode) a i)

@@ -79,12 +79,14 @@ are_bytes (MovImm d n) e = let f = e.fields in (rex_small 0 d (omega arith) f.0,
 are_bytes (MovReg d s) e = let f = e.fields in (rex_small s d f.1 f.0, (omega arith, regs s d))
 are_bytes (Load d b n) e = let f = e.fields in (rex_small d b f.0 f.1, (omega arith, mem d b n))
 are_bytes (Store b n s) e = let f = e.fields in (rex_small s b f.2 f.0, (omega arith, mem s b n))
-are_bytes (StoreImm b n i) e = let f = e.fields in (rex_small 0 b (omega arith) f.0, (omega arith, each_append IsByte (memory 0 b n) (four_bytes i) (mem 0 b n) (four i)))
+are_bytes (StoreImm b n i) e = let f = e.fields in
+    (rex_small 0 b (omega arith) f.0, (omega arith, each_append IsByte (memory 0 b n) (four_bytes i) (mem 0 b n) (four i)))
 are_bytes (GsLoad d n) e = let f = e.fields in (omega arith, (rex_small d 0 f.0 (omega arith), (omega arith, abs d n)))
 are_bytes (GsStore n s) e = let f = e.fields in (omega arith, (rex_small s 0 f.1 (omega arith), (omega arith, abs s n)))
 are_bytes (GsPush n) e = (omega arith, (omega arith, abs 6 n))
 are_bytes (Alu op d s) e = let f = e.fields in (rex_small s d f.1 f.0, (alu_small op, regs s d))
-are_bytes (AluImm op d i) e = let f = e.fields in (rex_small 0 d (omega arith) f.0, (omega arith, each_append IsByte (registers (alu_number op) d) (four_bytes i) (regs (alu_number op) d) (four i)))
+are_bytes (AluImm op d i) e = let f = e.fields in
+    (rex_small 0 d (omega arith) f.0, (omega arith, each_append IsByte (registers (alu_number op) d) (four_bytes i) (regs (alu_number op) d) (four i)))
 are_bytes (Shl d n) e = let f = e.fields in (rex_small 0 d (omega arith) f.0, (omega arith, each_append IsByte (registers 4 d) (n ∷ []) (regs 4 d) (f.1, tt)))
 are_bytes (Shr d n) e = let f = e.fields in (rex_small 0 d (omega arith) f.0, (omega arith, each_append IsByte (registers 5 d) (n ∷ []) (regs 5 d) (f.1, tt)))
 are_bytes (Xchg b n s) e = let f = e.fields in (rex_small s b f.2 f.0, (omega arith, mem s b n))

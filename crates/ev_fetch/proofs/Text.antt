@@ -42,11 +42,13 @@ word_of_bytes text b l = same_word (drop (b - text_base) text) (bytes_from (byte
     (λ i h. get_or-drop (b - text_base) text i 0 ∙ ap (λ n. get_or text n 0) (omega arith) ∙ sym (at_place (byte_at text) 8 b i h))
 
 -- what memory has at an address of the text
-text_there : (text : List ℕ) (words : NatMap ℕ) (a : ℕ) → ((i : ℕ) → get_or text i 0 < 256) → length text ≤ 65520 → HoldsText text words → text_base ≤ a → a < text_base + length text
+text_there : (text : List ℕ) (words : NatMap ℕ) (a : ℕ) → ((i : ℕ) → get_or text i 0 < 256) → length text ≤ 65520 → HoldsText text words → text_base ≤ a
+    → a < text_base + length text
     → code_bytes words a ≡ text_bytes text a
 text_there text words a small short holds l h =
     code_back (byte_at text) (λ x. small (x - text_base)) words a
-    (λ b al lo hi. let even : b % 8 ≡ 0 = eqb-true (b % 8) 0 al in let from : text_base ≤ b = omega arith in holds b al from (omega arith) ∙ word_of_bytes text b from)
+    (λ b al lo hi. let even : b % 8 ≡ 0 = eqb-true (b % 8) 0 al in let from : text_base ≤ b = omega arith in
+    holds b al from (omega arith) ∙ word_of_bytes text b from)
     ∙ ap (bytes_from (byte_at text) a) (sym (text_length text a))
     ∙ same_bytes (byte_at text) (text_bytes text a) a (λ j k. text_at text a j l (let n = text_length text a in omega arith))
 

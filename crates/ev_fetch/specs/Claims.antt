@@ -35,12 +35,14 @@ HoldsText text words = (a : ℕ) → is_aligned a ≡ true → text_base ≤ a �
 
 -- The kernel fetches each cell's instruction at the cell's address.
 abbrev pub KernelFetches : Type 0
-KernelFetches = (mode : Mode) (image : Image) (m : Memory) → IsImage image → AreSpelled (kernel_cells mode image) → m.regions ≡ regions image → HoldsCode mode image m.words
+KernelFetches = (mode : Mode) (image : Image) (m : Memory) → IsImage image → AreSpelled (kernel_cells mode image) → m.regions ≡ regions image
+    → HoldsCode mode image m.words
     → Fetches (code_of (listings mode image)) m
 
 -- User code fetches in the text, and reads the text's bytes.
 abbrev pub TextFetches : Type 0
-TextFetches = (image : Image) (m : Memory) → IsImage image → m.regions ≡ regions image → HoldsText image.text m.words → (a : ℕ) → text_base ≤ a → a < text_base + length image.text
+TextFetches = (image : Image) (m : Memory) → IsImage image → m.regions ≡ regions image → HoldsText image.text m.words → (a : ℕ) → text_base ≤ a
+    → a < text_base + length image.text
     → (page_fault m (record { user = true; write = false; fetch = true }) a ≡ None) × (instruction_at m.words a ≡ reading (text_bytes image.text a))
 
 -- What can be fetched lies in the text or in a region of the kernel, and these end far below the addresses that aren't canonical.
@@ -49,7 +51,8 @@ StaysInCode = (image : Image) (m : Memory) (c : Processor) → IsImage image →
 
 -- The cells of an image have spellings where the numbers of its items are in range.
 abbrev pub BodiesAreSpelled : Type 0
-BodiesAreSpelled = (mode : Mode) (image : Image) → IsImage image → list_all (has_spelling image.processors) image.bodies ≡ true → AreSpelled (kernel_cells mode image)
+BodiesAreSpelled = (mode : Mode) (image : Image) → IsImage image → list_all (has_spelling image.processors) image.bodies ≡ true
+    → AreSpelled (kernel_cells mode image)
 
 -- The cells of an accepted image have spellings.
 abbrev pub AcceptedAreSpelled : Type 0

@@ -77,7 +77,8 @@ below : (n : ℕ) → unwrap_or (below_word n) 0 < 2 ^ 64
 unfolding below_word
 below n = below_by n (ltb n (2 ^ 64)) refl
 
-number_by : (w : List ℕ) (a b : Bool) → unwrap_or (if a then below_word (number.value 10 w) else (if b then below_word (number.value 16 (drop 2 w)) else None)) 0 < 2 ^ 64
+number_by : (w : List ℕ) (a b : Bool)
+    → unwrap_or (if a then below_word (number.value 10 w) else (if b then below_word (number.value 16 (drop 2 w)) else None)) 0 < 2 ^ 64
 number_by w true b = below (number.value 10 w)
 number_by w false true = below (number.value 16 (drop 2 w))
 number_by w false false = omega arith
@@ -123,23 +124,27 @@ unfolding size
 label_after a name = omega arith
 
 -- the first instruction begins where the lines do
-first_begins : (env : Places) (a : ℕ) (c : CodeLine) (cs : List CodeLine) → ends_in_jump (c ∷ cs) ≡ true → is_some (instruction_from a (program_of env a (c ∷ cs)) a) ≡ true
+first_begins : (env : Places) (a : ℕ) (c : CodeLine) (cs : List CodeLine) → ends_in_jump (c ∷ cs) ≡ true
+    → is_some (instruction_from a (program_of env a (c ∷ cs)) a) ≡ true
 first_begins env a (Label name) [] h = absurd cc
 first_begins env a (Label name) (k ∷ cs) h =
-    subst (λ (x : ℕ). is_some (instruction_from x (program_of env (after a (Label name)) (k ∷ cs)) x) ≡ true) (label_after a name) (first_begins env (after a (Label name)) k cs h)
+    subst (λ (x : ℕ). is_some (instruction_from x (program_of env (after a (Label name)) (k ∷ cs)) x) ≡ true) (label_after a name)
+    (first_begins env (after a (Label name)) k cs h)
 first_begins env a (Mov d n) cs h = some_here a _ _
 first_begins env a (Add d s) cs h = some_here a _ _
 first_begins env a (Jmp name) cs h = some_here a _ _
 first_begins env a Syscall cs h = some_here a _ _
 
 -- what begins in the lines behind one begins in all
-later : (env : Places) (a x : ℕ) (c : CodeLine) (cs : List CodeLine) → is_some (instruction_from (after a c) (program_of env (after a c) cs) x) ≡ true → is_some (instruction_from a (program_of env a (c ∷ cs)) x) ≡ true
+later : (env : Places) (a x : ℕ) (c : CodeLine) (cs : List CodeLine) → is_some (instruction_from (after a c) (program_of env (after a c) cs) x) ≡ true
+    → is_some (instruction_from a (program_of env a (c ∷ cs)) x) ≡ true
 unfolding size
 later env a x (Label name) cs h = subst (λ (y : ℕ). is_some (instruction_from y (program_of env (after a (Label name)) cs) x) ≡ true) (label_after a name) h
 later env a x (Mov d n) cs h = some_if_at a x (Ins.MovImm d (unwrap_or (number_of n) 0)) _ h
 later env a x (Add d s) cs h = some_if_at a x (Ins.Alu AluOp.Add d s) _ h
 later env a x (Jmp name) cs h =
-    some_if_at a x (jump_to env a name) _ (subst (λ (k : ℕ). is_some (instruction_from (a + k) (program_of env (after a (Jmp name)) cs) x) ≡ true) (sym (jump_size env a name)) h)
+    some_if_at a x (jump_to env a name) _ (subst (λ (k : ℕ). is_some (instruction_from (a + k) (program_of env (after a (Jmp name)) cs) x) ≡ true)
+    (sym (jump_size env a name)) h)
 later env a x Syscall cs h = some_if_at a x Ins.Syscall _ h
 
 abbrev labels_of : List CodeLine → List (List ℕ)
@@ -151,23 +156,29 @@ place_in a cs name = place (places a (map statement_of cs)) name
 abbrev BeginsIn : Places → ℕ → List CodeLine → ℕ → Type 0
 BeginsIn env a cs x = is_some (instruction_from a (program_of env a cs) x) ≡ true
 
-label_by : (env : Places) (a : ℕ) (n name : List ℕ) (k : CodeLine) (cs : List CodeLine) (b : Bool) → is_name n name ≡ b → ends_in_jump (k ∷ cs) ≡ true → is_new_name (labels_of (Label n ∷ k ∷ cs)) name ≡ false
-    → (is_new_name (labels_of (k ∷ cs)) name ≡ false → BeginsIn env (after a (Label n)) (k ∷ cs) (place_in (after a (Label n)) (k ∷ cs) name)) → BeginsIn env a (Label n ∷ k ∷ cs) (place_in a (Label n ∷ k ∷ cs) name)
+label_by : (env : Places) (a : ℕ) (n name : List ℕ) (k : CodeLine) (cs : List CodeLine) (b : Bool) → is_name n name ≡ b → ends_in_jump (k ∷ cs) ≡ true
+    → is_new_name (labels_of (Label n ∷ k ∷ cs)) name ≡ false
+    → (is_new_name (labels_of (k ∷ cs)) name ≡ false → BeginsIn env (after a (Label n)) (k ∷ cs) (place_in (after a (Label n)) (k ∷ cs) name))
+    → BeginsIn env a (Label n ∷ k ∷ cs) (place_in a (Label n ∷ k ∷ cs) name)
 unfolding places
 label_by env a n name k cs true e h t more =
-    ap (λ (b : Bool). is_some (instruction_from a (program_of env a (Label n ∷ k ∷ cs)) (if b then a else place_in a (k ∷ cs) name))) e ∙ first_begins env a (Label n) (k ∷ cs) h
+    ap (λ (b : Bool). is_some (instruction_from a (program_of env a (Label n ∷ k ∷ cs)) (if b then a else place_in a (k ∷ cs) name))) e
+    ∙ first_begins env a (Label n) (k ∷ cs) h
 label_by env a n name k cs false e h t more =
     let new : is_new_name (labels_of (k ∷ cs)) name ≡ false = sym (ap (λ (b : Bool). not (b || list_any (λ m. is_name m name) (labels_of (k ∷ cs)))) e) ∙ t in
     ap (λ (b : Bool). is_some (instruction_from a (program_of env a (Label n ∷ k ∷ cs)) (if b then a else place_in a (k ∷ cs) name))) e
     ∙ later env a (place_in a (k ∷ cs) name) (Label n) (k ∷ cs)
-    (sym (ap (λ (y : ℕ). is_some (instruction_from (after a (Label n)) (program_of env (after a (Label n)) (k ∷ cs)) (place_in y (k ∷ cs) name))) (label_after a n)) ∙ more new)
+    (sym (ap (λ (y : ℕ). is_some (instruction_from (after a (Label n)) (program_of env (after a (Label n)) (k ∷ cs)) (place_in y (k ∷ cs) name)))
+    (label_after a n)) ∙ more new)
 
 -- an instruction begins at each label
-label_begins : (env : Places) (a : ℕ) (name : List ℕ) (cs : List CodeLine) → ends_in_jump cs ≡ true → is_new_name (labels_of cs) name ≡ false → BeginsIn env a cs (place_in a cs name)
+label_begins : (env : Places) (a : ℕ) (name : List ℕ) (cs : List CodeLine) → ends_in_jump cs ≡ true → is_new_name (labels_of cs) name ≡ false
+    → BeginsIn env a cs (place_in a cs name)
 unfolding places
 label_begins env a name [] h t = absurd cc
 label_begins env a name (Label n ∷ []) h t = absurd cc
-label_begins env a name (Label n ∷ k ∷ cs) h t = label_by env a n name k cs (is_name n name) refl h t (λ u. label_begins env (after a (Label n)) name (k ∷ cs) h u)
+label_begins env a name (Label n ∷ k ∷ cs) h t =
+    label_by env a n name k cs (is_name n name) refl h t (λ u. label_begins env (after a (Label n)) name (k ∷ cs) h u)
 label_begins env a name (Mov d n ∷ []) h t = absurd cc
 label_begins env a name (Mov d n ∷ k ∷ cs) h t = later env a _ (Mov d n) (k ∷ cs) (label_begins env (after a (Mov d n)) name (k ∷ cs) h t)
 label_begins env a name (Add d s ∷ []) h t = absurd cc
@@ -201,8 +212,15 @@ pub record IsWithin (a : ℕ) (cs : List CodeLine) : Type 0 where
 within_next : (a : ℕ) (c : CodeLine) (cs : List CodeLine) → IsWithin a (c ∷ cs) → IsWithin (after a c) cs
 within_next a c cs w = record { low = omega (arith, w.low); high = omega (arith, w.high) }
 
-jump_near : (env : Places) (program : List Ins) (a : ℕ) (name : List ℕ) (cs : List CodeLine) → IsWithin a (Jmp name ∷ cs) → IsTarget program (place env name) → IsNear (place env name) (after a (Jmp name))
-jump_near env program a name cs w t = record { ahead = omega (arith, w.low, w.high, t.low, t.high); behind = omega (arith, w.low, w.high, t.low, t.high); small = omega (arith, w.low, w.high, t.low, t.high) }
+jump_near : (env : Places) (program : List Ins) (a : ℕ) (name : List ℕ) (cs : List CodeLine) → IsWithin a (Jmp name ∷ cs)
+    → IsTarget program (place env name) → IsNear (place env name) (after a (Jmp name))
+jump_near env program a name cs w t =
+    record {
+      ahead = omega (arith, w.low, w.high, t.low, t.high);
+      behind = omega (arith, w.low, w.high, t.low, t.high);
+      small =
+          omega (arith, w.low, w.high, t.low, t.high);
+    }
 
 jump_leads : (env : Places) (program : List Ins) (a : ℕ) (name : List ℕ) (cs : List CodeLine) → IsWithin a (Jmp name ∷ cs) → IsTarget program (place env name)
     → Leads program (after a (Jmp name)) (program_of env (after a (Jmp name)) cs) → Leads program a (program_of env a (Jmp name ∷ cs))
@@ -217,18 +235,25 @@ jump_leads env program a name cs w t l =
     }
 
 leads : (env : Places) (program : List Ins) (labels : List (List ℕ)) → ((name : List ℕ) → is_new_name labels name ≡ false → IsTarget program (place env name))
-    → (a : ℕ) (cs : List CodeLine) → IsWithin a cs → ends_in_jump cs ≡ true → list_all is_code_line cs ≡ true → list_all (λ c. not (leads_nowhere labels (statement_of c))) cs ≡ true
+    → (a : ℕ) (cs : List CodeLine) → IsWithin a cs → ends_in_jump cs ≡ true → list_all is_code_line cs ≡ true
+    → list_all (λ c. not (leads_nowhere labels (statement_of c))) cs ≡ true
     → ((x : ℕ) → BeginsIn env a cs x → begins program x ≡ true) → Leads program a (program_of env a cs)
 unfolding leads_nowhere size is_instruction
 leads env program labels t a [] w h i j H = absurd cc
 leads env program labels t a (Label n ∷ []) w h i j H = absurd cc
 leads env program labels t a (Label n ∷ k ∷ cs) w h i j H =
-    let l = leads env program labels t (after a (Label n)) (k ∷ cs) (within_next a (Label n) (k ∷ cs) w) h (both _ (list_all is_code_line (k ∷ cs)) i).1 j (λ x b. H x (later env a x (Label n) (k ∷ cs) b)) in
-    record { lead = subst (λ (y : ℕ). all_lead program y (program_of env (after a (Label n)) (k ∷ cs)) ≡ true) (label_after a n) l.lead; encodable = l.encodable }
+    let l = leads env program labels t (after a (Label n)) (k ∷ cs) (within_next a (Label n) (k ∷ cs) w) h (both _ (list_all is_code_line (k ∷ cs)) i).1 j
+    (λ x b. H x (later env a x (Label n) (k ∷ cs) b)) in
+    record {
+      lead = subst (λ (y : ℕ). all_lead program y (program_of env (after a (Label n)) (k ∷ cs)) ≡ true) (label_after a n) l.lead;
+      encodable =
+          l.encodable;
+    }
 leads env program labels t a (Mov d n ∷ []) w h i j H = absurd cc
 leads env program labels t a (Mov d n ∷ k ∷ cs) w h i j H =
     let p = both (is_code_line (Mov d n)) (list_all is_code_line (k ∷ cs)) i in
-    let l = leads env program labels t (after a (Mov d n)) (k ∷ cs) (within_next a (Mov d n) (k ∷ cs) w) h p.1 j (λ x b. H x (later env a x (Mov d n) (k ∷ cs) b)) in
+    let l = leads env program labels t (after a (Mov d n)) (k ∷ cs) (within_next a (Mov d n) (k ∷ cs) w) h p.1 j
+    (λ x b. H x (later env a x (Mov d n) (k ∷ cs) b)) in
     record {
       lead = and _ _ (H (after a (Mov d n)) (later env a (after a (Mov d n)) (Mov d n) (k ∷ cs) (first_begins env (after a (Mov d n)) k cs h))) l.lead;
       encodable = (record { fields = (ltb-true d 16 (both (ltb d 16) (is_some (number_of n)) p.0).0, number_small n); counts = refl }, l.encodable);
@@ -237,17 +262,20 @@ leads env program labels t a (Add d s ∷ []) w h i j H = absurd cc
 leads env program labels t a (Add d s ∷ k ∷ cs) w h i j H =
     let p = both (is_code_line (Add d s)) (list_all is_code_line (k ∷ cs)) i in
     let r = both (ltb d 16) (ltb s 16) p.0 in
-    let l = leads env program labels t (after a (Add d s)) (k ∷ cs) (within_next a (Add d s) (k ∷ cs) w) h p.1 j (λ x b. H x (later env a x (Add d s) (k ∷ cs) b)) in
+    let l = leads env program labels t (after a (Add d s)) (k ∷ cs) (within_next a (Add d s) (k ∷ cs) w) h p.1 j
+    (λ x b. H x (later env a x (Add d s) (k ∷ cs) b)) in
     record {
       lead = and _ _ (H (after a (Add d s)) (later env a (after a (Add d s)) (Add d s) (k ∷ cs) (first_begins env (after a (Add d s)) k cs h))) l.lead;
       encodable = (record { fields = (ltb-true d 16 r.0, ltb-true s 16 r.1); counts = refl }, l.encodable);
     }
 leads env program labels t a (Jmp n ∷ []) w h i j H =
-    jump_leads env program a n [] w (t n (unnegated (is_new_name labels n) (both (not (is_new_name labels n)) true j).0)) (record { lead = refl; encodable = tt })
+    jump_leads env program a n [] w (t n (unnegated (is_new_name labels n) (both (not (is_new_name labels n)) true j).0))
+    (record { lead = refl; encodable = tt })
 leads env program labels t a (Jmp n ∷ k ∷ cs) w h i j H =
     let q = both (not (is_new_name labels n)) (list_all (λ c. not (leads_nowhere labels (statement_of c))) (k ∷ cs)) j in
     jump_leads env program a n (k ∷ cs) w (t n (unnegated (is_new_name labels n) q.0))
-    (leads env program labels t (after a (Jmp n)) (k ∷ cs) (within_next a (Jmp n) (k ∷ cs) w) h (both _ (list_all is_code_line (k ∷ cs)) i).1 q.1 (λ x b. H x (later env a x (Jmp n) (k ∷ cs) b)))
+    (leads env program labels t (after a (Jmp n)) (k ∷ cs) (within_next a (Jmp n) (k ∷ cs) w) h (both _ (list_all is_code_line (k ∷ cs)) i).1 q.1
+    (λ x b. H x (later env a x (Jmp n) (k ∷ cs) b)))
 leads env program labels t a (Syscall ∷ []) w h i j H = absurd cc
 leads env program labels t a (Syscall ∷ k ∷ cs) w h i j H =
     let l = leads env program labels t (after a Syscall) (k ∷ cs) (within_next a Syscall (k ∷ cs) w) h i j (λ x b. H x (later env a x Syscall (k ∷ cs) b)) in
@@ -258,7 +286,8 @@ leads env program labels t a (Syscall ∷ k ∷ cs) w h i j H =
 
 -- ---- labels of jumps are there
 
-all_there : (labels : List (List ℕ)) (cs : List CodeLine) (n : ℕ) (before : List Stmt) → first_at (λ x s. leads_nowhere labels s) n before (map statement_of cs) ≡ None
+all_there : (labels : List (List ℕ)) (cs : List CodeLine) (n : ℕ) (before : List Stmt)
+    → first_at (λ x s. leads_nowhere labels s) n before (map statement_of cs) ≡ None
     → list_all (λ c. not (leads_nowhere labels (statement_of c))) cs ≡ true
 unfolding first_at
 all_there labels [] n before h = refl
@@ -273,7 +302,8 @@ unfolding is_built_item
 bodies_built [] = refl
 bodies_built (x ∷ logged) = bodies_built logged
 
-pub is_program : (d : FirstForm) → IsForm d → IsProgram (text_bytes (statements d)) (place (places text_base (statements d)) d.task) (program_of (places text_base (statements d)) text_base d.code)
+pub is_program : (d : FirstForm) → IsForm d → IsProgram (text_bytes (statements d)) (place (places text_base (statements d)) d.task)
+    (program_of (places text_base (statements d)) text_base d.code)
 is_program d f =
     let env : Places = places text_base (statements d) in
     let program : List Ins = program_of (places text_base (statements d)) text_base d.code in
@@ -282,7 +312,8 @@ is_program d f =
     let target : (name : List ℕ) → is_new_name (labels_of d.code) name ≡ false → IsTarget program (place env name) = λ name t.
     let b = place_bounds (statements d) text_base name t in
     record { begun = label_begins env text_base name d.code f.last t; low = b.0; high = omega (arith, b.1, few) } in
-    let l = leads env program (labels_of d.code) target text_base d.code (record { low = omega arith; high = omega (arith, few) }) f.last f.lines.code (all_there (labels_of d.code) d.code 0 [] k.labels_there) (λ x b. b) in
+    let l = leads env program (labels_of d.code) target text_base d.code (record { low = omega arith; high = omega (arith, few) }) f.last f.lines.code
+    (all_there (labels_of d.code) d.code 0 [] k.labels_there) (λ x b. b) in
     record {
       text_is = spelled_is env text_base d.code;
       built = built_is env text_base d.code;

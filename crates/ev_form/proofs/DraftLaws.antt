@@ -17,7 +17,8 @@ use Rattle.ev_form.proofs.LineLaws.{IsReader, code_reader, log_reader, task_read
 
 -- ---- lines in order
 
-behind_by : (w : List ℕ) (ws : List (List ℕ)) (l : List ℕ) (ls r : List (List ℕ)) (e : Bool) → bytes_eq l w ≡ e → (let o : Option (List (List ℕ)) = elim e [ true ↦ behind ws ls | false ↦ None ] in o) ≡ Some r
+behind_by : (w : List ℕ) (ws : List (List ℕ)) (l : List ℕ) (ls r : List (List ℕ)) (e : Bool) → bytes_eq l w ≡ e
+    → (let o : Option (List (List ℕ)) = elim e [ true ↦ behind ws ls | false ↦ None ] in o) ≡ Some r
     → (behind ws ls ≡ Some r → ls ≡ ws ++ r) → l ∷ ls ≡ w ∷ ws ++ r
 behind_by w ws l ls r true e h more = ap (λ (x : List ℕ). x ∷ ls) (same_bytes l w e) ∙ ap (λ (x : List (List ℕ)). w ∷ x) (more h)
 behind_by w ws l ls r false e h more = absurd cc
@@ -32,26 +33,36 @@ pub record IsSeries {A : Type 0} (test : A → Bool) (line : A → List ℕ) (ls
   pub are : list_all test p.0 ≡ true
   pub lines : ls ≡ map line p.0 ++ p.1
 
-series_by : {A : Type 0} (f : List ℕ → Option A) (test : A → Bool) (line : A → List ℕ) → IsReader f test line → (l : List ℕ) (ls : List (List ℕ)) (o : Option A) → f l ≡ o
+series_by : {A : Type 0} (f : List ℕ → Option A) (test : A → Bool) (line : A → List ℕ) → IsReader f test line
+    → (l : List ℕ) (ls : List (List ℕ)) (o : Option A) → f l ≡ o
     → IsSeries test line ls (series f ls) → IsSeries test line (l ∷ ls) (by_first f l ls o)
 series_by f test line R l ls None e h = record { are = refl; lines = refl }
 series_by f test line R l ls (Some x) e h =
     let k = R.sound l x e in
-    record { are = and (test x) (list_all test (series f ls).0) k.0 h.are; lines = ap (λ (y : List ℕ). y ∷ ls) k.1 ∙ ap (λ (y : List (List ℕ)). line x ∷ y) h.lines }
+    record {
+      are = and (test x) (list_all test (series f ls).0) k.0 h.are;
+      lines =
+          ap (λ (y : List ℕ). y ∷ ls) k.1 ∙ ap (λ (y : List (List ℕ)). line x ∷ y) h.lines;
+    }
 
-series_sound : {A : Type 0} (f : List ℕ → Option A) (test : A → Bool) (line : A → List ℕ) → IsReader f test line → (ls : List (List ℕ)) → IsSeries test line ls (series f ls)
+series_sound : {A : Type 0} (f : List ℕ → Option A) (test : A → Bool) (line : A → List ℕ) → IsReader f test line → (ls : List (List ℕ))
+    → IsSeries test line ls (series f ls)
 series_sound f test line R [] = record { are = refl; lines = refl }
 series_sound {A} f test line R (l ∷ ls) =
-    subst (λ (p : List A × List (List ℕ)). IsSeries test line (l ∷ ls) p) (sym (series_first f l ls (f l) refl)) (series_by f test line R l ls (f l) refl (series_sound f test line R ls))
+    subst (λ (p : List A × List (List ℕ)). IsSeries test line (l ∷ ls) p) (sym (series_first f l ls (f l) refl))
+    (series_by f test line R l ls (f l) refl (series_sound f test line R ls))
 
-series_again : {A : Type 0} (f : List ℕ → Option A) (test : A → Bool) (line : A → List ℕ) → IsReader f test line → (xs : List A) (stop : List ℕ) (rest : List (List ℕ))
+series_again : {A : Type 0} (f : List ℕ → Option A) (test : A → Bool) (line : A → List ℕ) → IsReader f test line
+    → (xs : List A) (stop : List ℕ) (rest : List (List ℕ))
     → list_all test xs ≡ true → f stop ≡ None → series f (map line xs ++ stop ∷ rest) ≡ (xs, stop ∷ rest)
 series_again f test line R [] stop rest h e = series_first f stop rest None e
 series_again {A} f test line R (x ∷ xs) stop rest h e =
     let k = both (test x) (list_all test xs) h in
-    series_first f (line x) (map line xs ++ stop ∷ rest) (Some x) (R.again x k.0) ∙ ap (λ (p : List A × List (List ℕ)). onto x p) (series_again f test line R xs stop rest k.1 e)
+    series_first f (line x) (map line xs ++ stop ∷ rest) (Some x) (R.again x k.0) ∙ ap (λ (p : List A × List (List ℕ)). onto x p)
+    (series_again f test line R xs stop rest k.1 e)
 
-series_lacks : {A : Type 0} (f : List ℕ → Option A) (test : A → Bool) (line : A → List ℕ) → IsReader f test line → (xs : List A) → list_all test xs ≡ true → all_lack 10 (map line xs) ≡ true
+series_lacks : {A : Type 0} (f : List ℕ → Option A) (test : A → Bool) (line : A → List ℕ) → IsReader f test line → (xs : List A) → list_all test xs ≡ true
+    → all_lack 10 (map line xs) ≡ true
 series_lacks f test line R [] h = refl
 series_lacks f test line R (x ∷ xs) h =
     let k = both (test x) (list_all test xs) h in
@@ -94,19 +105,24 @@ turns_again : (n : ℕ) → series turn_in (turn_lines n) ≡ (replicate n tt, c
 turns_again zero = refl
 turns_again (suc n) = ap (λ (p : List (Unit {0}) × List (List ℕ)). onto tt p) (turns_again n)
 
-with_turns_again : (code : List CodeLine) (task logged : List ℕ) (n : ℕ) → with_turns code task logged (series turn_in (turn_lines n)) ≡ Some (record { code = code; task = task; logged = logged; turns = n })
+with_turns_again : (code : List CodeLine) (task logged : List ℕ) (n : ℕ) → with_turns code task logged (series turn_in (turn_lines n)) ≡ Some
+    (record { code = code; task = task; logged = logged; turns = n })
 with_turns_again code task logged n =
-    ap (with_turns code task logged) (turns_again n) ∙ ap (λ (k : ℕ). Some (let d : FirstForm = record { code = code; task = task; logged = logged; turns = k } in d)) (length-replicate n tt)
+    ap (with_turns code task logged) (turns_again n)
+    ∙ ap (λ (k : ℕ). Some (let d : FirstForm = record { code = code; task = task; logged = logged; turns = k } in d)) (length-replicate n tt)
 
 with_logs_again : (code : List CodeLine) (task logged : List ℕ) (n : ℕ) → list_all is_local logged ≡ true
     → with_logs code task (series log_in (log_lines logged n)) ≡ Some (record { code = code; task = task; logged = logged; turns = n })
 with_logs_again code task logged n h =
-    ap (with_logs code task) (series_again log_in is_local log_line log_reader logged (codes "ret") (codes "endbody" ∷ codes "fill" ∷ codes "script" ∷ turn_lines n) h refl) ∙ with_turns_again code task logged n
+    ap (with_logs code task) (series_again log_in is_local log_line log_reader logged (codes "ret")
+    (codes "endbody" ∷ codes "fill" ∷ codes "script" ∷ turn_lines n) h refl) ∙ with_turns_again code task logged n
 
 with_task_again : (code : List CodeLine) (task logged : List ℕ) (n : ℕ) → is_name task ≡ true → list_all is_local logged ≡ true
-    → with_task code (first_in task_in (task_line task ∷ codes "body sys user" ∷ log_lines logged n)) ≡ Some (record { code = code; task = task; logged = logged; turns = n })
+    → with_task code (first_in task_in (task_line task ∷ codes "body sys user" ∷ log_lines logged n)) ≡ Some
+    (record { code = code; task = task; logged = logged; turns = n })
 with_task_again code task logged n t h =
-    ap (λ (o : Option (List ℕ)). with_task code (option_map (λ x. (x, codes "body sys user" ∷ log_lines logged n)) o)) (task_reader.again task t) ∙ with_logs_again code task logged n h
+    ap (λ (o : Option (List ℕ)). with_task code (option_map (λ x. (x, codes "body sys user" ∷ log_lines logged n)) o)) (task_reader.again task t)
+    ∙ with_logs_again code task logged n h
 
 endtext_is_no_code : code_in (codes "endtext") ≡ None
 unfolding one_word label_in is_name
@@ -116,7 +132,8 @@ pub draft_again : (d : FirstForm) → HasLines d → draft (text_of d) ≡ Some 
 unfolding draft
 draft_again d h =
     ap (λ (ls : List (List ℕ)). with_head (behind head_lines ls)) (parts_of_text d h ∙ lines_closed d)
-    ∙ ap with_code (series_again code_in is_code_line code_line code_reader d.code (codes "endtext") (task_line d.task ∷ codes "body sys user" ∷ log_lines d.logged d.turns) h.code endtext_is_no_code)
+    ∙ ap with_code (series_again code_in is_code_line code_line code_reader d.code (codes "endtext")
+    (task_line d.task ∷ codes "body sys user" ∷ log_lines d.logged d.turns) h.code endtext_is_no_code)
     ∙ with_task_again d.code d.task d.logged d.turns h.task h.logged
 
 -- ---- what is read makes up the bytes
@@ -143,16 +160,19 @@ pub record HasTurns (code : List CodeLine) (task logged : List ℕ) (ls : List (
   pub logged_is : d.logged ≡ logged
   pub lines : ls ≡ turn_lines d.turns
 
-turns_sound : (code : List CodeLine) (task logged : List ℕ) (ls : List (List ℕ)) (d : FirstForm) → with_turns code task logged (series turn_in ls) ≡ Some d → HasTurns code task logged ls d
+turns_sound : (code : List CodeLine) (task logged : List ℕ) (ls : List (List ℕ)) (d : FirstForm) → with_turns code task logged (series turn_in ls) ≡ Some d
+    → HasTurns code task logged ls d
 turns_sound code task logged ls d h =
     let s = series_sound turn_in (λ _. true) (λ _. turn_line) turn_reader ls in
-    let k = if_some (is_end (series turn_in ls).1) (let e : FirstForm = record { code = code; task = task; logged = logged; turns = length (series turn_in ls).0 } in e) d h in
+    let k = if_some (is_end (series turn_in ls).1) (let e : FirstForm =
+    record { code = code; task = task; logged = logged; turns = length (series turn_in ls).0 } in e) d h in
     subst (λ (e : FirstForm). HasTurns code task logged ls e) k.1
     (record {
       code_is = refl;
       task_is = refl;
       logged_is = refl;
-      lines = s.lines ∙ ap (λ (r : List (List ℕ)). r ++ (series turn_in ls).1) (turned (series turn_in ls).0) ∙ ap (λ (r : List (List ℕ)). replicate (length (series turn_in ls).0) turn_line ++ r) (end_is (series turn_in ls).1 k.0);
+      lines = s.lines ∙ ap (λ (r : List (List ℕ)). r ++ (series turn_in ls).1) (turned (series turn_in ls).0)
+          ∙ ap (λ (r : List (List ℕ)). replicate (length (series turn_in ls).0) turn_line ++ r) (end_is (series turn_in ls).1 k.0);
     })
 
 pub record HasLogs (code : List CodeLine) (task : List ℕ) (ls : List (List ℕ)) (d : FirstForm) : Type 0 where
@@ -161,7 +181,8 @@ pub record HasLogs (code : List CodeLine) (task : List ℕ) (ls : List (List ℕ
   pub are_local : list_all is_local d.logged ≡ true
   pub lines : ls ≡ log_lines d.logged d.turns
 
-script_sound : (code : List CodeLine) (task : List ℕ) (ls : List (List ℕ)) (p : List ℕ × List (List ℕ)) (d : FirstForm) (o : Option (List (List ℕ))) → behind body_end_lines p.1 ≡ o → IsSeries is_local log_line ls p
+script_sound : (code : List CodeLine) (task : List ℕ) (ls : List (List ℕ)) (p : List ℕ × List (List ℕ)) (d : FirstForm) (o : Option (List (List ℕ)))
+    → behind body_end_lines p.1 ≡ o → IsSeries is_local log_line ls p
     → with_script code task p.0 o ≡ Some d → HasLogs code task ls d
 script_sound code task ls p d None e s h = absurd cc
 script_sound code task ls p d (Some r) e s h =
@@ -170,7 +191,8 @@ script_sound code task ls p d (Some r) e s h =
       code_is = t.code_is;
       task_is = t.task_is;
       are_local = ap (list_all is_local) t.logged_is ∙ s.are;
-      lines = s.lines ∙ ap (λ (x : List (List ℕ)). map log_line p.0 ++ x) (behind_sound body_end_lines p.1 r e ∙ ap (λ (x : List (List ℕ)). body_end_lines ++ x) t.lines)
+      lines = s.lines ∙ ap (λ (x : List (List ℕ)). map log_line p.0 ++ x)
+          (behind_sound body_end_lines p.1 r e ∙ ap (λ (x : List (List ℕ)). body_end_lines ++ x) t.lines)
           ∙ ap (λ (x : List ℕ). log_lines x d.turns) (sym t.logged_is);
     }
 
@@ -180,20 +202,24 @@ pub record HasTask (code : List CodeLine) (ls : List (List ℕ)) (d : FirstForm)
   pub are_local : list_all is_local d.logged ≡ true
   pub lines : ls ≡ task_line d.task ∷ codes "body sys user" ∷ log_lines d.logged d.turns
 
-body_sound : (code : List CodeLine) (task l : List ℕ) (ls : List (List ℕ)) (d : FirstForm) (o : Option (List (List ℕ))) → behind (codes "body sys user" ∷ []) ls ≡ o → is_name task ≡ true → l ≡ task_line task
+body_sound : (code : List CodeLine) (task l : List ℕ) (ls : List (List ℕ)) (d : FirstForm) (o : Option (List (List ℕ)))
+    → behind (codes "body sys user" ∷ []) ls ≡ o → is_name task ≡ true → l ≡ task_line task
     → with_body code task o ≡ Some d → HasTask code (l ∷ ls) d
 body_sound code task l ls d None e n t h = absurd cc
 body_sound code task l ls d (Some r) e n t h =
-    let k = script_sound code task r (series log_in r) d (behind body_end_lines (series log_in r).1) refl (series_sound log_in is_local log_line log_reader r) h in
+    let k = script_sound code task r (series log_in r) d (behind body_end_lines (series log_in r).1) refl
+    (series_sound log_in is_local log_line log_reader r) h in
     record {
       code_is = k.code_is;
       task_named = ap is_name k.task_is ∙ n;
       are_local = k.are_local;
-      lines = ap (λ (x : List ℕ). x ∷ ls) (t ∙ ap task_line (sym k.task_is)) ∙ ap (λ (x : List (List ℕ)). task_line d.task ∷ x) (behind_sound (codes "body sys user" ∷ []) ls r e)
+      lines = ap (λ (x : List ℕ). x ∷ ls) (t ∙ ap task_line (sym k.task_is)) ∙ ap (λ (x : List (List ℕ)). task_line d.task ∷ x)
+          (behind_sound (codes "body sys user" ∷ []) ls r e)
           ∙ ap (λ (x : List (List ℕ)). task_line d.task ∷ codes "body sys user" ∷ x) k.lines;
     }
 
-task_sound_by : (code : List CodeLine) (l : List ℕ) (ls : List (List ℕ)) (d : FirstForm) (o : Option (List ℕ)) → task_in l ≡ o → with_task code (option_map (λ x. (x, ls)) o) ≡ Some d → HasTask code (l ∷ ls) d
+task_sound_by : (code : List CodeLine) (l : List ℕ) (ls : List (List ℕ)) (d : FirstForm) (o : Option (List ℕ)) → task_in l ≡ o
+    → with_task code (option_map (λ x. (x, ls)) o) ≡ Some d → HasTask code (l ∷ ls) d
 task_sound_by code l ls d None e h = absurd cc
 task_sound_by code l ls d (Some name) e h =
     let k = task_reader.sound l name e in body_sound code name l ls d (behind (codes "body sys user" ∷ []) ls) refl k.0 k.1 h
@@ -206,21 +232,27 @@ pub record HasCode (ls : List (List ℕ)) (d : FirstForm) : Type 0 where
   pub own : HasLines d
   pub lines : head_lines ++ ls ≡ all_lines d
 
-text_sound : (ls : List (List ℕ)) (p : List CodeLine × List (List ℕ)) (d : FirstForm) (o : Option (List (List ℕ))) → behind (codes "endtext" ∷ []) p.1 ≡ o → IsSeries is_code_line code_line ls p
+text_sound : (ls : List (List ℕ)) (p : List CodeLine × List (List ℕ)) (d : FirstForm) (o : Option (List (List ℕ))) → behind (codes "endtext" ∷ []) p.1 ≡ o
+    → IsSeries is_code_line code_line ls p
     → with_text p.0 o ≡ Some d → HasCode ls d
 text_sound ls p d None e s h = absurd cc
 text_sound ls p d (Some r) e s h =
     let t = task_sound p.0 r d h in
     record {
       own = record { code = ap (list_all is_code_line) t.code_is ∙ s.are; task = t.task_named; logged = t.are_local };
-      lines = ap (λ (x : List (List ℕ)). head_lines ++ x) (s.lines ∙ ap (λ (x : List (List ℕ)). map code_line p.0 ++ x) (behind_sound (codes "endtext" ∷ []) p.1 r e ∙ ap (λ (x : List (List ℕ)). codes "endtext" ∷ x) t.lines)
-          ∙ ap (λ (x : List CodeLine). map code_line x ++ (codes "endtext" ∷ task_line d.task ∷ codes "body sys user" ∷ log_lines d.logged d.turns)) (sym t.code_is));
+      lines = ap (λ (x : List (List ℕ)). head_lines ++ x)
+          (s.lines ∙ ap (λ (x : List (List ℕ)). map code_line p.0 ++ x)
+          (behind_sound (codes "endtext" ∷ []) p.1 r e ∙ ap (λ (x : List (List ℕ)). codes "endtext" ∷ x) t.lines)
+          ∙ ap (λ (x : List CodeLine). map code_line x ++ (codes "endtext" ∷ task_line d.task ∷ codes "body sys user" ∷ log_lines d.logged d.turns))
+          (sym t.code_is));
     }
 
-head_sound : (ls : List (List ℕ)) (d : FirstForm) (o : Option (List (List ℕ))) → behind head_lines ls ≡ o → with_head o ≡ Some d → HasLines d × (ls ≡ all_lines d)
+head_sound : (ls : List (List ℕ)) (d : FirstForm) (o : Option (List (List ℕ))) → behind head_lines ls ≡ o → with_head o ≡ Some d
+    → HasLines d × (ls ≡ all_lines d)
 head_sound ls d None e h = absurd cc
 head_sound ls d (Some r) e h =
-    let k = text_sound r (series code_in r) d (behind (codes "endtext" ∷ []) (series code_in r).1) refl (series_sound code_in is_code_line code_line code_reader r) h in
+    let k = text_sound r (series code_in r) d (behind (codes "endtext" ∷ []) (series code_in r).1) refl
+    (series_sound code_in is_code_line code_line code_reader r) h in
     (k.own, behind_sound head_lines ls r e ∙ k.lines)
 
 pub draft_sound : (bytes : List ℕ) (d : FirstForm) → draft bytes ≡ Some d → HasLines d × (bytes ≡ text_of d)

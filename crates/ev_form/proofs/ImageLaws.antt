@@ -33,12 +33,14 @@ pub record Assembles (stmts : List Stmt) (base limit : ℕ) : Type 0 where
   pub fits : first_too_large 0 limit stmts ≡ None
   pub is : assembled stmts base limit ≡ Ok (text_at base stmts)
 
-assembles_by : (stmts : List Stmt) (base limit : ℕ) (a b c : Option ℕ) → first_at is_second_label 0 [] stmts ≡ a → first_at (λ before s. leads_nowhere (stmt_labels stmts) s) 0 [] stmts ≡ b → first_too_large 0 limit stmts ≡ c
+assembles_by : (stmts : List Stmt) (base limit : ℕ) (a b c : Option ℕ) → first_at is_second_label 0 [] stmts ≡ a
+    → first_at (λ before s. leads_nowhere (stmt_labels stmts) s) 0 [] stmts ≡ b → first_too_large 0 limit stmts ≡ c
     → is_assembled (assembled stmts base limit) ≡ true → Assembles stmts base limit
 unfolding assembled
 assembles_by stmts base limit (Some n) b c e f g h = absurd (let k : is_assembled (assembled stmts base limit) ≡ false = rw (e, assembled) refl in cc)
 assembles_by stmts base limit None (Some n) c e f g h = absurd (let k : is_assembled (assembled stmts base limit) ≡ false = rw (e, f, assembled) refl in cc)
-assembles_by stmts base limit None None (Some n) e f g h = absurd (let k : is_assembled (assembled stmts base limit) ≡ false = rw (e, f, g, assembled) refl in cc)
+assembles_by stmts base limit None None (Some n) e f g h =
+    absurd (let k : is_assembled (assembled stmts base limit) ≡ false = rw (e, f, g, assembled) refl in cc)
 assembles_by stmts base limit None None None e f g h = record { labels_once = e; labels_there = f; fits = g; is = rw (e, f, g, assembled) refl }
 
 pub assembles : (stmts : List Stmt) (base limit : ℕ) → is_assembled (assembled stmts base limit) ≡ true → Assembles stmts base limit
@@ -47,7 +49,8 @@ assembles stmts base limit h = assembles_by stmts base limit _ _ _ refl refl ref
 pub code_length : (env : Places) (a : ℕ) (stmts : List Stmt) → length (code env a stmts) ≡ total_size stmts
 unfolding code
 code_length env a [] = refl
-code_length env a (s ∷ ss) = length-append (stmt_bytes env a s) (code env (a + size s) ss) ∙ (let p = bytes_size env a s in let q = code_length env (a + size s) ss in omega (arith, p, q))
+code_length env a (s ∷ ss) = length-append (stmt_bytes env a s) (code env (a + size s) ss)
+    ∙ (let p = bytes_size env a s in let q = code_length env (a + size s) ss in omega (arith, p, q))
 
 -- ---- the bytes of the text are bytes
 
@@ -125,7 +128,8 @@ unfolding is_key is_user_only is_user_side
 first_is_body n logged h le =
     and _ _ (and _ _ (and _ _ (and _ _ (and _ _ refl (ends logged)) (operands n _ logged h)) refl) refl) (le-leb _ _ (omega (arith, items_length logged)))
 
-pub image_is : (text : List ℕ) (start : ℕ) (logged : List ℕ) → length text ≤ 65520 → are_bytes text ≡ true → 0x400000 ≤ start → start ≤ 0x400000 + length text → list_all is_local logged ≡ true → length logged + 1 ≤ 256
+pub image_is : (text : List ℕ) (start : ℕ) (logged : List ℕ) → length text ≤ 65520 → are_bytes text ≡ true → 0x400000 ≤ start
+    → start ≤ 0x400000 + length text → list_all is_local logged ≡ true → length logged + 1 ≤ 256
     → IsImage (image_with text start (map Log logged))
 unfolding image_with key_number covers is_key is_user_only is_user_side ends_with is_ret is_finish has_operands
 image_is text start logged fits bytes low high local items =
@@ -144,10 +148,12 @@ image_is text start logged fits bytes low high local items =
     }
 
 -- where labels and limits are as they should be
-pub form_image : (d : FirstForm) → HasLines d → is_assembled (assembled (statements d) text_base 65520) ≡ true → is_new_name (stmt_labels (statements d)) d.task ≡ false → length d.logged + 1 ≤ 256 → IsImage (image_of d)
+pub form_image : (d : FirstForm) → HasLines d → is_assembled (assembled (statements d) text_base 65520) ≡ true
+    → is_new_name (stmt_labels (statements d)) d.task ≡ false → length d.logged + 1 ≤ 256 → IsImage (image_of d)
 form_image d h s t le =
     let k = assembles (statements d) text_base 65520 s in
     let size_fits = total_fits (statements d) 0 65520 k.fits in
     let long = code_length (places text_base (statements d)) text_base (statements d) in
     let at = place_bounds (statements d) text_base d.task t in
-    image_is (text_bytes (statements d)) (place (places text_base (statements d)) d.task) d.logged (omega arith) (code_bytes (places text_base (statements d)) text_base d.code h.code) at.0 (omega (arith, at.1, long)) h.logged le
+    image_is (text_bytes (statements d)) (place (places text_base (statements d)) d.task) d.logged (omega arith)
+    (code_bytes (places text_base (statements d)) text_base d.code h.code) at.0 (omega (arith, at.1, long)) h.logged le

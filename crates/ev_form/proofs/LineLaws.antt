@@ -33,10 +33,12 @@ some_of None r h = absurd cc
 some_of (Some k) r h = ap Some (eqb-true k r h)
 
 pub register_again : (r : ℕ) → r < 16 → register_of (register_name r) ≡ Some r
-register_again r lt = some_of _ r (both (is_some_of (register_of (register_name r)) r) (lacks 10 (register_name r) && lacks 0x20 (register_name r)) (up_to_at 16 r named all_named lt)).0
+register_again r lt = some_of _ r (both (is_some_of (register_of (register_name r)) r) (lacks 10 (register_name r) && lacks 0x20 (register_name r))
+    (up_to_at 16 r named all_named lt)).0
 
 pub register_lacks : (r : ℕ) → r < 16 → (lacks 10 (register_name r) ≡ true) × (lacks 0x20 (register_name r) ≡ true)
-register_lacks r lt = both (lacks 10 (register_name r)) (lacks 0x20 (register_name r)) ((both (is_some_of (register_of (register_name r)) r) (lacks 10 (register_name r) && lacks 0x20 (register_name r)) (up_to_at 16 r named all_named lt)).1)
+register_lacks r lt = both (lacks 10 (register_name r)) (lacks 0x20 (register_name r))
+    ((both (is_some_of (register_of (register_name r)) r) (lacks 10 (register_name r) && lacks 0x20 (register_name r)) (up_to_at 16 r named all_named lt)).1)
 
 pub same_bytes : (a b : List ℕ) → bytes_eq a b ≡ true → a ≡ b
 same_bytes a b h = (bytes_eq-Decides a b).0 h
@@ -47,7 +49,8 @@ pub record IsPlace (n : ℕ) (ws : List (List ℕ)) (w : List ℕ) (r : ℕ) : T
   pub within : at < length ws
   pub word : w ≡ get_or ws at []
 
-place_is_by : (n : ℕ) (v : List ℕ) (ws : List (List ℕ)) (w : List ℕ) (r : ℕ) (e : Bool) → bytes_eq w v ≡ e → (let o : Option ℕ = elim e [ true ↦ Some n | false ↦ place_from (suc n) ws w ] in o) ≡ Some r
+place_is_by : (n : ℕ) (v : List ℕ) (ws : List (List ℕ)) (w : List ℕ) (r : ℕ) (e : Bool) → bytes_eq w v ≡ e
+    → (let o : Option ℕ = elim e [ true ↦ Some n | false ↦ place_from (suc n) ws w ] in o) ≡ Some r
     → ((k : ℕ) → place_from (suc n) ws w ≡ Some k → IsPlace (suc n) ws w k) → IsPlace n (v ∷ ws) w r
 place_is_by n v ws w r true e h more = record { at = 0; is = let k : n ≡ r = cc in omega arith; within = omega arith; word = same_bytes w v e }
 place_is_by n v ws w r false e h more = let p = more r h in record { at = suc p.at; is = omega (arith, p.is); within = omega (arith, p.within); word = p.word }
@@ -91,7 +94,8 @@ hexadecimal_lacks c (a ∷ b ∷ w) f z x h =
     and (not (eqb a c)) (not (eqb b c) && lacks c w) (ap (λ n. not (eqb n c)) k.0 ∙ ap not z)
     (and (not (eqb b c)) (lacks c w) (ap (λ n. not (eqb n c)) k.1 ∙ ap not x) (digits_lack 16 c w f k.2))
 
-number_lacks_by : (c : ℕ) (w : List ℕ) (a b : Bool) → is_decimal w ≡ a → is_hexadecimal w ≡ b → ltb (digit c) 10 ≡ false → ltb (digit c) 16 ≡ false → eqb 0x30 c ≡ false → eqb 0x78 c ≡ false
+number_lacks_by : (c : ℕ) (w : List ℕ) (a b : Bool) → is_decimal w ≡ a → is_hexadecimal w ≡ b → ltb (digit c) 10 ≡ false → ltb (digit c) 16 ≡ false
+    → eqb 0x30 c ≡ false → eqb 0x78 c ≡ false
     → is_some (number_of w) ≡ true → lacks c w ≡ true
 unfolding number_of is_decimal
 number_lacks_by c w true b e f d g z x h = digits_lack 10 c w d ((both (is_digits 10 w) _ e).0)
@@ -122,19 +126,22 @@ more_apart : (w : List ℕ) (ws : List (List ℕ)) → lacks 10 w ≡ true → l
 more_apart w ws f s h = (and (lacks 10 w) (all_lack 10 ws) f h.0, and (lacks 0x20 w) (all_lack 0x20 ws) s h.1)
 
 label_lacks : (c : ℕ) (name : List ℕ) → is_name_byte c ≡ false → eqb 0x3a c ≡ false → is_name name ≡ true → lacks c (name ++ 0x3a ∷ []) ≡ true
-label_lacks c name f d h = list_all-append (λ b. not (eqb b c)) name (0x3a ∷ []) ∙ and (lacks c name) _ (name_lacks c name f h) (and (not (eqb 0x3a c)) true (ap not d) refl)
+label_lacks c name f d h = list_all-append (λ b. not (eqb b c)) name (0x3a ∷ []) ∙ and (lacks c name) _ (name_lacks c name f h)
+    (and (not (eqb 0x3a c)) true (ap not d) refl)
 
 pub words_apart : (c : CodeLine) → IsCode c → WordsApart (words_of c)
 words_apart (Label name) h = one_apart (name ++ 0x3a ∷ []) (label_lacks 10 name refl refl h) (label_lacks 0x20 name refl refl h)
 words_apart (Mov d n) h =
     let k = both (ltb d 16) (is_some (number_of n)) h in
     let r = register_lacks d (ltb-true _ _ k.0) in
-    more_apart (codes "mov") (register_name d ∷ n ∷ []) refl refl (more_apart (register_name d) (n ∷ []) r.0 r.1 (one_apart n (number_lacks_feed n k.1) (number_lacks_space n k.1)))
+    more_apart (codes "mov") (register_name d ∷ n ∷ []) refl refl
+    (more_apart (register_name d) (n ∷ []) r.0 r.1 (one_apart n (number_lacks_feed n k.1) (number_lacks_space n k.1)))
 words_apart (Add d s) h =
     let k = both (ltb d 16) (ltb s 16) h in
     let r = register_lacks d (ltb-true _ _ k.0) in
     let q = register_lacks s (ltb-true _ _ k.1) in
-    more_apart (codes "add") (register_name d ∷ register_name s ∷ []) refl refl (more_apart (register_name d) (register_name s ∷ []) r.0 r.1 (one_apart (register_name s) q.0 q.1))
+    more_apart (codes "add") (register_name d ∷ register_name s ∷ []) refl refl
+    (more_apart (register_name d) (register_name s ∷ []) r.0 r.1 (one_apart (register_name s) q.0 q.1))
 words_apart (Jmp name) h =
     let n = target_name name h in
     more_apart (codes "jmp") (name ∷ []) refl refl (one_apart name (name_lacks 10 name refl n) (name_lacks 0x20 name refl n))
@@ -173,16 +180,19 @@ one_label : (w : List ℕ) → bytes_eq w (codes "syscall") ≡ false → one_wo
 unfolding one_word
 one_label w e = ap (λ (b : Bool). elim b as (λ _. Option CodeLine) [ true ↦ Some Syscall | false ↦ label_in w ]) e
 
-label_is : (w name : List ℕ) → (ltb 0 (length w) && ((get_or w (length w - 1) 0 == 0x3a) && is_name name)) ≡ true → take (length w - 1) w ≡ name → label_in w ≡ Some (Label name)
+label_is : (w name : List ℕ) → (ltb 0 (length w) && ((get_or w (length w - 1) 0 == 0x3a) && is_name name)) ≡ true → take (length w - 1) w ≡ name
+    → label_in w ≡ Some (Label name)
 unfolding label_in
-label_is w name h e = ap (λ n. some_if (ltb 0 (length w) && ((get_or w (length w - 1) 0 == 0x3a) && is_name n)) (Label n)) e ∙ ap (λ b. some_if b (Label name)) h
+label_is w name h e = ap (λ n. some_if (ltb 0 (length w) && ((get_or w (length w - 1) 0 == 0x3a) && is_name n)) (Label n)) e
+    ∙ ap (λ b. some_if b (Label name)) h
 
 label_again : (name : List ℕ) → is_name name ≡ true → one_word (name ++ 0x3a ∷ []) ≡ Some (Label name)
 label_again name h =
     let n : length (name ++ 0x3a ∷ []) - 1 ≡ length name = omega (arith, one_more name 0x3a) in
     let l : ltb 0 (length (name ++ 0x3a ∷ [])) ≡ true = lt-ltb _ _ (omega (arith, one_more name 0x3a)) in
     let t : take (length (name ++ 0x3a ∷ []) - 1) (name ++ 0x3a ∷ []) ≡ name = ap (λ k. take k (name ++ 0x3a ∷ [])) n ∙ take-append_seam name (0x3a ∷ []) in
-    let g : (get_or (name ++ 0x3a ∷ []) (length (name ++ 0x3a ∷ []) - 1) 0 == 0x3a) ≡ true = eq-eqb _ _ (ap (λ k. get_or (name ++ 0x3a ∷ []) k 0) n ∙ last_of name 0x3a) in
+    let g : (get_or (name ++ 0x3a ∷ []) (length (name ++ 0x3a ∷ []) - 1) 0 == 0x3a) ≡ true =
+    eq-eqb _ _ (ap (λ k. get_or (name ++ 0x3a ∷ []) k 0) n ∙ last_of name 0x3a) in
     one_label (name ++ 0x3a ∷ []) (not_syscall name (bytes_eq (name ++ 0x3a ∷ []) (codes "syscall")) refl)
     ∙ label_is (name ++ 0x3a ∷ []) name (and _ _ l (and _ _ g h)) t
 
@@ -222,10 +232,12 @@ label_sound w c h =
     let t = both (ltb 0 (length w)) ((get_or w (length w - 1) 0 == 0x3a) && is_name (take (length w - 1) w)) k.0 in
     let u = both (get_or w (length w - 1) 0 == 0x3a) (is_name (take (length w - 1) w)) t.1 in
     let lt = ltb-true 0 (length w) t.0 in
-    let e : w ≡ take (length w - 1) w ++ 0x3a ∷ [] = front_and_last w (length w - 1) (omega arith) ∙ ap (λ b. take (length w - 1) w ++ b ∷ []) (eqb-true (get_or w (length w - 1) 0) 0x3a u.0) in
+    let e : w ≡ take (length w - 1) w ++ 0x3a ∷ [] = front_and_last w (length w - 1) (omega arith) ∙ ap (λ b. take (length w - 1) w ++ b ∷ [])
+    (eqb-true (get_or w (length w - 1) 0) 0x3a u.0) in
     subst (λ (x : CodeLine). IsRead is_code_line words_of (w ∷ []) x) k.1 (record { is = u.1; words_are = ap (λ (x : List ℕ). x ∷ []) e })
 
-one_sound_by : (w : List ℕ) (c : CodeLine) (e : Bool) → bytes_eq w (codes "syscall") ≡ e → (let o : Option CodeLine = elim e [ true ↦ Some Syscall | false ↦ label_in w ] in o) ≡ Some c
+one_sound_by : (w : List ℕ) (c : CodeLine) (e : Bool) → bytes_eq w (codes "syscall") ≡ e
+    → (let o : Option CodeLine = elim e [ true ↦ Some Syscall | false ↦ label_in w ] in o) ≡ Some c
     → IsRead is_code_line words_of (w ∷ []) c
 one_sound_by w c true e h = subst (λ (x : CodeLine). IsRead is_code_line words_of (w ∷ []) x) (let k : Syscall ≡ c = cc in k)
     (record { is = refl; words_are = ap (λ (x : List ℕ). x ∷ []) (same_bytes w (codes "syscall") e) })
@@ -236,27 +248,39 @@ unfolding two_words
 two_sound v n c h =
     let k = if_some (bytes_eq v (codes "jmp") && is_target n) (Jmp n) c h in
     let t = both (bytes_eq v (codes "jmp")) (is_target n) k.0 in
-    subst (λ (x : CodeLine). IsRead is_code_line words_of (v ∷ n ∷ []) x) k.1 (record { is = t.1; words_are = ap (λ (x : List ℕ). x ∷ n ∷ []) (same_bytes v (codes "jmp") t.0) })
+    subst (λ (x : CodeLine). IsRead is_code_line words_of (v ∷ n ∷ []) x) k.1
+    (record { is = t.1; words_are = ap (λ (x : List ℕ). x ∷ n ∷ []) (same_bytes v (codes "jmp") t.0) })
 
-mov_sound : (v d n : List ℕ) (c : CodeLine) (o : Option ℕ) → register_of d ≡ o → v ≡ codes "mov" → mov_of o n ≡ Some c → IsRead is_code_line words_of (v ∷ d ∷ n ∷ []) c
+mov_sound : (v d n : List ℕ) (c : CodeLine) (o : Option ℕ) → register_of d ≡ o → v ≡ codes "mov" → mov_of o n ≡ Some c
+    → IsRead is_code_line words_of (v ∷ d ∷ n ∷ []) c
 mov_sound v d n c None e f h = absurd cc
 mov_sound v d n c (Some r) e f h =
     let k = if_some (is_some (number_of n)) (Mov r n) c h in
     let p = register_sound d r e in
     subst (λ (x : CodeLine). IsRead is_code_line words_of (v ∷ d ∷ n ∷ []) x) k.1
-    (record { is = and (ltb r 16) (is_some (number_of n)) (lt-ltb r 16 p.0) k.0; words_are = ap (λ (x : List ℕ). x ∷ d ∷ n ∷ []) f ∙ ap (λ (x : List ℕ). codes "mov" ∷ x ∷ n ∷ []) p.1 })
+    (record {
+      is = and (ltb r 16) (is_some (number_of n)) (lt-ltb r 16 p.0) k.0;
+      words_are = ap (λ (x : List ℕ). x ∷ d ∷ n ∷ []) f
+          ∙ ap (λ (x : List ℕ). codes "mov" ∷ x ∷ n ∷ []) p.1;
+    })
 
-add_sound : (v d s : List ℕ) (c : CodeLine) (o q : Option ℕ) → register_of d ≡ o → register_of s ≡ q → v ≡ codes "add" → add_of o q ≡ Some c → IsRead is_code_line words_of (v ∷ d ∷ s ∷ []) c
+add_sound : (v d s : List ℕ) (c : CodeLine) (o q : Option ℕ) → register_of d ≡ o → register_of s ≡ q → v ≡ codes "add" → add_of o q ≡ Some c
+    → IsRead is_code_line words_of (v ∷ d ∷ s ∷ []) c
 add_sound v d s c None q e g f h = absurd cc
 add_sound v d s c (Some r) None e g f h = absurd cc
 add_sound v d s c (Some r) (Some k) e g f h =
     let p = register_sound d r e in
     let q = register_sound s k g in
     subst (λ (x : CodeLine). IsRead is_code_line words_of (v ∷ d ∷ s ∷ []) x) (let same : Add r k ≡ c = cc in same)
-    (record { is = and (ltb r 16) (ltb k 16) (lt-ltb r 16 p.0) (lt-ltb k 16 q.0); words_are = ap (λ (x : List ℕ). x ∷ d ∷ s ∷ []) f ∙ ap (λ (x : List ℕ). codes "add" ∷ x ∷ s ∷ []) p.1 ∙ ap (λ (x : List ℕ). codes "add" ∷ register_name r ∷ x ∷ []) q.1 })
+    (record {
+      is = and (ltb r 16) (ltb k 16) (lt-ltb r 16 p.0) (lt-ltb k 16 q.0);
+      words_are = ap (λ (x : List ℕ). x ∷ d ∷ s ∷ []) f
+          ∙ ap (λ (x : List ℕ). codes "add" ∷ x ∷ s ∷ []) p.1 ∙ ap (λ (x : List ℕ). codes "add" ∷ register_name r ∷ x ∷ []) q.1;
+    })
 
 three_sound_by : (v d s : List ℕ) (c : CodeLine) (a b : Bool) → bytes_eq v (codes "mov") ≡ a → bytes_eq v (codes "add") ≡ b
-    → (let o : Option CodeLine = elim a [ true ↦ mov_of (register_of d) s | false ↦ elim b [ true ↦ add_of (register_of d) (register_of s) | false ↦ None ] ] in o) ≡ Some c
+    → (let o : Option CodeLine =
+    elim a [ true ↦ mov_of (register_of d) s | false ↦ elim b [ true ↦ add_of (register_of d) (register_of s) | false ↦ None ] ] in o) ≡ Some c
     → IsRead is_code_line words_of (v ∷ d ∷ s ∷ []) c
 three_sound_by v d s c true b e f h = mov_sound v d s c (register_of d) refl (same_bytes v (codes "mov") e) h
 three_sound_by v d s c false true e f h = add_sound v d s c (register_of d) (register_of s) refl refl (same_bytes v (codes "add") f) h
@@ -295,16 +319,19 @@ log_apart s h = let r = register_lacks s (local_small s h) in more_apart (codes 
 
 log_again : (s : ℕ) → is_local s ≡ true → log_in (log_line s) ≡ Some s
 log_again s h =
-    ap log_of_words (parts_joined 0x20 (codes "log") (register_name s ∷ []) (log_apart s h).1) ∙ ap local_of (register_again s (local_small s h)) ∙ ap (λ b. some_if b s) h
+    ap log_of_words (parts_joined 0x20 (codes "log") (register_name s ∷ []) (log_apart s h).1) ∙ ap local_of (register_again s (local_small s h))
+    ∙ ap (λ b. some_if b s) h
 
 log_sound_by : (v w : List ℕ) (s : ℕ) (o : Option ℕ) → register_of w ≡ o → local_of o ≡ Some s → v ≡ codes "log" → IsRead is_local log_words (v ∷ w ∷ []) s
 log_sound_by v w s None e h f = absurd cc
 log_sound_by v w s (Some r) e h f =
     let k = if_some (is_local r) r s h in
     let p = register_sound w r e in
-    subst (λ (x : ℕ). IsRead is_local log_words (v ∷ w ∷ []) x) k.1 (record { is = k.0; words_are = ap (λ (x : List ℕ). x ∷ w ∷ []) f ∙ ap (λ (x : List ℕ). codes "log" ∷ x ∷ []) p.1 })
+    subst (λ (x : ℕ). IsRead is_local log_words (v ∷ w ∷ []) x) k.1
+    (record { is = k.0; words_are = ap (λ (x : List ℕ). x ∷ w ∷ []) f ∙ ap (λ (x : List ℕ). codes "log" ∷ x ∷ []) p.1 })
 
-log_verb : (v w : List ℕ) (s : ℕ) (e : Bool) → bytes_eq v (codes "log") ≡ e → (let o : Option ℕ = elim e [ true ↦ local_of (register_of w) | false ↦ None ] in o) ≡ Some s → IsRead is_local log_words (v ∷ w ∷ []) s
+log_verb : (v w : List ℕ) (s : ℕ) (e : Bool) → bytes_eq v (codes "log") ≡ e
+    → (let o : Option ℕ = elim e [ true ↦ local_of (register_of w) | false ↦ None ] in o) ≡ Some s → IsRead is_local log_words (v ∷ w ∷ []) s
 log_verb v w s true e h = log_sound_by v w s (register_of w) refl h (same_bytes v (codes "log") e)
 log_verb v w s false e h = absurd cc
 
@@ -342,7 +369,8 @@ four_sound v p n b name h =
     subst (λ (y : List ℕ). IsRead is_name task_words (v ∷ p ∷ n ∷ b ∷ []) y) k.1
     (record {
       is = x.1;
-      words_are = ap (λ (y : List ℕ). y ∷ p ∷ n ∷ b ∷ []) (same_bytes v (codes "task") t.0) ∙ ap (λ (y : List ℕ). codes "task" ∷ y ∷ n ∷ b ∷ []) (same_bytes p (codes "0") u.0)
+      words_are = ap (λ (y : List ℕ). y ∷ p ∷ n ∷ b ∷ []) (same_bytes v (codes "task") t.0) ∙ ap (λ (y : List ℕ). codes "task" ∷ y ∷ n ∷ b ∷ [])
+          (same_bytes p (codes "0") u.0)
           ∙ ap (λ (y : List ℕ). codes "task" ∷ codes "0" ∷ n ∷ y ∷ []) (same_bytes b (codes "0") x.0);
     })
 

@@ -82,7 +82,8 @@ pub reading_sound : (bytes : List ℕ) (x : Document) → reading bytes ≡ Some
 unfolding reading
 reading_sound bytes x h = read_by bytes x (draft bytes) refl h
 
-pub takes : (r : Result (Option Document) NoMemory) (bytes : List ℕ) → IfOk r (λ o. o ≡ reading bytes) → (d : FirstForm) → IsForm d → bytes ≡ text_of d → Takes r d
+pub takes : (r : Result (Option Document) NoMemory) (bytes : List ℕ) → IfOk r (λ o. o ≡ reading bytes) → (d : FirstForm) → IsForm d → bytes ≡ text_of d
+    → Takes r d
 takes (Ok (Some x)) bytes h d f e =
     let k : x ≡ document_of d = let q : Some x ≡ Some (document_of d) = h ∙ ap reading e ∙ reading_again d f in cc in
     (ap (λ (y : Document). y.image) k, ap (λ (y : Document). y.script) k)
@@ -105,17 +106,29 @@ pub record IsDrafted (bytes : List ℕ) (x : Draft) : Type 0 where
 
 drafted_by : (bytes : List ℕ) (x : Draft) (o : Option FirstForm) → draft bytes ≡ o → Some x ≡ option_map draft_of o → IsDrafted bytes x
 drafted_by bytes x None e h = absurd cc
-drafted_by bytes x (Some d) e h = record { form = d; is = e; drafted = record { lines = (draft_sound bytes d e).0; is = let k : x ≡ draft_of d = let q : Some x ≡ Some (draft_of d) = h in cc in k } }
+drafted_by bytes x (Some d) e h =
+    record {
+      form = d;
+      is = e;
+      drafted = record {
+        lines = (draft_sound bytes d e).0;
+        is = let k : x ≡ draft_of d = let q : Some x ≡ Some (draft_of d) = h in
+            cc in k;
+      };
+    }
 
-pub drafted : (bytes : List ℕ) (lines : List (Bor (List ℕ))) (x : Draft) → texts lines ≡ parts 10 bytes → Some x ≡ option_map draft_of (with_head (behind head_lines (texts lines))) → IsDrafted bytes x
+pub drafted : (bytes : List ℕ) (lines : List (Bor (List ℕ))) (x : Draft) → texts lines ≡ parts 10 bytes
+    → Some x ≡ option_map draft_of (with_head (behind head_lines (texts lines))) → IsDrafted bytes x
 unfolding draft
 drafted bytes lines x e h = drafted_by bytes x (draft bytes) refl (h ∙ ap (λ (ls : List (List ℕ)). option_map draft_of (with_head (behind head_lines ls))) e)
 
-pub input_is : (bytes : List ℕ) (lines : List (Bor (List ℕ))) → texts lines ≡ parts 10 bytes → length bytes ≤ 8388608 → list_all (λ line. is_short line.now) lines ≡ true → is_input bytes ≡ true
+pub input_is : (bytes : List ℕ) (lines : List (Bor (List ℕ))) → texts lines ≡ parts 10 bytes → length bytes ≤ 8388608
+    → list_all (λ line. is_short line.now) lines ≡ true → is_input bytes ≡ true
 input_is bytes lines e le s =
     and _ _ (le-leb (length bytes) 8388608 le) (sym (ap (list_all is_short) e) ∙ list_all-map is_short (λ (x : Bor (List ℕ)). x.now) lines ∙ s)
 
-pub read_any : (r : Result (Option Document) NoMemory) (bytes : List ℕ) (d : FirstForm) → draft bytes ≡ Some d → is_input bytes ≡ true → IfOk r (λ o. o ≡ some_if (is_whole d) (document_of d)) → IfOk r (λ o. o ≡ reading bytes)
+pub read_any : (r : Result (Option Document) NoMemory) (bytes : List ℕ) (d : FirstForm) → draft bytes ≡ Some d → is_input bytes ≡ true
+    → IfOk r (λ o. o ≡ some_if (is_whole d) (document_of d)) → IfOk r (λ o. o ≡ reading bytes)
 unfolding reading
 read_any (Ok o) bytes d e i h =
     h ∙ ap (λ (b : Bool). some_if (b && is_whole d) (document_of d)) (sym i) ∙ ap (document_if (is_input bytes)) (sym e)
@@ -132,7 +145,8 @@ not_input bytes e = none_if (draft bytes) ∙ ap (λ (b : Bool). document_if b (
 pub too_large : (bytes : List ℕ) → 8388608 < length bytes → None ≡ reading bytes
 too_large bytes lt = not_input bytes (ap (λ (b : Bool). b && list_all is_short (parts 10 bytes)) (lt-leb (length bytes) 8388608 lt))
 
-pub too_long : (bytes : List ℕ) (lines : List (Bor (List ℕ))) → texts lines ≡ parts 10 bytes → list_all (λ line. is_short line.now) lines ≡ false → None ≡ reading bytes
+pub too_long : (bytes : List ℕ) (lines : List (Bor (List ℕ))) → texts lines ≡ parts 10 bytes → list_all (λ line. is_short line.now) lines ≡ false
+    → None ≡ reading bytes
 too_long bytes lines e s =
     let f : list_all is_short (parts 10 bytes) ≡ false = sym (ap (list_all is_short) e) ∙ list_all-map is_short (λ (x : Bor (List ℕ)). x.now) lines ∙ s in
     not_input bytes (ap (λ (b : Bool). leb (length bytes) 8388608 && b) f ∙ never (leb (length bytes) 8388608)) where

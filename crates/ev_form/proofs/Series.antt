@@ -27,7 +27,8 @@ abbrev pub by_first : {A : Type 0} → (List ℕ → Option A) → List ℕ → 
 by_first f line ls (Some x) = onto x (series f ls)
 by_first f line ls None = ([], line ∷ ls)
 
-pub series_first : {A : Type 0} (f : List ℕ → Option A) (line : List ℕ) (ls : List (List ℕ)) (o : Option A) → f line ≡ o → series f (line ∷ ls) ≡ by_first f line ls o
+pub series_first : {A : Type 0} (f : List ℕ → Option A) (line : List ℕ) (ls : List (List ℕ)) (o : Option A) → f line ≡ o
+    → series f (line ∷ ls) ≡ by_first f line ls o
 series_first f line ls None h = rw (h, series) refl
 series_first f line ls (Some x) h = rw (h, series) refl
 
@@ -36,13 +37,15 @@ pub record Splits {A : Type 0} (ls : List (List ℕ)) (p : List A × List (List 
   pub within : length p.0 ≤ length ls
   pub behind : drop (length p.0) ls ≡ p.1
 
-splits_by : {A : Type 0} (f : List ℕ → Option A) (line : List ℕ) (ls : List (List ℕ)) (o : Option A) → Splits ls (series f ls) → Splits (line ∷ ls) (by_first f line ls o)
+splits_by : {A : Type 0} (f : List ℕ → Option A) (line : List ℕ) (ls : List (List ℕ)) (o : Option A) → Splits ls (series f ls)
+    → Splits (line ∷ ls) (by_first f line ls o)
 splits_by f line ls None h = record { within = omega arith; behind = refl }
 splits_by f line ls (Some x) h = record { within = omega (arith, h.within); behind = h.behind }
 
 pub splits : {A : Type 0} (f : List ℕ → Option A) (ls : List (List ℕ)) → Splits ls (series f ls)
 splits f [] = record { within = omega arith; behind = refl }
-splits {A} f (line ∷ ls) = subst (λ (p : List A × List (List ℕ)). Splits (line ∷ ls) p) (sym (series_first f line ls (f line) refl)) (splits_by f line ls (f line) (splits f ls))
+splits {A} f (line ∷ ls) = subst (λ (p : List A × List (List ℕ)). Splits (line ∷ ls) p) (sym (series_first f line ls (f line) refl))
+    (splits_by f line ls (f line) (splits f ls))
 
 pub length-mapped : {A B : Type 0} (g : A → B) (xs : List A) → length (map g xs) ≡ length xs
 length-mapped g [] = refl
@@ -52,10 +55,12 @@ length-texts : (lines : List (Bor (List ℕ))) → length (texts lines) ≡ leng
 length-texts lines = length-mapped (λ x. x.now) lines
 
 -- so many items as the first lines say, from their lines
-pub series_fits : {A B : Type 0} (f : List ℕ → Option A) (g : A → B) (lines : List (Bor (List ℕ))) (n : ℕ) (v : List B) → v ≡ map g (series f (texts lines)).0 → n ≡ length v → n ≤ length lines
+pub series_fits : {A B : Type 0} (f : List ℕ → Option A) (g : A → B) (lines : List (Bor (List ℕ))) (n : ℕ) (v : List B)
+    → v ≡ map g (series f (texts lines)).0 → n ≡ length v → n ≤ length lines
 series_fits f g lines n v e k = omega (arith, (splits f (texts lines)).within, length-texts lines, length-mapped g (series f (texts lines)).0, ap length e)
 
-pub series_behind : {A B : Type 0} (f : List ℕ → Option A) (g : A → B) (ls : List (List ℕ)) (n : ℕ) (v : List B) → v ≡ map g (series f ls).0 → n ≡ length v → drop n ls ≡ (series f ls).1
+pub series_behind : {A B : Type 0} (f : List ℕ → Option A) (g : A → B) (ls : List (List ℕ)) (n : ℕ) (v : List B) → v ≡ map g (series f ls).0 → n ≡ length v
+    → drop n ls ≡ (series f ls).1
 series_behind f g ls n v e k = ap (λ (m : ℕ). drop m ls) (k ∙ ap length e ∙ length-mapped g (series f ls).0) ∙ (splits f ls).behind
 
 -- ---- the stages
@@ -64,10 +69,13 @@ mapped-same : {A B : Type 0} (x : B) (us : List A) → map (λ _. x) us ≡ repl
 mapped-same x [] = refl
 mapped-same x (u ∷ us) = ap (λ (r : List _). x ∷ r) (mapped-same x us)
 
-pub turns_refused : (code : List CodeLine) (task : List ℕ) (logged : List ℕ) (p : List (Unit {0}) × List (List ℕ)) → is_end p.1 ≡ false → None ≡ option_map draft_of (with_turns code task logged p)
-turns_refused code task logged p e = ap (λ (b : Bool). option_map draft_of (some_if b (record { code = code; task = task; logged = logged; turns = length p.0 }))) (sym e)
+pub turns_refused : (code : List CodeLine) (task : List ℕ) (logged : List ℕ) (p : List (Unit {0}) × List (List ℕ)) → is_end p.1 ≡ false
+    → None ≡ option_map draft_of (with_turns code task logged p)
+turns_refused code task logged p e =
+    ap (λ (b : Bool). option_map draft_of (some_if b (record { code = code; task = task; logged = logged; turns = length p.0 }))) (sym e)
 
-pub turns_taken : (code : List CodeLine) (task : List ℕ) (logged : List ℕ) (p : List (Unit {0}) × List (List ℕ)) (stmts : List Stmt) (logs : List Item) (script : List Line) → is_end p.1 ≡ true
+pub turns_taken : (code : List CodeLine) (task : List ℕ) (logged : List ℕ) (p : List (Unit {0}) × List (List ℕ)) (stmts : List Stmt) (logs : List Item)
+    (script : List Line) → is_end p.1 ≡ true
     → stmts ≡ map statement_of code → logs ≡ map Log logged → script ≡ map (λ _. Line.Turn 0) p.0
     → Some (record { stmts = stmts; task = task; logs = logs; script = script }) ≡ option_map draft_of (with_turns code task logged p)
 turns_taken code task logged p stmts logs script e s l r =
@@ -79,10 +87,12 @@ dropped-texts lines n = ap texts (take_rest lines n) ∙ sym (drop-map (λ x. x.
 
 -- ---- the stages by what stands behind
 
-pub logs_refused : (code : List CodeLine) (task : List ℕ) (p : List ℕ × List (List ℕ)) → None ≡ behind body_end_lines p.1 → None ≡ option_map draft_of (with_logs code task p)
+pub logs_refused : (code : List CodeLine) (task : List ℕ) (p : List ℕ × List (List ℕ)) → None ≡ behind body_end_lines p.1
+    → None ≡ option_map draft_of (with_logs code task p)
 logs_refused code task p e = ap (λ (o : Option (List (List ℕ))). option_map draft_of (with_script code task p.0 o)) e
 
-pub logs_taken : (code : List CodeLine) (task : List ℕ) (p : List ℕ × List (List ℕ)) (ls : List (List ℕ)) (o : Option Draft) → Some ls ≡ behind body_end_lines p.1
+pub logs_taken : (code : List CodeLine) (task : List ℕ) (p : List ℕ × List (List ℕ)) (ls : List (List ℕ)) (o : Option Draft)
+    → Some ls ≡ behind body_end_lines p.1
     → o ≡ option_map draft_of (with_turns code task p.0 (series turn_in ls)) → o ≡ option_map draft_of (with_logs code task p)
 logs_taken code task p ls o e h = h ∙ ap (λ (o : Option (List (List ℕ))). option_map draft_of (with_script code task p.0 o)) e
 
@@ -93,9 +103,11 @@ pub code_taken : (p : List CodeLine × List (List ℕ)) (ls : List (List ℕ)) (
     → o ≡ option_map draft_of (with_task p.0 (first_in task_in ls)) → o ≡ option_map draft_of (with_code p)
 code_taken p ls o e h = h ∙ ap (λ (o : Option (List (List ℕ))). option_map draft_of (with_text p.0 o)) e
 
-pub logs_any : {E : Type 0} (r : Result (Option Draft) E) (stmts : List Stmt) (task : List ℕ) (logs : List Item) (p : List ℕ × List (List ℕ)) (ls : List (List ℕ))
+pub logs_any : {E : Type 0} (r : Result (Option Draft) E) (stmts : List Stmt) (task : List ℕ) (logs : List Item) (p : List ℕ × List (List ℕ))
+    (ls : List (List ℕ))
     → logs ≡ map Log p.0 → Some ls ≡ behind body_end_lines p.1
-    → IfOk r (λ o. (code : List CodeLine) (logged : List ℕ) → stmts ≡ map statement_of code → logs ≡ map Log logged → o ≡ option_map draft_of (with_turns code task logged (series turn_in ls)))
+    → IfOk r (λ o. (code : List CodeLine) (logged : List ℕ) → stmts ≡ map statement_of code → logs ≡ map Log logged
+    → o ≡ option_map draft_of (with_turns code task logged (series turn_in ls)))
     → IfOk r (λ o. (code : List CodeLine) → stmts ≡ map statement_of code → o ≡ option_map draft_of (with_logs code task p))
 logs_any (Ok o) stmts task logs p ls l e h = λ code s. logs_taken code task p ls o e (h code p.0 s l)
 logs_any (Err x) stmts task logs p ls l e h = tt

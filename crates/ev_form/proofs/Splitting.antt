@@ -71,7 +71,8 @@ joined_lacks c s (w ∷ []) d h = (both (lacks c w) true h).0
 joined_lacks c s (w ∷ v ∷ vs) d h =
     let k = both (lacks c w) (all_lack c (v ∷ vs)) h in
     let r = joined_lacks c s (v ∷ vs) d k.1 in
-    list_all-append (λ b. not (eqb b c)) w (s ∷ join_with_byte s (v ∷ vs)) ∙ and _ _ k.0 (and (not (eqb s c)) (lacks c (join_with_byte s (v ∷ vs))) (ap not d) r)
+    list_all-append (λ b. not (eqb b c)) w (s ∷ join_with_byte s (v ∷ vs))
+    ∙ and _ _ k.0 (and (not (eqb s c)) (lacks c (join_with_byte s (v ∷ vs))) (ap not d) r)
 
 -- ---- bytes that pass a test which the separator fails
 

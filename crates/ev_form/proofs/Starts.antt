@@ -5,10 +5,12 @@ use Rattle.ev_asm.specs.Assembled.{gives_label}
 use Rattle.ev_asm.proofs.Statements.{split_at}
 use Rattle.ev_form.specs.Draft.{start_in}
 
-start_not : (s : Stmt) (ss : List Stmt) (p : ℕ) (ps : List ℕ) (name : List ℕ) (b : Bool) → gives_label s name ≡ b → b ≡ false → start_in (s ∷ ss) (p ∷ ps) name ≡ start_in ss ps name
+start_not : (s : Stmt) (ss : List Stmt) (p : ℕ) (ps : List ℕ) (name : List ℕ) (b : Bool) → gives_label s name ≡ b → b ≡ false
+    → start_in (s ∷ ss) (p ∷ ps) name ≡ start_in ss ps name
 start_not s ss p ps name b e f = rw (e ∙ f, start_in) refl
 
-pub start_step : (stmts : List Stmt) (ps : List ℕ) (name : List ℕ) (n m : ℕ) (s : Stmt) (W : Option ℕ) → n < length stmts → length stmts ≤ length ps → m ≡ suc n → s ≡ get_or stmts n s
+pub start_step : (stmts : List Stmt) (ps : List ℕ) (name : List ℕ) (n m : ℕ) (s : Stmt) (W : Option ℕ) → n < length stmts → length stmts ≤ length ps
+    → m ≡ suc n → s ≡ get_or stmts n s
     → gives_label s name ≡ false → start_in (drop n stmts) (drop n ps) name ≡ W → start_in (drop m stmts) (drop m ps) name ≡ W
 start_step stmts ps name n m s W lt le k e g w =
     let here : n < length ps = omega arith in

@@ -65,7 +65,8 @@ not_small draft d h e = ap (λ (b : Bool). some_if (b && rest_of d) (document_of
 
 -- ---- the text
 
-text_by : (stmts : List Stmt) (text : Text) (r : Result Text AsmFault) → assembled stmts text_base 65520 ≡ r → Some text ≡ ok_text r → Assembles stmts text_base 65520 × (text ≡ text_at text_base stmts)
+text_by : (stmts : List Stmt) (text : Text) (r : Result Text AsmFault) → assembled stmts text_base 65520 ≡ r → Some text ≡ ok_text r
+    → Assembles stmts text_base 65520 × (text ≡ text_at text_base stmts)
 text_by stmts text (Err f) e h = absurd cc
 text_by stmts text (Ok t) e h =
     let a = assembles stmts text_base 65520 (ap is_assembled e) in
@@ -74,7 +75,8 @@ text_by stmts text (Ok t) e h =
     let l : t ≡ text_at text_base stmts = let q : Some t ≡ Some (text_at text_base stmts) = ap ok_text same in cc in
     (a, k ∙ l)
 
-pub text_is : (stmts : List Stmt) (text : Text) → Some text ≡ ok_text (assembled stmts text_base 65520) → Assembles stmts text_base 65520 × (text ≡ text_at text_base stmts)
+pub text_is : (stmts : List Stmt) (text : Text) → Some text ≡ ok_text (assembled stmts text_base 65520)
+    → Assembles stmts text_base 65520 × (text ≡ text_at text_base stmts)
 text_is stmts text h = text_by stmts text (assembled stmts text_base 65520) refl h
 
 length-addresses : (a : ℕ) (stmts : List Stmt) → length (addresses_of a stmts) ≡ length stmts
@@ -90,7 +92,8 @@ places_enough stmts text h = let e = ap (λ (t : Text). length t.places) (text_i
 abbrev start_of : ℕ → List Stmt → List ℕ → Option ℕ
 start_of a stmts name = some_if (not (is_new_name (stmt_labels stmts) name)) (place (places a stmts) name)
 
-label_start : (a : ℕ) (n name : List ℕ) (ss : List Stmt) (b : Bool) → is_name n name ≡ b → start_in ss (addresses_of (a + size (Stmt.Label n)) ss) name ≡ start_of a ss name
+label_start : (a : ℕ) (n name : List ℕ) (ss : List Stmt) (b : Bool) → is_name n name ≡ b
+    → start_in ss (addresses_of (a + size (Stmt.Label n)) ss) name ≡ start_of a ss name
     → start_in (Stmt.Label n ∷ ss) (a ∷ addresses_of (a + size (Stmt.Label n)) ss) name ≡ start_of a (Stmt.Label n ∷ ss) name
 unfolding gives_label places
 label_start a n name ss true e h = rw (e, start_in) refl
@@ -112,19 +115,23 @@ abbrev NamedAt : List Stmt → List ℕ → Option ℕ → Type 0
 NamedAt stmts name (Some p) = (is_new_name (stmt_labels stmts) name ≡ false) × (p ≡ place (places text_base stmts) name)
 NamedAt stmts name None = is_new_name (stmt_labels stmts) name ≡ true
 
-named_by : (stmts : List Stmt) (name : List ℕ) (b : Bool) → is_new_name (stmt_labels stmts) name ≡ b → NamedAt stmts name (some_if (not b) (place (places text_base stmts) name))
+named_by : (stmts : List Stmt) (name : List ℕ) (b : Bool) → is_new_name (stmt_labels stmts) name ≡ b
+    → NamedAt stmts name (some_if (not b) (place (places text_base stmts) name))
 named_by stmts name true e = e
 named_by stmts name false e = (e, refl)
 
-pub start_named : (stmts : List Stmt) (text : Text) (name : List ℕ) → Some text ≡ ok_text (assembled stmts text_base 65520) → NamedAt stmts name (start_in stmts text.places name)
+pub start_named : (stmts : List Stmt) (text : Text) (name : List ℕ) → Some text ≡ ok_text (assembled stmts text_base 65520)
+    → NamedAt stmts name (start_in stmts text.places name)
 start_named stmts text name h =
     let e = ap (λ (t : Text). start_in stmts t.places name) (text_is stmts text h).1 ∙ start_is stmts text_base name in
     subst (NamedAt stmts name) (sym e) (named_by stmts name (is_new_name (stmt_labels stmts) name) refl)
 
-pub not_named : (draft : Draft) (d : FirstForm) (text : Text) → IsDraftOf draft d → Some text ≡ ok_text (assembled draft.stmts text_base 65520) → None ≡ start_in draft.stmts text.places draft.task
+pub not_named : (draft : Draft) (d : FirstForm) (text : Text) → IsDraftOf draft d → Some text ≡ ok_text (assembled draft.stmts text_base 65520)
+    → None ≡ start_in draft.stmts text.places draft.task
     → None ≡ some_if (is_whole d) (document_of d)
 not_named draft d text h t e =
-    let n : is_new_name (stmt_labels draft.stmts) draft.task ≡ true = subst (NamedAt draft.stmts draft.task) (sym e) (start_named draft.stmts text draft.task t) in
+    let n : is_new_name (stmt_labels draft.stmts) draft.task ≡ true =
+    subst (NamedAt draft.stmts draft.task) (sym e) (start_named draft.stmts text draft.task t) in
     let m : is_new_name (stmt_labels (statements d)) d.task ≡ true = sym (ap (λ (x : Draft). is_new_name (stmt_labels x.stmts) x.task) h.is) ∙ n in
     none_by (is_small d) (is_assembled (assembled (statements d) text_base 65520)) (is_new_name (stmt_labels (statements d)) d.task) (document_of d) m where
       none_by : (a b c : Bool) (x : Document) → c ≡ true → None ≡ some_if (a && (b && not c)) x
@@ -138,21 +145,26 @@ pub record IsWhole (d : FirstForm) : Type 0 where
   pub test : is_whole d ≡ true
   pub image : IsImage (image_of d)
 
-pub whole : (draft : Draft) (d : FirstForm) (text : Text) (start : ℕ) → IsDraftOf draft d → is_small_draft draft ≡ true → Some text ≡ ok_text (assembled draft.stmts text_base 65520)
+pub whole : (draft : Draft) (d : FirstForm) (text : Text) (start : ℕ) → IsDraftOf draft d → is_small_draft draft ≡ true
+    → Some text ≡ ok_text (assembled draft.stmts text_base 65520)
     → Some start ≡ start_in draft.stmts text.places draft.task → IsWhole d × (image_with text.bytes start draft.logs ≡ image_of d)
 whole draft d text start h s t e =
-    let n : (is_new_name (stmt_labels draft.stmts) draft.task ≡ false) × (start ≡ place (places text_base draft.stmts) draft.task) = subst (NamedAt draft.stmts draft.task) (sym e) (start_named draft.stmts text draft.task t) in
+    let n : (is_new_name (stmt_labels draft.stmts) draft.task ≡ false) × (start ≡ place (places text_base draft.stmts) draft.task) =
+    subst (NamedAt draft.stmts draft.task) (sym e) (start_named draft.stmts text draft.task t) in
     let k = text_is draft.stmts text t in
     let small : is_small d ≡ true = sym (small_is draft d h) ∙ s in
-    let asm : is_assembled (assembled (statements d) text_base 65520) ≡ true = sym (ap (λ (x : Draft). is_assembled (assembled x.stmts text_base 65520)) h.is) ∙ ap is_assembled k.0.is in
+    let asm : is_assembled (assembled (statements d) text_base 65520) ≡ true =
+    sym (ap (λ (x : Draft). is_assembled (assembled x.stmts text_base 65520)) h.is) ∙ ap is_assembled k.0.is in
     let there : is_new_name (stmt_labels (statements d)) d.task ≡ false = sym (ap (λ (x : Draft). is_new_name (stmt_labels x.stmts) x.task) h.is) ∙ n.0 in
-    let few = leb-true _ _ (both (leb (length d.logged + 1) 256) (leb d.turns 200000) (both (ends_in_jump d.code) (leb (length d.logged + 1) 256 && leb d.turns 200000) small).1).0 in (
+    let few = leb-true _ _ (both (leb (length d.logged + 1) 256) (leb d.turns 200000)
+    (both (ends_in_jump d.code) (leb (length d.logged + 1) 256 && leb d.turns 200000) small).1).0 in (
       record { test = and (is_small d) (rest_of d) small (and _ _ asm (ap not there)); image = form_image d h.lines asm there few },
       ap (λ (x : Text). image_with x.bytes start draft.logs) k.1 ∙ ap (λ (p : ℕ). image_with (text_bytes draft.stmts) p draft.logs) n.1
           ∙ ap (λ (x : Draft). image_with (text_bytes x.stmts) (place (places text_base x.stmts) x.task) x.logs) h.is,
     )
 
-pub taken : (draft : Draft) (d : FirstForm) (i : KernelImage) → IsDraftOf draft d → is_whole d ≡ true → i ≡ image_of d → Some (let x : Document = record { image = i; script = draft.script } in x) ≡ some_if (is_whole d) (document_of d)
+pub taken : (draft : Draft) (d : FirstForm) (i : KernelImage) → IsDraftOf draft d → is_whole d ≡ true → i ≡ image_of d
+    → Some (let x : Document = record { image = i; script = draft.script } in x) ≡ some_if (is_whole d) (document_of d)
 taken draft d i h w e =
     ap (λ (j : KernelImage). Some (let x : Document = record { image = j; script = draft.script } in x)) e
     ∙ ap (λ (y : Draft). Some (let x : Document = record { image = image_of d; script = y.script } in x)) h.is

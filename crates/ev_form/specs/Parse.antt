@@ -20,7 +20,8 @@ some_if false x = None
 -- a name and a colon
 unfoldable pub label_in : List ℕ → Option CodeLine
 label_in word =
-    some_if (nat_lt 0 (length word) && ((slice_index word (length word - 1) == 0x3a) && is_name (take (length word - 1) word))) (Label (take (length word - 1) word))
+    some_if (nat_lt 0 (length word) && ((slice_index word (length word - 1) == 0x3a) && is_name (take (length word - 1) word)))
+    (Label (take (length word - 1) word))
 
 unfoldable pub one_word : List ℕ → Option CodeLine
 one_word word = elim (bytes_eq word (codes "syscall")) [ true ↦ Some Syscall | false ↦ label_in word ]

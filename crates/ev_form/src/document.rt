@@ -125,7 +125,9 @@ fn plain_bodies(alloc: Global, first: Body, keys: &[Key]) -> Result<Many<Body>, 
 /// The body of system calls with these items and `ret`, and a body of `ret` alone for each other key.
 #[tactic(auto, unfolding(ev_body::specs::Bodies::key_number, ev_body::specs::Bodies::covers))]
 fn bodies(alloc: Global, mut items: Many<Item>) -> Result<Many<Body>, AllocError>
-    ensures { IfOk result (λ bs. bs ≡ fill (record { key = Key.Sys; side = Side.User; items = items ++ Item.Ret ∷ []; parts = [] } ∷ [])) }
+    ensures { IfOk result (λ bs. bs ≡ fill
+        (record { key = Key.Sys; side = Side.User; items = items ++ Item.Ret ∷ []; parts = [] }
+        ∷ [])) }
 {
     items.push(Item::Ret)?;
     let first = body(alloc, Key::Sys, items);
@@ -187,7 +189,8 @@ fn is_small(draft: &Draft) -> bool
 /// The document of a draft, where its labels and limits are as they should be.
 pub fn whole_document(alloc: Global, draft: Draft) -> Result<Option<Document>, NoMemory>
     requires { (d : FirstForm) × IsDraftOf draft d }
-    ensures { (d : FirstForm) → IsDraftOf draft d → IfOk result (λ o. o ≡ some_if (is_whole d) (document_of d)) }
+    ensures { (d : FirstForm) → IsDraftOf draft d
+        → IfOk result (λ o. o ≡ some_if (is_whole d) (document_of d)) }
 {
     if !is_small(&draft) {
         return Ok(None);

@@ -43,7 +43,10 @@ fn with_turns(
     logs: Vec<Item>,
     lines: &[&[u8]],
 ) -> Result<Option<Draft>, AllocError>
-    ensures { IfOk result (λ o. (code : List CodeLine) (logged : List ℕ) → stmts.items ≡ map statement_of code → logs.items ≡ map Item.Log logged → o ≡ option_map draft_of (with_turns code task logged (series turn_in (map (λ x. x.now) lines.now)))) }
+    ensures { IfOk result (λ o. (code : List CodeLine) (logged : List ℕ)
+        → stmts.items ≡ map statement_of code → logs.items ≡ map Item.Log logged
+        → o ≡ option_map draft_of (with_turns code task logged
+        (series turn_in (map (λ x. x.now) lines.now)))) }
 {
     let script = turns(alloc, lines)?;
     if !is_end(from(lines, script.len())) {
@@ -64,7 +67,9 @@ fn with_logs(
     task: Name,
     lines: &[&[u8]],
 ) -> Result<Option<Draft>, AllocError>
-    ensures { IfOk result (λ o. (code : List CodeLine) → stmts.items ≡ map statement_of code → o ≡ option_map draft_of (with_logs code task (series log_in (map (λ x. x.now) lines.now)))) }
+    ensures { IfOk result (λ o. (code : List CodeLine) → stmts.items ≡ map statement_of code
+        → o ≡ option_map draft_of (with_logs code task
+        (series log_in (map (λ x. x.now) lines.now)))) }
 {
     let logs = logs(alloc, lines)?;
     match behind(
@@ -78,7 +83,9 @@ fn with_logs(
 
 /// The draft whose task, body and script stand in these lines.
 fn with_task(alloc: Global, stmts: Vec<Stmt>, lines: &[&[u8]]) -> Result<Option<Draft>, AllocError>
-    ensures { IfOk result (λ o. (code : List CodeLine) → stmts.items ≡ map statement_of code → o ≡ option_map draft_of (with_task code (first_in task_in (map (λ x. x.now) lines.now)))) }
+    ensures { IfOk result (λ o. (code : List CodeLine) → stmts.items ≡ map statement_of code
+        → o ≡ option_map draft_of (with_task code
+        (first_in task_in (map (λ x. x.now) lines.now)))) }
 {
     let Some((line, rest)) = lines.split_first() else {
         return Ok(None);
@@ -94,7 +101,8 @@ fn with_task(alloc: Global, stmts: Vec<Stmt>, lines: &[&[u8]]) -> Result<Option<
 
 /// The draft whose user code and all behind it stand in these lines.
 fn with_code(alloc: Global, lines: &[&[u8]]) -> Result<Option<Draft>, AllocError>
-    ensures { IfOk result (λ o. o ≡ option_map draft_of (with_code (series code_in (map (λ x. x.now) lines.now)))) }
+    ensures { IfOk result (λ o. o ≡ option_map draft_of
+        (with_code (series code_in (map (λ x. x.now) lines.now)))) }
 {
     let stmts = code(alloc, lines)?;
     match behind(from(lines, stmts.len()), &["endtext"]) {
@@ -105,7 +113,8 @@ fn with_code(alloc: Global, lines: &[&[u8]]) -> Result<Option<Draft>, AllocError
 
 /// The draft that stands in these lines.
 pub fn in_lines(alloc: Global, lines: &[&[u8]]) -> Result<Option<Draft>, AllocError>
-    ensures { IfOk result (λ o. o ≡ option_map draft_of (with_head (behind head_lines (map (λ x. x.now) lines.now)))) }
+    ensures { IfOk result (λ o. o ≡ option_map draft_of
+        (with_head (behind head_lines (map (λ x. x.now) lines.now)))) }
 {
     match behind(lines, &["image 1", "processors 1", "nest 1", "text"]) {
         None => Ok(None),

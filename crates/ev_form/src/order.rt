@@ -17,7 +17,8 @@ use std::alloc::{AllocError, Global};
 
 /// What stands behind these lines, where they come first.
 pub fn behind<'a, 'b>(lines: &'a [&'b [u8]], first: &[&str]) -> Option<&'a [&'b [u8]]>
-    ensures { option_map (λ rest. map (λ x. x.now) rest.now) result ≡ behind (map (λ x. x.now) first.now) (map (λ x. x.now) lines.now) }
+    ensures { option_map (λ rest. map (λ x. x.now) rest.now) result ≡ behind
+        (map (λ x. x.now) first.now) (map (λ x. x.now) lines.now) }
 {
     let Some((text, others)) = first.split_first() else {
         return Some(lines);
@@ -31,7 +32,8 @@ pub fn behind<'a, 'b>(lines: &'a [&'b [u8]], first: &[&str]) -> Option<&'a [&'b 
 
 /// The statements of the first lines, up to one that is none.
 pub fn code(alloc: Global, lines: &[&[u8]]) -> Result<Vec<Stmt>, AllocError>
-    ensures { IfOk result (λ v. v.items ≡ map statement_of (series code_in (map (λ x. x.now) lines.now)).0) }
+    ensures { IfOk result (λ v. v.items ≡ map statement_of
+        (series code_in (map (λ x. x.now) lines.now)).0) }
 {
     let mut stmts = Vec::new(alloc);
     for line in lines {
@@ -45,7 +47,8 @@ pub fn code(alloc: Global, lines: &[&[u8]]) -> Result<Vec<Stmt>, AllocError>
 
 /// The items of the first lines, up to one that logs nothing.
 pub fn logs(alloc: Global, lines: &[&[u8]]) -> Result<Vec<Item>, AllocError>
-    ensures { IfOk result (λ v. v.items ≡ map Item.Log (series log_in (map (λ x. x.now) lines.now)).0) }
+    ensures { IfOk result (λ v. v.items ≡ map Item.Log
+        (series log_in (map (λ x. x.now) lines.now)).0) }
 {
     let mut items = Vec::new(alloc);
     for line in lines {
@@ -59,7 +62,8 @@ pub fn logs(alloc: Global, lines: &[&[u8]]) -> Result<Vec<Item>, AllocError>
 
 /// The turns of the first lines, up to one that is none.
 pub fn turns(alloc: Global, lines: &[&[u8]]) -> Result<Vec<Line>, AllocError>
-    ensures { IfOk result (λ v. v.items ≡ map (λ _. Line.Turn 0) (series turn_in (map (λ x. x.now) lines.now)).0) }
+    ensures { IfOk result (λ v. v.items ≡ map (λ _. Line.Turn 0)
+        (series turn_in (map (λ x. x.now) lines.now)).0) }
 {
     let mut script = Vec::new(alloc);
     for line in lines {

@@ -16,7 +16,15 @@ record Parts (w p i d l : ℕ) : Type 0 where
   middle : w / 4 % 16 ≡ 0
 
 parts : (w p i d l : ℕ) → p % 2 ^ 12 ≡ 0 → i < 4 → d < 8 → l < 4 → w ≡ p + 2 ^ 9 * i + 2 ^ 6 * d + l → Parts w p i d l
-parts w p i d l hp hi hd hl e = record { page = omega arith; int_level = omega arith; decrement = omega arith; level = omega arith; eleven = omega arith; middle = omega arith }
+parts w p i d l hp hi hd hl e = record {
+  page = omega arith;
+  int_level = omega arith;
+  decrement = omega arith;
+  level = omega arith;
+  eleven =
+      omega arith;
+  middle = omega arith;
+}
 
 pub is_read : ConfigIsRead
 unfolding read_config

@@ -28,9 +28,11 @@ cs_of : (f : Frame64) → IsFrame f → CsParts (cs_word f) f.cs f.old_level (bi
 cs_of f h = cs_parts (cs_word f) f.cs f.old_level (bit_if 0 f.wfe) h.5 h.7 (flag_small f.wfe) (omega (arith, flag_at 18 f.wfe))
 
 ss_of : (f : Frame64) → IsFrame f
-    → SsParts (ss_word f) f.ss (bit_if 0 f.sti) (bit_if 0 f.software) (bit_if 0 f.nmi) f.vector f.kind (bit_if 0 f.enclave) (bit_if 0 f.long) (bit_if 0 f.nested) f.length
+    → SsParts (ss_word f) f.ss (bit_if 0 f.sti) (bit_if 0 f.software) (bit_if 0 f.nmi) f.vector f.kind (bit_if 0 f.enclave) (bit_if 0 f.long)
+    (bit_if 0 f.nested) f.length
 ss_of f h =
-    ss_parts (ss_word f) _ _ _ _ _ _ _ _ _ _ h.6 (flag_small f.sti) (flag_small f.software) (flag_small f.nmi) h.8 h.9 (flag_small f.enclave) (flag_small f.long) (flag_small f.nested) h.10
+    ss_parts (ss_word f) _ _ _ _ _ _ _ _ _ _ h.6 (flag_small f.sti) (flag_small f.software) (flag_small f.nmi) h.8 h.9 (flag_small f.enclave)
+    (flag_small f.long) (flag_small f.nested) h.10
     (sym (ss_word_is f))
 
 holds : (f : Frame64) → IsFrame f → Holds (frame_bytes f) f
@@ -118,7 +120,8 @@ words_are bytes e =
     rw (cs_back cs (none (cs / 2 ^ 19) inner.0), ss_back ss (none _ two.0) (none _ two.1) (none _ some.1) last, none (word_at bytes 7) outer.1) refl
 
 bytes_are : (bytes : List ℕ) → ((i : ℕ) → get_or bytes i 0 < 256) → 64 ≤ length bytes
-    → flat_map (to_le_bytes w64) (word_at bytes 0 ∷ word_at bytes 1 ∷ word_at bytes 2 ∷ word_at bytes 3 ∷ word_at bytes 4 ∷ word_at bytes 5 ∷ word_at bytes 6 ∷ word_at bytes 7 ∷ [])
+    → flat_map (to_le_bytes w64) (word_at bytes 0 ∷ word_at bytes 1 ∷ word_at bytes 2 ∷ word_at bytes 3 ∷ word_at bytes 4 ∷ word_at bytes 5
+    ∷ word_at bytes 6 ∷ word_at bytes 7 ∷ [])
     ≡ take 64 bytes
 bytes_are bytes small h =
     sym (rw (

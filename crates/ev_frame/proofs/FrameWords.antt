@@ -8,7 +8,8 @@ use Rattle.ev_frame.proofs.Fields.{or_above}
 
 -- the word of SS as the code puts it together
 pub ss_is : (s a b c v k d e f l : ℕ) → s < 2 ^ 16 → a < 2 → b < 2 → c < 2 → v < 2 ^ 8 → k < 16 → d < 2 → e < 2 → f < 2 → l < 16
-    → bit_or (bit_or (bit_or (bit_or (bit_or (bit_or (bit_or (bit_or (bit_or s (a * 2 ^ 16 % 2 ^ 64)) (b * 2 ^ 17 % 2 ^ 64)) (c * 2 ^ 18 % 2 ^ 64)) (v * 2 ^ 32 % 2 ^ 64))
+    → bit_or (bit_or (bit_or (bit_or
+    (bit_or (bit_or (bit_or (bit_or (bit_or s (a * 2 ^ 16 % 2 ^ 64)) (b * 2 ^ 17 % 2 ^ 64)) (c * 2 ^ 18 % 2 ^ 64)) (v * 2 ^ 32 % 2 ^ 64))
     (k * 2 ^ 48 % 2 ^ 64)) (d * 2 ^ 56 % 2 ^ 64)) (e * 2 ^ 57 % 2 ^ 64)) (f * 2 ^ 58 % 2 ^ 64)) (l * 2 ^ 60 % 2 ^ 64)
     ≡ s + a * 2 ^ 16 + b * 2 ^ 17 + c * 2 ^ 18 + v * 2 ^ 32 + k * 2 ^ 48 + d * 2 ^ 56 + e * 2 ^ 57 + f * 2 ^ 58 + l * 2 ^ 60
 ss_is s a b c v k d e f l hs ha hb hc hv hk hd he hf hl =
@@ -26,7 +27,8 @@ ss_is s a b c v k d e f l hs ha hb hc hv hk hd he hf hl =
 
 -- the word of SS with its flags as numbers
 pub ss_word_is : (f : Frame64)
-    → f.ss + bit_if 0 f.sti * 2 ^ 16 + bit_if 0 f.software * 2 ^ 17 + bit_if 0 f.nmi * 2 ^ 18 + f.vector * 2 ^ 32 + f.kind * 2 ^ 48 + bit_if 0 f.enclave * 2 ^ 56
+    → f.ss + bit_if 0 f.sti * 2 ^ 16 + bit_if 0 f.software * 2 ^ 17 + bit_if 0 f.nmi * 2 ^ 18 + f.vector * 2 ^ 32 + f.kind * 2 ^ 48 + bit_if 0 f.enclave * 2
+    ^ 56
     + bit_if 0 f.long * 2 ^ 57 + bit_if 0 f.nested * 2 ^ 58 + f.length * 2 ^ 60
     ≡ ss_word f
 ss_word_is f = omega (arith, flag_at 16 f.sti, flag_at 17 f.software, flag_at 18 f.nmi, flag_at 56 f.enclave, flag_at 57 f.long, flag_at 58 f.nested)
@@ -84,7 +86,8 @@ pub cs_back : (w : ℕ) → w / 2 ^ 19 ≡ 0 → w % 2 ^ 16 + 2 ^ 16 * (w / 2 ^ 
 cs_back w h = omega (arith, flag_at 18 (bit 18 w), flag_of (w / 2 ^ 18 % 2) (omega arith))
 
 pub ss_back : (w : ℕ) → w / 2 ^ 19 % 2 ^ 13 ≡ 0 → w / 2 ^ 40 % 2 ^ 8 ≡ 0 → w / 2 ^ 52 % 2 ^ 4 ≡ 0 → w / 2 ^ 59 % 2 ≡ 0
-    → w % 2 ^ 16 + bit_if 16 (bit 16 w) + bit_if 17 (bit 17 w) + bit_if 18 (bit 18 w) + 2 ^ 32 * (w / 2 ^ 32 % 2 ^ 8) + 2 ^ 48 * (w / 2 ^ 48 % 2 ^ 4) + bit_if 56 (bit 56 w)
+    → w % 2 ^ 16 + bit_if 16 (bit 16 w) + bit_if 17 (bit 17 w) + bit_if 18 (bit 18 w) + 2 ^ 32 * (w / 2 ^ 32 % 2 ^ 8) + 2 ^ 48 * (w / 2 ^ 48 % 2 ^ 4)
+    + bit_if 56 (bit 56 w)
     + bit_if 57 (bit 57 w) + bit_if 58 (bit 58 w) + 2 ^ 60 * (w / 2 ^ 60)
     ≡ w
 ss_back w low middle high last =
@@ -94,4 +97,19 @@ ss_back w low middle high last =
     let d = flag_of (w / 2 ^ 56 % 2) (omega arith) in
     let e = flag_of (w / 2 ^ 57 % 2) (omega arith) in
     let f = flag_of (w / 2 ^ 58 % 2) (omega arith) in
-    omega (arith, a, b, c, d, e, f, flag_at 16 (bit 16 w), flag_at 17 (bit 17 w), flag_at 18 (bit 18 w), flag_at 56 (bit 56 w), flag_at 57 (bit 57 w), flag_at 58 (bit 58 w))
+    omega (
+      arith,
+      a,
+      b,
+      c,
+      d,
+      e,
+      f,
+      flag_at 16 (bit 16 w),
+      flag_at 17 (bit 17 w),
+      flag_at 18 (bit 18 w),
+      flag_at 56 (bit 56 w),
+      flag_at 57
+          (bit 57 w),
+      flag_at 58 (bit 58 w),
+    )

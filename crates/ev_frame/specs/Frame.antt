@@ -10,7 +10,8 @@ use Rattle.ev_frame.specs.declared.frame.FrameFault.TheVariants.{Short, Reserved
 abbrev pub cs_word : Frame64 → ℕ
 cs_word f = f.cs + 2 ^ 16 * f.old_level + bit_if 18 f.wfe
 
--- the word of SS: STI blocking in bit 16, a software event in 17, NMI in 18, the vector in 39:32, the type in 51:48, enclave in 56, 64-bit mode in 57, nested in 58, the instruction length in 63:60
+-- the word of SS: STI blocking in bit 16, a software event in 17, NMI in 18, the vector in 39:32, the type in 51:48, enclave in 56, 64-bit mode in
+-- 57, nested in 58, the instruction length in 63:60
 abbrev pub ss_word : Frame64 → ℕ
 ss_word f =
     f.ss + bit_if 16 f.sti + bit_if 17 f.software + bit_if 18 f.nmi + 2 ^ 32 * f.vector + 2 ^ 48 * f.kind + bit_if 56 f.enclave + bit_if 57 f.long

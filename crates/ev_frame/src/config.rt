@@ -74,7 +74,8 @@ impl StackLevels {
     pub fn level_of(&self, vector: u8) -> u8
         requires { vector < 32 }
         ensures value { result ≡ level_of self.now.0 vector }
-        ensures bits { result ≡ bit_if 1 (bit (2 * vector + 1) self.now.0) + bit_if 0 (bit (2 * vector) self.now.0) }
+        ensures bits { result ≡ bit_if 1 (bit (2 * vector + 1) self.now.0) + bit_if 0
+            (bit (2 * vector) self.now.0) }
     {
         (self.0 >> (2 * vector) & 3) as u8
     }

@@ -20,7 +20,8 @@ use ev_words::{below, write_frame};
 #[tactic(auto, unfolding(crate::specs::FredDelivery::fred_delivery))]
 pub fn deliver_fred(cpu: &mut Cpu, mem: &mut Mem, e: &Event, nested: bool) -> Result<u64, Event>
     requires { e.now.length < 16 }
-    ensures is { delivery_of result cpu.new (memory mem.new).words ≡ fred_delivery cpu.old (memory mem.old) e.now nested }
+    ensures is { delivery_of result cpu.new (memory mem.new).words ≡ fred_delivery cpu.old
+        (memory mem.old) e.now nested }
     ensures regions { (memory mem.new).regions ≡ (memory mem.old).regions }
     ensures err { OnErr result (mem.new ≡ mem.old) }
 {

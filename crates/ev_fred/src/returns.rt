@@ -45,7 +45,8 @@ pub fn erets(cpu: &mut Cpu, mem: &Mem) -> Result<(), Event>
 }
 
 fn eretu_words(cpu: &mut Cpu, words: &ReturnWords) -> Result<(), Event>
-    ensures { (memory : NatMap ℕ) → return_of result cpu.new memory ≡ eretu_words cpu.old memory (listed words.now) }
+    ensures { (memory : NatMap ℕ)
+        → return_of result cpu.new memory ≡ eretu_words cpu.old memory (listed words.now) }
 {
     if cpu.level == 0
         && is_canonical(words.rip)
@@ -64,7 +65,8 @@ fn eretu_words(cpu: &mut Cpu, words: &ReturnWords) -> Result<(), Event>
 }
 
 fn erets_words(cpu: &mut Cpu, words: &ReturnWords) -> Result<(), Event>
-    ensures { (memory : NatMap ℕ) → return_of result cpu.new memory ≡ erets_words cpu.old memory (listed words.now) }
+    ensures { (memory : NatMap ℕ)
+        → return_of result cpu.new memory ≡ erets_words cpu.old memory (listed words.now) }
 {
     let level = ((words.cs >> 16) % 4) as u8;
     if level <= cpu.level && is_canonical(words.rip) && words.cs % 0x1_0000 == 0x10 {
@@ -80,7 +82,8 @@ fn erets_words(cpu: &mut Cpu, words: &ReturnWords) -> Result<(), Event>
 /// word of SS ends the blocking of NMIs, and bit 16 blocks by STI.
 fn load_return(cpu: &mut Cpu, words: &ReturnWords)
     requires { is_canonical words.now.rip ≡ true }
-    ensures { cpu.new ≡ fred_returned cpu.old words.now.rip words.now.flags words.now.rsp words.now.ss }
+    ensures { cpu.new ≡ fred_returned cpu.old words.now.rip words.now.flags words.now.rsp
+        words.now.ss }
 {
     cpu.go(words.rip);
     cpu.load_flags(words.flags);

@@ -14,12 +14,14 @@ use Rattle.ev_gate.specs.Gate.{IsGate, gate_bytes, gate_in, kind_byte, read_gate
 
 -- the two words of the bytes
 low_word : (n s i k : ℕ) → s < 2 ^ 16 → i < 256 → k < 256
-    → from_le_bytes w64 (to_le_bytes w16 (n % 2 ^ 16) ++ to_le_bytes w16 s ++ i ∷ k ∷ to_le_bytes w16 (n / 2 ^ 16 % 2 ^ 16) ++ to_le_bytes w32 (n / 2 ^ 32) ++ 0 ∷ 0 ∷ 0 ∷ 0 ∷ [])
+    → from_le_bytes w64 (to_le_bytes w16 (n % 2 ^ 16) ++ to_le_bytes w16 s ++ i ∷ k ∷ to_le_bytes w16 (n / 2 ^ 16 % 2 ^ 16) ++ to_le_bytes w32 (n / 2 ^ 32)
+    ++ 0 ∷ 0 ∷ 0 ∷ 0 ∷ [])
     ≡ n % 2 ^ 16 + 2 ^ 16 * s + 2 ^ 32 * i + 2 ^ 40 * k + 2 ^ 48 * (n / 2 ^ 16 % 2 ^ 16)
 low_word n s i k hs hi hk = omega arith
 
 high_word : (n s i k : ℕ) → n < 2 ^ 64
-    → from_le_bytes w64 (drop 8 (to_le_bytes w16 (n % 2 ^ 16) ++ to_le_bytes w16 s ++ i ∷ k ∷ to_le_bytes w16 (n / 2 ^ 16 % 2 ^ 16) ++ to_le_bytes w32 (n / 2 ^ 32) ++ 0 ∷ 0 ∷ 0 ∷ 0 ∷ []))
+    → from_le_bytes w64 (drop 8 (to_le_bytes w16 (n % 2 ^ 16) ++ to_le_bytes w16 s ++ i ∷ k ∷ to_le_bytes w16 (n / 2 ^ 16 % 2 ^ 16) ++ to_le_bytes w32
+    (n / 2 ^ 32) ++ 0 ∷ 0 ∷ 0 ∷ 0 ∷ []))
     ≡ n / 2 ^ 32
 high_word n s i k hn = omega arith
 
@@ -123,7 +125,8 @@ none_reserved false y z e = cc
 accepted : (bytes : List ℕ) (g : Gate) → read_gate bytes ≡ Ok g → IsForm bytes × (gate_in (from_le_bytes w64 bytes) (from_le_bytes w64 (drop 8 bytes)) ≡ g)
 unfolding read_gate
 accepted bytes g e =
-    let t = tests (nat_lt (length bytes) 16) (get_or bytes 5 0 / 2 % 8 == 7) (has_reserved bytes) (gate_in (from_le_bytes w64 bytes) (from_le_bytes w64 (drop 8 bytes))) g e in
+    let t = tests (nat_lt (length bytes) 16) (get_or bytes 5 0 / 2 % 8 == 7) (has_reserved bytes)
+    (gate_in (from_le_bytes w64 bytes) (from_le_bytes w64 (drop 8 bytes))) g e in
     let r = none_reserved (get_or bytes 4 0 / 8 == 0) (bit 4 (get_or bytes 5 0)) (from_le_bytes w32 (drop 12 bytes) == 0) t.2 in
     let odd = eqb-false (get_or bytes 5 0 / 2 ^ 4 % 2) 1 r.1 in (
       record {
@@ -205,7 +208,8 @@ written : (bytes : List ℕ) → ((i : ℕ) → get_or bytes i 0 < 256) → IsFo
     → gate_bytes (gate_of bytes) ≡ map (λ k. get_or bytes k 0) (range_with_len 0 16)
 unfolding gate_bytes
 written bytes small f =
-    let o = offset_parts ((gate_of bytes).offset) (two bytes 0) (two bytes 6) (four bytes 8) (omega (arith, small 0, small 1)) (omega (arith, small 6, small 7)) refl in
+    let o = offset_parts ((gate_of bytes).offset) (two bytes 0) (two bytes 6) (four bytes 8) (omega (arith, small 0, small 1))
+    (omega (arith, small 6, small 7)) refl in
     let a = two_parts (two bytes 0) _ _ (small 0) (small 1) refl in
     let s = two_parts (two bytes 2) _ _ (small 2) (small 3) refl in
     let c = two_parts (two bytes 6) _ _ (small 6) (small 7) refl in
@@ -215,7 +219,26 @@ written bytes small f =
     let z1 : get_or bytes 13 0 ≡ 0 = omega (arith, f.last, last 1 0) in
     let z2 : get_or bytes 14 0 ≡ 0 = omega (arith, f.last, last 2 0) in
     let z3 : get_or bytes 15 0 ≡ 0 = omega (arith, f.last, last 3 0) in
-    rw (kind_back (get_or bytes 5 0) (small 5) f.kind f.clear, o.first, o.second, o.high, a.low, a.high, s.low, s.high, c.low, c.high, d.first, d.second, d.third, d.fourth, z0, z1, z2, z3) refl
+    rw (
+      kind_back (get_or bytes 5 0) (small 5) f.kind f.clear,
+      o.first,
+      o.second,
+      o.high,
+      a.low,
+      a.high,
+      s.low,
+      s.high,
+      c.low,
+      c.high,
+      d.first,
+      d.second,
+      d.third,
+      d.fourth,
+      z0,
+      z1,
+      z2,
+      z3,
+    ) refl
 
 fits : (bytes : List ℕ) → ((i : ℕ) → get_or bytes i 0 < 256) → IsForm bytes → IsGate (gate_of bytes)
 fits bytes small f = (

@@ -28,10 +28,24 @@ part bytes k i hk hi =
     ∙ ap (λ (j : ℕ). get_or bytes j 0) {x = 36 + (8 * k + i)} {y = 36 + 8 * k + i} (omega arith)
     ∙ sym (get_or-drop (36 + 8 * k) bytes i 0)
 
-pub stacks_are : (bytes xs : List ℕ) → length xs ≡ 7 → IsRead little_number 8 (take 56 (drop 36 bytes)) xs → xs ≡ map (λ k. word_from bytes (36 + 8 * k)) (range_with_len 0 7)
+pub stacks_are : (bytes xs : List ℕ) → length xs ≡ 7 → IsRead little_number 8 (take 56 (drop 36 bytes)) xs
+    → xs ≡ map (λ k. word_from bytes (36 + 8 * k)) (range_with_len 0 7)
 stacks_are bytes xs len each = fill_by_all (λ k. word_from bytes (36 + 8 * k)) xs 7 0 len (λ k h.
-    let byte : (i : ℕ) → i < 8 → get_or (drop (8 * k) (take 56 (drop 36 bytes))) i 0 ≡ get_or (drop (36 + 8 * k) bytes) i 0 = λ i small. part bytes k i h small in
-    omega (arith, each k (rw len h), byte 0 (omega arith), byte 1 (omega arith), byte 2 (omega arith), byte 3 (omega arith), byte 4 (omega arith), byte 5 (omega arith), byte 6 (omega arith), byte 7 (omega arith)))
+    let byte : (i : ℕ) → i < 8 → get_or (drop (8 * k) (take 56 (drop 36 bytes))) i 0 ≡ get_or (drop (36 + 8 * k) bytes) i 0 =
+    λ i small. part bytes k i h small in
+    omega (
+      arith,
+      each k (rw len h),
+      byte 0 (omega arith),
+      byte 1 (omega arith),
+      byte 2 (omega arith),
+      byte 3 (omega arith),
+      byte 4 (omega arith),
+      byte 5
+          (omega arith),
+      byte 6 (omega arith),
+      byte 7 (omega arith),
+    ))
 
 seven : (r a b c d e f g : ℕ) → r < 2 ^ 64 → a < 2 ^ 64 → b < 2 ^ 64 → c < 2 ^ 64 → d < 2 ^ 64 → e < 2 ^ 64 → f < 2 ^ 64 → g < 2 ^ 64
     → tss_in (tss_bytes (record { rsp0 = r; ist = a ∷ b ∷ c ∷ d ∷ e ∷ f ∷ g ∷ [] })) ≡ record { rsp0 = r; ist = a ∷ b ∷ c ∷ d ∷ e ∷ f ∷ g ∷ [] }
@@ -50,7 +64,8 @@ seven r a b c d e f g hr ha hb hc hd he hf hg =
 pub is_read : TssIsRead
 is_read t h =
     let stacks : t.ist ≡ map (λ k. get_or t.ist k 0) (range_with_len 0 7) = fill_by_all (λ k. get_or t.ist k 0) t.ist 7 0 h.1 (λ k below. refl) in
-    let whole : t ≡ record { rsp0 = t.rsp0; ist = map (λ k. get_or t.ist k 0) (range_with_len 0 7) } = ap (λ (xs : List ℕ). let u : Tss = record { rsp0 = t.rsp0; ist = xs } in u) stacks in
+    let whole : t ≡ record { rsp0 = t.rsp0; ist = map (λ k. get_or t.ist k 0) (range_with_len 0 7) } =
+    ap (λ (xs : List ℕ). let u : Tss = record { rsp0 = t.rsp0; ist = xs } in u) stacks in
     subst (λ (u : Tss). read_tss (tss_bytes u) ≡ Ok u) (sym whole)
     (passes (tss_bytes (record { rsp0 = t.rsp0; ist = map (λ k. get_or t.ist k 0) (range_with_len 0 7) })) (omega arith)
     ∙ ap (λ (u : Tss). Ok u) (seven t.rsp0 _ _ _ _ _ _ _ h.0 (h.2 0) (h.2 1) (h.2 2) (h.2 3) (h.2 4) (h.2 5) (h.2 6)))

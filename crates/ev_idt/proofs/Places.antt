@@ -15,7 +15,8 @@ by_half q false true hx hy h = let e : q ≡ 131071 = eqb-true q 131071 hy in om
 by_half q false false hx hy h = cc
 
 below_end : (a : ℕ) → is_canonical a ≡ true → a < 2 ^ 64
-below_end a h = let q : a / 140737488355328 < 131072 = by_half (a / 140737488355328) (a / 140737488355328 == 0) (a / 140737488355328 == 131071) refl refl h in omega arith
+below_end a h = let q : a / 140737488355328 < 131072 =
+    by_half (a / 140737488355328) (a / 140737488355328 == 0) (a / 140737488355328 == 131071) refl refl h in omega arith
 
 pub idt_fits : (c : Processor) (m : Memory) → HasTables c m → c.idt + 4096 ≤ 2 ^ 64
 idt_fits c m t =

@@ -60,7 +60,15 @@ abbrev pub is_return : ℕ → ℕ → Bool
 is_return cs ss = ((cs == 0x33) && (ss == 0x2b)) || ((cs == 0x10) && ((ss == 0x18) || (ss == 0)))
 
 abbrev pub returned : Processor → ℕ → ℕ → ℕ → ℕ → ℕ → Processor
-returned c rip cs flags rsp ss = record (with_rsp c rsp) { rip = rip; cs = cs; flags = modelled flags; ss = ss; cpl = if cs == 0x33 then 3 else 0; sti_blocked = false }
+returned c rip cs flags rsp ss = record (with_rsp c rsp) {
+  rip = rip;
+  cs = cs;
+  flags = modelled flags;
+  ss = ss;
+  cpl = if cs == 0x33 then 3 else
+      0;
+  sti_blocked = false;
+}
 
 -- IRETQ with its five words
 abbrev pub iret_words : Processor → NatMap ℕ → List ℕ → Outcome

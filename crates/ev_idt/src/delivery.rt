@@ -24,7 +24,8 @@ use ev_state::Cpu;
 pub fn deliver_idt(cpu: &mut Cpu, mem: &mut Mem, e: &Event) -> Result<u64, Event>
     requires kind { e.now.kind ≢ EventType.Other }
     requires tables { HasTables cpu.old (memory mem.old) }
-    ensures is { delivery_of result cpu.new (memory mem.new).words ≡ idt_delivery cpu.old (memory mem.old) e.now }
+    ensures is { delivery_of result cpu.new (memory mem.new).words ≡ idt_delivery cpu.old
+        (memory mem.old) e.now }
     ensures regions { (memory mem.new).regions ≡ (memory mem.old).regions }
     ensures err { OnErr result (mem.new ≡ mem.old) }
 {
@@ -48,7 +49,8 @@ pub fn through_gate(cpu: &mut Cpu, mem: &mut Mem, e: &Event, gate: &Gate) -> Res
     requires ist { gate.now.ist < 8 }
     requires canonical { is_canonical gate.now.offset ≡ true }
     requires tss { cpu.old.tss + 84 < 2 ^ 64 }
-    ensures is { delivery_of result cpu.new (memory mem.new).words ≡ through_gate cpu.old (memory mem.old) e.now gate.now }
+    ensures is { delivery_of result cpu.new (memory mem.new).words ≡ through_gate cpu.old
+        (memory mem.old) e.now gate.now }
     ensures regions { (memory mem.new).regions ≡ (memory mem.old).regions }
     ensures err { OnErr result (mem.new ≡ mem.old) }
 {

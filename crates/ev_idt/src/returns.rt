@@ -38,7 +38,8 @@ fn is_return(cs: u16, ss: u16) -> bool
 }
 
 fn iret_words(cpu: &mut Cpu, words: &ReturnWords) -> Result<(), Event>
-    ensures { (memory : NatMap ℕ) → return_of result cpu.new memory ≡ iret_words cpu.old memory (listed words.now) }
+    ensures { (memory : NatMap ℕ)
+        → return_of result cpu.new memory ≡ iret_words cpu.old memory (listed words.now) }
 {
     let cs = (words.cs % 0x1_0000) as u16;
     let ss = (words.ss % 0x1_0000) as u16;

@@ -26,7 +26,9 @@ pub fn gate_at(mem: &Mem, idt: u64, vector: u8) -> Gate
 fn stack(cpu: &Cpu, mem: &Mem, gate: &Gate) -> u64
     requires ist { gate.now.ist < 8 }
     requires tss { cpu.now.tss + 84 < 2 ^ 64 }
-    ensures { result ≡ (if not (gate.now.ist == 0) then ist_at (memory mem.now).words cpu.now.tss gate.now.ist else (if is_user cpu.now then rsp0_at (memory mem.now).words cpu.now.tss else rsp cpu.now)) }
+    ensures { result ≡ (if not (gate.now.ist == 0) then ist_at (memory mem.now).words cpu.now.tss
+        gate.now.ist else (if is_user cpu.now then rsp0_at (memory mem.now).words cpu.now.tss else
+        rsp cpu.now)) }
 {
     if gate.ist != 0 {
         return mem.word(cpu.tss + 28 + 8 * u64::from(gate.ist));

@@ -37,11 +37,13 @@ within_more xs m a b c l e q = (xs ++ q.0, omega (arith, l, q.1, length-append x
 pub draws_after : (xs : List ℕ) (m n : ℕ) (a b c : Option (List ℕ)) → m ≡ length xs → a ≡ prepend_known xs b → Draws m n b c → Draws 0 n a c
 draws_after xs m n a b c l e q = (xs ++ q.0, omega (arith, l, q.1, length-append xs q.0), e ∙ ap (prepend_known xs) q.2 ∙ prepend_prepend xs q.0 c)
 
-pub grown : (before now : List ℕ) (a b c : Option (List ℕ)) → a ≡ prepend_known before b → (bytes : List ℕ) × (now ≡ before ++ bytes) × (b ≡ prepend_known bytes c) → a ≡ prepend_known now c
+pub grown : (before now : List ℕ) (a b c : Option (List ℕ)) → a ≡ prepend_known before b → (bytes : List ℕ) × (now ≡ before ++ bytes)
+    × (b ≡ prepend_known bytes c) → a ≡ prepend_known now c
 grown before now a b c e q = e ∙ ap (prepend_known before) q.2 ∙ prepend_prepend before q.0 c ∙ ap (λ x. prepend_known x c) (sym q.1)
 
 -- what was read up to the end is all that was left
-pub told_whole : (xs : List ℕ) (a b : Option (List ℕ)) → a ≡ prepend_known xs b → IsAtEnd b → length xs ≤ 8388608 → IfSome a (λ ys. (xs ≡ ys) × (length ys ≤ 8388608))
+pub told_whole : (xs : List ℕ) (a b : Option (List ℕ)) → a ≡ prepend_known xs b → IsAtEnd b → length xs ≤ 8388608
+    → IfSome a (λ ys. (xs ≡ ys) × (length ys ≤ 8388608))
 told_whole xs None b e h l = tt
 told_whole xs (Some ys) None e h l = cc
 told_whole xs (Some ys) (Some zs) e h l =
@@ -57,12 +59,14 @@ told_large n (Some ys) (Some zs) l q =
     omega (arith, l, q.1, ap length same, length-append q.0 zs)
 
 -- a fault of the call that appended, after what was read before
-pub fault_told : (f : InputFault) (xs : List ℕ) (m : ℕ) (a b c : Option (List ℕ)) → m ≡ length xs → a ≡ prepend_known xs b → OnTooLarge {T = Bool} (Err f) (Draws m 8388609 b c) → Fits a (Err f)
+pub fault_told : (f : InputFault) (xs : List ℕ) (m : ℕ) (a b c : Option (List ℕ)) → m ≡ length xs → a ≡ prepend_known xs b
+    → OnTooLarge {T = Bool} (Err f) (Draws m 8388609 b c) → Fits a (Err f)
 fault_told ReadFault xs m a b c l e q = tt
 fault_told NoMemory xs m a b c l e q = tt
 fault_told TooLarge xs m a b c l e q = told_large 8388609 a c (omega arith) (draws_after xs m 8388609 a b c l e q)
 
-pub fault_whole : (f : InputFault) (xs : List ℕ) (m : ℕ) (a b c : Option (List ℕ)) → m ≡ length xs → a ≡ prepend_known xs b → OnTooLarge {T = Bool} (Err f) (Draws m 8388609 b c) → ReadsWhole a c (Err f)
+pub fault_whole : (f : InputFault) (xs : List ℕ) (m : ℕ) (a b c : Option (List ℕ)) → m ≡ length xs → a ≡ prepend_known xs b
+    → OnTooLarge {T = Bool} (Err f) (Draws m 8388609 b c) → ReadsWhole a c (Err f)
 fault_whole ReadFault xs m a b c l e q = tt
 fault_whole NoMemory xs m a b c l e q = tt
 fault_whole TooLarge xs m a b c l e q = draws_after xs m 8388609 a b c l e q

@@ -15,7 +15,8 @@ value_push base [] d =
     omega (arith, ap (λ p. digit d * p) one)
 value_push base (x ∷ xs) d =
     let more = value_push base xs d in
-    let power : base ^ length (xs ++ d ∷ []) ≡ base * base ^ length xs = ap (λ k. base ^ k) (length_push xs d ∙ add-one (length xs)) ∙ pow-succ' base (length xs) in
+    let power : base ^ length (xs ++ d ∷ []) ≡ base * base ^ length xs = ap (λ k. base ^ k) (length_push xs d ∙ add-one (length xs))
+    ∙ pow-succ' base (length xs) in
     let place : digit x * base ^ length (xs ++ d ∷ []) ≡ digit x * (base * base ^ length xs) = ap (λ p. digit x * p) power in
     omega (arith, place, more)
 
@@ -80,10 +81,12 @@ large_prefix base i ds h k =
     let same = ap (value base) (take-append-drop i ds) in
     large base ds (omega (arith, k, grows, same))
 
-pub all_digits : (base : ℕ) (ds : List ℕ) → 0 < length ds → list_all (λ b. nat_lt (digit b) base) ds ≡ true → value base ds < 2 ^ 64 → digits_number base ds ≡ Some (value base ds)
+pub all_digits : (base : ℕ) (ds : List ℕ) → 0 < length ds → list_all (λ b. nat_lt (digit b) base) ds ≡ true → value base ds < 2 ^ 64
+    → digits_number base ds ≡ Some (value base ds)
 unfolding digits_number is_digits below_word
 all_digits base ds some all small =
-    let two : (nat_lt 0 (length ds) && list_all (λ b. nat_lt (digit b) base) ds) ≡ true = ap (λ v. v && list_all (λ b. nat_lt (digit b) base) ds) (less 0 (length ds) some) ∙ all in
+    let two : (nat_lt 0 (length ds) && list_all (λ b. nat_lt (digit b) base) ds) ≡ true =
+    ap (λ v. v && list_all (λ b. nat_lt (digit b) base) ds) (less 0 (length ds) some) ∙ all in
     choose _ true _ None two ∙ choose _ true _ None (less (value base ds) (2 ^ 64) small)
 
 -- ---- texts
@@ -117,7 +120,8 @@ no_hexadecimal text (inr h) = ap (λ v. v && is_digits 16 (drop 2 text)) (both_f
 pub hexadecimal : (text : List ℕ) → 2 ≤ length text → slice_index text 0 ≡ 0x30 → slice_index text 1 ≡ 0x78 → digits_number 16 (drop 2 text) ≡ number_of text
 unfolding number_of digits_number is_hexadecimal
 hexadecimal text h z x =
-    let form : is_hexadecimal text ≡ is_digits 16 (drop 2 text) = ap (λ v. v && (slice_index text 1 == 0x78) && is_digits 16 (drop 2 text)) (same_test _ 0x30 z) ∙ ap (λ v. v && is_digits 16 (drop 2 text)) (same_test _ 0x78 x) in
+    let form : is_hexadecimal text ≡ is_digits 16 (drop 2 text) = ap (λ v. v && (slice_index text 1 == 0x78) && is_digits 16 (drop 2 text))
+    (same_test _ 0x30 z) ∙ ap (λ v. v && is_digits 16 (drop 2 text)) (same_test _ 0x78 x) in
     sym (choose _ false _ _ (no_decimal text h z) ∙ choose _ _ _ None form)
 
 pub no_number : (text : List ℕ) → 2 ≤ length text → slice_index text 0 ≡ 0x30 → slice_index text 1 ≢ 0x78 → number_of text ≡ None
@@ -138,4 +142,5 @@ one_byte (a ∷ b ∷ r) h = absurd (omega (arith, h))
 
 pub decimal : (text : List ℕ) → (length text < 2) ⊎ (slice_index text 0 ≢ 0x30) → digits_number 10 text ≡ number_of text
 unfolding number_of digits_number
-decimal text h = sym (choose _ _ _ _ (decimal_form text h) ∙ ap (λ y. if is_digits 10 text then below_word (value 10 text) else y) (choose _ false _ None (no_hexadecimal text (elim h [ inl p ↦ inr (one_byte text p) | inr p ↦ inl p ]))))
+decimal text h = sym (choose _ _ _ _ (decimal_form text h) ∙ ap (λ y. if is_digits 10 text then below_word (value 10 text) else y)
+    (choose _ false _ None (no_hexadecimal text (elim h [ inl p ↦ inr (one_byte text p) | inr p ↦ inl p ]))))

@@ -26,7 +26,8 @@ prefix_append : (t rest : List ℕ) → All IsPrintable t → prefix_len is_prin
 prefix_append [] rest h = omega arith
 prefix_append (x ∷ xs) rest h =
     let more = prefix_append xs rest (All-tail IsPrintable x xs h) in
-    let here : cond (is_printable x) (1 + prefix_len is_printable (xs ++ rest)) 0 ≡ 1 + prefix_len is_printable (xs ++ rest) = ap (λ v. cond v (1 + prefix_len is_printable (xs ++ rest)) 0) (All-head IsPrintable x xs h) in
+    let here : cond (is_printable x) (1 + prefix_len is_printable (xs ++ rest)) 0 ≡ 1 + prefix_len is_printable (xs ++ rest) =
+    ap (λ v. cond v (1 + prefix_len is_printable (xs ++ rest)) 0) (All-head IsPrintable x xs h) in
     here ∙ omega (arith, more)
 
 -- a line stops behind a text
@@ -64,17 +65,20 @@ is_large n gone t b ys h = search (rules, tests)
 is_line : (n gone : ℕ) (t ys : List ℕ) → gone + length t < 8388608 → outcome_at n gone t (10 ∷ ys) ≡ Line t ys (gone + length t + 1)
 is_line n gone t ys h = search (rules, tests)
 
-is_long : (n gone : ℕ) (t : List ℕ) (b : ℕ) (ys : List ℕ) → gone + length t < 8388608 → b ≢ 10 → 4096 ≤ length t → outcome_at n gone t (b ∷ ys) ≡ Bad (TooLong n)
+is_long : (n gone : ℕ) (t : List ℕ) (b : ℕ) (ys : List ℕ) → gone + length t < 8388608 → b ≢ 10 → 4096 ≤ length t
+    → outcome_at n gone t (b ∷ ys) ≡ Bad (TooLong n)
 is_long n gone t b ys h d l = search (rules, tests)
 
-is_not_ascii : (n gone : ℕ) (t : List ℕ) (b : ℕ) (ys : List ℕ) → gone + length t < 8388608 → b ≢ 10 → length t < 4096 → outcome_at n gone t (b ∷ ys) ≡ Bad (NotAscii n (length t))
+is_not_ascii : (n gone : ℕ) (t : List ℕ) (b : ℕ) (ys : List ℕ) → gone + length t < 8388608 → b ≢ 10 → length t < 4096
+    → outcome_at n gone t (b ∷ ys) ≡ Bad (NotAscii n (length t))
 is_not_ascii n gone t b ys h d l = search (rules, tests)
 
 each : (f g : List ℕ → Outcome) → ((ys : List ℕ) → f ys ≡ g ys) → (o : Option (List ℕ)) → option_map f o ≡ option_map g o
 each f g h None = refl
 each f g h (Some ys) = ap Some (h ys)
 
-one : (f : List ℕ → Outcome) (x : Outcome) → ((ys : List ℕ) → f ys ≡ x) → (o : Option (List ℕ)) (s : Option Outcome) → s ≡ option_map f o → IfSome s (λ y. y ≡ x)
+one : (f : List ℕ → Outcome) (x : Outcome) → ((ys : List ℕ) → f ys ≡ x) → (o : Option (List ℕ)) (s : Option Outcome) → s ≡ option_map f o
+    → IfSome s (λ y. y ≡ x)
 one f x h o None e = tt
 one f x h None (Some s) e = cc
 one f x h (Some ys) (Some s) e = let same = h ys in cc
@@ -86,7 +90,8 @@ pub at_large : (n gone k : ℕ) (t chunk : List ℕ) (all o : Option (List ℕ))
 at_large n gone k t [] all o h e l p q = absurd (omega (arith, p))
 at_large n gone k t (b ∷ bs) all o h e l p q =
     let large : 8388608 ≤ gone + length t = omega arith in
-    let first : prepend_known (b ∷ bs) o ≡ prepend_known (b ∷ []) (prepend_known bs o) = elim o as (λ v. prepend_known (b ∷ bs) v ≡ prepend_known (b ∷ []) (prepend_known bs v)) [ None ↦ refl | Some ys ↦ refl ] in
+    let first : prepend_known (b ∷ bs) o ≡ prepend_known (b ∷ []) (prepend_known bs o) =
+    elim o as (λ v. prepend_known (b ∷ bs) v ≡ prepend_known (b ∷ []) (prepend_known bs v)) [ None ↦ refl | Some ys ↦ refl ] in
     one _ (Bad (TooLarge n)) (λ ys. is_large n gone t b ys large) (prepend_known bs o) _
     (ap (outcomes n gone) (q ∙ ap (prepend_known t) first) ∙ at_byte n gone t b (prepend_known bs o) h (inr (inr large)))
 
@@ -108,14 +113,17 @@ pub at_not_ascii : (n gone k b m : ℕ) (t : List ℕ) (all o : Option (List ℕ
     → (b < 32) ⊎ (126 < b) → m ≡ length t → all ≡ prepend_known t (prepend_known (b ∷ []) o) → IfSome (outcomes n gone all) (λ x. x ≡ Bad (NotAscii n m))
 at_not_ascii n gone k b m t all o h e l d s p i q =
     let small : gone + length t < 8388608 = omega arith in
-    one _ (Bad (NotAscii n m)) (λ ys. is_not_ascii n gone t b ys small d s ∙ ap (λ x. Bad (NotAscii n x)) (sym i)) o _ (ap (outcomes n gone) q ∙ at_byte n gone t b o h (inl (is_strange b p)))
+    one _ (Bad (NotAscii n m)) (λ ys. is_not_ascii n gone t b ys small d s ∙ ap (λ x. Bad (NotAscii n x)) (sym i)) o _
+    (ap (outcomes n gone) q ∙ at_byte n gone t b o h (inl (is_strange b p)))
 
-at_last_byte : (n gone : ℕ) (t : List ℕ) (all o : Option (List ℕ)) → IsText gone t → IsAtEnd o → all ≡ prepend_known t o → outcomes n gone all ≡ option_map (λ ys. last_line gone t) o
+at_last_byte : (n gone : ℕ) (t : List ℕ) (all o : Option (List ℕ)) → IsText gone t → IsAtEnd o → all ≡ prepend_known t o
+    → outcomes n gone all ≡ option_map (λ ys. last_line gone t) o
 at_last_byte n gone t all None h e q = ap (outcomes n gone) q
 at_last_byte n gone t all (Some ys) h e q =
     ap (outcomes n gone) (q ∙ ap (λ x. Some (t ++ x)) e) ∙ ap Some (outcome_append n gone t [] h (inl refl))
 
-pub at_end : (n gone : ℕ) (t : List ℕ) (all o : Option (List ℕ)) → IsText gone t → IsAtEnd o → length t ≡ 0 → all ≡ prepend_known t o → IfSome (outcomes n gone all) (λ x. x ≡ End)
+pub at_end : (n gone : ℕ) (t : List ℕ) (all o : Option (List ℕ)) → IsText gone t → IsAtEnd o → length t ≡ 0 → all ≡ prepend_known t o
+    → IfSome (outcomes n gone all) (λ x. x ≡ End)
 at_end n gone [] all o h e l q = one _ End (λ ys. refl) o _ (at_last_byte n gone [] all o h e q)
 at_end n gone (c ∷ cs) all o h e l q = absurd (omega (arith, l))
 
@@ -128,7 +136,8 @@ at_last n gone k (c ∷ cs) all (Some ys) h m e l q =
 
 -- a text before a line feed, or before the end, is the first line
 
-pub takes_line : (gone b : ℕ) (t : List ℕ) (all o : Option (List ℕ)) → IsText gone t → b ≡ 10 → all ≡ prepend_known t (prepend_known (b ∷ []) o) → TakesLine t all o
+pub takes_line : (gone b : ℕ) (t : List ℕ) (all o : Option (List ℕ)) → IsText gone t → b ≡ 10 → all ≡ prepend_known t (prepend_known (b ∷ []) o)
+    → TakesLine t all o
 takes_line gone b t all None h f q bytes e = cc
 takes_line gone b t all (Some ys) h f q bytes e =
     let same : bytes ≡ t ++ b ∷ ys = cc in

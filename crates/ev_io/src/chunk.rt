@@ -62,7 +62,8 @@ impl Chunk {
         ensures bytes { S.left src.old ≡ prepend_known self.new (S.left src.new) }
         ensures most { length self.new ≤ most }
         ensures some { IfOk result (λ more. more ≡ true → 0 < length self.new) }
-        ensures end { IfOk result (λ more. more ≡ false → (self.new ≡ []) × IsAtEnd (S.left src.new)) }
+        ensures end { IfOk result (λ more. more ≡ false
+            → (self.new ≡ []) × IsAtEnd (S.left src.new)) }
         ensures later { S.faults src.old ≤ S.faults src.new }
         ensures cause { OnErr result (Rose (S.faults src.old) (S.faults src.new)) }
     {
@@ -78,11 +79,14 @@ impl Chunk {
     pub fn fill<S: Source>(&mut self, most: u64, src: &mut S) -> Result<bool, Failed>
         requires some { 0 < most }
         requires most { length self.old ≤ most }
-        ensures same { prepend_known self.old (S.left src.old) ≡ prepend_known self.new (S.left src.new) }
-        ensures draws { Draws (length self.old) (length self.new) (S.left src.old) (S.left src.new) }
+        ensures same { prepend_known self.old (S.left src.old) ≡ prepend_known self.new
+            (S.left src.new) }
+        ensures draws { Draws (length self.old) (length self.new) (S.left src.old)
+            (S.left src.new) }
         ensures most { length self.new ≤ most }
         ensures some { IfOk result (λ more. more ≡ true → 0 < length self.new) }
-        ensures end { IfOk result (λ more. more ≡ false → (self.new ≡ []) × IsAtEnd (S.left src.new)) }
+        ensures end { IfOk result (λ more. more ≡ false
+            → (self.new ≡ []) × IsAtEnd (S.left src.new)) }
         ensures later { S.faults src.old ≤ S.faults src.new }
         ensures cause { OnErr result (Rose (S.faults src.old) (S.faults src.new)) }
     {

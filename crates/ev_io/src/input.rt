@@ -50,11 +50,13 @@ fn append<S: Source>(bytes: &mut Vec<u8>, room: &mut [u8], src: &mut S) -> Resul
     requires within { vec_len bytes.old ≤ 8388608 }
     requires some { 0 < length room.old }
     ensures within { vec_len bytes.new ≤ 8388608 }
-    ensures appends { Appends bytes.old.items bytes.new.items (S.left src.old) (S.left src.new) result }
+    ensures appends { Appends bytes.old.items bytes.new.items (S.left src.old)
+        (S.left src.new) result }
     ensures end { IfOk result (λ more. more ≡ false → IsAtEnd (S.left src.new)) }
     ensures grew { IfOk result (λ more. more ≡ true → vec_len bytes.old < vec_len bytes.new) }
     ensures most { DrawsWithin (vec_len bytes.old) (S.left src.old) (S.left src.new) }
-    ensures large { OnTooLarge result (Draws (vec_len bytes.old) 8388609 (S.left src.old) (S.left src.new)) }
+    ensures large { OnTooLarge result
+        (Draws (vec_len bytes.old) 8388609 (S.left src.old) (S.left src.new)) }
     ensures later { S.faults src.old ≤ S.faults src.new }
     ensures cause { OnReadFault result (Rose (S.faults src.old) (S.faults src.new)) }
 {

@@ -70,8 +70,11 @@ impl Lines {
     /// was read of the line before a fault is lost.
     pub fn next<S: Source>(&mut self, src: &mut S) -> Result<Option<u32>, LineFault>
         // what is answered is what comes of the bytes to come
-        ensures line { Gives (outcomes (self.old.number + 1) self.old.gone (coming self.old.chunk (S.left src.old))) self.new (coming self.new.chunk (S.left src.new)) result }
-        ensures first { First (coming self.old.chunk (S.left src.old)) self.new (coming self.new.chunk (S.left src.new)) result }
+        ensures line { Gives (outcomes (self.old.number + 1) self.old.gone
+            (coming self.old.chunk (S.left src.old))) self.new
+            (coming self.new.chunk (S.left src.new)) result }
+        ensures first { First (coming self.old.chunk (S.left src.old)) self.new
+            (coming self.new.chunk (S.left src.new)) result }
         ensures number { Numbers self.old.number self.new.number result }
         ensures grew { IfOk result (λ o. IfSome o (λ _. self.old.gone < self.new.gone)) }
 
@@ -112,11 +115,16 @@ fn read_line<S: Source>(
     requires fresh { text.old ≡ [] }
     requires within { gone.old ≤ 8388608 }
     requires most { gone.old + length chunk.old ≤ 8388609 }
-    ensures answer { Answers (outcomes number gone.old (coming chunk.old (S.left src.old))) result text.new gone.new (coming chunk.new (S.left src.new)) }
-    ensures line { IfOk result (λ found. found ≡ true → TakesLine text.new (coming chunk.old (S.left src.old)) (coming chunk.new (S.left src.new))) }
-    ensures end { IfOk result (λ found. found ≡ false → IsAtEnd (coming chunk.old (S.left src.old))) }
+    ensures answer { Answers (outcomes number gone.old (coming chunk.old (S.left src.old))) result
+        text.new gone.new (coming chunk.new (S.left src.new)) }
+    ensures line { IfOk result (λ found. found ≡ true
+        → TakesLine text.new (coming chunk.old (S.left src.old))
+        (coming chunk.new (S.left src.new))) }
+    ensures end { IfOk result (λ found. found ≡ false
+        → IsAtEnd (coming chunk.old (S.left src.old))) }
     ensures grew { IfOk result (λ found. found ≡ true → gone.old < gone.new) }
-    ensures draws { Draws (gone.old + length chunk.old) (gone.new + length chunk.new) (S.left src.old) (S.left src.new) }
+    ensures draws { Draws (gone.old + length chunk.old) (gone.new + length chunk.new)
+        (S.left src.old) (S.left src.new) }
     ensures most { gone.new + length chunk.new ≤ 8388609 }
     ensures grows { gone.old ≤ gone.new }
     ensures within { gone.new ≤ 8388608 }

@@ -41,14 +41,18 @@ impl Source for MemSource {
     /// Gives as many bytes as fit and are left.
     fn read(&mut self, buf: &mut [u8]) -> Result<usize, Failed>
         ensures within { IfOk result (λ n. n ≤ length buf.new) }
-        ensures bytes { Reads (Some (drop self.old.at self.old.bytes.items)) (Some (drop self.new.at self.new.bytes.items)) buf.new result }
-        ensures end { IfOk result (λ n. n ≡ 0 → 0 < length buf.new → drop self.old.at self.old.bytes.items ≡ []) }
+        ensures bytes { Reads (Some (drop self.old.at self.old.bytes.items))
+            (Some (drop self.new.at self.new.bytes.items)) buf.new result }
+        ensures end { IfOk result (λ n. n ≡ 0 → 0 < length buf.new
+            → drop self.old.at self.old.bytes.items ≡ []) }
         ensures later { self.old.faults ≤ self.new.faults }
         ensures cause { OnErr result (Rose self.old.faults self.new.faults) }
 
         ensures failing { IsErr result ↔ Contains self.old.fails.items self.old.calls }
-        ensures most { IfOk result (λ n. n ≡ min (length buf.new) (length (drop self.old.at self.old.bytes.items))) }
-        ensures place { MatchResult result (λ n. self.new.at ≡ self.old.at + n) (λ _. self.new.at ≡ self.old.at) }
+        ensures most { IfOk result
+            (λ n. n ≡ min (length buf.new) (length (drop self.old.at self.old.bytes.items))) }
+        ensures place { MatchResult result (λ n. self.new.at ≡ self.old.at + n)
+            (λ _. self.new.at ≡ self.old.at) }
         ensures calls { self.new.calls ≡ min (self.old.calls + 1) (2 ^ 64 - 1) }
         ensures fault { OnErr result (self.new.faults ≡ min (self.old.faults + 1) (2 ^ 64 - 1)) }
         ensures no_fault { IfOk result (λ _. self.new.faults ≡ self.old.faults) }
@@ -87,12 +91,15 @@ impl Sink for MemSink {
     /// Takes the whole piece where the room left holds it.
     fn write(&mut self, piece: &[u8]) -> Result<usize, Failed>
         ensures within { IfOk result (λ n. n ≤ length piece.now) }
-        ensures bytes { Writes (Some self.old.taken.items) (Some self.new.taken.items) piece.now result }
+        ensures bytes { Writes (Some self.old.taken.items) (Some self.new.taken.items) piece.now
+            result }
         ensures some { 0 < length piece.now → IfOk result (λ n. 0 < n) }
         ensures later { self.old.faults ≤ self.new.faults }
         ensures cause { OnErr result (Rose self.old.faults self.new.faults) }
 
-        ensures failing { IsErr result ↔ (Contains self.old.fails.items self.old.calls ⊎ (vec_capacity self.old.taken < vec_len self.old.taken + length piece.now)) }
+        ensures failing { IsErr result
+            ↔ (Contains self.old.fails.items self.old.calls
+            ⊎ (vec_capacity self.old.taken < vec_len self.old.taken + length piece.now)) }
         ensures whole { IfOk result (λ n. n ≡ length piece.now) }
         ensures calls { self.new.calls ≡ min (self.old.calls + 1) (2 ^ 64 - 1) }
         ensures fault { OnErr result (self.new.faults ≡ min (self.old.faults + 1) (2 ^ 64 - 1)) }

@@ -38,7 +38,8 @@ impl<R: Read> Source for StdSource<R> {
         ensures later { self.old.faults ≤ self.new.faults }
         ensures cause { OnErr result (Rose self.old.faults self.new.faults) }
 
-        ensures told { ReadConsumes (R.remaining self.old.reader) (R.remaining self.new.reader) result buf.new }
+        ensures told { ReadConsumes (R.remaining self.old.reader)
+            (R.remaining self.new.reader) result buf.new }
         ensures fault { OnErr result (self.new.faults ≡ min (self.old.faults + 1) (2 ^ 64 - 1)) }
         ensures no_fault { IfOk result (λ _. self.new.faults ≡ self.old.faults) }
     {
@@ -80,7 +81,9 @@ impl<W: Write> Sink for StdSink<W> {
         ensures later { self.old.faults ≤ self.new.faults }
         ensures cause { OnErr result (Rose self.old.faults self.new.faults) }
 
-        ensures told { IfOk result (λ n. WriteAppends (W.contents self.old.writer) (W.contents self.new.writer) result piece.now) }
+        ensures told { IfOk result
+            (λ n. WriteAppends (W.contents self.old.writer) (W.contents self.new.writer) result
+            piece.now) }
         ensures fault { OnErr result (self.new.faults ≡ min (self.old.faults + 1) (2 ^ 64 - 1)) }
         ensures no_fault { IfOk result (λ _. self.new.faults ≡ self.old.faults) }
     {

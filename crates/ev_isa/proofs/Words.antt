@@ -28,10 +28,12 @@ small_part xs small len i = elim (cases_lt i 8) [
 ]
 
 -- the bytes of the word that stands at a place
-pub word_back : (n : ℕ) (bytes : List ℕ) → ((i : ℕ) → get_or bytes i 0 < 256) → n + 8 ≤ length bytes → to_le_bytes w64 (from_le_bytes w64 (drop n bytes)) ≡ take 8 (drop n bytes)
+pub word_back : (n : ℕ) (bytes : List ℕ) → ((i : ℕ) → get_or bytes i 0 < 256) → n + 8 ≤ length bytes
+    → to_le_bytes w64 (from_le_bytes w64 (drop n bytes)) ≡ take 8 (drop n bytes)
 word_back n bytes small h =
     let len : length (take 8 (drop n bytes)) ≡ 8 = omega (arith, length-take 8 (drop n bytes), length-drop n bytes) in
-    le_bytes_8 (take 8 (drop n bytes)) (from_le_bytes w64 (drop n bytes)) len (small_part (drop n bytes) (λ i. omega (arith, small (n + i), get_or-drop n bytes i 0)) len) (first_eight (drop n bytes))
+    le_bytes_8 (take 8 (drop n bytes)) (from_le_bytes w64 (drop n bytes)) len
+    (small_part (drop n bytes) (λ i. omega (arith, small (n + i), get_or-drop n bytes i 0)) len) (first_eight (drop n bytes))
 
 -- and of more bytes from there on
 pub words_back : (n m : ℕ) (bytes : List ℕ) → ((i : ℕ) → get_or bytes i 0 < 256) → n + 8 ≤ length bytes

@@ -26,7 +26,8 @@ no_status = record { carry = false; zero = false; sign = false; overflow = false
 
 -- RFLAGS: bit 1 is always 1
 unfoldable pub flags_word : Flags → ℕ
-flags_word f = 2 + bit_if 0 f.status.carry + bit_if 6 f.status.zero + bit_if 7 f.status.sign + bit_if 9 f.interrupts + bit_if 11 f.status.overflow + bit_if 18 f.alignment
+flags_word f = 2 + bit_if 0 f.status.carry + bit_if 6 f.status.zero + bit_if 7 f.status.sign + bit_if 9 f.interrupts + bit_if 11 f.status.overflow + bit_if
+    18 f.alignment
 
 -- what a load of RFLAGS takes of a word
 unfoldable pub flags_of : ℕ → Flags

@@ -19,7 +19,8 @@ use Rattle.ev_layout.proofs.Filling.{one_regions, regions_one, either, split}
 -- the regions before the code of bodies, and that of n bodies
 abbrev pub front : List Region
 front =
-    stack_regions 0 ++ areas 1 ++ region user_table (8 * 257) Kernel ∷ region kernel_table (8 * 257) Kernel ∷ region idt_base 0x1000 Kernel ∷ region page_map (8 * 257) Kernel
+    stack_regions 0 ++ areas 1 ++ region user_table (8 * 257) Kernel ∷ region kernel_table (8 * 257) Kernel ∷ region idt_base 0x1000 Kernel
+    ∷ region page_map (8 * 257) Kernel
     ∷ region cells_base 0x800 Kernel ∷ region (task_words 0 0) 0x100 Kernel ∷ region fred_page (code_end - fred_page) Kernel ∷ []
 
 abbrev pub bodies : ℕ → Region
@@ -85,7 +86,8 @@ high_canonical a h k = let e : a / 2 ^ 47 ≡ 131071 = omega arith in rw e refl
 canonical_by : (r : Region) → is_canonical_region r ≡ true → IsCanonicalRegion r
 canonical_by r h = ⊎_elim
     (λ k. let u = ltb-true _ _ k in λ a l g. low_canonical a (omega arith))
-    (λ k. let s = split (nat_le (2 ^ 64 - 2 ^ 47) r.base) _ k in let u = leb-true _ _ s.0 in let v = ltb-true _ _ s.1 in λ a l g. high_canonical a (omega arith) (omega arith))
+    (λ k. let s = split (nat_le (2 ^ 64 - 2 ^ 47) r.base) _ k in let u = leb-true _ _ s.0 in let v = ltb-true _ _ s.1 in
+    λ a l g. high_canonical a (omega arith) (omega arith))
     (either (nat_lt (r.base + 8 * r.words) (2 ^ 47)) _ h)
 
 most_canonical : list_all is_canonical_region (front ++ bodies 64 ∷ user_regions) ≡ true
@@ -95,7 +97,8 @@ fewer_canonical : (n : ℕ) → n ≤ 64 → IsCanonicalRegion (bodies 64) → I
 fewer_canonical n h f = λ a l g. f a l (omega arith)
 
 canonical : (n : ℕ) → n ≤ 64 → All IsCanonicalRegion (one_regions n)
-canonical n h = all_swap IsCanonicalRegion front (bodies 64) (bodies n) user_regions (fewer_canonical n h) (all_by IsCanonicalRegion is_canonical_region canonical_by (front ++ bodies 64 ∷ user_regions) most_canonical)
+canonical n h = all_swap IsCanonicalRegion front (bodies 64) (bodies n) user_regions (fewer_canonical n h)
+    (all_by IsCanonicalRegion is_canonical_region canonical_by (front ++ bodies 64 ∷ user_regions) most_canonical)
 
 -- ---- halves and numbers
 
@@ -143,11 +146,13 @@ one_are n text h t = record {
   one_text = omega (arith, one_count n);
   aligned = all_by (λ (r : Region). r.base % 8 ≡ 0) (λ (r : Region). r.base % 8 == 0) (λ r k. eqb-true (r.base % 8) 0 k) (one_regions n) (one_aligned n);
   canonical = canonical n h;
-  in_half = all_by (λ (r : Region). IsInHalf r.kind r.base (r.base + 8 * r.words)) (λ (r : Region). is_in_half r.kind r.base (r.base + 8 * r.words)) (λ r k. half_by r.kind r.base (r.base + 8 * r.words) k) (one_regions n) (one_in_half n);
+  in_half = all_by (λ (r : Region). IsInHalf r.kind r.base (r.base + 8 * r.words)) (λ (r : Region). is_in_half r.kind r.base (r.base + 8 * r.words))
+      (λ r k. half_by r.kind r.base (r.base + 8 * r.words) k) (one_regions n) (one_in_half n);
   page_numbers = all_by (λ (r : Region). HasPageNumber r.kind) (λ (r : Region). has_number r.kind) (λ r k. number_by r.kind k) (one_regions n) (one_numbers n);
   page_map_held = λ k. page_map_there n;
   text_fits = omega (arith, one_words n);
 }
 
 pub are_regions : (image : Image) → image.processors ≡ 1 → length image.bodies ≤ 64 → length image.text ≤ 65520 → AreRegions (regions image) image.text
-are_regions image p h t = subst (λ (x : List Region). AreRegions x image.text) (sym (regions_one image p)) (one_are (length image.bodies) image.text h (omega arith))
+are_regions image p h t = subst (λ (x : List Region). AreRegions x image.text) (sym (regions_one image p))
+    (one_are (length image.bodies) image.text h (omega arith))

@@ -24,7 +24,8 @@ pub both : (a b : Bool) → (a && b) ≡ true → (a ≡ true) × (b ≡ true)
 both true b h = (refl, h)
 both false b h = absurd cc
 
-no_parts : (parts : List Part) (items : List Item) → has_no_parts parts ≡ true → body_items (record { key = Sys; side = User; items = items; parts = parts }) ≡ items
+no_parts : (parts : List Part) (items : List Item) → has_no_parts parts ≡ true
+    → body_items (record { key = Sys; side = User; items = items; parts = parts }) ≡ items
 no_parts [] items h = append-nil items
 no_parts (p ∷ ps) items h = absurd cc
 
@@ -57,13 +58,17 @@ pub section_is : (mode : Mode) (image : Image) (n a : ℕ) (b : Body) (stmts : L
     → record { address = a; stmts = stmts } ≡ section_of (record { address = body_code n; lines = body_stmts mode image n b })
 section_is mode image n a b stmts p q = λ i. record { address = p i; stmts = q i }
 
-pub sections_step : (mode : Mode) (image : Image) (bs : List Body) (n m : ℕ) (b : Body) (s : Section) (done more W : List Section) → n < length bs → m ≡ suc n → b ≡ get_or bs n b
+pub sections_step : (mode : Mode) (image : Image) (bs : List Body) (n m : ℕ) (b : Body) (s : Section) (done more W : List Section) → n < length bs
+    → m ≡ suc n → b ≡ get_or bs n b
     → s ≡ section_of (record { address = body_code n; lines = body_stmts mode image n b }) → more ≡ done ++ s ∷ []
     → done ++ map section_of (body_listings mode image n (drop n bs)) ≡ W → more ++ map section_of (body_listings mode image m (drop m bs)) ≡ W
 sections_step mode image bs n m b s done more W lt k e f g w =
     let rest : List Section = map section_of (body_listings mode image (suc n) (drop (suc n) bs)) in
     let here : Section = section_of (record { address = body_code n; lines = body_stmts mode image n b }) in
-    rw (k, g, f) (append_assoc done (here ∷ []) rest ∙ ap (λ (x : List Body). done ++ map section_of (body_listings mode image n x)) (sym (body_at bs n b lt e)) ∙ w)
+    rw (k, g, f) (append_assoc done (here ∷ []) rest ∙ ap (λ (x : List Body). done ++ map section_of (body_listings mode image n x))
+    (sym (body_at bs n b lt e)) ∙ w)
 
-pub sections_end : (mode : Mode) (image : Image) (bs : List Body) (n : ℕ) (done W : List Section) → length bs ≤ n → done ++ map section_of (body_listings mode image n (drop n bs)) ≡ W → done ≡ W
-sections_end mode image bs n done W le w = sym (append-nil done) ∙ ap (λ (x : List Body). done ++ map section_of (body_listings mode image n x)) (sym (drop_all n bs le)) ∙ w
+pub sections_end : (mode : Mode) (image : Image) (bs : List Body) (n : ℕ) (done W : List Section) → length bs ≤ n
+    → done ++ map section_of (body_listings mode image n (drop n bs)) ≡ W → done ≡ W
+sections_end mode image bs n done W le w = sym (append-nil done) ∙ ap (λ (x : List Body). done ++ map section_of (body_listings mode image n x))
+    (sym (drop_all n bs le)) ∙ w

@@ -27,12 +27,14 @@ pub words_put : (m n : MappedWords) (a v : ℕ) → memory m ≡ with_word (memo
 words_put m n a v h b = ap (λ x. x.words b) h
 
 -- a range that is one word longer holds no other aligned address
-same_test : (base k a : ℕ) → base % 8 ≡ 0 → a % 8 ≡ 0 → a ≢ base + 8 * k → (x y z : Bool) → nat_le base a ≡ x → nat_lt a (base + 8 * k) ≡ y → nat_lt a (base + 8 * (k + 1)) ≡ z → (x && y) ≡ (x && z)
+same_test : (base k a : ℕ) → base % 8 ≡ 0 → a % 8 ≡ 0 → a ≢ base + 8 * k → (x y z : Bool) → nat_le base a ≡ x → nat_lt a (base + 8 * k) ≡ y
+    → nat_lt a (base + 8 * (k + 1)) ≡ z → (x && y) ≡ (x && z)
 same_test base k a p q ne false y z ex ey ez = refl
 same_test base k a p q ne true true true ex ey ez = refl
 same_test base k a p q ne true false false ex ey ez = refl
 same_test base k a p q ne true true false ex ey ez = absurd (omega (arith, ltb-true _ _ ey, ltb-false _ _ ez))
-same_test base k a p q ne true false true ex ey ez = let l = leb-true _ _ ex in let g = ltb-false _ _ ey in let t = ltb-true _ _ ez in absurd (ne (omega (arith, l, g, t)))
+same_test base k a p q ne true false true ex ey ez = let l = leb-true _ _ ex in let g = ltb-false _ _ ey in let t = ltb-true _ _ ez in
+    absurd (ne (omega (arith, l, g, t)))
 
 other_by : (x : Bool) (f words : NatMap ℕ) (base k a : ℕ) → base % 8 ≡ 0 → a ≢ base + 8 * k → is_aligned a ≡ x
     → (if x && within base (8 * k) a then f a else words a) ≡ (if x && within base (8 * (k + 1)) a then f a else words a)
@@ -52,12 +54,14 @@ more_by : (x : Bool) (f words w : NatMap ℕ) (base k v a : ℕ) → base % 8 �
 more_by true f words w base k v a p e h t = let q : a ≡ base + 8 * k = eqb-true a (base + 8 * k) t in rw q (e ∙ sym (here f words base k p))
 more_by false f words w base k v a p e h t = h ∙ other_by (is_aligned a) f words base k a p (λ q. grind (arith, nat_tests)) refl
 
-pub filled_more : (f words w : NatMap ℕ) (base k v : ℕ) → base % 8 ≡ 0 → v ≡ f (base + 8 * k) → (a : ℕ) → w a ≡ filled f base k words a → put_at w (base + 8 * k) v a ≡ filled f base (k + 1) words a
+pub filled_more : (f words w : NatMap ℕ) (base k v : ℕ) → base % 8 ≡ 0 → v ≡ f (base + 8 * k) → (a : ℕ) → w a ≡ filled f base k words a
+    → put_at w (base + 8 * k) v a ≡ filled f base (k + 1) words a
 filled_more f words w base k v p e a h = more_by (a == (base + 8 * k)) f words w base k v a p e h refl
 
 -- ---- addresses in regions
 
-behind : (x : Bool) (r : Region) (rs : List Region) (a : ℕ) → is_within r a ≡ x → (o : Option ℕ) → slot_in rs a ≡ o → is_some o ≡ true → is_some (if x then Some ((a - r.base) / 8) else option_map (λ (j : ℕ). r.words + j) o) ≡ true
+behind : (x : Bool) (r : Region) (rs : List Region) (a : ℕ) → is_within r a ≡ x → (o : Option ℕ) → slot_in rs a ≡ o → is_some o ≡ true
+    → is_some (if x then Some ((a - r.base) / 8) else option_map (λ (j : ℕ). r.words + j) o) ≡ true
 behind true r rs a e o f h = refl
 behind false r rs a e None f h = h
 behind false r rs a e (Some j) f h = refl
@@ -72,7 +76,8 @@ abbrev pub regions_by : ℕ → ℕ → List Region
 regions_by p n =
     flat_map stack_regions (numbers_from 0 p) ++ areas p
     ++ region user_table (8 * 257) Kernel ∷ region kernel_table (8 * 257) Kernel ∷ region idt_base 0x1000 Kernel ∷ region page_map (8 * 257) Kernel
-    ∷ region cells_base 0x800 Kernel ∷ region (task_words 0 0) (0x100 * p) Kernel ∷ region fred_page (code_end - fred_page) Kernel ∷ region (body_code 0) (0x20000 * n) Kernel
+    ∷ region cells_base 0x800 Kernel ∷ region (task_words 0 0) (0x100 * p) Kernel ∷ region fred_page (code_end - fred_page) Kernel ∷ region (body_code 0)
+    (0x20000 * n) Kernel
     ∷ user_regions
 
 abbrev pub one_regions : ℕ → List Region
@@ -88,7 +93,8 @@ length_one : (n : ℕ) → length (one_regions n) ≡ 273
 length_one n = refl
 
 -- an address in region j, whose bounds are known
-pub mapped_in : (image : Image) (rs : List Region) (j a base end : ℕ) → image.processors ≡ 1 → rs ≡ regions image → j < 273 → (let r : Region = get_or (one_regions (length image.bodies)) j (region 0 0 Kernel) in (r.base ≡ base) × (r.base + 8 * r.words ≡ end))
+pub mapped_in : (image : Image) (rs : List Region) (j a base end : ℕ) → image.processors ≡ 1 → rs ≡ regions image → j < 273
+    → (let r : Region = get_or (one_regions (length image.bodies)) j (region 0 0 Kernel) in (r.base ≡ base) × (r.base + 8 * r.words ≡ end))
     → base ≤ a → a < end → is_some (slot_in rs a) ≡ true
 mapped_in image rs j a base end p e l b h k =
     let n : ℕ = length image.bodies in
@@ -116,12 +122,16 @@ lies_in low high b h = let k = split (nat_le low b.address) _ h in (leb-true _ _
 
 pub placed_by : (n : ℕ) (b : Block) → is_placed n b ≡ true → LiesIn fred_page code_end b ⊎ LiesIn (body_code 0) (body_code n) b
 unfolding is_placed
-placed_by n b h = ⊎_elim (λ k. inl (lies_in fred_page code_end b k)) (λ k. inr (lies_in (body_code 0) (body_code n) b k)) (either (nat_le fred_page b.address && nat_le (b.address + length b.bytes) code_end) _ h)
+placed_by n b h = ⊎_elim (λ k. inl (lies_in fred_page code_end b k)) (λ k. inr (lies_in (body_code 0) (body_code n) b k))
+    (either (nat_le fred_page b.address && nat_le (b.address + length b.bytes) code_end) _ h)
 
-pub block_mapped : (image : Image) (rs : List Region) (b : Block) (k count : ℕ) → image.processors ≡ 1 → rs ≡ regions image → is_placed (length image.bodies) b ≡ true → count ≡ word_count b → k < count
+pub block_mapped : (image : Image) (rs : List Region) (b : Block) (k count : ℕ) → image.processors ≡ 1 → rs ≡ regions image
+    → is_placed (length image.bodies) b ≡ true → count ≡ word_count b → k < count
     → is_some (slot_in rs (b.address - b.address % 8 + 8 * k)) ≡ true
 block_mapped image rs b k count p e h q l =
     ⊎_elim
-    (λ m. let m0 = m.0 in let m1 = m.1 in mapped_in image rs 14 (b.address - b.address % 8 + 8 * k) fred_page code_end p e (omega arith) (refl, refl) (omega arith) (omega arith))
-    (λ m. let m0 = m.0 in let m1 = m.1 in mapped_in image rs 15 (b.address - b.address % 8 + 8 * k) (body_code 0) (body_code (length image.bodies)) p e (omega arith) (refl, omega arith) (omega arith) (omega arith))
+    (λ m. let m0 = m.0 in let m1 = m.1 in mapped_in image rs 14 (b.address - b.address % 8 + 8 * k) fred_page code_end p e (omega arith) (refl, refl)
+    (omega arith) (omega arith))
+    (λ m. let m0 = m.0 in let m1 = m.1 in mapped_in image rs 15 (b.address - b.address % 8 + 8 * k) (body_code 0) (body_code (length image.bodies)) p e
+    (omega arith) (refl, omega arith) (omega arith) (omega arith))
     (placed_by (length image.bodies) b h)

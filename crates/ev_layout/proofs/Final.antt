@@ -44,14 +44,16 @@ zero_by false Kernel text o v h e = e
 zero_by false (Page i) text o v h e = e
 
 -- regions without text hold 0
-zero_in : (rs tail : List Region) (text : List ℕ) (a : ℕ) → list_all (λ (r : Region). not (is_text r.kind)) rs ≡ true → first_in tail text a ≡ 0 → first_in (rs ++ tail) text a ≡ 0
+zero_in : (rs tail : List Region) (text : List ℕ) (a : ℕ) → list_all (λ (r : Region). not (is_text r.kind)) rs ≡ true → first_in tail text a ≡ 0
+    → first_in (rs ++ tail) text a ≡ 0
 zero_in [] tail text a h e = e
 zero_in (r ∷ rs) tail text a h e =
     let s = split (not (is_text r.kind)) _ h in
     zero_by (is_within r a) r.kind text (a - r.base) (first_in (rs ++ tail) text a) s.0 (zero_in rs tail text a s.1 e)
 
 -- regions of the upper half hold nothing of the lower
-skip_upper : (rs tail : List Region) (text : List ℕ) (a : ℕ) → list_all (λ (r : Region). nat_le (2 ^ 63) r.base) rs ≡ true → a < 2 ^ 63 → first_in (rs ++ tail) text a ≡ first_in tail text a
+skip_upper : (rs tail : List Region) (text : List ℕ) (a : ℕ) → list_all (λ (r : Region). nat_le (2 ^ 63) r.base) rs ≡ true → a < 2 ^ 63
+    → first_in (rs ++ tail) text a ≡ first_in tail text a
 skip_upper [] tail text a h l = refl
 skip_upper (r ∷ rs) tail text a h l =
     let s = split (nat_le (2 ^ 63) r.base) _ h in
@@ -82,10 +84,13 @@ not_text text a false false i = refl
 
 lower_by : (x : Bool) (text : List ℕ) (a : ℕ) → (nat_le text_base a && nat_lt a (text_base + 0x10000)) ≡ x
     → (if x then first_by Text text (a - text_base) else first_in pages text a)
-    ≡ word_at_start text a (if x then Place.Text else (if nat_le page_base a && nat_lt a (page_base + 0x1000 * 256) then Place.Page ((a - page_base) / 0x1000) else (if nat_lt a (2 ^ 63) then Lower else Upper)))
+    ≡ word_at_start text a (if x then Place.Text else
+    (if nat_le page_base a && nat_lt a (page_base + 0x1000 * 256) then Place.Page ((a - page_base) / 0x1000) else
+    (if nat_lt a (2 ^ 63) then Lower else Upper)))
 unfolding word_at_start text_word
 lower_by true text a e = refl
-lower_by false text a e = pages_zero text a ∙ sym (not_text text a (nat_le page_base a && nat_lt a (page_base + 0x1000 * 256)) (nat_lt a (2 ^ 63)) ((a - page_base) / 0x1000))
+lower_by false text a e = pages_zero text a
+    ∙ sym (not_text text a (nat_le page_base a && nat_lt a (page_base + 0x1000 * 256)) (nat_lt a (2 ^ 63)) ((a - page_base) / 0x1000))
 
 lower : (n : ℕ) (text : List ℕ) (a : ℕ) → a < 2 ^ 63 → first_in (one_regions n) text a ≡ words_at_start text a
 unfolding place_of
@@ -111,7 +116,8 @@ reaches b a x p l g m n =
     let j : nat_lt a (first_word b + 8 * word_count b) ≡ true = lt-ltb a (first_word b + 8 * word_count b) (omega arith) in
     rw (i, j) refl
 
-byte_by : (y : Bool) (b : Block) (bs : List Block) (a x : ℕ) → a % 8 ≡ 0 → a ≤ x → x < a + 8 → is_in a b ≡ false → byte_of (placed bs) x ≡ 0 → (nat_le b.address x && nat_lt x (b.address + length b.bytes)) ≡ y
+byte_by : (y : Bool) (b : Block) (bs : List Block) (a x : ℕ) → a % 8 ≡ 0 → a ≤ x → x < a + 8 → is_in a b ≡ false → byte_of (placed bs) x ≡ 0
+    → (nat_le b.address x && nat_lt x (b.address + length b.bytes)) ≡ y
     → (if y then get_or b.bytes (x - b.address) 0 else byte_of (placed bs) x) ≡ 0
 byte_by true b bs a x p l g h e t =
     let s = split (nat_le b.address x) _ t in
@@ -121,7 +127,8 @@ byte_by false b bs a x p l g h e t = e
 
 byte_zero : (bs : List Block) (a x : ℕ) → a % 8 ≡ 0 → a ≤ x → x < a + 8 → is_covered bs a ≡ false → byte_of (placed bs) x ≡ 0
 byte_zero [] a x p l g h = refl
-byte_zero (b ∷ bs) a x p l g h = let s = any_split (is_in a b) (is_covered bs a) h in byte_by (nat_le b.address x && nat_lt x (b.address + length b.bytes)) b bs a x p l g s.0 (byte_zero bs a x p l g s.1) refl
+byte_zero (b ∷ bs) a x p l g h = let s = any_split (is_in a b) (is_covered bs a) h in
+    byte_by (nat_le b.address x && nat_lt x (b.address + length b.bytes)) b bs a x p l g s.0 (byte_zero bs a x p l g s.1) refl
 
 code_zero : (bs : List Block) (a : ℕ) → a % 8 ≡ 0 → is_covered bs a ≡ false → code_word (placed bs) a ≡ 0
 unfolding code_word
@@ -150,7 +157,8 @@ one_task image t h = ap (λ (x : List (List TaskSpec)). length (get_or x 0 [])) 
 stack_zero : (mode : Mode) (image : Image) (p n o : ℕ) → p ≡ 0 → length (tasks_of image 0) ≡ 1 → stack_word mode image p n o ≡ 0
 stack_zero mode image p n o e h = let w = no_waiting n in rw (e, h, w) refl
 
-there_stack : (es : Placed) (mode : Mode) (image : Image) (a : ℕ) → IsBuilt image → nat_lt a (2 ^ 63) ≡ false → nat_le fred_page a ≡ false → within (stack_top 0 0 - 0x4000) (0x100000 * image.processors) a ≡ true → word_there es mode image a ≡ 0
+there_stack : (es : Placed) (mode : Mode) (image : Image) (a : ℕ) → IsBuilt image → nat_lt a (2 ^ 63) ≡ false → nat_le fred_page a ≡ false
+    → within (stack_top 0 0 - 0x4000) (0x100000 * image.processors) a ≡ true → word_there es mode image a ≡ 0
 unfolding word_there
 there_stack es mode image a b u c s =
     let one = b.one_processor in
@@ -170,47 +178,58 @@ record AreOutside (bs : List Block) (a : ℕ) : Type 0 where
   user : within user_table (8 * 257) a ≡ false
   area : within (pcpu 0) (8 * 8192) a ≡ false
 
-before_stacks : (x : Bool) (bs : List Block) (mode : Mode) (image : Image) (a : ℕ) → IsBuilt image → AreOutside bs a → nat_lt a (2 ^ 63) ≡ false → nat_le fred_page a ≡ false
+before_stacks : (x : Bool) (bs : List Block) (mode : Mode) (image : Image) (a : ℕ) → IsBuilt image → AreOutside bs a → nat_lt a (2 ^ 63) ≡ false
+    → nat_le fred_page a ≡ false
     → within (stack_top 0 0 - 0x4000) (0x100000 * image.processors) a ≡ x → word_there (placed bs) mode image a ≡ 0
 before_stacks true bs mode image a b o u c s = there_stack (placed bs) mode image a b u c s
 before_stacks false bs mode image a b o u c s =
     there_none (placed bs) mode image a b.no_pages b.no_cells (record { upper = u; code = c; stack = s })
-    (ap (λ (p : ℕ). within (pcpu 0) (0x10000 * p) a) b.one_processor ∙ o.area) (ap (λ (p : ℕ). within (task_words 0 0) (0x100 * p) a) b.one_processor ∙ o.tasks) o.user o.kernel o.gates
+    (ap (λ (p : ℕ). within (pcpu 0) (0x10000 * p) a) b.one_processor ∙ o.area) (ap (λ (p : ℕ). within (task_words 0 0) (0x100 * p) a) b.one_processor
+    ∙ o.tasks) o.user o.kernel o.gates
 
-before_code : (x : Bool) (bs : List Block) (mode : Mode) (image : Image) (a : ℕ) → IsBuilt image → a % 8 ≡ 0 → AreOutside bs a → 2 ^ 63 ≤ a → nat_le fred_page a ≡ x → word_there (placed bs) mode image a ≡ 0
+before_code : (x : Bool) (bs : List Block) (mode : Mode) (image : Image) (a : ℕ) → IsBuilt image → a % 8 ≡ 0 → AreOutside bs a → 2 ^ 63 ≤ a
+    → nat_le fred_page a ≡ x → word_there (placed bs) mode image a ≡ 0
 before_code true bs mode image a b p o u e = there_code (placed bs) mode image a u (leb-true _ _ e) ∙ code_zero bs a p o.covered
-before_code false bs mode image a b p o u e = before_stacks (within (stack_top 0 0 - 0x4000) (0x100000 * image.processors) a) bs mode image a b o (not_lower a u) e refl
+before_code false bs mode image a b p o u e = before_stacks (within (stack_top 0 0 - 0x4000) (0x100000 * image.processors) a) bs mode image a b o
+    (not_lower a u) e refl
 
 there_lower : (es : Placed) (mode : Mode) (image : Image) (a : ℕ) → nat_lt a (2 ^ 63) ≡ true → word_there es mode image a ≡ words_at_start image.text a
 unfolding word_there
 there_lower es mode image a h = rw h refl
 
-outside_by : (x : Bool) (bs : List Block) (mode : Mode) (image : Image) (a : ℕ) → IsBuilt image → a % 8 ≡ 0 → AreOutside bs a → nat_lt a (2 ^ 63) ≡ x → first_in (one_regions (length image.bodies)) image.text a ≡ word_there (placed bs) mode image a
+outside_by : (x : Bool) (bs : List Block) (mode : Mode) (image : Image) (a : ℕ) → IsBuilt image → a % 8 ≡ 0 → AreOutside bs a → nat_lt a (2 ^ 63) ≡ x
+    → first_in (one_regions (length image.bodies)) image.text a ≡ word_there (placed bs) mode image a
 outside_by true bs mode image a b p o e = lower (length image.bodies) image.text a (ltb-true _ _ e) ∙ sym (there_lower (placed bs) mode image a e)
 outside_by false bs mode image a b p o e =
     let u = ltb-false _ _ e in
     upper (length image.bodies) image.text a u ∙ sym (before_code (nat_le fred_page a) bs mode image a b p o u refl)
 
-outside : (bs : List Block) (mode : Mode) (image : Image) (a : ℕ) → IsBuilt image → a % 8 ≡ 0 → AreOutside bs a → first_in (regions image) image.text a ≡ word_there (placed bs) mode image a
-outside bs mode image a b p o = ap (λ (x : List Region). first_in x image.text a) (regions_one image b.one_processor) ∙ outside_by (nat_lt a (2 ^ 63)) bs mode image a b p o refl
+outside : (bs : List Block) (mode : Mode) (image : Image) (a : ℕ) → IsBuilt image → a % 8 ≡ 0 → AreOutside bs a
+    → first_in (regions image) image.text a ≡ word_there (placed bs) mode image a
+outside bs mode image a b p o = ap (λ (x : List Region). first_in x image.text a) (regions_one image b.one_processor)
+    ∙ outside_by (nat_lt a (2 ^ 63)) bs mode image a b p o refl
 
 pick : (x : Bool) (t u : ℕ) → (x ≡ false → u ≡ t) → (if x then t else u) ≡ t
 pick true t u f = refl
 pick false t u f = f refl
 
 final_by : (x : Bool) (bs : List Block) (mode : Mode) (image : Image) (a : ℕ) → IsBuilt image → is_aligned a ≡ x
-    → code_filled (word_there (placed bs) mode image) bs (tables_filled (word_there (placed bs) mode image) (first_words (regions image) image.text)) a ≡ opening_word (placed bs) mode image a
+    → code_filled (word_there (placed bs) mode image) bs (tables_filled (word_there (placed bs) mode image) (first_words (regions image) image.text)) a
+    ≡ opening_word (placed bs) mode image a
 unfolding first_words opening_word
 final_by false bs mode image a b e = rw e refl
 final_by true bs mode image a b e =
     let t : ℕ = word_there (placed bs) mode image a in
     rw e
-    (pick (is_covered bs a) t _ (λ h0. pick (within (task_words 0 0) (8 * 32) a) t _ (λ h1. pick (within idt_base (8 * 512) a) t _ (λ h2. pick (within kernel_table (8 * 257) a) t _ (λ h3.
+    (pick (is_covered bs a) t _
+    (λ h0. pick (within (task_words 0 0) (8 * 32) a) t _
+    (λ h1. pick (within idt_base (8 * 512) a) t _ (λ h2. pick (within kernel_table (8 * 257) a) t _ (λ h3.
     pick (within user_table (8 * 257) a) t _ (λ h4. pick (within (pcpu 0) (8 * 8192) a) t _ (λ h5.
     outside bs mode image a b (eqb-true (a % 8) 0 e) (record { covered = h0; tasks = h1; gates = h2; kernel = h3; user = h4; area = h5 }))))))))
 
 pub final : (bs : List Block) (mode : Mode) (image : Image) (a : ℕ) → IsBuilt image
-    → code_filled (word_there (placed bs) mode image) bs (tables_filled (word_there (placed bs) mode image) (first_words (regions image) image.text)) a ≡ opening_word (placed bs) mode image a
+    → code_filled (word_there (placed bs) mode image) bs (tables_filled (word_there (placed bs) mode image) (first_words (regions image) image.text)) a
+    ≡ opening_word (placed bs) mode image a
 final bs mode image a b = final_by (is_aligned a) bs mode image a b refl
 
 -- words that differ nowhere before the code is filled don't differ behind it

@@ -78,7 +78,8 @@ reaches_same pre env a (Jump c name) h k =
     let e = place_behind pre env name h (not_false (is_body_name name) k) in
     ap (λ (p : ℕ). nat_le p (a + size (Jump c name) + 2147483647) && nat_le (a + size (Jump c name)) (p + 2147483647)) e
 
-all_reach_same : (pre env : Places) (a : ℕ) (ss : List Stmt) → are_body_names pre ≡ true → list_all leaves_bodies ss ≡ true → all_reach (pre ++ env) a ss ≡ all_reach env a ss
+all_reach_same : (pre env : Places) (a : ℕ) (ss : List Stmt) → are_body_names pre ≡ true → list_all leaves_bodies ss ≡ true
+    → all_reach (pre ++ env) a ss ≡ all_reach env a ss
 unfolding all_reach
 all_reach_same pre env a [] h k = refl
 all_reach_same pre env a (s ∷ ss) h k =
@@ -87,7 +88,8 @@ all_reach_same pre env a (s ∷ ss) h k =
     let f = all_reach_same pre env (a + size s) ss h t.1 in
     λ i. e i && f i
 
-linkable_same : (pre env : Places) (ss : List Section) → are_body_names pre ≡ true → list_all (λ (s : Section). list_all leaves_bodies s.stmts) ss ≡ true → list_all (is_linkable (pre ++ env)) ss ≡ list_all (is_linkable env) ss
+linkable_same : (pre env : Places) (ss : List Section) → are_body_names pre ≡ true → list_all (λ (s : Section). list_all leaves_bodies s.stmts) ss ≡ true
+    → list_all (is_linkable (pre ++ env)) ss ≡ list_all (is_linkable env) ss
 linkable_same pre env [] h k = refl
 linkable_same pre env (s ∷ ss) h k =
     let t = split (list_all leaves_bodies s.stmts) _ k in
@@ -97,19 +99,22 @@ linkable_same pre env (s ∷ ss) h k =
 
 -- ---- items that can run today
 
-item_size : (mode : Mode) (b : ℕ) (key : Key) (f : ℕ → ℕ) (n : ℕ) (item : Item) → is_built_item item ≡ true → total_size (stmts_of (expansion mode b key f n item)) ≤ 9
+item_size : (mode : Mode) (b : ℕ) (key : Key) (f : ℕ → ℕ) (n : ℕ) (item : Item) → is_built_item item ≡ true
+    → total_size (stmts_of (expansion mode b key f n item)) ≤ 9
 unfolding is_built_item expansion size spelling four_bytes
 item_size mode b key f n (Log s) h = omega arith
 item_size mode b key f n Ret h = omega arith
 item_size mode b key f n _ h = absurd cc
 
-item_counts : (mode : Mode) (b : ℕ) (key : Key) (f : ℕ → ℕ) (n : ℕ) (item : Item) → is_built_item item ≡ true → are_instructions (stmts_of (expansion mode b key f n item)) ≡ true
+item_counts : (mode : Mode) (b : ℕ) (key : Key) (f : ℕ → ℕ) (n : ℕ) (item : Item) → is_built_item item ≡ true
+    → are_instructions (stmts_of (expansion mode b key f n item)) ≡ true
 unfolding is_built_item expansion is_encoded is_instruction
 item_counts mode b key f n (Log s) h = refl
 item_counts mode b key f n Ret h = refl
 item_counts mode b key f n _ h = absurd cc
 
-item_names : (mode : Mode) (b : ℕ) (key : Key) (f : ℕ → ℕ) (n : ℕ) (item : Item) (a : ℕ) → is_built_item item ≡ true → are_body_names (places a (stmts_of (expansion mode b key f n item))) ≡ true
+item_names : (mode : Mode) (b : ℕ) (key : Key) (f : ℕ → ℕ) (n : ℕ) (item : Item) (a : ℕ) → is_built_item item ≡ true
+    → are_body_names (places a (stmts_of (expansion mode b key f n item))) ≡ true
 unfolding is_built_item expansion places
 item_names mode b key f n (Log s) a h = refl
 item_names mode b key f n Ret a h = refl
@@ -119,7 +124,8 @@ item_names mode b key f n _ a h = absurd cc
 abbrev IsNear : Places → Name → Type 0
 IsNear env name = (fred_page ≤ place env name) × (place env name ≤ code_end)
 
-item_reach : (env : Places) (mode : Mode) (b : ℕ) (key : Key) (f : ℕ → ℕ) (n : ℕ) (item : Item) (a : ℕ) → is_built_item item ≡ true → IsNear env (exit_of mode key) → body_code 0 ≤ a → a ≤ body_code 64 → all_reach env a (stmts_of (expansion mode b key f n item)) ≡ true
+item_reach : (env : Places) (mode : Mode) (b : ℕ) (key : Key) (f : ℕ → ℕ) (n : ℕ) (item : Item) (a : ℕ) → is_built_item item ≡ true
+    → IsNear env (exit_of mode key) → body_code 0 ≤ a → a ≤ body_code 64 → all_reach env a (stmts_of (expansion mode b key f n item)) ≡ true
 unfolding is_built_item expansion all_reach reaches size
 item_reach env mode b key f n (Log s) a h e l g = refl
 item_reach env mode b key f n Ret a h e l g =
@@ -140,7 +146,8 @@ all_append : {X : Type 0} (t : X → Bool) (xs ys : List X) → list_all t xs �
 all_append t [] ys h k = k
 all_append t (x ∷ xs) ys h k = let s = split (t x) (list_all t xs) h in let e = s.0 in rw e (all_append t xs ys s.1 k)
 
-reach_append : (env : Places) (a : ℕ) (xs ys : List Stmt) → all_reach env a xs ≡ true → all_reach env (a + total_size xs) ys ≡ true → all_reach env a (xs ++ ys) ≡ true
+reach_append : (env : Places) (a : ℕ) (xs ys : List Stmt) → all_reach env a xs ≡ true → all_reach env (a + total_size xs) ys ≡ true
+    → all_reach env a (xs ++ ys) ≡ true
 unfolding all_reach
 reach_append env a [] ys h k = subst (λ (x : ℕ). all_reach env x ys ≡ true) (omega arith) k
 reach_append env a (x ∷ xs) ys h k =
@@ -148,7 +155,8 @@ reach_append env a (x ∷ xs) ys h k =
     let e = s.0 in
     rw e (reach_append env (a + size x) xs ys s.1 (subst (λ (p : ℕ). all_reach env p ys ≡ true) (omega arith) k))
 
-names_append : (a : ℕ) (xs ys : List Stmt) → are_body_names (places a xs) ≡ true → are_body_names (places (a + total_size xs) ys) ≡ true → are_body_names (places a (xs ++ ys)) ≡ true
+names_append : (a : ℕ) (xs ys : List Stmt) → are_body_names (places a xs) ≡ true → are_body_names (places (a + total_size xs) ys) ≡ true
+    → are_body_names (places a (xs ++ ys)) ≡ true
 unfolding places size
 names_append a [] ys h k = subst (λ (x : ℕ). are_body_names (places x ys) ≡ true) (omega arith) k
 names_append a (Label name ∷ xs) ys h k =
@@ -156,7 +164,8 @@ names_append a (Label name ∷ xs) ys h k =
     let e = s.0 in
     rw e (names_append a xs ys s.1 (subst (λ (p : ℕ). are_body_names (places p ys) ≡ true) (omega arith) k))
 names_append a (Plain i ∷ xs) ys h k = names_append (a + size (Plain i)) xs ys h (subst (λ (p : ℕ). are_body_names (places p ys) ≡ true) (omega arith) k)
-names_append a (Jump c name ∷ xs) ys h k = names_append (a + size (Jump c name)) xs ys h (subst (λ (p : ℕ). are_body_names (places p ys) ≡ true) (omega arith) k)
+names_append a (Jump c name ∷ xs) ys h k =
+    names_append (a + size (Jump c name)) xs ys h (subst (λ (p : ℕ). are_body_names (places p ys) ≡ true) (omega arith) k)
 
 stmts_append : (xs ys : List Marked) → stmts_of (xs ++ ys) ≡ stmts_of xs ++ stmts_of ys
 stmts_append [] ys = refl
@@ -164,25 +173,36 @@ stmts_append (x ∷ xs) ys = ap (λ (l : List Stmt). x.stmt ∷ l) (stmts_append
 
 -- ---- items in turn
 
-stmts_size : (mode : Mode) (b : ℕ) (key : Key) (f : ℕ → ℕ) (n : ℕ) (items : List Item) → list_all is_built_item items ≡ true → total_size (stmts_of (expansions mode b key f n items)) ≤ 9 * length items
+stmts_size : (mode : Mode) (b : ℕ) (key : Key) (f : ℕ → ℕ) (n : ℕ) (items : List Item) → list_all is_built_item items ≡ true
+    → total_size (stmts_of (expansions mode b key f n items)) ≤ 9 * length items
 unfolding size
 stmts_size mode b key f n [] h = omega arith
 stmts_size mode b key f n (item ∷ items) h =
     let s = split (is_built_item item) _ h in
     let first : List Marked = expansion mode b key f n item in
     let rest : List Marked = expansions mode b key f (suc n) items in
-    omega (arith, ap total_size (stmts_append first rest), total_append (stmts_of first) (stmts_of rest), item_size mode b key f n item s.0, stmts_size mode b key f (suc n) items s.1)
+    omega (
+      arith,
+      ap total_size (stmts_append first rest),
+      total_append (stmts_of first) (stmts_of rest),
+      item_size mode b key f n item s.0,
+      stmts_size mode
+          b key f (suc n) items s.1,
+    )
 
-stmts_counts : (mode : Mode) (b : ℕ) (key : Key) (f : ℕ → ℕ) (n : ℕ) (items : List Item) → list_all is_built_item items ≡ true → are_instructions (stmts_of (expansions mode b key f n items)) ≡ true
+stmts_counts : (mode : Mode) (b : ℕ) (key : Key) (f : ℕ → ℕ) (n : ℕ) (items : List Item) → list_all is_built_item items ≡ true
+    → are_instructions (stmts_of (expansions mode b key f n items)) ≡ true
 unfolding is_encoded
 stmts_counts mode b key f n [] h = refl
 stmts_counts mode b key f n (item ∷ items) h =
     let s = split (is_built_item item) _ h in
     let first : List Marked = expansion mode b key f n item in
     let rest : List Marked = expansions mode b key f (suc n) items in
-    ap are_instructions (stmts_append first rest) ∙ all_append is_encoded (stmts_of first) (stmts_of rest) (item_counts mode b key f n item s.0) (stmts_counts mode b key f (suc n) items s.1)
+    ap are_instructions (stmts_append first rest) ∙ all_append is_encoded (stmts_of first) (stmts_of rest) (item_counts mode b key f n item s.0)
+    (stmts_counts mode b key f (suc n) items s.1)
 
-stmts_names : (mode : Mode) (b : ℕ) (key : Key) (f : ℕ → ℕ) (n : ℕ) (items : List Item) (a : ℕ) → list_all is_built_item items ≡ true → are_body_names (places a (stmts_of (expansions mode b key f n items))) ≡ true
+stmts_names : (mode : Mode) (b : ℕ) (key : Key) (f : ℕ → ℕ) (n : ℕ) (items : List Item) (a : ℕ) → list_all is_built_item items ≡ true
+    → are_body_names (places a (stmts_of (expansions mode b key f n items))) ≡ true
 unfolding places
 stmts_names mode b key f n [] a h = refl
 stmts_names mode b key f n (item ∷ items) a h =
@@ -190,9 +210,11 @@ stmts_names mode b key f n (item ∷ items) a h =
     let first : List Marked = expansion mode b key f n item in
     let rest : List Marked = expansions mode b key f (suc n) items in
     ap (λ (x : List Stmt). are_body_names (places a x)) (stmts_append first rest)
-    ∙ names_append a (stmts_of first) (stmts_of rest) (item_names mode b key f n item a s.0) (stmts_names mode b key f (suc n) items (a + total_size (stmts_of first)) s.1)
+    ∙ names_append a (stmts_of first) (stmts_of rest) (item_names mode b key f n item a s.0)
+    (stmts_names mode b key f (suc n) items (a + total_size (stmts_of first)) s.1)
 
-stmts_reach : (env : Places) (mode : Mode) (b : ℕ) (key : Key) (f : ℕ → ℕ) (n : ℕ) (items : List Item) (a : ℕ) → list_all is_built_item items ≡ true → IsNear env (exit_of mode key) → body_code 0 ≤ a → a + 9 * length items ≤ body_code 64
+stmts_reach : (env : Places) (mode : Mode) (b : ℕ) (key : Key) (f : ℕ → ℕ) (n : ℕ) (items : List Item) (a : ℕ) → list_all is_built_item items ≡ true
+    → IsNear env (exit_of mode key) → body_code 0 ≤ a → a + 9 * length items ≤ body_code 64
     → all_reach env a (stmts_of (expansions mode b key f n items)) ≡ true
 unfolding all_reach reaches size
 stmts_reach env mode b key f n [] a h e l g = refl
@@ -230,23 +252,27 @@ stmts_are : (mode : Mode) (image : Image) (n : ℕ) (b : Body) → is_built_body
 unfolding body_stmts
 stmts_are mode image n b h = ap (λ (x : List Item). stmts_of (expansions mode n b.key (function_address mode image) 0 x)) (sym (items_are b h))
 
-body_size : (mode : Mode) (image : Image) (n : ℕ) (b : Body) → is_built_body b ≡ true → is_few b ≡ true → total_size (stmts_of (body_stmts mode image n b)) ≤ 2304
+body_size : (mode : Mode) (image : Image) (n : ℕ) (b : Body) → is_built_body b ≡ true → is_few b ≡ true
+    → total_size (stmts_of (body_stmts mode image n b)) ≤ 2304
 body_size mode image n b h k =
     let l = leb-true (length b.items) 256 k in
     omega (arith, ap total_size (stmts_are mode image n b h), stmts_size mode n b.key (function_address mode image) 0 b.items (built_items b h))
 
-body_linkable : (env : Places) (mode : Mode) (image : Image) (n : ℕ) (b : Body) → is_built_body b ≡ true → is_few b ≡ true → n < 64 → IsNear env (exit_of mode b.key)
+body_linkable : (env : Places) (mode : Mode) (image : Image) (n : ℕ) (b : Body) → is_built_body b ≡ true → is_few b ≡ true → n < 64
+    → IsNear env (exit_of mode b.key)
     → is_linkable env (section_of (record { address = body_code n; lines = body_stmts mode image n b })) ≡ true
 body_linkable env mode image n b h k l e =
     let f = function_address mode image in
     let i = built_items b h in
     let m = leb-true (length b.items) 256 k in
     let x = ap are_instructions (sym (stmts_are mode image n b h)) ∙ stmts_counts mode n b.key f 0 b.items i in
-    let y = ap (all_reach env (body_code n)) (sym (stmts_are mode image n b h)) ∙ stmts_reach env mode n b.key f 0 b.items (body_code n) i e (omega arith) (omega arith) in
+    let y = ap (all_reach env (body_code n)) (sym (stmts_are mode image n b h)) ∙ stmts_reach env mode n b.key f 0 b.items (body_code n) i e (omega arith)
+    (omega arith) in
     let z = lt-ltb (body_code n + total_size (stmts_of (body_stmts mode image n b))) (2 ^ 64) (omega (arith, body_size mode image n b h k)) in
     rw (x, y, z) refl
 
-bodies_linkable : (env : Places) (mode : Mode) (image : Image) (n : ℕ) (bs : List Body) → list_all is_built_body bs ≡ true → list_all is_few bs ≡ true → n + length bs ≤ 64 → ((key : Key) → IsNear env (exit_of mode key))
+bodies_linkable : (env : Places) (mode : Mode) (image : Image) (n : ℕ) (bs : List Body) → list_all is_built_body bs ≡ true → list_all is_few bs ≡ true
+    → n + length bs ≤ 64 → ((key : Key) → IsNear env (exit_of mode key))
     → list_all (is_linkable env) (map section_of (body_listings mode image n bs)) ≡ true
 bodies_linkable env mode image n [] h k l e = refl
 bodies_linkable env mode image n (b ∷ bs) h k l e =
@@ -256,12 +282,16 @@ bodies_linkable env mode image n (b ∷ bs) h k l e =
     let y = bodies_linkable env mode image (suc n) bs s.1 t.1 (omega arith) e in
     λ i. x i && y i
 
-bodies_names : (mode : Mode) (image : Image) (n : ℕ) (bs : List Body) → list_all is_built_body bs ≡ true → are_body_names (section_places (map section_of (body_listings mode image n bs))) ≡ true
+bodies_names : (mode : Mode) (image : Image) (n : ℕ) (bs : List Body) → list_all is_built_body bs ≡ true
+    → are_body_names (section_places (map section_of (body_listings mode image n bs))) ≡ true
 bodies_names mode image n [] h = refl
 bodies_names mode image n (b ∷ bs) h =
     let s = split (is_built_body b) _ h in
-    let here : are_body_names (places (body_code n) (stmts_of (body_stmts mode image n b))) ≡ true = ap (λ (x : List Stmt). are_body_names (places (body_code n) x)) (sym (stmts_are mode image n b s.0)) ∙ stmts_names mode n b.key (function_address mode image) 0 b.items (body_code n) (built_items b s.0) in
-    all_append (λ (e : Name × ℕ). is_body_name e.0) (places (body_code n) (stmts_of (body_stmts mode image n b))) (section_places (map section_of (body_listings mode image (suc n) bs))) here (bodies_names mode image (suc n) bs s.1)
+    let here : are_body_names (places (body_code n) (stmts_of (body_stmts mode image n b))) ≡ true =
+    ap (λ (x : List Stmt). are_body_names (places (body_code n) x)) (sym (stmts_are mode image n b s.0))
+    ∙ stmts_names mode n b.key (function_address mode image) 0 b.items (body_code n) (built_items b s.0) in
+    all_append (λ (e : Name × ℕ). is_body_name e.0) (places (body_code n) (stmts_of (body_stmts mode image n b)))
+    (section_places (map section_of (body_listings mode image (suc n) bs))) here (bodies_names mode image (suc n) bs s.1)
 
 -- ---- the kernel's sections
 
@@ -312,7 +342,9 @@ exit_names Idt key = one_exit (λ (name : Name). is_body_name name ≡ false) Id
 exit_names Fred key = one_exit (λ (name : Name). is_body_name name ≡ false) Fred key refl refl
 
 near_behind : (pre : Places) (mode : Mode) (key : Key) → are_body_names pre ≡ true → IsNear (pre ++ kernel_places mode) (exit_of mode key)
-near_behind pre mode key h = subst (λ (p : ℕ). (fred_page ≤ p) × (p ≤ code_end)) (sym (place_behind pre (kernel_places mode) (exit_of mode key) h (exit_names mode key))) (exits_near mode key)
+near_behind pre mode key h =
+    subst (λ (p : ℕ). (fred_page ≤ p) × (p ≤ code_end)) (sym (place_behind pre (kernel_places mode) (exit_of mode key) h (exit_names mode key)))
+    (exits_near mode key)
 
 -- ---- all sections
 
@@ -322,9 +354,11 @@ sections_append (x ∷ xs) ys = ap (λ (l : List Section). section_of x ∷ l) (
 
 places_append : (xs ys : List Section) → section_places (xs ++ ys) ≡ section_places xs ++ section_places ys
 places_append [] ys = refl
-places_append (x ∷ xs) ys = ap (λ (l : Places). places x.address x.stmts ++ l) (places_append xs ys) ∙ sym (append_assoc (places x.address x.stmts) (section_places xs) (section_places ys))
+places_append (x ∷ xs) ys = ap (λ (l : Places). places x.address x.stmts ++ l) (places_append xs ys)
+    ∙ sym (append_assoc (places x.address x.stmts) (section_places xs) (section_places ys))
 
-pub all_linkable : (mode : Mode) (image : Image) → list_all is_built_body image.bodies ≡ true → list_all is_few image.bodies ≡ true → length image.bodies ≤ 64 → AreLinkable (map section_of (listings mode image))
+pub all_linkable : (mode : Mode) (image : Image) → list_all is_built_body image.bodies ≡ true → list_all is_few image.bodies ≡ true
+    → length image.bodies ≤ 64 → AreLinkable (map section_of (listings mode image))
 unfolding listings
 all_linkable mode image h k l =
     let xs : List Section = map section_of (body_listings mode image 0 image.bodies) in
@@ -351,25 +385,30 @@ or_right : (x y : Bool) → y ≡ true → (x || y) ≡ true
 or_right true y h = refl
 or_right false y h = h
 
-block_in_kernel : (m : ℕ) (env : Places) (b : Listing) → (nat_le fred_page b.address && nat_le (b.address + total_size (stmts_of b.lines)) code_end) ≡ true → is_placed m (block_of env b) ≡ true
+block_in_kernel : (m : ℕ) (env : Places) (b : Listing) → (nat_le fred_page b.address && nat_le (b.address + total_size (stmts_of b.lines)) code_end) ≡ true
+    → is_placed m (block_of env b) ≡ true
 unfolding is_placed
 block_in_kernel m env b h =
     or_left _ _ (ap (λ (x : ℕ). nat_le fred_page b.address && nat_le (b.address + x) code_end) (code_size env b.address (stmts_of b.lines)) ∙ h)
 
-block_in_bodies : (m n : ℕ) (env : Places) (b : Listing) → b.address ≡ body_code n → n < m → total_size (stmts_of b.lines) ≤ 2304 → is_placed m (block_of env b) ≡ true
+block_in_bodies : (m n : ℕ) (env : Places) (b : Listing) → b.address ≡ body_code n → n < m → total_size (stmts_of b.lines) ≤ 2304
+    → is_placed m (block_of env b) ≡ true
 unfolding is_placed
 block_in_bodies m n env b e l h =
     let z = code_size env b.address (stmts_of b.lines) in
     let x : nat_le (body_code 0) b.address ≡ true = le-leb (body_code 0) b.address (omega arith) in
-    let y : nat_le (b.address + length (code env b.address (stmts_of b.lines))) (body_code m) ≡ true = le-leb (b.address + length (code env b.address (stmts_of b.lines))) (body_code m) (omega arith) in
+    let y : nat_le (b.address + length (code env b.address (stmts_of b.lines))) (body_code m) ≡ true =
+    le-leb (b.address + length (code env b.address (stmts_of b.lines))) (body_code m) (omega arith) in
     or_right _ _ (λ i. x i && y i)
 
-bodies_placed : (m : ℕ) (env : Places) (mode : Mode) (image : Image) (n : ℕ) (bs : List Body) → list_all is_built_body bs ≡ true → list_all is_few bs ≡ true → n + length bs ≤ m → are_placed m (map (block_of env) (body_listings mode image n bs)) ≡ true
+bodies_placed : (m : ℕ) (env : Places) (mode : Mode) (image : Image) (n : ℕ) (bs : List Body) → list_all is_built_body bs ≡ true → list_all is_few bs ≡ true
+    → n + length bs ≤ m → are_placed m (map (block_of env) (body_listings mode image n bs)) ≡ true
 bodies_placed m env mode image n [] h k l = refl
 bodies_placed m env mode image n (b ∷ bs) h k l =
     let s = split (is_built_body b) _ h in
     let t = split (is_few b) _ k in
-    let x = block_in_bodies m n env (record { address = body_code n; lines = body_stmts mode image n b }) refl (omega arith) (body_size mode image n b s.0 t.0) in
+    let x = block_in_bodies m n env (record { address = body_code n; lines = body_stmts mode image n b }) refl (omega arith)
+    (body_size mode image n b s.0 t.0) in
     let y = bodies_placed m env mode image (suc n) bs s.1 t.1 (omega arith) in
     λ i. x i && y i
 
@@ -400,15 +439,19 @@ blocks_append : (env : Places) (xs ys : List Listing) → map (block_of env) (xs
 blocks_append env [] ys = refl
 blocks_append env (x ∷ xs) ys = ap (λ (l : List Block). block_of env x ∷ l) (blocks_append env xs ys)
 
-all_placed_in : (env : Places) (mode : Mode) (image : Image) → list_all is_built_body image.bodies ≡ true → list_all is_few image.bodies ≡ true → are_placed (length image.bodies) (map (block_of env) (listings mode image)) ≡ true
+all_placed_in : (env : Places) (mode : Mode) (image : Image) → list_all is_built_body image.bodies ≡ true → list_all is_few image.bodies ≡ true
+    → are_placed (length image.bodies) (map (block_of env) (listings mode image)) ≡ true
 unfolding listings
 all_placed_in env mode image h k =
     let n : ℕ = length image.bodies in
     ap (are_placed n) (blocks_append env (body_listings mode image 0 image.bodies) (kernel_listings mode))
-    ∙ all_append (is_placed n) (map (block_of env) (body_listings mode image 0 image.bodies)) (map (block_of env) (kernel_listings mode)) (bodies_placed n env mode image 0 image.bodies h k (omega arith)) (kernel_placed n env mode)
+    ∙ all_append (is_placed n) (map (block_of env) (body_listings mode image 0 image.bodies)) (map (block_of env) (kernel_listings mode))
+    (bodies_placed n env mode image 0 image.bodies h k (omega arith)) (kernel_placed n env mode)
 
-pub blocks_placed : (mode : Mode) (image : Image) → list_all is_built_body image.bodies ≡ true → list_all is_few image.bodies ≡ true → are_placed (length image.bodies) (linked (map section_of (listings mode image))) ≡ true
-blocks_placed mode image h k = ap (are_placed (length image.bodies)) (linked_is (listings mode image)) ∙ all_placed_in (all_places (listings mode image)) mode image h k
+pub blocks_placed : (mode : Mode) (image : Image) → list_all is_built_body image.bodies ≡ true → list_all is_few image.bodies ≡ true
+    → are_placed (length image.bodies) (linked (map section_of (listings mode image))) ≡ true
+blocks_placed mode image h k = ap (are_placed (length image.bodies)) (linked_is (listings mode image))
+    ∙ all_placed_in (all_places (listings mode image)) mode image h k
 
 code_is : (env : Places) (bs : List Listing) → placed (map (block_of env) bs) ≡ placed_code env bs
 code_is env [] = refl

@@ -29,7 +29,8 @@ before Mark.IfNonzero a rest = refl
 before Mark.IfEqual a rest = refl
 
 -- an item of one statement
-item_marks : (mode : Mode) (b : ℕ) (key : Key) (f : ℕ → ℕ) (n a : ℕ) (item : Item) (items : List Item) (line : Marked) → line ∷ [] ≡ expansion mode b key f n item
+item_marks : (mode : Mode) (b : ℕ) (key : Key) (f : ℕ → ℕ) (n a : ℕ) (item : Item) (items : List Item) (line : Marked)
+    → line ∷ [] ≡ expansion mode b key f n item
     → marks a (expansions mode b key f n (item ∷ items)) ≡ with_mark line.mark a [] ++ marks (a + size line.stmt) (expansions mode b key f (suc n) items)
 unfolding marks size
 item_marks mode b key f n a item items line e =
@@ -39,7 +40,8 @@ item_marks mode b key f n a item items line e =
     ∙ ap (λ (x : ℕ). with_mark line.mark x (marks (x + size line.stmt) rest)) z
     ∙ sym (before line.mark a (marks (a + size line.stmt) rest))
 
-pub items_step : (mode : Mode) (b : ℕ) (key : Key) (f : ℕ → ℕ) (is : List Item) (n m a c : ℕ) (item : Item) (line : Marked) (done more W : Found) → n < length is → m ≡ suc n → item ≡ get_or is n item
+pub items_step : (mode : Mode) (b : ℕ) (key : Key) (f : ℕ → ℕ) (is : List Item) (n m a c : ℕ) (item : Item) (line : Marked) (done more W : Found)
+    → n < length is → m ≡ suc n → item ≡ get_or is n item
     → line ∷ [] ≡ expansion mode b key f n item → c ≡ a + size line.stmt → more ≡ done ++ with_mark line.mark a []
     → done ++ marks a (expansions mode b key f n (drop n is)) ≡ W → more ++ marks c (expansions mode b key f m (drop m is)) ≡ W
 items_step mode b key f is n m a c item line done more W lt k e l g h w =
@@ -48,33 +50,41 @@ items_step mode b key f is n m a c item line done more W lt k e l g h w =
     ∙ ap (λ (x : Found). done ++ x) (sym (item_marks mode b key f n a item (drop (suc n) is) line l))
     ∙ ap (λ (x : List Item). done ++ marks a (expansions mode b key f n x)) (sym (item_at is n item lt e)) ∙ w)
 
-pub items_end : (mode : Mode) (b : ℕ) (key : Key) (f : ℕ → ℕ) (is : List Item) (n a : ℕ) (done W : Found) → length is ≤ n → done ++ marks a (expansions mode b key f n (drop n is)) ≡ W → done ≡ W
+pub items_end : (mode : Mode) (b : ℕ) (key : Key) (f : ℕ → ℕ) (is : List Item) (n a : ℕ) (done W : Found) → length is ≤ n
+    → done ++ marks a (expansions mode b key f n (drop n is)) ≡ W → done ≡ W
 unfolding marks
-items_end mode b key f is n a done W le w = sym (append-nil done) ∙ ap (λ (x : List Item). done ++ marks a (expansions mode b key f n x)) (sym (drop_all n is le)) ∙ w
+items_end mode b key f is n a done W le w = sym (append-nil done) ∙ ap (λ (x : List Item). done ++ marks a (expansions mode b key f n x))
+    (sym (drop_all n is le)) ∙ w
 
 -- ---- bodies
 
-pub body_marks : (mode : Mode) (image : Image) (n : ℕ) (b : Body) (old new : Found) → is_built_body b ≡ true → ((k : ℕ) (f : ℕ → ℕ) → new ≡ old ++ marks (body_code n) (expansions mode k b.key f 0 b.items))
+pub body_marks : (mode : Mode) (image : Image) (n : ℕ) (b : Body) (old new : Found) → is_built_body b ≡ true
+    → ((k : ℕ) (f : ℕ → ℕ) → new ≡ old ++ marks (body_code n) (expansions mode k b.key f 0 b.items))
     → new ≡ old ++ marks (body_code n) (body_stmts mode image n b)
 unfolding body_stmts
 body_marks mode image n b old new h e =
-    e n (function_address mode image) ∙ ap (λ (x : List Item). old ++ marks (body_code n) (expansions mode n b.key (function_address mode image) 0 x)) (sym (items_are b h))
+    e n (function_address mode image) ∙ ap (λ (x : List Item). old ++ marks (body_code n) (expansions mode n b.key (function_address mode image) 0 x))
+    (sym (items_are b h))
 
-pub bodies_step : (mode : Mode) (image : Image) (bs : List Body) (n m : ℕ) (b : Body) (done more W : Found) → n < length bs → m ≡ suc n → b ≡ get_or bs n b → more ≡ done ++ marks (body_code n) (body_stmts mode image n b)
+pub bodies_step : (mode : Mode) (image : Image) (bs : List Body) (n m : ℕ) (b : Body) (done more W : Found) → n < length bs → m ≡ suc n → b ≡ get_or bs n b
+    → more ≡ done ++ marks (body_code n) (body_stmts mode image n b)
     → done ++ all_marks (body_listings mode image n (drop n bs)) ≡ W → more ++ all_marks (body_listings mode image m (drop m bs)) ≡ W
 bodies_step mode image bs n m b done more W lt k e g w =
     let here : Found = marks (body_code n) (body_stmts mode image n b) in
     let rest : Found = all_marks (body_listings mode image (suc n) (drop (suc n) bs)) in
     rw (k, g) (append_assoc done here rest ∙ ap (λ (x : List Body). done ++ all_marks (body_listings mode image n x)) (sym (body_at bs n b lt e)) ∙ w)
 
-pub bodies_end : (mode : Mode) (image : Image) (bs : List Body) (n : ℕ) (done W : Found) → length bs ≤ n → done ++ all_marks (body_listings mode image n (drop n bs)) ≡ W → done ≡ W
-bodies_end mode image bs n done W le w = sym (append-nil done) ∙ ap (λ (x : List Body). done ++ all_marks (body_listings mode image n x)) (sym (drop_all n bs le)) ∙ w
+pub bodies_end : (mode : Mode) (image : Image) (bs : List Body) (n : ℕ) (done W : Found) → length bs ≤ n
+    → done ++ all_marks (body_listings mode image n (drop n bs)) ≡ W → done ≡ W
+bodies_end mode image bs n done W le w = sym (append-nil done) ∙ ap (λ (x : List Body). done ++ all_marks (body_listings mode image n x))
+    (sym (drop_all n bs le)) ∙ w
 
 -- ---- all code
 
 marks_append : (xs ys : List Listing) → all_marks (xs ++ ys) ≡ all_marks xs ++ all_marks ys
 marks_append [] ys = refl
-marks_append (x ∷ xs) ys = ap (λ (l : Found). marks x.address x.lines ++ l) (marks_append xs ys) ∙ sym (append_assoc (marks x.address x.lines) (all_marks xs) (all_marks ys))
+marks_append (x ∷ xs) ys = ap (λ (l : Found). marks x.address x.lines ++ l) (marks_append xs ys)
+    ∙ sym (append_assoc (marks x.address x.lines) (all_marks xs) (all_marks ys))
 
 pub marks_are : (mode : Mode) (image : Image) → all_marks (body_listings mode image 0 image.bodies) ++ all_marks (kernel_listings mode) ≡ marks_of mode image
 unfolding listings

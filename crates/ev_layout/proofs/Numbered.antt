@@ -20,10 +20,12 @@ flat_append f (x ∷ xs) y = ap (λ l. f x ++ l) (flat_append f xs y) ∙ sym (a
 below_more : (k : ℕ) → numbers_from 0 k ++ k ∷ [] ≡ numbers_from 0 (k + 1)
 below_more k = ap (λ (m : ℕ). numbers_from 0 k ++ m ∷ []) (sym (zero-add k)) ∙ sym (numbers_more 0 k) ∙ ap (numbers_from 0) (sym (add-one k))
 
-pub map_more : {A : Type 0} (f : ℕ → A) (k : ℕ) (v : A) (us ws vs : List A) → ws ≡ us ++ map f (numbers_from 0 k) → v ≡ f k → vs ≡ ws ++ v ∷ [] → vs ≡ us ++ map f (numbers_from 0 (k + 1))
+pub map_more : {A : Type 0} (f : ℕ → A) (k : ℕ) (v : A) (us ws vs : List A) → ws ≡ us ++ map f (numbers_from 0 k) → v ≡ f k → vs ≡ ws ++ v ∷ []
+    → vs ≡ us ++ map f (numbers_from 0 (k + 1))
 map_more {A} f k v us ws vs e g h =
     h ∙ ap (λ (l : List A). l ++ v ∷ []) e ∙ append_assoc us (map f (numbers_from 0 k)) (v ∷ []) ∙ ap (λ (x : A). us ++ (map f (numbers_from 0 k) ++ x ∷ [])) g
     ∙ ap (λ (l : List A). us ++ l) (sym (map_append f (numbers_from 0 k) (k ∷ []))) ∙ ap (λ (l : List ℕ). us ++ map f l) (below_more k)
 
-pub flat_more : {A : Type 0} (f : ℕ → List A) (k : ℕ) (ws vs : List A) → ws ≡ flat_map f (numbers_from 0 k) → vs ≡ ws ++ f k → vs ≡ flat_map f (numbers_from 0 (k + 1))
+pub flat_more : {A : Type 0} (f : ℕ → List A) (k : ℕ) (ws vs : List A) → ws ≡ flat_map f (numbers_from 0 k) → vs ≡ ws ++ f k
+    → vs ≡ flat_map f (numbers_from 0 (k + 1))
 flat_more {A} f k ws vs e h = h ∙ ap (λ (l : List A). l ++ f k) e ∙ sym (flat_append f (numbers_from 0 k) k) ∙ ap (flat_map f) (below_more k)

@@ -45,7 +45,8 @@ in_areas image a = within (pcpu 0) (0x10000 * image.processors) a
 abbrev pub in_tasks : Image → ℕ → Bool
 in_tasks image a = within (task_words 0 0) (0x100 * image.processors) a
 
-pub there_area : (es : Placed) (mode : Mode) (image : Image) (a : ℕ) → IsBelow image a → in_areas image a ≡ true → word_there es mode image a ≡ pcpu_word ((a - pcpu 0) / 0x10000) (a % 0x10000)
+pub there_area : (es : Placed) (mode : Mode) (image : Image) (a : ℕ) → IsBelow image a → in_areas image a ≡ true
+    → word_there es mode image a ≡ pcpu_word ((a - pcpu 0) / 0x10000) (a % 0x10000)
 unfolding word_there
 there_area es mode image a b h = let p = b.upper in let q = b.code in let r = b.stack in rw (p, q, r, h) refl
 
@@ -54,17 +55,20 @@ pub there_task : (es : Placed) (mode : Mode) (image : Image) (a : ℕ) → IsBel
 unfolding word_there
 there_task es mode image a b h g = let p = b.upper in let q = b.code in let r = b.stack in rw (p, q, r, h, g) refl
 
-pub there_user : (es : Placed) (mode : Mode) (image : Image) (a : ℕ) → IsBelow image a → in_areas image a ≡ false → in_tasks image a ≡ false → within user_table (8 * 257) a ≡ true
+pub there_user : (es : Placed) (mode : Mode) (image : Image) (a : ℕ) → IsBelow image a → in_areas image a ≡ false → in_tasks image a ≡ false
+    → within user_table (8 * 257) a ≡ true
     → word_there es mode image a ≡ table_word image User ((a - user_table) / 8)
 unfolding word_there
 there_user es mode image a b h g f = let p = b.upper in let q = b.code in let r = b.stack in rw (p, q, r, h, g, f) refl
 
-pub there_kernel : (es : Placed) (mode : Mode) (image : Image) (a : ℕ) → IsBelow image a → in_areas image a ≡ false → in_tasks image a ≡ false → within user_table (8 * 257) a ≡ false
+pub there_kernel : (es : Placed) (mode : Mode) (image : Image) (a : ℕ) → IsBelow image a → in_areas image a ≡ false → in_tasks image a ≡ false
+    → within user_table (8 * 257) a ≡ false
     → within kernel_table (8 * 257) a ≡ true → word_there es mode image a ≡ table_word image Kernel ((a - kernel_table) / 8)
 unfolding word_there
 there_kernel es mode image a b h g f e = let p = b.upper in let q = b.code in let r = b.stack in rw (p, q, r, h, g, f, e) refl
 
-pub there_idt : (es : Placed) (mode : Mode) (image : Image) (a : ℕ) → IsBelow image a → in_areas image a ≡ false → in_tasks image a ≡ false → within user_table (8 * 257) a ≡ false
+pub there_idt : (es : Placed) (mode : Mode) (image : Image) (a : ℕ) → IsBelow image a → in_areas image a ≡ false → in_tasks image a ≡ false
+    → within user_table (8 * 257) a ≡ false
     → within kernel_table (8 * 257) a ≡ false → within idt_base (16 * 256) a ≡ true → word_there es mode image a ≡ idt_word ((a - idt_base) / 8)
 unfolding word_there
 there_idt es mode image a b h g f e d = let p = b.upper in let q = b.code in let r = b.stack in rw (p, q, r, h, g, f, e, d) refl
@@ -74,7 +78,8 @@ none true y u v h g = h
 none false true u v h g = g
 none false false u v h g = refl
 
-pub there_none : (es : Placed) (mode : Mode) (image : Image) (a : ℕ) → image.pages ≡ [] → image.cells ≡ [] → IsBelow image a → in_areas image a ≡ false → in_tasks image a ≡ false
+pub there_none : (es : Placed) (mode : Mode) (image : Image) (a : ℕ) → image.pages ≡ [] → image.cells ≡ [] → IsBelow image a → in_areas image a ≡ false
+    → in_tasks image a ≡ false
     → within user_table (8 * 257) a ≡ false → within kernel_table (8 * 257) a ≡ false → within idt_base (16 * 256) a ≡ false → word_there es mode image a ≡ 0
 unfolding word_there
 there_none es mode image a np nc b h g f e d =

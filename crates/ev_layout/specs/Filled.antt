@@ -26,7 +26,8 @@ is_covered bs a = list_any (is_in a) bs
 -- whether a block lies in the code of the kernel or of so many bodies
 unfoldable pub is_placed : ℕ → Block → Bool
 is_placed n b =
-    (nat_le fred_page b.address && nat_le (b.address + length b.bytes) code_end) || (nat_le (body_code 0) b.address && nat_le (b.address + length b.bytes) (body_code n))
+    (nat_le fred_page b.address && nat_le (b.address + length b.bytes) code_end)
+    || (nat_le (body_code 0) b.address && nat_le (b.address + length b.bytes) (body_code n))
 
 abbrev pub are_placed : ℕ → List Block → Bool
 are_placed n bs = list_all (is_placed n) bs

@@ -49,7 +49,8 @@ fn exit_text(mode: Mode, key: Key) -> &'static str
 #[tactic(auto, unfolding(ev_listing::specs::Expansion::expansion, ev_built::specs::Built::is_built_item, ev_asm::specs::Assembled::is_encoded, ev_isa::specs::Instruction::is_instruction))]
 pub fn expansion(mode: Mode, key: Key, item: &Item) -> Marked
     requires { is_built_item item.now ≡ true }
-    ensures is { (b : ℕ) (f : ℕ → ℕ) (n : ℕ) → marked_of result ∷ [] ≡ expansion mode b key f n item.now }
+    ensures is { (b : ℕ) (f : ℕ → ℕ) (n : ℕ)
+        → marked_of result ∷ [] ≡ expansion mode b key f n item.now }
     ensures counts { is_encoded result.stmt ≡ true }
 {
     match item {
@@ -75,7 +76,8 @@ fn body_stmts(
     requires number { b < 64 }
     requires few { length items.now ≤ 256 }
     requires items { list_all is_built_item items.now ≡ true }
-    ensures { IfOk result (λ v. (f : ℕ → ℕ) → v.items ≡ stmts_of (expansions mode b key f 0 items.now)) }
+    ensures { IfOk result (λ v. (f : ℕ → ℕ)
+        → v.items ≡ stmts_of (expansions mode b key f 0 items.now)) }
 {
     let mut stmts = Vec::new(alloc);
     for (n, item) in items.iter().enumerate() {
@@ -90,7 +92,8 @@ fn body_stmts(
 /// The sections of the code of all bodies.
 pub fn body_sections(alloc: Global, image: &Image, mode: Mode) -> Result<Vec<Section>, AllocError>
     requires { list_all is_built_body image.now.bodies ≡ true }
-    ensures { IfOk result (λ v. v.items ≡ map section_of (body_listings mode image.now 0 image.now.bodies)) }
+    ensures { IfOk result (λ v. v.items ≡ map section_of
+        (body_listings mode image.now 0 image.now.bodies)) }
 {
     let mut sections = Vec::new(alloc);
     for (b, body) in image.bodies.as_slice().iter().enumerate() {

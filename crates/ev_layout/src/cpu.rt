@@ -132,7 +132,8 @@ fn opening_cpu(image: &Image, mode: Mode, p: u64) -> Cpu
 /// The processors at the opening.
 pub fn opening_cpus(alloc: Global, image: &Image, mode: Mode) -> Result<Many<Cpu>, AllocError>
     requires { IsBuilt image.now }
-    ensures { IfOk result (λ cpus. cpus ≡ map (opening_cpu mode image.now) (numbers_from 0 image.now.processors)) }
+    ensures { IfOk result (λ cpus. cpus ≡ map (opening_cpu mode image.now)
+        (numbers_from 0 image.now.processors)) }
 {
     let mut cpus = Many::new(alloc);
     for p in 0..u64::from(image.processors) {

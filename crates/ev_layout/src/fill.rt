@@ -27,9 +27,12 @@ fn fill(mem: &mut Mem, image: &Image, blocks: &[Block], base: u64, count: u64)
     requires upper { 2 ^ 63 ≤ base }
     requires room { base + 8 * count < 2 ^ 64 }
     requires no_stack { (base + 8 * count ≤ stack_top 0 0 - 0x4000) ⊎ (fred_page ≤ base) }
-    requires mapped { (k : ℕ) → k < count → is_some (slot_in mem.old.regions (base + 8 * k)) ≡ true }
+    requires mapped { (k : ℕ) → k < count
+        → is_some (slot_in mem.old.regions (base + 8 * k)) ≡ true }
     ensures regions { mem.new.regions ≡ mem.old.regions }
-    ensures words { (mode : Mode) (a : ℕ) → (memory mem.new).words a ≡ filled (word_there (placed blocks.now) mode image.now) base count (memory mem.old).words a }
+    ensures words { (mode : Mode) (a : ℕ)
+        → (memory mem.new).words a ≡ filled (word_there (placed blocks.now) mode image.now) base
+        count (memory mem.old).words a }
 {
     for k in 0..count {
         let a = base + 8 * k;
@@ -44,7 +47,9 @@ fn fill_block(mem: &mut Mem, image: &Image, blocks: &[Block], block: &Block)
     requires few { length image.now.bodies ≤ 64 }
     requires placed { is_placed (length image.now.bodies) block.now ≡ true }
     ensures regions { mem.new.regions ≡ mem.old.regions }
-    ensures words { (mode : Mode) (a : ℕ) → (memory mem.new).words a ≡ filled (word_there (placed blocks.now) mode image.now) (first_word block.now) (word_count block.now) (memory mem.old).words a }
+    ensures words { (mode : Mode) (a : ℕ)
+        → (memory mem.new).words a ≡ filled (word_there (placed blocks.now) mode image.now)
+        (first_word block.now) (word_count block.now) (memory mem.old).words a }
 {
     let before = block.address % 8;
     let count = (before + block.bytes.len() as u64).div_ceil(8);
@@ -58,7 +63,9 @@ fn fill_code(mem: &mut Mem, image: &Image, blocks: &[Block])
     requires few { length image.now.bodies ≤ 64 }
     requires placed { are_placed (length image.now.bodies) blocks.now ≡ true }
     ensures regions { mem.new.regions ≡ mem.old.regions }
-    ensures words { (mode : Mode) (a : ℕ) → (memory mem.new).words a ≡ code_filled (word_there (placed blocks.now) mode image.now) blocks.now (memory mem.old).words a }
+    ensures words { (mode : Mode) (a : ℕ)
+        → (memory mem.new).words a ≡ code_filled (word_there (placed blocks.now) mode image.now)
+        blocks.now (memory mem.old).words a }
 {
     for block in blocks {
         fill_block(mem, image, blocks, block);
@@ -70,7 +77,9 @@ fn fill_tables(mem: &mut Mem, image: &Image, blocks: &[Block])
     requires image { IsBuilt image.now }
     requires regions { mem.old.regions ≡ regions image.now }
     ensures regions { mem.new.regions ≡ mem.old.regions }
-    ensures words { (mode : Mode) (a : ℕ) → (memory mem.new).words a ≡ tables_filled (word_there (placed blocks.now) mode image.now) (memory mem.old).words a }
+    ensures words { (mode : Mode) (a : ℕ)
+        → (memory mem.new).words a ≡ tables_filled (word_there (placed blocks.now) mode image.now)
+        (memory mem.old).words a }
 {
     fill(mem, image, blocks, AREAS, AREA_BYTES / 8);
     fill(mem, image, blocks, USER_TABLE, TABLE_BYTES / 8);
@@ -83,7 +92,12 @@ fn fill_tables(mem: &mut Mem, image: &Image, blocks: &[Block])
 pub fn opening_memory(alloc: Global, image: &Image, blocks: &[Block]) -> Result<Mem, NoMemory>
     requires image { IsBuilt image.now }
     requires placed { are_placed (length image.now.bodies) blocks.now ≡ true }
-    ensures { IfOk result (λ m. (mode : Mode) → memory m ≡ record { regions = regions image.now; words = opening_word (placed blocks.now) mode image.now }) }
+    ensures { IfOk result (λ m. (mode : Mode)
+        → memory m ≡ record {
+          regions = regions image.now;
+          words =
+              opening_word (placed blocks.now) mode image.now;
+        }) }
 {
     let regions = match regions(alloc, image) {
         Ok(regions) => regions,

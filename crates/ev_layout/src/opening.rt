@@ -22,7 +22,9 @@ use std::alloc::Global;
 pub fn build(alloc: Global, image: &Image, mode: Mode) -> Result<Parts, NoMemory>
     requires image { IsBuilt image.now }
     requires mode { mode_is_built mode ≡ true }
-    ensures cpus { IfOk result (λ parts. parts.cpus ≡ map (opening_cpu mode image.now) (numbers_from 0 image.now.processors)) }
+    ensures cpus { IfOk result
+        (λ parts. parts.cpus ≡ map (opening_cpu mode image.now)
+        (numbers_from 0 image.now.processors)) }
     ensures memory { IfOk result (λ parts. memory parts.mem ≡ opening_memory mode image.now) }
     ensures places { IfOk result (λ parts. marks_in parts.places ≡ marks_of mode image.now) }
 {

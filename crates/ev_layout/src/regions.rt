@@ -40,7 +40,8 @@ fn append_stacks(regions: &mut Vec<Region>, p: u64) -> Result<(), AllocError>
 /// The areas of so many processors.
 fn append_areas(regions: &mut Vec<Region>, processors: u64) -> Result<(), AllocError>
     requires { processors ≤ 8 }
-    ensures { OnOk result (regions.new.items ≡ regions.old.items ++ map (λ p. region (pcpu p) 0x10000 RegionKind.Kernel) (numbers_from 0 processors)) }
+    ensures { OnOk result (regions.new.items ≡ regions.old.items ++ map
+        (λ p. region (pcpu p) 0x10000 RegionKind.Kernel) (numbers_from 0 processors)) }
 {
     for p in 0..processors {
         regions.push(kernel_region(area(p), AREA_BYTES))?;
@@ -50,7 +51,9 @@ fn append_areas(regions: &mut Vec<Region>, processors: u64) -> Result<(), AllocE
 
 /// The user text and the data pages.
 fn append_user(regions: &mut Vec<Region>) -> Result<(), AllocError>
-    ensures { OnOk result (regions.new.items ≡ regions.old.items ++ region 0x400000 0x10000 RegionKind.Text ∷ map (λ i. region (0x10000000 + 0x1000 * i) 0x1000 (RegionKind.Page i)) (numbers_from 0 256)) }
+    ensures { OnOk result (regions.new.items ≡ regions.old.items
+        ++ region 0x400000 0x10000 RegionKind.Text ∷ map
+        (λ i. region (0x10000000 + 0x1000 * i) 0x1000 (RegionKind.Page i)) (numbers_from 0 256)) }
 {
     regions.push(Region {
         base: TEXT,

@@ -24,7 +24,8 @@ use std::alloc::{AllocError, Global};
 
 /// The address is added with its mark, if it has one.
 fn note(places: &mut Places, address: u64, mark: Mark) -> Result<(), AllocError>
-    ensures { OnOk result (marks_in places.new ≡ marks_in places.old ++ with_mark (mark_of mark) address []) }
+    ensures { OnOk result (marks_in places.new ≡ marks_in places.old ++ with_mark
+        (mark_of mark) address []) }
 {
     match mark {
         Mark::Never => Ok(()),
@@ -42,7 +43,9 @@ fn append_body(
 ) -> Result<(), AllocError>
     requires room { address + 15 * length items.now < 2 ^ 64 }
     requires items { list_all is_built_item items.now ≡ true }
-    ensures { OnOk result ((b : ℕ) (f : ℕ → ℕ) → marks_in places.new ≡ marks_in places.old ++ marks address (expansions mode b key f 0 items.now)) }
+    ensures { OnOk result ((b : ℕ) (f : ℕ → ℕ)
+        → marks_in places.new ≡ marks_in places.old ++ marks address
+        (expansions mode b key f 0 items.now)) }
 {
     let mut at = address;
     for item in items {
@@ -56,7 +59,8 @@ fn append_body(
 /// The places in the code of all bodies.
 fn append_bodies(places: &mut Places, image: &Image, mode: Mode) -> Result<(), AllocError>
     requires { list_all is_built_body image.now.bodies ≡ true }
-    ensures { OnOk result (marks_in places.new ≡ marks_in places.old ++ all_marks (body_listings mode image.now 0 image.now.bodies)) }
+    ensures { OnOk result (marks_in places.new ≡ marks_in places.old ++ all_marks
+        (body_listings mode image.now 0 image.now.bodies)) }
 {
     for (b, body) in image.bodies.as_slice().iter().enumerate() {
         append_body(
@@ -87,7 +91,9 @@ fn append_all(
     kernel: &[u64],
 ) -> Result<(), AllocError>
     requires { list_all is_built_body image.now.bodies ≡ true }
-    ensures { OnOk result (marks_in places.new ≡ (marks_in places.old ++ all_marks (body_listings mode image.now 0 image.now.bodies)) ++ always kernel.now) }
+    ensures { OnOk result (marks_in places.new
+        ≡ (marks_in places.old ++ all_marks (body_listings mode image.now 0 image.now.bodies))
+        ++ always kernel.now) }
 {
     append_bodies(places, image, mode)?;
     append_always(places, kernel)

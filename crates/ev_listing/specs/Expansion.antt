@@ -99,10 +99,12 @@ expansion mode b key function n (Kick to s) =
 expansion mode b key function n (Wait site) =
     label (own_label b n (codes "W0")) ∷ record_at site ++ seen (Load rax rbx (pos 0)) ∷ alu_imm Cmp rax 0 ∷ jnz (own_label b n (codes "W0")) ∷ []
 expansion mode b key function n (Call site to func s) =
-    record_at site ++ record { mark = IfNonzero; stmt = Plain (Load rax rbx (pos 0)) } ∷ alu_imm Cmp rax 0 ∷ jz (own_label b n (codes "L1")) ∷ mov s 0 ∷ jmp (own_label b n (codes "L3"))
+    record_at site ++ record { mark = IfNonzero; stmt = Plain (Load rax rbx (pos 0)) } ∷ alu_imm Cmp rax 0 ∷ jz (own_label b n (codes "L1")) ∷ mov s 0 ∷ jmp
+    (own_label b n (codes "L3"))
     ∷ label (own_label b n (codes "L1")) ∷ mov rax (function func) ∷ store rbx 8 rax ∷ mov rax func ∷ store rbx 0x38 rax ∷ store rbx 0x10 s
     ∷ load rax rbx 0x28 ∷ alu_imm Add rax 1 ∷ store rbx 0x28 rax ∷ mov rax 1 ∷ store rbx 0 rax ∷ mov rdx (pcpu to + 0x30)
-    ∷ label (own_label b n (codes "L2")) ∷ load rax rdx 0 ∷ store rbx 0x18 rax ∷ record { mark = IfEqual; stmt = Plain (CmpXchg rdx (pos 0) rbx) } ∷ jnz (own_label b n (codes "L2"))
+    ∷ label (own_label b n (codes "L2")) ∷ load rax rdx 0 ∷ store rbx 0x18 rax ∷ record { mark = IfEqual; stmt = Plain (CmpXchg rdx (pos 0) rbx) } ∷ jnz
+    (own_label b n (codes "L2"))
     ∷ mov s 2 ∷ alu_imm Cmp rax 0 ∷ jz (own_label b n (codes "L3")) ∷ mov s 1 ∷ label (own_label b n (codes "L3")) ∷ []
 expansion mode b key function n Take =
     gs_load rdx 0x38 ∷ mov rax 0 ∷ seen (Xchg rdx (less 0x7d0) rax) ∷ mov 14 0

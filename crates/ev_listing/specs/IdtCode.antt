@@ -50,9 +50,12 @@ running_set = mov rax 1 ∷ store rsp 0xd8 rax ∷ []
 abbrev pub nmi : List Marked
 nmi =
     label (codes "NMI") ∷ op (Push rdx) ∷ op (Push rax) ∷ load rax rsp 0x18 ∷ alu_imm And rax 3 ∷ jnz (codes "FIRST")
-    ∷ load rdx rsp 0x10 ∷ mov rax repeat_entry ∷ op (Ins.Alu Cmp rdx rax) ∷ jc (codes "N1") ∷ mov rax nbody_entry ∷ op (Ins.Alu Cmp rdx rax) ∷ jc (codes "INRET")
-    ∷ label (codes "N1") ∷ mov rax (nlast_entry + 12) ∷ op (Ins.Alu Cmp rdx rax) ∷ jz (codes "REDIR") ∷ op (Load rax rsp (less 8)) ∷ alu_imm Cmp rax 1 ∷ jnz (codes "FIRST")
-    ∷ label (codes "REDIR") ∷ mov rax repeat_entry ∷ op (Store rsp (less 0x58) rax) ∷ op (StoreImm rsp (less 0x50) (pos 0x10)) ∷ op (StoreImm rsp (less 0x48) (pos 2))
+    ∷ load rdx rsp 0x10 ∷ mov rax repeat_entry ∷ op (Ins.Alu Cmp rdx rax) ∷ jc (codes "N1") ∷ mov rax nbody_entry ∷ op (Ins.Alu Cmp rdx rax) ∷ jc
+    (codes "INRET")
+    ∷ label (codes "N1") ∷ mov rax (nlast_entry + 12) ∷ op (Ins.Alu Cmp rdx rax) ∷ jz (codes "REDIR") ∷ op (Load rax rsp (less 8)) ∷ alu_imm Cmp rax 1 ∷ jnz
+    (codes "FIRST")
+    ∷ label (codes "REDIR") ∷ mov rax repeat_entry ∷ op (Store rsp (less 0x58) rax) ∷ op (StoreImm rsp (less 0x50) (pos 0x10)) ∷ op
+    (StoreImm rsp (less 0x48) (pos 2))
     ∷ move rax rsp ∷ alu_imm Sub rax 0x58 ∷ op (Store rsp (less 0x40) rax) ∷ op (StoreImm rsp (less 0x38) (pos 0x18))
     ∷ label (codes "INRET") ∷ op (Pop rax) ∷ op (Pop rdx) ∷ op Iretq
     ∷ label (codes "FIRST") ∷ move rdx rsp ∷ alu_imm Sub rsp 0x58 ∷ flat_map copied (0 ∷ 1 ∷ 2 ∷ 3 ∷ 4 ∷ [])
@@ -65,7 +68,11 @@ copied_again i = load rax rsp (0xb0 + 8 * i) ∷ store rsp (0x88 + 8 * i) rax �
 -- its last jump is the delivery of the held NMI
 abbrev pub repeat : List Marked
 repeat =
-    op (PushImm (pos 0)) ∷ op (PushImm (pos 2)) ∷ push_all ++ flat_map copied_again (0 ∷ 1 ∷ 2 ∷ 3 ∷ 4 ∷ []) ++ running_set ++ record { mark = Always; stmt = Jump None (codes "NBODY") } ∷ []
+    op (PushImm (pos 0)) ∷ op (PushImm (pos 2)) ∷ push_all ++ flat_map copied_again (0 ∷ 1 ∷ 2 ∷ 3 ∷ 4 ∷ []) ++ running_set ++ record {
+      mark =
+          Always;
+      stmt = Jump None (codes "NBODY");
+    } ∷ []
 
 abbrev pub nbody : List Marked
 nbody =

@@ -20,7 +20,8 @@ numbers_more f n (suc k) = ap (λ (l : List ℕ). f n ∷ l) (numbers_more f (su
 pub region_more : (f : ℕ → ℕ) (k v : ℕ) (us ws : List ℕ) → ws ≡ us ++ map f (numbers_from 0 k) → v ≡ f k → ws ++ v ∷ [] ≡ us ++ map f (numbers_from 0 (k + 1))
 region_more f k v us ws e g =
     ap (λ (l : List ℕ). l ++ v ∷ []) e ∙ append_assoc us (map f (numbers_from 0 k)) (v ∷ [])
-    ∙ ap (λ (l : List ℕ). us ++ l) (ap (λ (m : ℕ). map f (numbers_from 0 k) ++ m ∷ []) (g ∙ ap f (sym (zero-add k))) ∙ sym (numbers_more f 0 k) ∙ ap (λ (m : ℕ). map f (numbers_from 0 m)) (sym (add-one k)))
+    ∙ ap (λ (l : List ℕ). us ++ l) (ap (λ (m : ℕ). map f (numbers_from 0 k) ++ m ∷ []) (g ∙ ap f (sym (zero-add k))) ∙ sym (numbers_more f 0 k)
+    ∙ ap (λ (m : ℕ). map f (numbers_from 0 m)) (sym (add-one k)))
 
 length_numbers : (f : ℕ → ℕ) (n k : ℕ) → length (map f (numbers_from n k)) ≡ k
 length_numbers f n zero = refl
@@ -36,9 +37,14 @@ length_region text r = length_numbers (λ (k : ℕ). first_by r.kind text (8 * k
 
 pub length_all : (rs : List Region) (text : List ℕ) → length (all_first_words rs text) ≡ words_in rs
 length_all [] text = refl
-length_all (r ∷ rs) text = rw (sum_by-cons (λ (q : Region). q.words) r rs) (omega (arith, length-append (words_of_region text r) (all_first_words rs text), length_region text r, length_all rs text))
+length_all (r ∷ rs) text =
+    rw (sum_by-cons (λ (q : Region). q.words) r rs)
+    (omega (arith, length-append (words_of_region text r) (all_first_words rs text), length_region text r, length_all rs text))
 
-word_first : (r : Region) (rs : List Region) (text : List ℕ) (a : ℕ) → IsPlaced r → a % 8 ≡ 0 → (word_by (all_first_words rs text) (slot_in rs a) ≡ first_in rs text a) → (x : Bool) → is_within r a ≡ x → (o : Option ℕ) → slot_in rs a ≡ o → word_by (words_of_region text r ++ all_first_words rs text) (if x then Some ((a - r.base) / 8) else option_map (λ (i : ℕ). r.words + i) o) ≡ (if x then first_by r.kind text (a - r.base) else first_in rs text a)
+word_first : (r : Region) (rs : List Region) (text : List ℕ) (a : ℕ) → IsPlaced r → a % 8 ≡ 0
+    → (word_by (all_first_words rs text) (slot_in rs a) ≡ first_in rs text a) → (x : Bool) → is_within r a ≡ x → (o : Option ℕ) → slot_in rs a ≡ o
+    → word_by (words_of_region text r ++ all_first_words rs text) (if x then Some ((a - r.base) / 8) else option_map (λ (i : ℕ). r.words + i) o)
+    ≡ (if x then first_by r.kind text (a - r.base) else first_in rs text a)
 word_first r rs text a p h more true w o f =
     let l : (a - r.base) / 8 < r.words = omega (arith, within r a w) in
     let e : 8 * ((a - r.base) / 8) ≡ a - r.base = omega (arith, within r a w) in
@@ -55,14 +61,17 @@ word_first r rs text a p h more false w (Some i) f =
 
 all_first : (rs : List Region) (text : List ℕ) (a : ℕ) → All IsPlaced rs → a % 8 ≡ 0 → word_by (all_first_words rs text) (slot_in rs a) ≡ first_in rs text a
 all_first [] text a p h = refl
-all_first (r ∷ rs) text a p h = word_first r rs text a (All-head IsPlaced r rs p) h (all_first rs text a (All-tail IsPlaced r rs p) h) (is_within r a) refl (slot_in rs a) refl
+all_first (r ∷ rs) text a p h = word_first r rs text a (All-head IsPlaced r rs p) h (all_first rs text a (All-tail IsPlaced r rs p) h) (is_within r a) refl
+    (slot_in rs a) refl
 
-aligned_first : (rs : List Region) (text : List ℕ) (a : ℕ) → All IsPlaced rs → (x : Bool) → is_aligned a ≡ x → (if x then word_by (all_first_words rs text) (slot_in rs a) else 0) ≡ (if x then first_in rs text a else 0)
+aligned_first : (rs : List Region) (text : List ℕ) (a : ℕ) → All IsPlaced rs → (x : Bool) → is_aligned a ≡ x
+    → (if x then word_by (all_first_words rs text) (slot_in rs a) else 0) ≡ (if x then first_in rs text a else 0)
 aligned_first rs text a p false e = refl
 aligned_first rs text a p true e = all_first rs text a p (eqb-true (a % 8) 0 e)
 
 -- the memory of the words at first
-pub memory_at_first : (rs : List Region) (text : List ℕ) → All IsPlaced rs → memory (record { regions = rs; words = all_first_words rs text }) ≡ record { regions = rs; words = first_words rs text }
+pub memory_at_first : (rs : List Region) (text : List ℕ) → All IsPlaced rs
+    → memory (record { regions = rs; words = all_first_words rs text }) ≡ record { regions = rs; words = first_words rs text }
 unfolding memory first_words
 memory_at_first rs text p = λ t. record { regions = rs; words = λ a. aligned_first rs text a p (is_aligned a) refl t }
 
@@ -77,5 +86,6 @@ placed rs text h k d l =
 pub are_mapped : (rs kept : List Region) (text ws : List ℕ) → AreRegions rs text → kept ≡ rs → ws ≡ all_first_words rs text → AreMapped kept ws
 are_mapped rs kept text ws h e g = rw (e, g) (record { whole = length_all rs text; placed = placed rs text h })
 
-pub memory_of : (rs kept : List Region) (text ws : List ℕ) → AreRegions rs text → kept ≡ rs → ws ≡ all_first_words rs text → memory (record { regions = kept; words = ws }) ≡ record { regions = rs; words = first_words rs text }
+pub memory_of : (rs kept : List Region) (text ws : List ℕ) → AreRegions rs text → kept ≡ rs → ws ≡ all_first_words rs text
+    → memory (record { regions = kept; words = ws }) ≡ record { regions = rs; words = first_words rs text }
 memory_of rs kept text ws h e g = rw (e, g) (memory_at_first rs text (placed rs text h))

@@ -15,7 +15,8 @@ pub within : (r : Region) (a : ℕ) → is_within r a ≡ true → (r.base ≤ a
 within r a h = grind (arith, nat_tests)
 
 -- an address's place lies among the words
-below : (r : Region) (rs : List Region) (a i : ℕ) → ((j : ℕ) → slot_in rs a ≡ Some j → j < words_in rs) → (x : Bool) → is_within r a ≡ x → (o : Option ℕ) → slot_in rs a ≡ o → (if x then Some ((a - r.base) / 8) else option_map (λ (j : ℕ). r.words + j) o) ≡ Some i → i < r.words + words_in rs
+below : (r : Region) (rs : List Region) (a i : ℕ) → ((j : ℕ) → slot_in rs a ≡ Some j → j < words_in rs) → (x : Bool) → is_within r a ≡ x → (o : Option ℕ)
+    → slot_in rs a ≡ o → (if x then Some ((a - r.base) / 8) else option_map (λ (j : ℕ). r.words + j) o) ≡ Some i → i < r.words + words_in rs
 below r rs a i more true w o f e = let e' : (a - r.base) / 8 ≡ i = cc in omega (arith, within r a w)
 below r rs a i more false w None f e = cc
 below r rs a i more false w (Some j) f e = let e' : r.words + j ≡ i = cc in omega (arith, more j f)
@@ -25,7 +26,10 @@ slot_below [] a i e = cc
 slot_below (r ∷ rs) a i e = rw (sum_by-cons (λ (q : Region). q.words) r rs) (below r rs a i (slot_below rs a) (is_within r a) refl (slot_in rs a) refl e)
 
 -- two aligned addresses with one place are one
-same : (r : Region) (rs : List Region) (a b i : ℕ) → IsPlaced r → ((j : ℕ) → slot_in rs a ≡ Some j → slot_in rs b ≡ Some j → a ≡ b) → a % 8 ≡ 0 → b % 8 ≡ 0 → (x y : Bool) → is_within r a ≡ x → is_within r b ≡ y → (o q : Option ℕ) → slot_in rs a ≡ o → slot_in rs b ≡ q → (if x then Some ((a - r.base) / 8) else option_map (λ (j : ℕ). r.words + j) o) ≡ Some i → (if y then Some ((b - r.base) / 8) else option_map (λ (j : ℕ). r.words + j) q) ≡ Some i → a ≡ b
+same : (r : Region) (rs : List Region) (a b i : ℕ) → IsPlaced r → ((j : ℕ) → slot_in rs a ≡ Some j → slot_in rs b ≡ Some j → a ≡ b) → a % 8 ≡ 0 → b % 8 ≡ 0
+    → (x y : Bool) → is_within r a ≡ x → is_within r b ≡ y → (o q : Option ℕ) → slot_in rs a ≡ o → slot_in rs b ≡ q
+    → (if x then Some ((a - r.base) / 8) else option_map (λ (j : ℕ). r.words + j) o) ≡ Some i
+    → (if y then Some ((b - r.base) / 8) else option_map (λ (j : ℕ). r.words + j) q) ≡ Some i → a ≡ b
 same r rs a b i p more ha hb true true wa wb o q f g ea eb =
     let e : (a - r.base) / 8 ≡ i = cc in let e' : (b - r.base) / 8 ≡ i = cc in omega (arith, within r a wa, within r b wb)
 same r rs a b i p more ha hb true false wa wb o None f g ea eb = cc
@@ -42,23 +46,29 @@ same r rs a b i p more ha hb false false wa wb (Some j) (Some k) f g ea eb =
 pub same_slot : (rs : List Region) (a b i : ℕ) → All IsPlaced rs → a % 8 ≡ 0 → b % 8 ≡ 0 → slot_in rs a ≡ Some i → slot_in rs b ≡ Some i → a ≡ b
 same_slot [] a b i p ha hb ea eb = cc
 same_slot (r ∷ rs) a b i p ha hb ea eb =
-    same r rs a b i (All-head IsPlaced r rs p) (λ j. same_slot rs a b j (All-tail IsPlaced r rs p) ha hb) ha hb (is_within r a) (is_within r b) refl refl (slot_in rs a) (slot_in rs b) refl refl ea eb
+    same r rs a b i (All-head IsPlaced r rs p) (λ j. same_slot rs a b j (All-tail IsPlaced r rs p) ha hb) ha hb (is_within r a) (is_within r b) refl refl
+    (slot_in rs a) (slot_in rs b) refl refl ea eb
 
 -- the words after a write
-written_at : (rs : List Region) (ws : List ℕ) (a v i b : ℕ) → AreMapped rs ws → a % 8 ≡ 0 → slot_in rs a ≡ Some i → (x : Bool) → (b == a) ≡ x → (y : Bool) → is_aligned b ≡ y → (o : Option ℕ) → slot_in rs b ≡ o → (if y then word_by (set ws i v) o else 0) ≡ elim x [ true ↦ v | false ↦ (if y then word_by ws o else 0) ]
+written_at : (rs : List Region) (ws : List ℕ) (a v i b : ℕ) → AreMapped rs ws → a % 8 ≡ 0 → slot_in rs a ≡ Some i → (x : Bool) → (b == a) ≡ x → (y : Bool)
+    → is_aligned b ≡ y → (o : Option ℕ) → slot_in rs b ≡ o
+    → (if y then word_by (set ws i v) o else 0) ≡ elim x [ true ↦ v | false ↦ (if y then word_by ws o else 0) ]
 written_at rs ws a v i b m ha e true x false y o f = absurd (grind (arith, nat_tests))
 written_at rs ws a v i b m ha e true x true y None f = let q : b ≡ a = eqb-true b a x in cc (ap (slot_in rs) q)
 written_at rs ws a v i b m ha e true x true y (Some j) f =
-    let q : b ≡ a = eqb-true b a x in let k : j ≡ i = cc (ap (slot_in rs) q) in let l : i < length ws = omega (arith, slot_below rs a i e, m.whole) in rw k (get_or-set_same ws i v 0 l)
+    let q : b ≡ a = eqb-true b a x in let k : j ≡ i = cc (ap (slot_in rs) q) in let l : i < length ws = omega (arith, slot_below rs a i e, m.whole) in
+    rw k (get_or-set_same ws i v 0 l)
 written_at rs ws a v i b m ha e false x false y o f = refl
 written_at rs ws a v i b m ha e false x true y None f = refl
 written_at rs ws a v i b m ha e false x true y (Some j) f =
     let q : b ≢ a = λ e. grind (arith, nat_tests) in
     let k : j ≢ i = λ (h : j ≡ i). q (same_slot rs b a i m.placed (eqb-true (b % 8) 0 y) ha (f ∙ ap Some h) e) in get_or-set_other ws i j v 0 k
 
-pub written : (rs : List Region) (ws : List ℕ) (a v i : ℕ) → AreMapped rs ws → is_aligned a ≡ true → slot_in rs a ≡ Some i → memory (record { regions = rs; words = set ws i v }) ≡ with_word (memory (record { regions = rs; words = ws })) a v
+pub written : (rs : List Region) (ws : List ℕ) (a v i : ℕ) → AreMapped rs ws → is_aligned a ≡ true → slot_in rs a ≡ Some i
+    → memory (record { regions = rs; words = set ws i v }) ≡ with_word (memory (record { regions = rs; words = ws })) a v
 unfolding memory
-written rs ws a v i m ha e = λ t. record { regions = rs; words = λ b. written_at rs ws a v i b m (eqb-true (a % 8) 0 ha) e (b == a) refl (is_aligned b) refl (slot_in rs b) refl t }
+written rs ws a v i m ha e =
+    λ t. record { regions = rs; words = λ b. written_at rs ws a v i b m (eqb-true (a % 8) 0 ha) e (b == a) refl (is_aligned b) refl (slot_in rs b) refl t }
 
 -- an access with no page fault is to a word of a region
 outside : (s : NatSet) (c : Access) (x : Bool) → fault_at s c (if x then Lower else Upper) ≡ None → false ≡ true
@@ -66,7 +76,9 @@ unfolding fault_at
 outside s c true e = cc
 outside s c false e = cc
 
-inside : (s : NatSet) (c : Access) (r : Region) (rs : List Region) (a : ℕ) → (fault_at s c (place_in rs a) ≡ None → is_some (slot_in rs a) ≡ true) → (x : Bool) → fault_at s c (if x then place_by r.kind else place_in rs a) ≡ None → (o : Option ℕ) → slot_in rs a ≡ o → is_some (if x then Some ((a - r.base) / 8) else option_map (λ (j : ℕ). r.words + j) o) ≡ true
+inside : (s : NatSet) (c : Access) (r : Region) (rs : List Region) (a : ℕ) → (fault_at s c (place_in rs a) ≡ None → is_some (slot_in rs a) ≡ true)
+    → (x : Bool) → fault_at s c (if x then place_by r.kind else place_in rs a) ≡ None → (o : Option ℕ) → slot_in rs a ≡ o
+    → is_some (if x then Some ((a - r.base) / 8) else option_map (λ (j : ℕ). r.words + j) o) ≡ true
 inside s c r rs a more true e o f = refl
 inside s c r rs a more false e None f = let h : is_some (slot_in rs a) ≡ true = more e in cc (h, ap (λ (v : Option ℕ). is_some v) f)
 inside s c r rs a more false e (Some j) f = refl
@@ -80,7 +92,8 @@ unfolding memory
 mapped_in m c a e = mapped (present_in (memory m)) c m.regions a e
 
 -- there are no words past 2 ^ 64
-past : (r : Region) (rs : List Region) (a : ℕ) → IsPlaced r → 2 ^ 64 ≤ a → slot_in rs a ≡ None → (x : Bool) → is_within r a ≡ x → (if x then Some ((a - r.base) / 8) else option_map (λ (j : ℕ). r.words + j) (slot_in rs a)) ≡ None
+past : (r : Region) (rs : List Region) (a : ℕ) → IsPlaced r → 2 ^ 64 ≤ a → slot_in rs a ≡ None → (x : Bool) → is_within r a ≡ x
+    → (if x then Some ((a - r.base) / 8) else option_map (λ (j : ℕ). r.words + j) (slot_in rs a)) ≡ None
 past r rs a p h more true w = absurd (omega (arith, within r a w))
 past r rs a p h more false w = ap (option_map (λ (j : ℕ). r.words + j)) more
 

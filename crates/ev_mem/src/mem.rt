@@ -42,7 +42,11 @@ impl Mem {
     /// all other bytes are 0. NoMemory means that memory was refused.
     pub fn new(alloc: Global, regions: &[Region], text: &[u8]) -> Result<Mem, NoMemory>
         requires { AreRegions regions.now text.now }
-        ensures { IfOk result (λ m. memory m ≡ record { regions = regions.now; words = first_words regions.now text.now }) }
+        ensures { IfOk result (λ m. memory m ≡ record {
+          regions = regions.now;
+          words =
+              first_words regions.now text.now;
+        }) }
     {
         match Mem::allocated(alloc, regions, text) {
             Ok(memory) => Ok(memory),
@@ -52,7 +56,11 @@ impl Mem {
 
     fn allocated(alloc: Global, regions: &[Region], text: &[u8]) -> Result<Mem, AllocError>
         requires { AreRegions regions.now text.now }
-        ensures { IfOk result (λ m. memory m ≡ record { regions = regions.now; words = first_words regions.now text.now }) }
+        ensures { IfOk result (λ m. memory m ≡ record {
+          regions = regions.now;
+          words =
+              first_words regions.now text.now;
+        }) }
     {
         let kept = copied(alloc, regions)?;
         let words = all_first_words(alloc, regions, text)?;
@@ -142,7 +150,8 @@ impl Mem {
     pub fn load(&self, a: u64, who: Who) -> Result<u64, PageFault>
         requires canonical { is_canonical a ≡ true }
         requires aligned { is_aligned a ≡ true }
-        ensures { result ≡ or_fault a (page_fault (memory self.now) (access_of who false) a) ((memory self.now).words a) }
+        ensures { result ≡ or_fault a (page_fault (memory self.now) (access_of who false) a)
+            ((memory self.now).words a) }
     {
         match self.fault(a, who, false) {
             Some(code) => Err(PageFault { code, address: a }),
@@ -172,7 +181,8 @@ impl Mem {
     pub fn swap(&mut self, a: u64, v: u64, who: Who) -> Result<u64, PageFault>
         requires canonical { is_canonical a ≡ true }
         requires aligned { is_aligned a ≡ true }
-        ensures is { result ≡ or_fault a (page_fault (memory self.old) (access_of who true) a) ((memory self.old).words a) }
+        ensures is { result ≡ or_fault a (page_fault (memory self.old) (access_of who true) a)
+            ((memory self.old).words a) }
         ensures ok { OnOk result (memory self.new ≡ with_word (memory self.old) a v) }
         ensures err { OnErr result (self.new ≡ self.old) }
     {
@@ -186,8 +196,10 @@ impl Mem {
     pub fn add(&mut self, a: u64, v: u64, who: Who) -> Result<u64, PageFault>
         requires canonical { is_canonical a ≡ true }
         requires aligned { is_aligned a ≡ true }
-        ensures is { result ≡ or_fault a (page_fault (memory self.old) (access_of who true) a) ((memory self.old).words a) }
-        ensures ok { OnOk result (memory self.new ≡ with_word (memory self.old) a (wrap ((memory self.old).words a + v))) }
+        ensures is { result ≡ or_fault a (page_fault (memory self.old) (access_of who true) a)
+            ((memory self.old).words a) }
+        ensures ok { OnOk result (memory self.new ≡ with_word (memory self.old) a
+            (wrap ((memory self.old).words a + v))) }
         ensures err { OnErr result (self.new ≡ self.old) }
     {
         let old = self.word(a);
@@ -199,8 +211,10 @@ impl Mem {
     pub fn cas(&mut self, a: u64, old: u64, new: u64, who: Who) -> Result<u64, PageFault>
         requires canonical { is_canonical a ≡ true }
         requires aligned { is_aligned a ≡ true }
-        ensures is { result ≡ or_fault a (page_fault (memory self.old) (access_of who true) a) ((memory self.old).words a) }
-        ensures ok { OnOk result (memory self.new ≡ with_word_if ((memory self.old).words a == old) (memory self.old) a new) }
+        ensures is { result ≡ or_fault a (page_fault (memory self.old) (access_of who true) a)
+            ((memory self.old).words a) }
+        ensures ok { OnOk result (memory self.new ≡ with_word_if
+            ((memory self.old).words a == old) (memory self.old) a new) }
         ensures err { OnErr result (self.new ≡ self.old) }
     {
         let word = self.word(a);

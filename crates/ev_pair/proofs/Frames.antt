@@ -12,11 +12,13 @@ module _ (mode : Text) (p : ℕ) where
   no_frame [] e = refl
   no_frame (f ∷ fs) e = absurd (cc)
 
-  pub first_frame : (fs : List FrameNote) (a : FrameNote) → Some a ≡ slice_get fs 0 → frame_text mode (p, a) ++ frames_text mode (noted p (drop 1 fs)) ≡ frames_text mode (noted p fs)
+  pub first_frame : (fs : List FrameNote) (a : FrameNote) → Some a ≡ slice_get fs 0
+      → frame_text mode (p, a) ++ frames_text mode (noted p (drop 1 fs)) ≡ frames_text mode (noted p fs)
   first_frame [] a e = absurd (cc)
   first_frame (f ∷ fs) a e = let same : a ≡ f = cc in ap (λ x. frame_text mode (p, x) ++ frames_text mode (noted p fs)) same
 
-  pub one_frame : (fs : List FrameNote) (a : FrameNote) → Some a ≡ slice_get fs 0 → None ≡ slice_get fs 1 → frame_text mode (p, a) ≡ frames_text mode (noted p fs)
+  pub one_frame : (fs : List FrameNote) (a : FrameNote) → Some a ≡ slice_get fs 0 → None ≡ slice_get fs 1
+      → frame_text mode (p, a) ≡ frames_text mode (noted p fs)
   one_frame [] a e h = absurd (cc)
   one_frame (f ∷ []) a e h = let same : a ≡ f = cc in ap (λ x. frame_text mode (p, x)) same ∙ sym (append-nil (frame_text mode (p, f)))
   one_frame (f ∷ g ∷ fs) a e h = absurd (cc)

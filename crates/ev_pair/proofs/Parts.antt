@@ -55,14 +55,17 @@ module _ (image : Image) (mode : Mode) (marks : Marks) where
       → script_text image false m (side s ∷ []) ls ≡ flat_map (lines_text word) (words_from image m ls) ++ totals_text word (totals_after s ls)
   without_frames [] m s =
       append-nil (all_end_lines word m 0 image.processors ++ totals_text word (totals_after s []))
-      ∙ ap (λ t. t ++ totals_text word (totals_after s [])) (ends_are word m image.processors 0 ∙ sym (append-nil (lines_text word (all_end_words m 0 image.processors))))
+      ∙ ap (λ t. t ++ totals_text word (totals_after s []))
+      (ends_are word m image.processors 0 ∙ sym (append-nil (lines_text word (all_end_words m 0 image.processors))))
   without_frames (l ∷ ls) m s =
       let here = append-nil (trace_text word (line_step image m l).1) ∙ trace_is word (line_step image m l).1 in
       (λ i. here i ++ without_frames ls (line_step image m l).0 (concrete_line marks image.processors s l).0 i)
-      ∙ sym (append_assoc (lines_text word (map entry_words (line_step image m l).1)) (flat_map (lines_text word) (words_from image (line_step image m l).0 ls)) (totals_text word (totals_after s (l ∷ ls))))
+      ∙ sym (append_assoc (lines_text word (map entry_words (line_step image m l).1))
+      (flat_map (lines_text word) (words_from image (line_step image m l).0 ls)) (totals_text word (totals_after s (l ∷ ls))))
 
   with_frames : (ls : List Line) (m : Machine) (s : System)
-      → script_text image true m (side s ∷ []) ls ≡ beside word (frames_from marks image.processors s ls) (words_from image m ls) ++ totals_text word (totals_after s ls)
+      → script_text image true m (side s ∷ []) ls ≡ beside word (frames_from marks image.processors s ls) (words_from image m ls) ++ totals_text word
+      (totals_after s ls)
   with_frames [] m s =
       let frames = frames_text word (all_settled marks image.processors s (numbers_from 0 image.processors)).1 in
       let totals = totals_text word (totals_after s []) in
@@ -73,7 +76,8 @@ module _ (image : Image) (mode : Mode) (marks : Marks) where
       let here = append-nil (frames ++ trace_text word (line_step image m l).1) ∙ ap (λ t. frames ++ t) (trace_is word (line_step image m l).1) in
       (λ i. here i ++ with_frames ls (line_step image m l).0 (concrete_line marks image.processors s l).0 i)
       ∙ sym (append_assoc (frames ++ lines_text word (map entry_words (line_step image m l).1))
-      (beside word (frames_from marks image.processors (concrete_line marks image.processors s l).0 ls) (words_from image (line_step image m l).0 ls)) (totals_text word (totals_after s (l ∷ ls))))
+      (beside word (frames_from marks image.processors (concrete_line marks image.processors s l).0 ls) (words_from image (line_step image m l).0 ls))
+      (totals_text word (totals_after s (l ∷ ls))))
 
 pub modes_agree : ModesAgree
 unfolding run_text

@@ -22,7 +22,8 @@ sides image done modes = map (λ mode. side_at mode image done) modes
 pub rest_text : Bool → List Mode → Image → List Line → List Line → Text
 rest_text frames modes image done rest = script_text image frames (run image done) (sides image done modes) rest
 
-pub at_opening : (frames : Bool) (modes : List Mode) (image : Image) (script : List Line) → run_text image script modes frames ≡ rest_text frames modes image [] script
+pub at_opening : (frames : Bool) (modes : List Mode) (image : Image) (script : List Line)
+    → run_text image script modes frames ≡ rest_text frames modes image [] script
 unfolding rest_text run_text
 at_opening frames modes image script = refl
 
@@ -37,17 +38,20 @@ module _ (image : Image) (done : List Line) (l : Line) where
   run_more = sym (run_of_two image done (l ∷ []))
 
   rest_more : (frames : Bool) (modes : List Mode) (ls : List Line)
-      → rest_text frames modes image done (l ∷ ls) ≡ line_text_of image frames (entries_of image done l) l (sides image done modes) ++ rest_text frames modes image (done ++ l ∷ []) ls
+      → rest_text frames modes image done (l ∷ ls) ≡ line_text_of image frames (entries_of image done l) l (sides image done modes)
+      ++ rest_text frames modes image (done ++ l ∷ []) ls
   unfolding rest_text
   rest_more frames modes ls =
       (λ i. line_text_of image frames (entries_of image done l) l (sides image done modes) ++ script_text image frames (run_more i) (sides_more modes i) ls)
 
-  one_line : (frames : Bool) (mode : Mode) → line_text_of image frames (entries_of image done l) l (sides image done (mode ∷ [])) ≡ shown_line frames mode image done l
+  one_line : (frames : Bool) (mode : Mode) → line_text_of image frames (entries_of image done l) l (sides image done (mode ∷ []))
+      ≡ shown_line frames mode image done l
   unfolding shown_line
   one_line frames mode = append-nil _
 
   both_lines : (frames : Bool) (a b : Mode)
-      → line_text_of image frames (entries_of image done l) l (sides image done (a ∷ b ∷ [])) ≡ shown_line frames a image done l ++ shown_line frames b image done l
+      → line_text_of image frames (entries_of image done l) l (sides image done (a ∷ b ∷ [])) ≡ shown_line frames a image done l
+      ++ shown_line frames b image done l
   unfolding shown_line
   both_lines frames a b = ap (λ t. shown_line frames a image done l ++ t) (append-nil (shown_line frames b image done l))
 
@@ -62,7 +66,8 @@ module _ (image : Image) (done : List Line) (l : Line) where
       rest_more frames (a ∷ b ∷ []) ls ∙ ap (λ t. t ++ rest_text frames (a ∷ b ∷ []) image (done ++ l ∷ []) ls) (both_lines frames a b)
       ∙ append_assoc (shown_line frames a image done l) (shown_line frames b image done l) (rest_text frames (a ∷ b ∷ []) image (done ++ l ∷ []) ls)
 
-pub one_end : (frames : Bool) (mode : Mode) (image : Image) (script : List Line) → rest_text frames (mode ∷ []) image script [] ≡ shown_end frames mode image script
+pub one_end : (frames : Bool) (mode : Mode) (image : Image) (script : List Line)
+    → rest_text frames (mode ∷ []) image script [] ≡ shown_end frames mode image script
 unfolding rest_text shown_end
 one_end frames mode image script = append-nil _
 
@@ -81,17 +86,21 @@ up_to_place ls i j d e lt = ap (λ k. take k ls) e ∙ take-suc ls i d lt
 
 module _ (frames : Bool) (image : Image) (ls : List Line) (i j : ℕ) (d : Line) (e : j ≡ suc i) (lt : i < length ls) where
   pub one_place : (mode : Mode)
-      → rest_text frames (mode ∷ []) image (take i ls) (drop i ls) ≡ shown_line frames mode image (take i ls) (get_or ls i d) ++ rest_text frames (mode ∷ []) image (take j ls) (drop j ls)
+      → rest_text frames (mode ∷ []) image (take i ls) (drop i ls) ≡ shown_line frames mode image (take i ls) (get_or ls i d) ++ rest_text frames
+      (mode ∷ []) image (take j ls) (drop j ls)
   one_place mode =
       ap (rest_text frames (mode ∷ []) image (take i ls)) (from_place ls i j d e lt) ∙ one_more image (take i ls) (get_or ls i d) frames mode (drop j ls)
-      ∙ ap (λ done. shown_line frames mode image (take i ls) (get_or ls i d) ++ rest_text frames (mode ∷ []) image done (drop j ls)) (sym (up_to_place ls i j d e lt))
+      ∙ ap (λ done. shown_line frames mode image (take i ls) (get_or ls i d) ++ rest_text frames (mode ∷ []) image done (drop j ls))
+      (sym (up_to_place ls i j d e lt))
 
   pub both_places : (a b : Mode)
       → rest_text frames (a ∷ b ∷ []) image (take i ls) (drop i ls)
-      ≡ shown_line frames a image (take i ls) (get_or ls i d) ++ (shown_line frames b image (take i ls) (get_or ls i d) ++ rest_text frames (a ∷ b ∷ []) image (take j ls) (drop j ls))
+      ≡ shown_line frames a image (take i ls) (get_or ls i d)
+      ++ (shown_line frames b image (take i ls) (get_or ls i d) ++ rest_text frames (a ∷ b ∷ []) image (take j ls) (drop j ls))
   both_places a b =
       ap (rest_text frames (a ∷ b ∷ []) image (take i ls)) (from_place ls i j d e lt) ∙ both_more image (take i ls) (get_or ls i d) frames a b (drop j ls)
-      ∙ ap (λ done. shown_line frames a image (take i ls) (get_or ls i d) ++ (shown_line frames b image (take i ls) (get_or ls i d) ++ rest_text frames (a ∷ b ∷ []) image done (drop j ls)))
+      ∙ ap (λ done. shown_line frames a image (take i ls) (get_or ls i d)
+      ++ (shown_line frames b image (take i ls) (get_or ls i d) ++ rest_text frames (a ∷ b ∷ []) image done (drop j ls)))
       (sym (up_to_place ls i j d e lt))
 
 pub all_done : {X : Type 0} (xs : List X) (i : ℕ) → length xs ≤ i → take i xs ≡ xs
@@ -113,4 +122,5 @@ end_place frames modes image ls i h = (λ k. rest_text frames modes image (all_d
 -- a text of which nothing is written yet
 pub at_start : (frames : Bool) (modes : List Mode) (image : Image) (script : List Line) (old : Option Text)
     → Wrote old old (rest_text frames modes image [] script) (run_text image script modes frames)
-at_start frames modes image script old = subst (λ t. Wrote old old t (run_text image script modes frames)) (at_opening frames modes image script) (none_yet old (run_text image script modes frames))
+at_start frames modes image script old = subst (λ t. Wrote old old t (run_text image script modes frames)) (at_opening frames modes image script)
+    (none_yet old (run_text image script modes frames))

@@ -38,14 +38,17 @@ module _ (frames : Bool) (mode : Mode) (image : Image) where
       → fs ≡ (concrete_line (marks_of mode image) image.processors (concrete_run mode image done).0 (Turn p)).1 → es ≡ entries_of image done (Turn p)
       → shown_frames frames mode (noted p fs) ++ trace_text (mode_text mode) es ≡ shown_line frames mode image done line
   unfolding shown_line
-  turn_shown done line p fs es is a b = (λ i. shown_frames frames mode (noted p (a i)) ++ trace_text (mode_text mode) (b i)) ∙ ap (shown_line frames mode image done) (sym is)
+  turn_shown done line p fs es is a b = (λ i. shown_frames frames mode (noted p (a i)) ++ trace_text (mode_text mode) (b i))
+      ∙ ap (shown_line frames mode image done) (sym is)
 
   pub end_shown : (script : List Line) (t : Totals) → t ≡ (settling image (side_at mode image script)).0.totals
-      → shown_frames frames mode (settling image (side_at mode image script)).1 ++ all_end_lines (mode_text mode) (run image script) 0 image.processors ++ totals_text (mode_text mode) t
+      → shown_frames frames mode (settling image (side_at mode image script)).1 ++ all_end_lines (mode_text mode) (run image script) 0 image.processors
+      ++ totals_text (mode_text mode) t
       ≡ shown_end frames mode image script
   unfolding shown_end
   end_shown script t e =
-      ap (λ x. shown_frames frames mode (settling image (side_at mode image script)).1 ++ all_end_lines (mode_text mode) (run image script) 0 image.processors ++ totals_text (mode_text mode) x) e
+      ap (λ x. shown_frames frames mode (settling image (side_at mode image script)).1 ++ all_end_lines (mode_text mode)
+      (run image script) 0 image.processors ++ totals_text (mode_text mode) x) e
 
 -- ---- no frame is shown
 

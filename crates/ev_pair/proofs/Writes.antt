@@ -23,8 +23,12 @@ first_failed old new x y h =
 
 pub second_failed : (old mid new : Option (List ℕ)) (x y : List ℕ) → mid ≡ append_known old x → TookPrefix mid new y → TookPrefix old new (x ++ y)
 second_failed old mid new x y a h =
-    let within : h.0 ≤ length y = h.1 in
-    (length x + h.0, omega (arith, length-append x y), h.2 ∙ ap (λ m. append_known m (take h.0 y)) a ∙ both_written old x (take h.0 y) ∙ ap (append_known old) (take_more x y h.0))
+    let within : h.0 ≤ length y = h.1 in (
+      length x + h.0,
+      omega (arith, length-append x y),
+      h.2 ∙ ap (λ m. append_known m (take h.0 y)) a ∙ both_written old x (take h.0 y)
+          ∙ ap (append_known old) (take_more x y h.0),
+    )
 
 pub nothing_written : (old : Option (List ℕ)) → append_known old [] ≡ old
 nothing_written None = refl
@@ -39,7 +43,8 @@ pub record Wrote (old now : Option (List ℕ)) (rest whole : List ℕ) : Type 0 
 pub none_yet : (old : Option (List ℕ)) (whole : List ℕ) → Wrote old old whole whole
 none_yet old whole = record { text = []; taken = sym (nothing_written old); is = refl }
 
-pub more_written : (old now new : Option (List ℕ)) (all x rest whole : List ℕ) → Wrote old now all whole → all ≡ x ++ rest → new ≡ append_known now x → Wrote old new rest whole
+pub more_written : (old now new : Option (List ℕ)) (all x rest whole : List ℕ) → Wrote old now all whole → all ≡ x ++ rest → new ≡ append_known now x
+    → Wrote old new rest whole
 more_written old now new all x rest whole w e h = record {
   text = w.text ++ x;
   taken = then_ok old now new w.text x w.taken h;
@@ -52,7 +57,8 @@ all_written old now new x whole w h = then_ok old now new w.text x w.taken h ∙
 pub none_left : (old now : Option (List ℕ)) (whole : List ℕ) → Wrote old now [] whole → now ≡ append_known old whole
 none_left old now whole w = w.taken ∙ ap (append_known old) (sym (append-nil w.text) ∙ w.is)
 
-pub failed_within : (old now new : Option (List ℕ)) (all x rest whole : List ℕ) → Wrote old now all whole → all ≡ x ++ rest → TookPrefix now new x → TookPrefix old new whole
+pub failed_within : (old now new : Option (List ℕ)) (all x rest whole : List ℕ) → Wrote old now all whole → all ≡ x ++ rest → TookPrefix now new x
+    → TookPrefix old new whole
 failed_within old now new all x rest whole w e h =
     subst (TookPrefix old new) (ap (λ t. w.text ++ t) (sym e) ∙ w.is)
     (second_failed old now new w.text (x ++ rest) w.taken (first_failed now new x rest h))

@@ -60,10 +60,12 @@ beside mode (fs ∷ fss) (ws ∷ wss) = frames_text mode fs ++ lines_text mode w
 -- Without frames, the lines before the totals are those of one abstract run, but for the mode's word.
 abbrev pub ModesAgree : Type 0
 ModesAgree = (image : Image) (script : List Line) (mode : Mode)
-    → run_text image script (mode ∷ []) false ≡ flat_map (lines_text (mode_text mode)) (shown_words image script) ++ totals_text (mode_text mode) (settled_run mode image script).0.totals
+    → run_text image script (mode ∷ []) false ≡ flat_map (lines_text (mode_text mode)) (shown_words image script) ++ totals_text (mode_text mode)
+    (settled_run mode image script).0.totals
 
 -- With frames, a mode's own lines of frames stand before them, part by part.
 abbrev pub FramesComeBefore : Type 0
 FramesComeBefore = (image : Image) (script : List Line) (mode : Mode)
     → run_text image script (mode ∷ []) true
-    ≡ beside (mode_text mode) (written_frames mode image script) (shown_words image script) ++ totals_text (mode_text mode) (settled_run mode image script).0.totals
+    ≡ beside (mode_text mode) (written_frames mode image script) (shown_words image script) ++ totals_text (mode_text mode)
+    (settled_run mode image script).0.totals

@@ -19,8 +19,11 @@ use ev_trace::{print_busy, print_entry, print_frame, print_task, print_totals};
 
 /// The line of a frame.
 fn put_frame<K: Sink>(sink: &mut K, mode: Mode, p: u32, frame: &FrameNote) -> Result<(), Failed>
-    ensures ok { OnOk result (K.taken sink.new ≡ append_known (K.taken sink.old) (frame_text (mode_text mode) (p, frame.now))) }
-    ensures failed { OnErr result (TookPrefix (K.taken sink.old) (K.taken sink.new) (frame_text (mode_text mode) (p, frame.now))) }
+    ensures ok { OnOk result (K.taken sink.new ≡ append_known (K.taken sink.old)
+        (frame_text (mode_text mode) (p, frame.now))) }
+    ensures failed { OnErr result
+        (TookPrefix (K.taken sink.old) (K.taken sink.new)
+        (frame_text (mode_text mode) (p, frame.now))) }
     ensures later { K.faults sink.old ≤ K.faults sink.new }
     ensures cause { OnErr result (Rose (K.faults sink.old) (K.faults sink.new)) }
 {
@@ -31,8 +34,12 @@ fn put_frame<K: Sink>(sink: &mut K, mode: Mode, p: u32, frame: &FrameNote) -> Re
 
 /// The lines of frames, of which a turn writes at most two.
 fn put_frames<K: Sink>(sink: &mut K, mode: Mode, p: u32, frames: &Frames) -> Result<(), Failed>
-    ensures ok { length frames.now ≤ 2 → OnOk result (K.taken sink.new ≡ append_known (K.taken sink.old) (frames_text (mode_text mode) (noted p frames.now))) }
-    ensures failed { length frames.now ≤ 2 → OnErr result (TookPrefix (K.taken sink.old) (K.taken sink.new) (frames_text (mode_text mode) (noted p frames.now))) }
+    ensures ok { length frames.now ≤ 2
+        → OnOk result (K.taken sink.new ≡ append_known (K.taken sink.old)
+        (frames_text (mode_text mode) (noted p frames.now))) }
+    ensures failed { length frames.now ≤ 2
+        → OnErr result (TookPrefix (K.taken sink.old) (K.taken sink.new)
+        (frames_text (mode_text mode) (noted p frames.now))) }
     ensures later { K.faults sink.old ≤ K.faults sink.new }
     ensures cause { OnErr result (Rose (K.faults sink.old) (K.faults sink.new)) }
 {
@@ -54,8 +61,12 @@ pub fn put_shown_frames<K: Sink>(
     p: u32,
     frames: &Frames,
 ) -> Result<(), Failed>
-    ensures ok { length frames.now ≤ 2 → OnOk result (K.taken sink.new ≡ append_known (K.taken sink.old) (shown_frames shown mode (noted p frames.now))) }
-    ensures failed { length frames.now ≤ 2 → OnErr result (TookPrefix (K.taken sink.old) (K.taken sink.new) (shown_frames shown mode (noted p frames.now))) }
+    ensures ok { length frames.now ≤ 2
+        → OnOk result (K.taken sink.new ≡ append_known (K.taken sink.old)
+        (shown_frames shown mode (noted p frames.now))) }
+    ensures failed { length frames.now ≤ 2
+        → OnErr result (TookPrefix (K.taken sink.old) (K.taken sink.new)
+        (shown_frames shown mode (noted p frames.now))) }
     ensures later { K.faults sink.old ≤ K.faults sink.new }
     ensures cause { OnErr result (Rose (K.faults sink.old) (K.faults sink.new)) }
 {
@@ -67,8 +78,11 @@ pub fn put_shown_frames<K: Sink>(
 
 /// The line of an entry, if there is one.
 pub fn put_entry<K: Sink>(sink: &mut K, mode: Mode, entry: &Option<Entry>) -> Result<(), Failed>
-    ensures ok { OnOk result (K.taken sink.new ≡ append_known (K.taken sink.old) (trace_text (mode_text mode) (optional entry.now))) }
-    ensures failed { OnErr result (TookPrefix (K.taken sink.old) (K.taken sink.new) (trace_text (mode_text mode) (optional entry.now))) }
+    ensures ok { OnOk result (K.taken sink.new ≡ append_known (K.taken sink.old)
+        (trace_text (mode_text mode) (optional entry.now))) }
+    ensures failed { OnErr result
+        (TookPrefix (K.taken sink.old) (K.taken sink.new)
+        (trace_text (mode_text mode) (optional entry.now))) }
     ensures later { K.faults sink.old ≤ K.faults sink.new }
     ensures cause { OnErr result (Rose (K.faults sink.old) (K.faults sink.new)) }
 {
@@ -90,8 +104,13 @@ pub fn put_task<K: Sink>(
     i: usize,
     task: &TaskView,
 ) -> Result<(), Failed>
-    ensures ok { OnOk result (K.taken sink.new ≡ append_known (K.taken sink.old) (line_text (mode_text mode) (state_words p i task.now.regs task.now.rip task.now.flags task.now.gs))) }
-    ensures failed { OnErr result (TookPrefix (K.taken sink.old) (K.taken sink.new) (line_text (mode_text mode) (state_words p i task.now.regs task.now.rip task.now.flags task.now.gs))) }
+    ensures ok { OnOk result (K.taken sink.new ≡ append_known (K.taken sink.old)
+        (line_text (mode_text mode)
+        (state_words p i task.now.regs task.now.rip task.now.flags task.now.gs))) }
+    ensures failed { OnErr result
+        (TookPrefix (K.taken sink.old) (K.taken sink.new)
+        (line_text (mode_text mode)
+        (state_words p i task.now.regs task.now.rip task.now.flags task.now.gs))) }
     ensures later { K.faults sink.old ≤ K.faults sink.new }
     ensures cause { OnErr result (Rose (K.faults sink.old) (K.faults sink.new)) }
 {
@@ -104,8 +123,11 @@ pub fn put_task<K: Sink>(
 
 /// The line of a processor on which so many bodies stand.
 pub fn put_busy<K: Sink>(sink: &mut K, mode: Mode, p: u32, depth: u8) -> Result<(), Failed>
-    ensures ok { OnOk result (K.taken sink.new ≡ append_known (K.taken sink.old) (line_text (mode_text mode) (busy_words p depth))) }
-    ensures failed { OnErr result (TookPrefix (K.taken sink.old) (K.taken sink.new) (line_text (mode_text mode) (busy_words p depth))) }
+    ensures ok { OnOk result (K.taken sink.new ≡ append_known (K.taken sink.old)
+        (line_text (mode_text mode) (busy_words p depth))) }
+    ensures failed { OnErr result
+        (TookPrefix (K.taken sink.old) (K.taken sink.new)
+        (line_text (mode_text mode) (busy_words p depth))) }
     ensures later { K.faults sink.old ≤ K.faults sink.new }
     ensures cause { OnErr result (Rose (K.faults sink.old) (K.faults sink.new)) }
 {
@@ -116,8 +138,11 @@ pub fn put_busy<K: Sink>(sink: &mut K, mode: Mode, p: u32, depth: u8) -> Result<
 
 /// The line of the totals.
 pub fn put_totals<K: Sink>(sink: &mut K, mode: Mode, totals: &Totals) -> Result<(), Failed>
-    ensures ok { OnOk result (K.taken sink.new ≡ append_known (K.taken sink.old) (totals_text (mode_text mode) totals.now)) }
-    ensures failed { OnErr result (TookPrefix (K.taken sink.old) (K.taken sink.new) (totals_text (mode_text mode) totals.now)) }
+    ensures ok { OnOk result (K.taken sink.new ≡ append_known (K.taken sink.old)
+        (totals_text (mode_text mode) totals.now)) }
+    ensures failed { OnErr result
+        (TookPrefix (K.taken sink.old) (K.taken sink.new)
+        (totals_text (mode_text mode) totals.now)) }
     ensures later { K.faults sink.old ≤ K.faults sink.new }
     ensures cause { OnErr result (Rose (K.faults sink.old) (K.faults sink.new)) }
 {

@@ -38,8 +38,12 @@ fn put_one<L: Ledger, K: Sink>(
     requires few { length script.now < 2 ^ 32 }
     requires processors { length machine.old.parts.cpus ≡ 1 }
     requires count { machine.old.parts.totals.steps ≡ 0 }
-    ensures ok { (image : Image) → IsRun mode image [] machine.old → OnOk result (K.taken sink.new ≡ append_known (K.taken sink.old) (run_text image script.now (mode ∷ []) frames)) }
-    ensures failed { (image : Image) → IsRun mode image [] machine.old → OnErr result (TookPrefix (K.taken sink.old) (K.taken sink.new) (run_text image script.now (mode ∷ []) frames)) }
+    ensures ok { (image : Image) → IsRun mode image [] machine.old
+        → OnOk result (K.taken sink.new ≡ append_known (K.taken sink.old)
+        (run_text image script.now (mode ∷ []) frames)) }
+    ensures failed { (image : Image) → IsRun mode image [] machine.old
+        → OnErr result (TookPrefix (K.taken sink.old) (K.taken sink.new)
+        (run_text image script.now (mode ∷ []) frames)) }
     ensures later { K.faults sink.old ≤ K.faults sink.new }
     ensures cause { OnErr result (Rose (K.faults sink.old) (K.faults sink.new)) }
 {
@@ -65,8 +69,12 @@ fn put_both<L: Ledger, K: Sink>(
     requires idt_count { idt.old.parts.totals.steps ≡ 0 }
     requires fred_processors { length fred.old.parts.cpus ≡ 1 }
     requires fred_count { fred.old.parts.totals.steps ≡ 0 }
-    ensures ok { (image : Image) → IsRun Idt image [] idt.old → IsRun Fred image [] fred.old → OnOk result (K.taken sink.new ≡ append_known (K.taken sink.old) (run_text image script.now (Idt ∷ Fred ∷ []) frames)) }
-    ensures failed { (image : Image) → IsRun Idt image [] idt.old → IsRun Fred image [] fred.old → OnErr result (TookPrefix (K.taken sink.old) (K.taken sink.new) (run_text image script.now (Idt ∷ Fred ∷ []) frames)) }
+    ensures ok { (image : Image) → IsRun Idt image [] idt.old → IsRun Fred image [] fred.old
+        → OnOk result (K.taken sink.new ≡ append_known (K.taken sink.old)
+        (run_text image script.now (Idt ∷ Fred ∷ []) frames)) }
+    ensures failed { (image : Image) → IsRun Idt image [] idt.old → IsRun Fred image [] fred.old
+        → OnErr result (TookPrefix (K.taken sink.old) (K.taken sink.new)
+        (run_text image script.now (Idt ∷ Fred ∷ []) frames)) }
     ensures later { K.faults sink.old ≤ K.faults sink.new }
     ensures cause { OnErr result (Rose (K.faults sink.old) (K.faults sink.new)) }
 {
@@ -92,8 +100,11 @@ fn run_one<L: Ledger, K: Sink>(
     requires mode { mode_is_built mode ≡ true }
     requires lines { list_all line_is_built script.now ≡ true }
     requires few { length script.now < 2 ^ 32 }
-    ensures ok { OnOk result (K.taken sink.new ≡ append_known (K.taken sink.old) (run_text image.now script.now (mode ∷ []) frames)) }
-    ensures failed { OnErr result (TookPrefix (K.taken sink.old) (K.taken sink.new) (run_text image.now script.now (mode ∷ []) frames)) }
+    ensures ok { OnOk result (K.taken sink.new ≡ append_known (K.taken sink.old)
+        (run_text image.now script.now (mode ∷ []) frames)) }
+    ensures failed { OnErr result
+        (TookPrefix (K.taken sink.old) (K.taken sink.new)
+        (run_text image.now script.now (mode ∷ []) frames)) }
     ensures later { K.faults sink.old ≤ K.faults sink.new }
     ensures cause { OnWriteFault result (Rose (K.faults sink.old) (K.faults sink.new)) }
 {
@@ -120,8 +131,11 @@ fn run_both<L: Ledger, K: Sink>(
     requires fred { mode_is_built Fred ≡ true }
     requires lines { list_all line_is_built script.now ≡ true }
     requires few { length script.now < 2 ^ 32 }
-    ensures ok { OnOk result (K.taken sink.new ≡ append_known (K.taken sink.old) (run_text image.now script.now (Idt ∷ Fred ∷ []) frames)) }
-    ensures failed { OnErr result (TookPrefix (K.taken sink.old) (K.taken sink.new) (run_text image.now script.now (Idt ∷ Fred ∷ []) frames)) }
+    ensures ok { OnOk result (K.taken sink.new ≡ append_known (K.taken sink.old)
+        (run_text image.now script.now (Idt ∷ Fred ∷ []) frames)) }
+    ensures failed { OnErr result
+        (TookPrefix (K.taken sink.old) (K.taken sink.new)
+        (run_text image.now script.now (Idt ∷ Fred ∷ []) frames)) }
     ensures later { K.faults sink.old ≤ K.faults sink.new }
     ensures cause { OnWriteFault result (Rose (K.faults sink.old) (K.faults sink.new)) }
 {
@@ -152,8 +166,11 @@ fn run_counted<L: Ledger, K: Sink>(
     requires modes { all_built modes ≡ true }
     requires lines { list_all line_is_built script.now ≡ true }
     requires few { length script.now < 2 ^ 32 }
-    ensures ok { OnOk result (K.taken sink.new ≡ append_known (K.taken sink.old) (run_text image.now script.now (modes_of modes) frames)) }
-    ensures failed { OnErr result (TookPrefix (K.taken sink.old) (K.taken sink.new) (run_text image.now script.now (modes_of modes) frames)) }
+    ensures ok { OnOk result (K.taken sink.new ≡ append_known (K.taken sink.old)
+        (run_text image.now script.now (modes_of modes) frames)) }
+    ensures failed { OnErr result
+        (TookPrefix (K.taken sink.old) (K.taken sink.new)
+        (run_text image.now script.now (modes_of modes) frames)) }
     ensures later { K.faults sink.old ≤ K.faults sink.new }
     ensures cause { OnWriteFault result (Rose (K.faults sink.old) (K.faults sink.new)) }
 {
@@ -180,8 +197,11 @@ pub fn run_modes<K: Sink>(
     requires script { IsScript image.now script.now }
     requires lines { list_all line_is_built script.now ≡ true }
     requires few { length script.now < 2 ^ 32 }
-    ensures ok { OnOk result (K.taken sink.new ≡ append_known (K.taken sink.old) (run_text image.now script.now (modes_of modes) frames)) }
-    ensures failed { OnErr result (TookPrefix (K.taken sink.old) (K.taken sink.new) (run_text image.now script.now (modes_of modes) frames)) }
+    ensures ok { OnOk result (K.taken sink.new ≡ append_known (K.taken sink.old)
+        (run_text image.now script.now (modes_of modes) frames)) }
+    ensures failed { OnErr result
+        (TookPrefix (K.taken sink.old) (K.taken sink.new)
+        (run_text image.now script.now (modes_of modes) frames)) }
     ensures later { K.faults sink.old ≤ K.faults sink.new }
     ensures cause { OnWriteFault result (Rose (K.faults sink.old) (K.faults sink.new)) }
 {

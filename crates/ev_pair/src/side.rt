@@ -36,9 +36,14 @@ pub fn put_line<L: Ledger, K: Sink>(
     requires built { line_is_built line.now ≡ true }
     requires some { 0 < length machine.old.parts.cpus }
     requires count { machine.old.parts.totals.steps < 2 ^ 62 }
-    ensures run { (image : Image) (done : List Line) → IsRun mode image done machine.old → IsRun mode image (done ++ line.now ∷ []) machine.new }
-    ensures ok { (image : Image) (done : List Line) → IsRun mode image done machine.old → OnOk result (K.taken sink.new ≡ append_known (K.taken sink.old) (shown_line frames mode image done line.now)) }
-    ensures failed { (image : Image) (done : List Line) → IsRun mode image done machine.old → OnErr result (TookPrefix (K.taken sink.old) (K.taken sink.new) (shown_line frames mode image done line.now)) }
+    ensures run { (image : Image) (done : List Line) → IsRun mode image done machine.old
+        → IsRun mode image (done ++ line.now ∷ []) machine.new }
+    ensures ok { (image : Image) (done : List Line) → IsRun mode image done machine.old
+        → OnOk result (K.taken sink.new ≡ append_known (K.taken sink.old)
+        (shown_line frames mode image done line.now)) }
+    ensures failed { (image : Image) (done : List Line) → IsRun mode image done machine.old
+        → OnErr result (TookPrefix (K.taken sink.old) (K.taken sink.new)
+        (shown_line frames mode image done line.now)) }
     ensures most { machine.new.parts.totals.steps ≤ machine.old.parts.totals.steps + 1024 }
     ensures same { length machine.new.parts.cpus ≡ length machine.old.parts.cpus }
     ensures later { K.faults sink.old ≤ K.faults sink.new }
@@ -63,9 +68,14 @@ fn put_settling<L: Ledger, K: Sink>(
 ) -> Result<(), Failed>
     requires few { length machine.old.parts.cpus < 256 }
     requires count { machine.old.parts.totals.steps < 2 ^ 61 }
-    ensures at { (image : Image) (script : List Line) → IsRun mode image script machine.old → OnOk result (IsAt mode image (settling image (side_at mode image script)).0 machine.new) }
-    ensures ok { (image : Image) (script : List Line) → IsRun mode image script machine.old → OnOk result (K.taken sink.new ≡ append_known (K.taken sink.old) (shown_frames frames mode (settling image (side_at mode image script)).1)) }
-    ensures failed { (image : Image) (script : List Line) → IsRun mode image script machine.old → OnErr result (TookPrefix (K.taken sink.old) (K.taken sink.new) (shown_frames frames mode (settling image (side_at mode image script)).1)) }
+    ensures at { (image : Image) (script : List Line) → IsRun mode image script machine.old
+        → OnOk result (IsAt mode image (settling image (side_at mode image script)).0 machine.new) }
+    ensures ok { (image : Image) (script : List Line) → IsRun mode image script machine.old
+        → OnOk result (K.taken sink.new ≡ append_known (K.taken sink.old)
+        (shown_frames frames mode (settling image (side_at mode image script)).1)) }
+    ensures failed { (image : Image) (script : List Line) → IsRun mode image script machine.old
+        → OnErr result (TookPrefix (K.taken sink.old) (K.taken sink.new)
+        (shown_frames frames mode (settling image (side_at mode image script)).1)) }
     ensures same { length machine.new.parts.cpus ≡ length machine.old.parts.cpus }
     ensures later { K.faults sink.old ≤ K.faults sink.new }
     ensures cause { OnErr result (Rose (K.faults sink.old) (K.faults sink.new)) }
@@ -82,10 +92,16 @@ fn put_settling<L: Ledger, K: Sink>(
 fn put_state<K: Sink>(machine: &Machine, mode: Mode, p: usize, sink: &mut K) -> Result<(), Failed>
     requires place { p < length machine.now.parts.cpus }
     requires few { length machine.now.parts.cpus < 256 }
-    ensures ok { (image : Image) (s : System) (can : CanRun mode image) (left : NatMap ℕ) (m : abstract.Machine) → IsAt mode image s machine.now → Stands mode image left s m
-        → OnOk result (K.taken sink.new ≡ append_known (K.taken sink.old) (end_lines (mode_text mode) p (abstract.processor m p) (length (abstract.processor m p).bodies))) }
-    ensures failed { (image : Image) (s : System) (can : CanRun mode image) (left : NatMap ℕ) (m : abstract.Machine) → IsAt mode image s machine.now → Stands mode image left s m
-        → OnErr result (TookPrefix (K.taken sink.old) (K.taken sink.new) (end_lines (mode_text mode) p (abstract.processor m p) (length (abstract.processor m p).bodies))) }
+    ensures ok { (image : Image) (s : System) (can : CanRun mode image) (left : NatMap ℕ)
+        (m : abstract.Machine) → IsAt mode image s machine.now → Stands mode image left s m
+        → OnOk result (K.taken sink.new ≡ append_known (K.taken sink.old)
+        (end_lines (mode_text mode) p (abstract.processor m p)
+        (length (abstract.processor m p).bodies))) }
+    ensures failed { (image : Image) (s : System) (can : CanRun mode image) (left : NatMap ℕ)
+        (m : abstract.Machine) → IsAt mode image s machine.now → Stands mode image left s m
+        → OnErr result (TookPrefix (K.taken sink.old) (K.taken sink.new)
+        (end_lines (mode_text mode) p (abstract.processor m p)
+        (length (abstract.processor m p).bodies))) }
     ensures later { K.faults sink.old ≤ K.faults sink.new }
     ensures cause { OnErr result (Rose (K.faults sink.old) (K.faults sink.new)) }
 {
@@ -99,10 +115,14 @@ fn put_state<K: Sink>(machine: &Machine, mode: Mode, p: usize, sink: &mut K) -> 
 /// The states of all processors.
 fn put_states<K: Sink>(machine: &Machine, mode: Mode, sink: &mut K) -> Result<(), Failed>
     requires few { length machine.now.parts.cpus < 256 }
-    ensures ok { (image : Image) (s : System) (can : CanRun mode image) (left : NatMap ℕ) (m : abstract.Machine) → IsAt mode image s machine.now → Stands mode image left s m
-        → OnOk result (K.taken sink.new ≡ append_known (K.taken sink.old) (all_end_lines (mode_text mode) m 0 image.processors)) }
-    ensures failed { (image : Image) (s : System) (can : CanRun mode image) (left : NatMap ℕ) (m : abstract.Machine) → IsAt mode image s machine.now → Stands mode image left s m
-        → OnErr result (TookPrefix (K.taken sink.old) (K.taken sink.new) (all_end_lines (mode_text mode) m 0 image.processors)) }
+    ensures ok { (image : Image) (s : System) (can : CanRun mode image) (left : NatMap ℕ)
+        (m : abstract.Machine) → IsAt mode image s machine.now → Stands mode image left s m
+        → OnOk result (K.taken sink.new ≡ append_known (K.taken sink.old)
+        (all_end_lines (mode_text mode) m 0 image.processors)) }
+    ensures failed { (image : Image) (s : System) (can : CanRun mode image) (left : NatMap ℕ)
+        (m : abstract.Machine) → IsAt mode image s machine.now → Stands mode image left s m
+        → OnErr result (TookPrefix (K.taken sink.old) (K.taken sink.new)
+        (all_end_lines (mode_text mode) m 0 image.processors)) }
     ensures later { K.faults sink.old ≤ K.faults sink.new }
     ensures cause { OnErr result (Rose (K.faults sink.old) (K.faults sink.new)) }
 {
@@ -123,8 +143,12 @@ pub fn put_end<L: Ledger, K: Sink>(
 ) -> Result<(), Failed>
     requires few { length machine.old.parts.cpus < 256 }
     requires count { machine.old.parts.totals.steps < 2 ^ 61 }
-    ensures ok { (image : Image) (script : List Line) → IsRun mode image script machine.old → OnOk result (K.taken sink.new ≡ append_known (K.taken sink.old) (shown_end frames mode image script)) }
-    ensures failed { (image : Image) (script : List Line) → IsRun mode image script machine.old → OnErr result (TookPrefix (K.taken sink.old) (K.taken sink.new) (shown_end frames mode image script)) }
+    ensures ok { (image : Image) (script : List Line) → IsRun mode image script machine.old
+        → OnOk result (K.taken sink.new ≡ append_known (K.taken sink.old)
+        (shown_end frames mode image script)) }
+    ensures failed { (image : Image) (script : List Line) → IsRun mode image script machine.old
+        → OnErr result (TookPrefix (K.taken sink.old) (K.taken sink.new)
+        (shown_end frames mode image script)) }
     ensures later { K.faults sink.old ≤ K.faults sink.new }
     ensures cause { OnErr result (Rose (K.faults sink.old) (K.faults sink.new)) }
 {

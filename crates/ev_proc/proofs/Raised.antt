@@ -82,20 +82,27 @@ unfolding effect
 effect_raises m t (MovImm d n) = tt
 effect_raises m t (MovReg d s) = tt
 effect_raises m t (Load d b n) = bind (read_word m (bad_address b) (displaced (reg t b) n)) _ (read m (bad_address b) (displaced (reg t b) n) (bad b)) (λ v. tt)
-effect_raises m t (Store b n s) = bind (write_word m (bad_address b) (displaced (reg t b) n) (reg t s)) _ (write m (bad_address b) (displaced (reg t b) n) (reg t s) (bad b)) (λ ws. tt)
-effect_raises m t (StoreImm b n i) = bind (write_word m (bad_address b) (displaced (reg t b) n) (sign_extend i)) _ (write m (bad_address b) (displaced (reg t b) n) (sign_extend i) (bad b)) (λ ws. tt)
+effect_raises m t (Store b n s) = bind (write_word m (bad_address b) (displaced (reg t b) n) (reg t s)) _
+    (write m (bad_address b) (displaced (reg t b) n) (reg t s) (bad b)) (λ ws. tt)
+effect_raises m t (StoreImm b n i) = bind (write_word m (bad_address b) (displaced (reg t b) n) (sign_extend i)) _
+    (write m (bad_address b) (displaced (reg t b) n) (sign_extend i) (bad b)) (λ ws. tt)
 effect_raises m t (GsLoad d n) = bind (read_word m (gp 0) (displaced t.gs n)) _ (read m (gp 0) (displaced t.gs n) (is_exception 13 0 0)) (λ v. tt)
-effect_raises m t (GsStore n s) = bind (write_word m (gp 0) (displaced t.gs n) (reg t s)) _ (write m (gp 0) (displaced t.gs n) (reg t s) (is_exception 13 0 0)) (λ ws. tt)
+effect_raises m t (GsStore n s) =
+    bind (write_word m (gp 0) (displaced t.gs n) (reg t s)) _ (write m (gp 0) (displaced t.gs n) (reg t s) (is_exception 13 0 0)) (λ ws. tt)
 effect_raises m t (GsPush n) = bind (read_word m (gp 0) (displaced t.gs n)) _ (read m (gp 0) (displaced t.gs n) (is_exception 13 0 0)) (λ v. push m t v)
 effect_raises m t (Alu op d s) = tt
 effect_raises m t (AluImm op d i) = tt
 effect_raises m t (Shl d n) = tt
 effect_raises m t (Shr d n) = tt
-effect_raises m t (Xchg b n s) = bind (write_word m (bad_address b) (displaced (reg t b) n) (reg t s)) _ (write m (bad_address b) (displaced (reg t b) n) (reg t s) (bad b)) (λ ws. tt)
-effect_raises m t (Xadd b n s) = bind (write_word m (bad_address b) (displaced (reg t b) n) _) _ (write m (bad_address b) (displaced (reg t b) n) _ (bad b)) (λ ws. tt)
-effect_raises m t (CmpXchg b n s) = bind (write_word m (bad_address b) (displaced (reg t b) n) _) _ (write m (bad_address b) (displaced (reg t b) n) _ (bad b)) (λ ws. tt)
+effect_raises m t (Xchg b n s) = bind (write_word m (bad_address b) (displaced (reg t b) n) (reg t s)) _
+    (write m (bad_address b) (displaced (reg t b) n) (reg t s) (bad b)) (λ ws. tt)
+effect_raises m t (Xadd b n s) = bind (write_word m (bad_address b) (displaced (reg t b) n) _) _ (write m (bad_address b) (displaced (reg t b) n) _ (bad b))
+    (λ ws. tt)
+effect_raises m t (CmpXchg b n s) =
+    bind (write_word m (bad_address b) (displaced (reg t b) n) _) _ (write m (bad_address b) (displaced (reg t b) n) _ (bad b)) (λ ws. tt)
 effect_raises m t (Jmp n) = bind (jumped t (displaced t.rip n)) _ (jump t (displaced t.rip n)) (λ t'. tt)
-effect_raises m t (Jcc c n) = bind (if holds c t.flags.status then jumped t (displaced t.rip n) else Ok t) _ (choice Raises (holds c t.flags.status) (jumped t (displaced t.rip n)) (Ok t) (jump t (displaced t.rip n)) tt) (λ t'. tt)
+effect_raises m t (Jcc c n) = bind (if holds c t.flags.status then jumped t (displaced t.rip n) else Ok t) _
+    (choice Raises (holds c t.flags.status) (jumped t (displaced t.rip n)) (Ok t) (jump t (displaced t.rip n)) tt) (λ t'. tt)
 effect_raises m t (JmpReg s) = bind (jumped t (reg t s)) _ (jump t (reg t s)) (λ t'. tt)
 effect_raises m t (Push s) = push m t (reg t s)
 effect_raises m t (PushImm i) = push m t (sign_extend i)
@@ -130,4 +137,5 @@ exec_raises c m Cli next = choice RaisesWhere (is_user c) (Raise (gp 0)) (Done _
 exec_raises c m (MovGs s) next = gs_raises c m.words (selector (register c s)) next (base_of c.gdt (selector (register c s)))
 exec_raises c m (ReadCr2 d) next = tt
 exec_raises c m (WriteCr2 s) next = tt
-exec_raises c m i next = changed_raises c (effect (view m (is_user c)) (record (task_of c) { rip = next }) i) (effect_raises (view m (is_user c)) (record (task_of c) { rip = next }) i)
+exec_raises c m i next = changed_raises c (effect (view m (is_user c)) (record (task_of c) { rip = next }) i)
+    (effect_raises (view m (is_user c)) (record (task_of c) { rip = next }) i)

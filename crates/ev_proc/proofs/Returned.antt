@@ -32,31 +32,37 @@ unfolding iretq
 iretq_again c m =
     let d : Processor = record c { nmi_blocked = false } in
     let s : AreSame c d = record { cr4 = refl; idt = refl; tss = refl } in
-    iret_after_again c d m.words (addresses (rsp c) 5) (first_event (view m false) false (addresses (rsp c) 5)) s (first (view m false) false (addresses (rsp c) 5))
+    iret_after_again c d m.words (addresses (rsp c) 5) (first_event (view m false) false (addresses (rsp c) 5)) s
+    (first (view m false) false (addresses (rsp c) 5))
 
 pub sysretq_again : (c : Processor) (words : NatMap ℕ) → IsAgain c (sysretq c words)
 unfolding sysretq
 sysretq_again c words = refused c c (is_canonical (register c 1)) _ words (same c)
 
 eretu_words_again : (c : Processor) (words : NatMap ℕ) (ws : List ℕ) → IsAgain c (eretu_words c words ws)
-eretu_words_again c words (rip ∷ cs ∷ flags ∷ rsp ∷ ss ∷ []) = refused c c ((c.level == 0) && is_canonical rip && (selector cs == 0x33) && (selector ss == 0x2b)) _ words (same c)
+eretu_words_again c words (rip ∷ cs ∷ flags ∷ rsp ∷ ss ∷ []) =
+    refused c c ((c.level == 0) && is_canonical rip && (selector cs == 0x33) && (selector ss == 0x2b)) _ words (same c)
 eretu_words_again c words _ = (same c, is_exception 13 0 0)
 
 erets_words_again : (c : Processor) (words : NatMap ℕ) (ws : List ℕ) → IsAgain c (erets_words c words ws)
-erets_words_again c words (rip ∷ cs ∷ flags ∷ rsp ∷ ss ∷ []) = refused c c (nat_le (cs / 2 ^ 16 % 4) c.level && is_canonical rip && (selector cs == 0x10)) _ words (same c)
+erets_words_again c words (rip ∷ cs ∷ flags ∷ rsp ∷ ss ∷ []) =
+    refused c c (nat_le (cs / 2 ^ 16 % 4) c.level && is_canonical rip && (selector cs == 0x10)) _ words (same c)
 erets_words_again c words _ = (same c, is_exception 13 0 0)
 
-read_again : (c : Processor) (return : List ℕ → Outcome) (words : NatMap ℕ) (as' : List ℕ) (o : Option Event) → ((ws : List ℕ) → IsAgain c (return ws)) → IsNoOther o → IsAgain c (frame_read c return words as' o)
+read_again : (c : Processor) (return : List ℕ → Outcome) (words : NatMap ℕ) (as' : List ℕ) (o : Option Event) → ((ws : List ℕ) → IsAgain c (return ws))
+    → IsNoOther o → IsAgain c (frame_read c return words as' o)
 read_again c return words as' None p q = p (words_at words as')
 read_again c return words as' (Some e) p q = (with_cr2_same c c e (same c), q)
 
 pub eretu_again : (c : Processor) (m : Memory) → IsAgain c (eretu c m)
 unfolding eretu
-eretu_again c m = read_again c (eretu_words c m.words) m.words (return_addresses c) (first_event (view m false) false (return_addresses c)) (eretu_words_again c m.words) (first (view m false) false (return_addresses c))
+eretu_again c m = read_again c (eretu_words c m.words) m.words (return_addresses c) (first_event (view m false) false (return_addresses c))
+    (eretu_words_again c m.words) (first (view m false) false (return_addresses c))
 
 pub erets_again : (c : Processor) (m : Memory) → IsAgain c (erets c m)
 unfolding erets
-erets_again c m = read_again c (erets_words c m.words) m.words (return_addresses c) (first_event (view m false) false (return_addresses c)) (erets_words_again c m.words) (first (view m false) false (return_addresses c))
+erets_again c m = read_again c (erets_words c m.words) m.words (return_addresses c) (first_event (view m false) false (return_addresses c))
+    (erets_words_again c m.words) (first (view m false) false (return_addresses c))
 
 by_base : (c : Processor) (words : NatMap ℕ) (s : ℕ) (b : Option ℕ) → IsAgain c (with_kernel_gs c words s b)
 by_base c words s None = (same c, is_exception 13 s 0)
@@ -75,7 +81,8 @@ met_entries c d m e o h a p = entries_kept c d m (met c d e m.words o h a).0 p
 pub met_exception : (c d : Processor) (m : Memory) (e : Event) (o : Outcome) → Met d e ≡ o → IsAgain c o → IsException e
 met_exception c d m e o h a = (met c d e m.words o h a).1
 
-pub after_entries : (c d : Processor) (m : Memory) (r : Result (Unit {0}) Event) (o : Outcome) → return_of r d m.words ≡ o → IsAgain c o → HasEntries c m → IfErr r (λ e. HasEntries d m)
+pub after_entries : (c d : Processor) (m : Memory) (r : Result (Unit {0}) Event) (o : Outcome) → return_of r d m.words ≡ o → IsAgain c o → HasEntries c m
+    → IfErr r (λ e. HasEntries d m)
 after_entries c d m (Ok done) o h a p = tt
 after_entries c d m (Err e) o h a p = met_entries c d m e o h a p
 

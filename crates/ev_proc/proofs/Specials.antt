@@ -33,14 +33,17 @@ else_is false x y h = refl
 pub by_event : (r : After) (c : Processor) (a : Apic) (m : Memory) (nmi : Bool) (e f : Event) → r ≡ fault c a m nmi e → e ≡ f → r ≡ fault c a m nmi f
 by_event r c a m nmi e f h he = h ∙ ap (λ (x : Event). fault c a m nmi x) he
 
-pub call_event : (c : Processor) (a : Apic) (m : Memory) (nmi : Bool) (next : ℕ) → true ≡ has_fred c → delivering c a m nmi (software Other 1 2) next ≡ system_call c a m nmi next
-call_event c a m nmi next h = then_is (has_fred c) (delivering c a m nmi (software Other 1 2) next) (record { cpu = syscall_idt (record c { rip = next }); apic = a; words = m.words; nmi = nmi; step = Stepped.Delivered (software Other 1 2) None }) h
+pub call_event : (c : Processor) (a : Apic) (m : Memory) (nmi : Bool) (next : ℕ) → true ≡ has_fred c
+    → delivering c a m nmi (software Other 1 2) next ≡ system_call c a m nmi next
+call_event c a m nmi next h = then_is (has_fred c) (delivering c a m nmi (software Other 1 2) next)
+    (record { cpu = syscall_idt (record c { rip = next }); apic = a; words = m.words; nmi = nmi; step = Stepped.Delivered (software Other 1 2) None }) h
 
 pub no_sysretq : (c : Processor) (a : Apic) (m : Memory) (nmi : Bool) (next : ℕ) → true ≡ has_fred c → fault c a m nmi ud ≡ special c a m nmi next Sysretq
 unfolding special
 no_sysretq c a m nmi next h = then_is (has_fred c) (fault c a m nmi ud) (after_return a m nmi (sysretq c m.words)) h
 
-pub is_sysretq : (c : Processor) (a : Apic) (m : Memory) (nmi : Bool) (next : ℕ) → false ≡ has_fred c → after_return a m nmi (sysretq c m.words) ≡ special c a m nmi next Sysretq
+pub is_sysretq : (c : Processor) (a : Apic) (m : Memory) (nmi : Bool) (next : ℕ) → false ≡ has_fred c
+    → after_return a m nmi (sysretq c m.words) ≡ special c a m nmi next Sysretq
 unfolding special
 is_sysretq c a m nmi next h = else_is (has_fred c) (fault c a m nmi ud) (after_return a m nmi (sysretq c m.words)) h
 
@@ -48,7 +51,8 @@ pub no_swapgs : (c : Processor) (a : Apic) (m : Memory) (nmi : Bool) (next : ℕ
 unfolding special
 no_swapgs c a m nmi next h = then_is (has_fred c) (fault c a m nmi ud) (ran (at_next (swapgs c) next) a m.words nmi) h
 
-pub is_swapgs : (c : Processor) (a : Apic) (m : Memory) (nmi : Bool) (next : ℕ) → false ≡ has_fred c → ran (at_next (swapgs c) next) a m.words nmi ≡ special c a m nmi next Swapgs
+pub is_swapgs : (c : Processor) (a : Apic) (m : Memory) (nmi : Bool) (next : ℕ) → false ≡ has_fred c
+    → ran (at_next (swapgs c) next) a m.words nmi ≡ special c a m nmi next Swapgs
 unfolding special
 is_swapgs c a m nmi next h = else_is (has_fred c) (fault c a m nmi ud) (ran (at_next (swapgs c) next) a m.words nmi) h
 
@@ -60,7 +64,8 @@ pub no_eretu : (c : Processor) (a : Apic) (m : Memory) (nmi : Bool) (next : ℕ)
 unfolding special
 no_eretu c a m nmi next h = else_is (has_fred c) (after_return a m nmi (eretu c m)) (fault c a m nmi ud) h
 
-pub is_eretu : (c : Processor) (a : Apic) (m : Memory) (nmi : Bool) (next : ℕ) → true ≡ has_fred c → after_return a m nmi (eretu c m) ≡ special c a m nmi next Eretu
+pub is_eretu : (c : Processor) (a : Apic) (m : Memory) (nmi : Bool) (next : ℕ) → true ≡ has_fred c
+    → after_return a m nmi (eretu c m) ≡ special c a m nmi next Eretu
 unfolding special
 is_eretu c a m nmi next h = then_is (has_fred c) (after_return a m nmi (eretu c m)) (fault c a m nmi ud) h
 
@@ -68,35 +73,44 @@ pub no_erets : (c : Processor) (a : Apic) (m : Memory) (nmi : Bool) (next : ℕ)
 unfolding special
 no_erets c a m nmi next h = else_is (has_fred c) (after_return a m nmi (erets c m)) (fault c a m nmi ud) h
 
-pub is_erets : (c : Processor) (a : Apic) (m : Memory) (nmi : Bool) (next : ℕ) → true ≡ has_fred c → after_return a m nmi (erets c m) ≡ special c a m nmi next Erets
+pub is_erets : (c : Processor) (a : Apic) (m : Memory) (nmi : Bool) (next : ℕ) → true ≡ has_fred c
+    → after_return a m nmi (erets c m) ≡ special c a m nmi next Erets
 unfolding special
 is_erets c a m nmi next h = then_is (has_fred c) (after_return a m nmi (erets c m)) (fault c a m nmi ud) h
 
-pub is_lkgs : (c : Processor) (a : Apic) (m : Memory) (nmi : Bool) (next s : ℕ) → after_outcome a m nmi next (lkgs c m.words (selector (register c s))) ≡ special c a m nmi next (Lkgs s)
+pub is_lkgs : (c : Processor) (a : Apic) (m : Memory) (nmi : Bool) (next s : ℕ) → after_outcome a m nmi next (lkgs c m.words (selector (register c s)))
+    ≡ special c a m nmi next (Lkgs s)
 unfolding special
 is_lkgs c a m nmi next s = refl
 
-pub is_rdmsr : (c : Processor) (a : Apic) (m : Memory) (nmi : Bool) (next : ℕ) → after_read c a m nmi next (msr c.msrs (low32 (register c 1))) ≡ special c a m nmi next Rdmsr
+pub is_rdmsr : (c : Processor) (a : Apic) (m : Memory) (nmi : Bool) (next : ℕ)
+    → after_read c a m nmi next (msr c.msrs (low32 (register c 1))) ≡ special c a m nmi next Rdmsr
 unfolding special
 is_rdmsr c a m nmi next = refl
 
-pub is_wrmsr : (c : Processor) (a : Apic) (m : Memory) (nmi : Bool) (next : ℕ) → write_msr c a m nmi next (low32 (register c 1)) (low32 (register c 0) + 2 ^ 32 * low32 (register c 2)) ≡ special c a m nmi next Wrmsr
+pub is_wrmsr : (c : Processor) (a : Apic) (m : Memory) (nmi : Bool) (next : ℕ)
+    → write_msr c a m nmi next (low32 (register c 1)) (low32 (register c 0) + 2 ^ 32 * low32 (register c 2)) ≡ special c a m nmi next Wrmsr
 unfolding special
 is_wrmsr c a m nmi next = refl
 
-pub is_int1 : (c : Processor) (a : Apic) (m : Memory) (nmi : Bool) (next : ℕ) → delivering c a m nmi (software EventType.Int1 1 1) next ≡ special c a m nmi next Int1
+pub is_int1 : (c : Processor) (a : Apic) (m : Memory) (nmi : Bool) (next : ℕ)
+    → delivering c a m nmi (software EventType.Int1 1 1) next ≡ special c a m nmi next Int1
 unfolding special
 is_int1 c a m nmi next = refl
 
-pub is_int3 : (c : Processor) (a : Apic) (m : Memory) (nmi : Bool) (next : ℕ) → delivering c a m nmi (software EventType.Int3 3 1) next ≡ special c a m nmi next Int3
+pub is_int3 : (c : Processor) (a : Apic) (m : Memory) (nmi : Bool) (next : ℕ)
+    → delivering c a m nmi (software EventType.Int3 3 1) next ≡ special c a m nmi next Int3
 unfolding special
 is_int3 c a m nmi next = refl
 
-pub is_int_n : (c : Processor) (a : Apic) (m : Memory) (nmi : Bool) (next n : ℕ) → delivering c a m nmi (software SoftInt n 2) next ≡ special c a m nmi next (IntN n)
+pub is_int_n : (c : Processor) (a : Apic) (m : Memory) (nmi : Bool) (next n : ℕ) → delivering c a m nmi (software SoftInt n 2) next ≡ special c a m nmi next
+    (IntN n)
 unfolding special
 is_int_n c a m nmi next n = refl
 
-pub rest : (c : Processor) (a : Apic) (m : Memory) (nmi : Bool) (next : ℕ) (i : Ins) → ((n : ℕ) → i ≡ IntN n → ⊥) → ((s : ℕ) → i ≡ Lkgs s → ⊥) → (i ≡ Int3 → ⊥) → (i ≡ Int1 → ⊥) → (i ≡ Syscall → ⊥) → (i ≡ Sysretq → ⊥) → (i ≡ Iretq → ⊥) → (i ≡ Swapgs → ⊥) → (i ≡ Eretu → ⊥) → (i ≡ Erets → ⊥) → (i ≡ Rdmsr → ⊥) → (i ≡ Wrmsr → ⊥) → fault c a m nmi ud ≡ special c a m nmi next i
+pub rest : (c : Processor) (a : Apic) (m : Memory) (nmi : Bool) (next : ℕ) (i : Ins) → ((n : ℕ) → i ≡ IntN n → ⊥) → ((s : ℕ) → i ≡ Lkgs s → ⊥)
+    → (i ≡ Int3 → ⊥) → (i ≡ Int1 → ⊥) → (i ≡ Syscall → ⊥) → (i ≡ Sysretq → ⊥) → (i ≡ Iretq → ⊥) → (i ≡ Swapgs → ⊥) → (i ≡ Eretu → ⊥) → (i ≡ Erets → ⊥)
+    → (i ≡ Rdmsr → ⊥) → (i ≡ Wrmsr → ⊥) → fault c a m nmi ud ≡ special c a m nmi next i
 unfolding special
 rest c a m nmi next (IntN n) h1 h2 h3 h4 h5 h6 h7 h8 h9 h10 h11 h12 = absurd (h1 n refl)
 rest c a m nmi next (Lkgs s) h1 h2 h3 h4 h5 h6 h7 h8 h9 h10 h11 h12 = absurd (h2 s refl)
@@ -113,15 +127,18 @@ rest c a m nmi next Wrmsr h1 h2 h3 h4 h5 h6 h7 h8 h9 h10 h11 h12 = absurd (h12 r
 rest c a m nmi next _ h1 h2 h3 h4 h5 h6 h7 h8 h9 h10 h11 h12 = refl
 
 -- reads and writes of MSRs
-pub read_none : (c : Processor) (a : Apic) (m : Memory) (nmi : Bool) (next : ℕ) (o : Option ℕ) (e : Gp) → Err e ≡ or_gp o → fault c a m nmi (gp 0) ≡ after_read c a m nmi next o
+pub read_none : (c : Processor) (a : Apic) (m : Memory) (nmi : Bool) (next : ℕ) (o : Option ℕ) (e : Gp) → Err e ≡ or_gp o
+    → fault c a m nmi (gp 0) ≡ after_read c a m nmi next o
 read_none c a m nmi next None e h = refl
 read_none c a m nmi next (Some v) e h = cc
 
-pub read_some : (c : Processor) (a : Apic) (m : Memory) (nmi : Bool) (next : ℕ) (o : Option ℕ) (v : ℕ) → Ok v ≡ or_gp o → after_read c a m nmi next (Some v) ≡ after_read c a m nmi next o
+pub read_some : (c : Processor) (a : Apic) (m : Memory) (nmi : Bool) (next : ℕ) (o : Option ℕ) (v : ℕ) → Ok v ≡ or_gp o
+    → after_read c a m nmi next (Some v) ≡ after_read c a m nmi next o
 read_some c a m nmi next None v h = cc
 read_some c a m nmi next (Some w) v h = let same : v ≡ w = cc in ap (λ (x : ℕ). after_read c a m nmi next (Some x)) same
 
-pub send_none : (c : Processor) (a : Apic) (m : Memory) (nmi : Bool) (next : ℕ) (o : Option Send) (e : Gp) → Err e ≡ sent_or_gp o → fault c a m nmi (gp 0) ≡ after_send c a m nmi next o
+pub send_none : (c : Processor) (a : Apic) (m : Memory) (nmi : Bool) (next : ℕ) (o : Option Send) (e : Gp) → Err e ≡ sent_or_gp o
+    → fault c a m nmi (gp 0) ≡ after_send c a m nmi next o
 send_none c a m nmi next None e h = refl
 send_none c a m nmi next (Some s) e h = cc
 
@@ -130,7 +147,8 @@ not_zero v true h n = absurd (n (eqb-true v 0 h))
 not_zero v false h n = sym h
 
 -- what user code can't hold
-pub not_user : (c : Processor) (a : Apic) (m : Memory) (nmi : Bool) (i : Ins) (o : Option Ins) (u v : Bool) → u ≡ is_user c → v ≡ user_may i → u ≡ true → v ≡ false → o ≡ Some i → fault c a m nmi ud ≡ executed c a m nmi o
+pub not_user : (c : Processor) (a : Apic) (m : Memory) (nmi : Bool) (i : Ins) (o : Option Ins) (u v : Bool) → u ≡ is_user c → v ≡ user_may i → u ≡ true
+    → v ≡ false → o ≡ Some i → fault c a m nmi ud ≡ executed c a m nmi o
 not_user c a m nmi i o u v hu hv tu fv ho =
     let user : is_user c ≡ true = sym hu ∙ tu in
     let may : user_may i ≡ false = sym hv ∙ fv in

@@ -40,7 +40,8 @@ abbrev pub IsAgain : Processor → Outcome → Type 0
 IsAgain c (Went d words a) = Unit {0}
 IsAgain c (Met d e) = AreSame c d × IsException e
 
-written_again : (c d d' : Processor) (words : NatMap ℕ) (a : ℕ) (frame : List ℕ) (o : Option Event) → AreSame c d → IsNoOther o → IsAgain c (frame_written d d' words a frame o)
+written_again : (c d d' : Processor) (words : NatMap ℕ) (a : ℕ) (frame : List ℕ) (o : Option Event) → AreSame c d → IsNoOther o
+    → IsAgain c (frame_written d d' words a frame o)
 written_again c d d' words a frame None p q = tt
 written_again c d d' words a frame (Some e) p q = (with_cr2_same c d e p, q)
 
@@ -54,13 +55,15 @@ fred_again c m e nested =
     let d : Processor = with_cr2 c e in
     let level : ℕ = new_level d e nested in
     let a : ℕ = below (frame_top d level) 8 in
-    written_again c d (in_fred_handler d e level a) m.words a (fred_frame d e nested) (first_event (view m false) true (reverse (addresses a 8))) (with_cr2_same c c e (same c)) (first (view m false) true (reverse (addresses a 8)))
+    written_again c d (in_fred_handler d e level a) m.words a (fred_frame d e nested) (first_event (view m false) true (reverse (addresses a 8)))
+    (with_cr2_same c c e (same c)) (first (view m false) true (reverse (addresses a 8)))
 
 gate_again : (c d : Processor) (m : Memory) (e : Event) (g : Gate) → AreSame c d → IsAgain c (through_gate d m e g)
 gate_again c d m e g p =
     let frame : List ℕ = idt_frame d e in
     let a : ℕ = below (new_rsp d m.words g) (length frame) in
-    written_again c d (in_handler d g e.kind a) m.words a frame (first_event (view m false) true (reverse (addresses a (length frame)))) p (first (view m false) true (reverse (addresses a (length frame))))
+    written_again c d (in_handler d g e.kind a) m.words a frame (first_event (view m false) true (reverse (addresses a (length frame)))) p
+    (first (view m false) true (reverse (addresses a (length frame))))
 
 idt_again : (c : Processor) (m : Memory) (e : Event) → IsAgain c (idt_delivery c m e)
 unfolding idt_delivery
@@ -85,7 +88,11 @@ entries_kept c d m s h = record {
 }
 
 pub exception_deliverable : (c : Processor) (e : Event) → IsException e → IsDeliverable c e
-exception_deliverable c e x = record { short = let n : e.length ≡ 0 = x.no_length in omega arith; kind = λ no_fred other. let k : e.kind ≡ Hardware = x.kind in cc }
+exception_deliverable c e x = record {
+  short = let n : e.length ≡ 0 = x.no_length in omega arith;
+  kind = λ no_fred other. let k : e.kind ≡ Hardware =
+      x.kind in cc;
+}
 
 -- the chain
 pub at_end : (c : Processor) (rip : ℕ) (m : Memory) (e : Event) (nested : Bool) → arrived c m None ≡ deliveries 0 c rip m e nested
@@ -109,26 +116,34 @@ one : (n : ℕ) (c : Processor) (rip : ℕ) (m : Memory) (e : Event) (nested : B
 unfolding deliveries
 one n c rip m e nested = refl
 
-pub went : (n k : ℕ) (c d : Processor) (rip a : ℕ) (m : Memory) (words : NatMap ℕ) (e : Event) (nested : Bool) → k ≡ suc n → Went d words a ≡ try c m e nested → (d, words, Some (e, a)) ≡ deliveries k c rip m e nested
-went n k c d rip a m words e nested hk h = sym (ap (λ (x : ℕ). deliveries x c rip m e nested) hk ∙ one n c rip m e nested ∙ ap (λ (o : Outcome). by_try n rip m e o) (sym h))
+pub went : (n k : ℕ) (c d : Processor) (rip a : ℕ) (m : Memory) (words : NatMap ℕ) (e : Event) (nested : Bool) → k ≡ suc n
+    → Went d words a ≡ try c m e nested → (d, words, Some (e, a)) ≡ deliveries k c rip m e nested
+went n k c d rip a m words e nested hk h =
+    sym (ap (λ (x : ℕ). deliveries x c rip m e nested) hk ∙ one n c rip m e nested ∙ ap (λ (o : Outcome). by_try n rip m e o) (sym h))
 
-met : (n k : ℕ) (c d : Processor) (rip : ℕ) (m : Memory) (e f : Event) (nested : Bool) (x : Combined) → k ≡ suc n → Met d f ≡ try c m e nested → x ≡ combine e f → deliveries k c rip m e nested ≡ by_combined n d rip m f x
+met : (n k : ℕ) (c d : Processor) (rip : ℕ) (m : Memory) (e f : Event) (nested : Bool) (x : Combined) → k ≡ suc n → Met d f ≡ try c m e nested
+    → x ≡ combine e f → deliveries k c rip m e nested ≡ by_combined n d rip m f x
 met n k c d rip m e f nested x hk h hx =
-    ap (λ (j : ℕ). deliveries j c rip m e nested) hk ∙ one n c rip m e nested ∙ ap (λ (o : Outcome). by_try n rip m e o) (sym h) ∙ ap (λ (y : Combined). by_combined n d rip m f y) (sym hx)
+    ap (λ (j : ℕ). deliveries j c rip m e nested) hk ∙ one n c rip m e nested ∙ ap (λ (o : Outcome). by_try n rip m e o) (sym h)
+    ∙ ap (λ (y : Combined). by_combined n d rip m f y) (sym hx)
 
-pub shut : (n k : ℕ) (c d : Processor) (rip : ℕ) (m : Memory) (e f : Event) (nested : Bool) → k ≡ suc n → Met d f ≡ try c m e nested → Shutdown ≡ combine e f → arrived d m None ≡ deliveries k c rip m e nested
+pub shut : (n k : ℕ) (c d : Processor) (rip : ℕ) (m : Memory) (e f : Event) (nested : Bool) → k ≡ suc n → Met d f ≡ try c m e nested
+    → Shutdown ≡ combine e f → arrived d m None ≡ deliveries k c rip m e nested
 shut n k c d rip m e f nested hk h hx = sym (met n k c d rip m e f nested Shutdown hk h hx)
 
-pub serial : (n k : ℕ) (c d : Processor) (rip : ℕ) (m : Memory) (e f : Event) (nested : Bool) → k ≡ suc n → Met d f ≡ try c m e nested → Serial ≡ combine e f → deliveries n (record d { rip = rip }) rip m f true ≡ deliveries k c rip m e nested
+pub serial : (n k : ℕ) (c d : Processor) (rip : ℕ) (m : Memory) (e f : Event) (nested : Bool) → k ≡ suc n → Met d f ≡ try c m e nested
+    → Serial ≡ combine e f → deliveries n (record d { rip = rip }) rip m f true ≡ deliveries k c rip m e nested
 serial n k c d rip m e f nested hk h hx = sym (met n k c d rip m e f nested Serial hk h hx)
 
-pub double : (n k : ℕ) (c d : Processor) (rip : ℕ) (m : Memory) (e f : Event) (nested : Bool) → k ≡ suc n → Met d f ≡ try c m e nested → Combined.Double ≡ combine e f → deliveries n (record d { rip = rip }) rip m double_fault true ≡ deliveries k c rip m e nested
+pub double : (n k : ℕ) (c d : Processor) (rip : ℕ) (m : Memory) (e f : Event) (nested : Bool) → k ≡ suc n → Met d f ≡ try c m e nested
+    → Combined.Double ≡ combine e f → deliveries n (record d { rip = rip }) rip m double_fault true ≡ deliveries k c rip m e nested
 double n k c d rip m e f nested hk h hx = sym (met n k c d rip m e f nested Combined.Double hk h hx)
 
 again : (c d : Processor) (m : Memory) (e f : Event) (nested : Bool) → Met d f ≡ try c m e nested → IsAgain c (Met d f)
 again c d m e f nested h = let P : Outcome → Type 0 = λ o. IsAgain c o in subst P (sym h) (try_again c m e nested)
 
-pub next_entries : (c d d' : Processor) (rip : ℕ) (m m' : Memory) (e f : Event) (nested : Bool) → Met d f ≡ try c m e nested → d' ≡ record d { rip = rip } → m' ≡ m → HasEntries c m → HasEntries d' m'
+pub next_entries : (c d d' : Processor) (rip : ℕ) (m m' : Memory) (e f : Event) (nested : Bool) → Met d f ≡ try c m e nested → d' ≡ record d { rip = rip }
+    → m' ≡ m → HasEntries c m → HasEntries d' m'
 next_entries c d d' rip m m' e f nested h hd hm p =
     let a : IsAgain c (Met d f) = again c d m e f nested h in
     let s : AreSame c (record d { rip = rip }) = record { cr4 = a.0.cr4; idt = a.0.idt; tss = a.0.tss } in
@@ -143,14 +158,20 @@ next_event c d d' m e f nested h = exception_deliverable d' f (again c d m e f n
 pub double_fault_event : (d : Processor) (g : Event) → g ≡ double_fault → IsDeliverable d g
 double_fault_event d g h = let P : Event → Type 0 = λ x. IsDeliverable d x in subst P (sym h) (exception_deliverable d double_fault (is_exception 8 0 0))
 
-pub serial_to : (n k : ℕ) (c d d' : Processor) (rip : ℕ) (m m' : Memory) (e f : Event) (nested : Bool) (r : Arrival) → k ≡ suc n → Met d f ≡ try c m e nested → Serial ≡ combine e f → d' ≡ record d { rip = rip } → m' ≡ m → r ≡ deliveries n d' rip m' f true → r ≡ deliveries k c rip m e nested
+pub serial_to : (n k : ℕ) (c d d' : Processor) (rip : ℕ) (m m' : Memory) (e f : Event) (nested : Bool) (r : Arrival) → k ≡ suc n
+    → Met d f ≡ try c m e nested → Serial ≡ combine e f → d' ≡ record d { rip = rip } → m' ≡ m → r ≡ deliveries n d' rip m' f true
+    → r ≡ deliveries k c rip m e nested
 serial_to n k c d d' rip m m' e f nested r hk h hx hd hm hr =
-    hr ∙ ap (λ (x : Processor). deliveries n x rip m' f true) hd ∙ ap (λ (x : Memory). deliveries n (record d { rip = rip }) rip x f true) hm ∙ serial n k c d rip m e f nested hk h hx
+    hr ∙ ap (λ (x : Processor). deliveries n x rip m' f true) hd ∙ ap (λ (x : Memory). deliveries n (record d { rip = rip }) rip x f true) hm
+    ∙ serial n k c d rip m e f nested hk h hx
 
-pub double_to : (n k : ℕ) (c d d' : Processor) (rip : ℕ) (m m' : Memory) (e f g : Event) (nested : Bool) (r : Arrival) → k ≡ suc n → Met d f ≡ try c m e nested → Combined.Double ≡ combine e f → d' ≡ record d { rip = rip } → m' ≡ m → g ≡ double_fault → r ≡ deliveries n d' rip m' g true → r ≡ deliveries k c rip m e nested
+pub double_to : (n k : ℕ) (c d d' : Processor) (rip : ℕ) (m m' : Memory) (e f g : Event) (nested : Bool) (r : Arrival) → k ≡ suc n
+    → Met d f ≡ try c m e nested → Combined.Double ≡ combine e f → d' ≡ record d { rip = rip } → m' ≡ m → g ≡ double_fault
+    → r ≡ deliveries n d' rip m' g true → r ≡ deliveries k c rip m e nested
 double_to n k c d d' rip m m' e f g nested r hk h hx hd hm hg hr =
     hr ∙ ap (λ (x : Processor). deliveries n x rip m' g true) hd ∙ ap (λ (x : Memory). deliveries n (record d { rip = rip }) rip x g true) hm
     ∙ ap (λ (x : Event). deliveries n (record d { rip = rip }) rip m x true) hg ∙ double n k c d rip m e f nested hk h hx
 
-pub shut_to : (n k : ℕ) (c d : Processor) (rip : ℕ) (m m' : Memory) (e f : Event) (nested : Bool) → k ≡ suc n → Met d f ≡ try c m e nested → Shutdown ≡ combine e f → m' ≡ m → arrived d m' None ≡ deliveries k c rip m e nested
+pub shut_to : (n k : ℕ) (c d : Processor) (rip : ℕ) (m m' : Memory) (e f : Event) (nested : Bool) → k ≡ suc n → Met d f ≡ try c m e nested
+    → Shutdown ≡ combine e f → m' ≡ m → arrived d m' None ≡ deliveries k c rip m e nested
 shut_to n k c d rip m m' e f nested hk h hx hm = ap (λ (x : Memory). arrived d x None) hm ∙ shut n k c d rip m e f nested hk h hx

@@ -19,7 +19,8 @@ pub record HasEntries (c : Processor) (m : Memory) : Type 0 where
 -- The instruction at RIP, where it can be fetched, ends at a canonical address. So it is wherever the code's regions end far enough below the
 -- addresses that aren't canonical.
 pub record IsInCode (c : Processor) (m : Memory) : Type 0 where
-  pub ends : (i : Ins) → page_fault m (record { user = is_user c; write = false; fetch = true }) c.rip ≡ None → instruction_at m.words c.rip ≡ Some i → is_canonical (c.rip + length (spelling i)) ≡ true
+  pub ends : (i : Ins) → page_fault m (record { user = is_user c; write = false; fetch = true }) c.rip ≡ None → instruction_at m.words c.rip ≡ Some i
+      → is_canonical (c.rip + length (spelling i)) ≡ true
 
 -- an event that can be delivered: the type of SYSCALL is one for FRED alone
 pub record IsDeliverable (c : Processor) (e : Event) : Type 0 where

@@ -35,7 +35,9 @@ pub fn next(cpu: &Cpu, apic: &Apic, nmi: bool) -> Next
 fn deliver_at_boundary(cpu: &mut Cpu, mem: &mut Mem, e: &Event) -> Stepped
     requires entries { HasEntries cpu.old (memory mem.old) }
     requires event { IsDeliverable cpu.old e.now }
-    ensures is { (a : Apic) (nmi : Bool) → left cpu.new a (memory mem.new) nmi result ≡ delivering cpu.old a (memory mem.old) nmi e.now cpu.old.rip }
+    ensures is { (a : Apic) (nmi : Bool)
+        → left cpu.new a (memory mem.new) nmi result ≡ delivering cpu.old a
+        (memory mem.old) nmi e.now cpu.old.rip }
     ensures regions { (memory mem.new).regions ≡ (memory mem.old).regions }
 {
     cpu.kept();
@@ -52,7 +54,8 @@ fn deliver_at_boundary(cpu: &mut Cpu, mem: &mut Mem, e: &Event) -> Stepped
 pub fn step(cpu: &mut Cpu, apic: &mut Apic, mem: &mut Mem, nmi: &mut bool) -> Stepped
     requires entries { HasEntries cpu.old (memory mem.old) }
     requires code { IsInCode cpu.old (memory mem.old) }
-    ensures is { left cpu.new apic.new (memory mem.new) nmi.new result ≡ step cpu.old apic.old (memory mem.old) nmi.old }
+    ensures is { left cpu.new apic.new (memory mem.new) nmi.new result ≡ step cpu.old apic.old
+        (memory mem.old) nmi.old }
     ensures regions { (memory mem.new).regions ≡ (memory mem.old).regions }
 {
     match next(cpu, apic, *nmi) {

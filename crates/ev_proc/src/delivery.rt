@@ -28,7 +28,8 @@ pub fn has_fred(cpu: &Cpu) -> bool
 fn attempt(cpu: &mut Cpu, mem: &mut Mem, e: &Event, nested: bool) -> Result<u64, Event>
     requires entries { HasEntries cpu.old (memory mem.old) }
     requires event { IsDeliverable cpu.old e.now }
-    ensures is { delivery_of result cpu.new (memory mem.new).words ≡ try cpu.old (memory mem.old) e.now nested }
+    ensures is { delivery_of result cpu.new (memory mem.new).words ≡ try cpu.old
+        (memory mem.old) e.now nested }
     ensures regions { (memory mem.new).regions ≡ (memory mem.old).regions }
     ensures err { OnErr result (mem.new ≡ mem.old) }
 {
@@ -53,7 +54,8 @@ fn chain(
     requires canonical { is_canonical rip ≡ true }
     requires entries { HasEntries cpu.old (memory mem.old) }
     requires event { IsDeliverable cpu.old e.now }
-    ensures is { arrived cpu.new (memory mem.new) result ≡ deliveries tries cpu.old rip (memory mem.old) e.now nested }
+    ensures is { arrived cpu.new (memory mem.new) result ≡ deliveries tries cpu.old rip
+        (memory mem.old) e.now nested }
     ensures regions { (memory mem.new).regions ≡ (memory mem.old).regions }
 {
     if tries == 0 {
@@ -82,7 +84,9 @@ pub fn deliver(cpu: &mut Cpu, mem: &mut Mem, e: &Event, saved: u64) -> Stepped
     requires canonical { is_canonical saved ≡ true }
     requires entries { HasEntries cpu.old (memory mem.old) }
     requires event { IsDeliverable cpu.old e.now }
-    ensures is { (a : Apic) (nmi : Bool) → left cpu.new a (memory mem.new) nmi result ≡ delivering cpu.old a (memory mem.old) nmi e.now saved }
+    ensures is { (a : Apic) (nmi : Bool)
+        → left cpu.new a (memory mem.new) nmi result ≡ delivering cpu.old a
+        (memory mem.old) nmi e.now saved }
     ensures regions { (memory mem.new).regions ≡ (memory mem.old).regions }
 {
     cpu.kept();
@@ -101,7 +105,8 @@ pub fn deliver(cpu: &mut Cpu, mem: &mut Mem, e: &Event, saved: u64) -> Stepped
 pub fn fault(cpu: &mut Cpu, mem: &mut Mem, e: &Event) -> Stepped
     requires entries { HasEntries cpu.old (memory mem.old) }
     requires event { IsException e.now }
-    ensures is { (a : Apic) (nmi : Bool) → left cpu.new a (memory mem.new) nmi result ≡ fault cpu.old a (memory mem.old) nmi e.now }
+    ensures is { (a : Apic) (nmi : Bool)
+        → left cpu.new a (memory mem.new) nmi result ≡ fault cpu.old a (memory mem.old) nmi e.now }
     ensures regions { (memory mem.new).regions ≡ (memory mem.old).regions }
 {
     cpu.kept();

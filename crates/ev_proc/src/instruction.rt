@@ -27,7 +27,9 @@ fn execute(cpu: &mut Cpu, apic: &mut Apic, mem: &mut Mem, i: &Ins, next: u64) ->
     requires canonical { is_canonical next ≡ true }
     requires instruction { is_instruction i.now ≡ true }
     requires entries { HasEntries cpu.old (memory mem.old) }
-    ensures is { (nmi : Bool) → left cpu.new apic.new (memory mem.new) nmi result ≡ after_exec cpu.old apic.old (memory mem.old) nmi next i.now (exec cpu.old (memory mem.old) i.now next) }
+    ensures is { (nmi : Bool) → left cpu.new apic.new (memory mem.new) nmi result
+        ≡ after_exec cpu.old apic.old (memory mem.old) nmi next i.now
+        (exec cpu.old (memory mem.old) i.now next) }
     ensures regions { (memory mem.new).regions ≡ (memory mem.old).regions }
 {
     match exec(cpu, mem, *i, next) {
@@ -40,10 +42,13 @@ fn execute(cpu: &mut Cpu, apic: &mut Apic, mem: &mut Mem, i: &Ins, next: u64) ->
 /// The instruction that memory has at RIP: #UD where there is none, and for user code where it isn't
 /// one that user code may hold.
 fn execute_at_rip(cpu: &mut Cpu, apic: &mut Apic, mem: &mut Mem) -> Stepped
-    requires mapped { page_fault (memory mem.old) (record { user = is_user cpu.old; write = false; fetch = true }) cpu.old.rip ≡ None }
+    requires mapped { page_fault (memory mem.old)
+        (record { user = is_user cpu.old; write = false; fetch = true }) cpu.old.rip ≡ None }
     requires code { IsInCode cpu.old (memory mem.old) }
     requires entries { HasEntries cpu.old (memory mem.old) }
-    ensures is { (nmi : Bool) → left cpu.new apic.new (memory mem.new) nmi result ≡ executed cpu.old apic.old (memory mem.old) nmi (instruction_at (memory mem.old).words cpu.old.rip) }
+    ensures is { (nmi : Bool) → left cpu.new apic.new (memory mem.new) nmi result
+        ≡ executed cpu.old apic.old (memory mem.old) nmi
+        (instruction_at (memory mem.old).words cpu.old.rip) }
     ensures regions { (memory mem.new).regions ≡ (memory mem.old).regions }
 {
     match decode(&mem.fetch(cpu.rip)) {
@@ -62,7 +67,10 @@ fn execute_at_rip(cpu: &mut Cpu, apic: &mut Apic, mem: &mut Mem) -> Stepped
 pub fn fetch_and_run(cpu: &mut Cpu, apic: &mut Apic, mem: &mut Mem) -> Stepped
     requires code { IsInCode cpu.old (memory mem.old) }
     requires entries { HasEntries cpu.old (memory mem.old) }
-    ensures is { (nmi : Bool) → left cpu.new apic.new (memory mem.new) nmi result ≡ fetched cpu.old apic.old (memory mem.old) nmi (page_fault (memory mem.old) (record { user = is_user cpu.old; write = false; fetch = true }) cpu.old.rip) }
+    ensures is { (nmi : Bool) → left cpu.new apic.new (memory mem.new) nmi result
+        ≡ fetched cpu.old apic.old (memory mem.old) nmi
+        (page_fault (memory mem.old)
+        (record { user = is_user cpu.old; write = false; fetch = true }) cpu.old.rip) }
     ensures regions { (memory mem.new).regions ≡ (memory mem.old).regions }
 {
     let rip = cpu.rip;

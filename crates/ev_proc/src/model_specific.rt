@@ -47,7 +47,9 @@ fn set_halves(cpu: &mut Cpu, v: u64)
 pub fn rdmsr(cpu: &mut Cpu, mem: &mut Mem, next: u64) -> Stepped
     requires canonical { is_canonical next ≡ true }
     requires entries { HasEntries cpu.old (memory mem.old) }
-    ensures is { (a : Apic) (nmi : Bool) → left cpu.new a (memory mem.new) nmi result ≡ special cpu.old a (memory mem.old) nmi next Rdmsr }
+    ensures is { (a : Apic) (nmi : Bool)
+        → left cpu.new a (memory mem.new) nmi result ≡ special cpu.old a
+        (memory mem.old) nmi next Rdmsr }
     ensures regions { (memory mem.new).regions ≡ (memory mem.old).regions }
 {
     let n = low_half(cpu, 1);
@@ -65,7 +67,8 @@ pub fn rdmsr(cpu: &mut Cpu, mem: &mut Mem, next: u64) -> Stepped
 pub fn wrmsr(cpu: &mut Cpu, apic: &mut Apic, mem: &mut Mem, next: u64) -> Stepped
     requires canonical { is_canonical next ≡ true }
     requires entries { HasEntries cpu.old (memory mem.old) }
-    ensures is { (nmi : Bool) → left cpu.new apic.new (memory mem.new) nmi result ≡ special cpu.old apic.old (memory mem.old) nmi next Wrmsr }
+    ensures is { (nmi : Bool) → left cpu.new apic.new (memory mem.new) nmi result
+        ≡ special cpu.old apic.old (memory mem.old) nmi next Wrmsr }
     ensures regions { (memory mem.new).regions ≡ (memory mem.old).regions }
 {
     let n = low_half(cpu, 1);
@@ -78,7 +81,8 @@ pub fn wrmsr(cpu: &mut Cpu, apic: &mut Apic, mem: &mut Mem, next: u64) -> Steppe
 fn write_msr(cpu: &mut Cpu, apic: &mut Apic, mem: &mut Mem, next: u64, n: u32, v: u64) -> Stepped
     requires canonical { is_canonical next ≡ true }
     requires entries { HasEntries cpu.old (memory mem.old) }
-    ensures is { (nmi : Bool) → left cpu.new apic.new (memory mem.new) nmi result ≡ write_msr cpu.old apic.old (memory mem.old) nmi next n v }
+    ensures is { (nmi : Bool) → left cpu.new apic.new (memory mem.new) nmi result
+        ≡ write_msr cpu.old apic.old (memory mem.old) nmi next n v }
     ensures regions { (memory mem.new).regions ≡ (memory mem.old).regions }
 {
     match n {
@@ -92,7 +96,8 @@ fn write_msr(cpu: &mut Cpu, apic: &mut Apic, mem: &mut Mem, next: u64, n: u32, v
 fn end_interrupt(cpu: &mut Cpu, apic: &mut Apic, mem: &mut Mem, next: u64, v: u64) -> Stepped
     requires canonical { is_canonical next ≡ true }
     requires entries { HasEntries cpu.old (memory mem.old) }
-    ensures is { (nmi : Bool) → left cpu.new apic.new (memory mem.new) nmi result ≡ write_msr cpu.old apic.old (memory mem.old) nmi next 0x80b v }
+    ensures is { (nmi : Bool) → left cpu.new apic.new (memory mem.new) nmi result
+        ≡ write_msr cpu.old apic.old (memory mem.old) nmi next 0x80b v }
     ensures regions { (memory mem.new).regions ≡ (memory mem.old).regions }
 {
     if v != 0 {
@@ -107,7 +112,9 @@ fn end_interrupt(cpu: &mut Cpu, apic: &mut Apic, mem: &mut Mem, next: u64, v: u6
 fn send(cpu: &mut Cpu, mem: &mut Mem, next: u64, v: u64) -> Stepped
     requires canonical { is_canonical next ≡ true }
     requires entries { HasEntries cpu.old (memory mem.old) }
-    ensures is { (a : Apic) (nmi : Bool) → left cpu.new a (memory mem.new) nmi result ≡ after_send cpu.old a (memory mem.old) nmi next (sent v) }
+    ensures is { (a : Apic) (nmi : Bool)
+        → left cpu.new a (memory mem.new) nmi result ≡ after_send cpu.old a
+        (memory mem.old) nmi next (sent v) }
     ensures regions { (memory mem.new).regions ≡ (memory mem.old).regions }
 {
     match decode_icr(v) {
@@ -123,7 +130,9 @@ fn send(cpu: &mut Cpu, mem: &mut Mem, next: u64, v: u64) -> Stepped
 fn write_processor_msr(cpu: &mut Cpu, mem: &mut Mem, next: u64, n: u32, v: u64) -> Stepped
     requires canonical { is_canonical next ≡ true }
     requires entries { HasEntries cpu.old (memory mem.old) }
-    ensures is { (a : Apic) (nmi : Bool) → left cpu.new a (memory mem.new) nmi result ≡ after_write cpu.old a (memory mem.old) nmi next (written cpu.old.msrs n v) }
+    ensures is { (a : Apic) (nmi : Bool)
+        → left cpu.new a (memory mem.new) nmi result ≡ after_write cpu.old a
+        (memory mem.old) nmi next (written cpu.old.msrs n v) }
     ensures regions { (memory mem.new).regions ≡ (memory mem.old).regions }
 {
     match cpu.msrs.write_msr(n, v) {

@@ -32,7 +32,9 @@ pub fn go_on(cpu: &mut Cpu, next: u64)
 fn after_return(cpu: &mut Cpu, mem: &mut Mem, answer: Result<(), Event>) -> Stepped
     requires entries { IfErr answer (λ e. HasEntries cpu.old (memory mem.old)) }
     requires event { IfErr answer IsException }
-    ensures is { (a : Apic) (nmi : Bool) → left cpu.new a (memory mem.new) nmi result ≡ after_return a (memory mem.old) nmi (return_of answer cpu.old (memory mem.old).words) }
+    ensures is { (a : Apic) (nmi : Bool)
+        → left cpu.new a (memory mem.new) nmi result ≡ after_return a (memory mem.old) nmi
+        (return_of answer cpu.old (memory mem.old).words) }
     ensures regions { (memory mem.new).regions ≡ (memory mem.old).regions }
 {
     match answer {
@@ -44,7 +46,9 @@ fn after_return(cpu: &mut Cpu, mem: &mut Mem, answer: Result<(), Event>) -> Step
 /// IRETQ
 pub fn iretq(cpu: &mut Cpu, mem: &mut Mem) -> Stepped
     requires { HasEntries cpu.old (memory mem.old) }
-    ensures is { (a : Apic) (nmi : Bool) (next : ℕ) → left cpu.new a (memory mem.new) nmi result ≡ special cpu.old a (memory mem.old) nmi next Iretq }
+    ensures is { (a : Apic) (nmi : Bool) (next : ℕ)
+        → left cpu.new a (memory mem.new) nmi result ≡ special cpu.old a
+        (memory mem.old) nmi next Iretq }
     ensures regions { (memory mem.new).regions ≡ (memory mem.old).regions }
 {
     let answer = ev_idt::iretq(cpu, mem);
@@ -54,7 +58,9 @@ pub fn iretq(cpu: &mut Cpu, mem: &mut Mem) -> Stepped
 /// SYSRETQ: #UD with FRED.
 pub fn sysretq(cpu: &mut Cpu, mem: &mut Mem) -> Stepped
     requires { HasEntries cpu.old (memory mem.old) }
-    ensures is { (a : Apic) (nmi : Bool) (next : ℕ) → left cpu.new a (memory mem.new) nmi result ≡ special cpu.old a (memory mem.old) nmi next Sysretq }
+    ensures is { (a : Apic) (nmi : Bool) (next : ℕ)
+        → left cpu.new a (memory mem.new) nmi result ≡ special cpu.old a
+        (memory mem.old) nmi next Sysretq }
     ensures regions { (memory mem.new).regions ≡ (memory mem.old).regions }
 {
     if has_fred(cpu) {
@@ -68,7 +74,9 @@ pub fn sysretq(cpu: &mut Cpu, mem: &mut Mem) -> Stepped
 pub fn swapgs(cpu: &mut Cpu, mem: &mut Mem, next: u64) -> Stepped
     requires canonical { is_canonical next ≡ true }
     requires entries { HasEntries cpu.old (memory mem.old) }
-    ensures is { (a : Apic) (nmi : Bool) → left cpu.new a (memory mem.new) nmi result ≡ special cpu.old a (memory mem.old) nmi next Swapgs }
+    ensures is { (a : Apic) (nmi : Bool)
+        → left cpu.new a (memory mem.new) nmi result ≡ special cpu.old a
+        (memory mem.old) nmi next Swapgs }
     ensures regions { (memory mem.new).regions ≡ (memory mem.old).regions }
 {
     if has_fred(cpu) {
@@ -82,7 +90,9 @@ pub fn swapgs(cpu: &mut Cpu, mem: &mut Mem, next: u64) -> Stepped
 /// ERETU: #UD without FRED.
 pub fn eretu(cpu: &mut Cpu, mem: &mut Mem) -> Stepped
     requires { HasEntries cpu.old (memory mem.old) }
-    ensures is { (a : Apic) (nmi : Bool) (next : ℕ) → left cpu.new a (memory mem.new) nmi result ≡ special cpu.old a (memory mem.old) nmi next Eretu }
+    ensures is { (a : Apic) (nmi : Bool) (next : ℕ)
+        → left cpu.new a (memory mem.new) nmi result ≡ special cpu.old a
+        (memory mem.old) nmi next Eretu }
     ensures regions { (memory mem.new).regions ≡ (memory mem.old).regions }
 {
     if !has_fred(cpu) {
@@ -95,7 +105,9 @@ pub fn eretu(cpu: &mut Cpu, mem: &mut Mem) -> Stepped
 /// ERETS: #UD without FRED.
 pub fn erets(cpu: &mut Cpu, mem: &mut Mem) -> Stepped
     requires { HasEntries cpu.old (memory mem.old) }
-    ensures is { (a : Apic) (nmi : Bool) (next : ℕ) → left cpu.new a (memory mem.new) nmi result ≡ special cpu.old a (memory mem.old) nmi next Erets }
+    ensures is { (a : Apic) (nmi : Bool) (next : ℕ)
+        → left cpu.new a (memory mem.new) nmi result ≡ special cpu.old a
+        (memory mem.old) nmi next Erets }
     ensures regions { (memory mem.new).regions ≡ (memory mem.old).regions }
 {
     if !has_fred(cpu) {
@@ -109,7 +121,9 @@ pub fn erets(cpu: &mut Cpu, mem: &mut Mem) -> Stepped
 pub fn lkgs(cpu: &mut Cpu, mem: &mut Mem, s: Reg, next: u64) -> Stepped
     requires canonical { is_canonical next ≡ true }
     requires entries { HasEntries cpu.old (memory mem.old) }
-    ensures is { (a : Apic) (nmi : Bool) → left cpu.new a (memory mem.new) nmi result ≡ special cpu.old a (memory mem.old) nmi next (Lkgs s) }
+    ensures is { (a : Apic) (nmi : Bool)
+        → left cpu.new a (memory mem.new) nmi result ≡ special cpu.old a (memory mem.old) nmi next
+        (Lkgs s) }
     ensures regions { (memory mem.new).regions ≡ (memory mem.old).regions }
 {
     let selector = (cpu.reg(s) % 0x1_0000) as u16;

@@ -24,7 +24,9 @@ use ev_state::Cpu;
 fn system_call(cpu: &mut Cpu, mem: &mut Mem, next: u64) -> Stepped
     requires canonical { is_canonical next ≡ true }
     requires entries { HasEntries cpu.old (memory mem.old) }
-    ensures is { (a : Apic) (nmi : Bool) → left cpu.new a (memory mem.new) nmi result ≡ system_call cpu.old a (memory mem.old) nmi next }
+    ensures is { (a : Apic) (nmi : Bool)
+        → left cpu.new a (memory mem.new) nmi result ≡ system_call cpu.old a
+        (memory mem.old) nmi next }
     ensures regions { (memory mem.new).regions ≡ (memory mem.old).regions }
 {
     let event = software(EventType::Other, 1, 2);
@@ -40,7 +42,8 @@ fn system_call(cpu: &mut Cpu, mem: &mut Mem, next: u64) -> Stepped
 pub fn special(cpu: &mut Cpu, apic: &mut Apic, mem: &mut Mem, i: &Ins, next: u64) -> Stepped
     requires canonical { is_canonical next ≡ true }
     requires entries { HasEntries cpu.old (memory mem.old) }
-    ensures is { (nmi : Bool) → left cpu.new apic.new (memory mem.new) nmi result ≡ special cpu.old apic.old (memory mem.old) nmi next i.now }
+    ensures is { (nmi : Bool) → left cpu.new apic.new (memory mem.new) nmi result
+        ≡ special cpu.old apic.old (memory mem.old) nmi next i.now }
     ensures regions { (memory mem.new).regions ≡ (memory mem.old).regions }
 {
     match *i {

@@ -62,10 +62,19 @@ module _ (mode : Mode) (image : Image) (given : IsImage image) (built : IsBuilt 
   spells : AreSpelled (kernel_cells mode image)
   spells = plain_are_spelled is_built_item log_or_ret is_built_body body_parts mode image given built.bodies
 
-  ret : (n i : ℕ) (b : Body) → slice_get image.bodies n ≡ Some b → item_at (Some b) i ≡ Some Ret → RetCell (code_table mode image) (item_address mode n b i) (other_exit mode)
+  ret : (n i : ℕ) (b : Body) → slice_get image.bodies n ≡ Some b → item_at (Some b) i ≡ Some Ret
+      → RetCell (code_table mode image) (item_address mode n b i) (other_exit mode)
   ret n i b h k =
       let r : RetCell (code_table mode image) (item_address mode n b i) (exit_address mode b.key) = whole.ret_stands mode image given built n i b h k in
-      record { cell = r.cell; distance = r.distance; is = r.is; jump = r.jump; unmarked = r.unmarked; leads = r.leads ∙ whole.exit_of_others mode b.key (not_nmi image.bodies n b built.keys h) }
+      record {
+        cell = r.cell;
+        distance = r.distance;
+        is = r.is;
+        jump = r.jump;
+        unmarked = r.unmarked;
+        leads =
+            r.leads ∙ whole.exit_of_others mode b.key (not_nmi image.bodies n b built.keys h);
+      }
 
   pub facts : Facts mode image
   facts = record {

@@ -36,9 +36,11 @@ pub record Facts (mode : Mode) (image : Image) : Type 0 where
   pub spaced : Spaced (code_table mode image)
   pub log_cell : (n i s : ℕ) (b : Body) → slice_get image.bodies n ≡ Some b → item_at (Some b) i ≡ Some (Log s)
       → code_table mode image (item_address mode n b i) ≡ Some (record { ins = GsStore (pos 0x28) s; next = item_address mode n b (suc i); mark = true })
-  pub ret_cell : (n i : ℕ) (b : Body) → slice_get image.bodies n ≡ Some b → item_at (Some b) i ≡ Some Ret → RetCell (code_table mode image) (item_address mode n b i) (other_exit mode)
+  pub ret_cell : (n i : ℕ) (b : Body) → slice_get image.bodies n ≡ Some b → item_at (Some b) i ≡ Some Ret
+      → RetCell (code_table mode image) (item_address mode n b i) (other_exit mode)
   pub first_item : (n : ℕ) (b : Body) → item_address mode n b 0 ≡ body_code n
-  pub item_small : (n i : ℕ) (b : Body) → slice_get image.bodies n ≡ Some b → (is_canonical (item_address mode n b i) ≡ true) × (item_address mode n b i + 16 < 2 ^ 64)
+  pub item_small : (n i : ℕ) (b : Body) → slice_get image.bodies n ≡ Some b → (is_canonical (item_address mode n b i) ≡ true)
+      × (item_address mode n b i + 16 < 2 ^ 64)
   pub unmarked : (a : ℕ) (x : Cell) → code_table mode image a ≡ Some x → x.mark ≡ false → mark_at (marks_of mode image) a ≡ Never
   pub marked : (a : ℕ) (x : Cell) → code_table mode image a ≡ Some x → x.mark ≡ true → mark_at (marks_of mode image) a ≡ Always
   pub fetches : (m : Memory) → m.regions ≡ regions image → HasFixed mode image m → Fetches (code_table mode image) m

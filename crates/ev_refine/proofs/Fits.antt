@@ -77,22 +77,33 @@ module _ (e : Env) (p n used : ℕ) (b : Bases e p n used) (hp : p < 32) (hn : n
   shared_located Idt = (in_area e 17 p 0x28 8 b.area hp (omega arith), tt)
 
   pub own_apart : (mode : Mode) → agrees.Apart e (ground_of mode).known (ground_of mode).own
-  own_apart Fred = sep e (ground_of Fred).known (ground_of Fred).own (known_spans Fred p n used) (own_spans Fred p n used) (known_located Fred) (own_located Fred) ((tt, tt), ((tt, tt), ((tt, tt), tt)))
-  own_apart Idt = sep e (ground_of Idt).known (ground_of Idt).own (known_spans Idt p n used) (own_spans Idt p n used) (known_located Idt) (own_located Idt) ((tt, (tt, tt)), ((tt, (tt, tt)), ((tt, (tt, tt)), tt)))
+  own_apart Fred = sep e (ground_of Fred).known (ground_of Fred).own (known_spans Fred p n used) (own_spans Fred p n used) (known_located Fred)
+      (own_located Fred) ((tt, tt), ((tt, tt), ((tt, tt), tt)))
+  own_apart Idt = sep e (ground_of Idt).known (ground_of Idt).own (known_spans Idt p n used) (own_spans Idt p n used) (known_located Idt) (own_located Idt)
+      ((tt, (tt, tt)), ((tt, (tt, tt)), ((tt, (tt, tt)), tt)))
 
   pub port_apart : (mode : Mode) → Far e (ground_of mode).known e (ground_of mode).shared
-  port_apart Fred = far e e (ground_of Fred).known (ground_of Fred).shared (known_spans Fred p n used) (area_span p 0x28 8 ∷ []) (known_located Fred) (shared_located Fred) ((tt, tt), ((tt, tt), ((tt, tt), tt)))
-  port_apart Idt = far e e (ground_of Idt).known (ground_of Idt).shared (known_spans Idt p n used) (area_span p 0x28 8 ∷ []) (known_located Idt) (shared_located Idt) ((tt, tt), ((tt, tt), ((tt, tt), tt)))
+  port_apart Fred = far e e (ground_of Fred).known (ground_of Fred).shared (known_spans Fred p n used) (area_span p 0x28 8 ∷ []) (known_located Fred)
+      (shared_located Fred) ((tt, tt), ((tt, tt), ((tt, tt), tt)))
+  port_apart Idt = far e e (ground_of Idt).known (ground_of Idt).shared (known_spans Idt p n used) (area_span p 0x28 8 ∷ []) (known_located Idt)
+      (shared_located Idt) ((tt, tt), ((tt, tt), ((tt, tt), tt)))
 
-  code_located : (len : ℕ) → len ≤ 0x6000 → AllLocated e (win_at 1000 0xffffffff81000000 len ∷ []) (record { part = Codes; p = 0; n = 0; lo = 0; len = len } ∷ [])
-  code_located len h = (in_code e 1000 0xffffffff81000000 len 0xffffffff81000000 (let z : e.base 1000 + 0xffffffff81000000 ≡ 0xffffffff81000000 = by_zero (e.base 1000) b.zero_base in z) (omega arith) (omega arith) (omega arith) (omega arith), tt)
+  code_located : (len : ℕ) → len ≤ 0x6000
+      → AllLocated e (win_at 1000 0xffffffff81000000 len ∷ []) (record { part = Codes; p = 0; n = 0; lo = 0; len = len } ∷ [])
+  code_located len h = (
+    in_code e 1000 0xffffffff81000000 len 0xffffffff81000000 (let z : e.base 1000 + 0xffffffff81000000 ≡ 0xffffffff81000000 =
+        by_zero (e.base 1000) b.zero_base in z) (omega arith) (omega arith) (omega arith) (omega arith),
+    tt,
+  )
     where
       by_zero : (z : ℕ) → z ≡ 0 → z + 0xffffffff81000000 ≡ 0xffffffff81000000
       by_zero z h = omega arith
 
   pub code_canonical : (mode : Mode) (l : Loc) → in_text (ground_of mode).text l ≡ true → is_canonical (addr e l) ≡ true
-  code_canonical Fred l h = text_ok e (ground_of Fred).text (record { part = Codes; p = 0; n = 0; lo = 0; len = 0x1000 } ∷ []) (code_located 0x1000 (omega arith)) l h
-  code_canonical Idt l h = text_ok e (ground_of Idt).text (record { part = Codes; p = 0; n = 0; lo = 0; len = 0x6000 } ∷ []) (code_located 0x6000 (omega arith)) l h
+  code_canonical Fred l h = text_ok e (ground_of Fred).text (record { part = Codes; p = 0; n = 0; lo = 0; len = 0x1000 } ∷ [])
+      (code_located 0x1000 (omega arith)) l h
+  code_canonical Idt l h = text_ok e (ground_of Idt).text (record { part = Codes; p = 0; n = 0; lo = 0; len = 0x6000 } ∷ [])
+      (code_located 0x6000 (omega arith)) l h
 
   pub grounded : (mode : Mode) → is_user e.rest ≡ false → has_fred e.rest ≡ is_fred mode → Grounded e (ground_of mode)
   grounded mode hk hf = record {
@@ -127,39 +138,55 @@ module _ (e : Env) (p n used : ℕ) (b : Bases e p n used) (hp : p < 32) (hn : n
   deeper : (a : ℕ) → InSpan (stack_span p n used 0xb0) a → InSpan (stack_span p n used 0xc0) a
   deeper a s = let from = s.from in let to = s.to in record { from = omega arith; to = omega arith }
 
-  pub own_in : (mode : Mode) (l : Loc) → in_win (ground_of mode).own l ≡ true → InSpan (stack_span p n used 0xc0) (addr e l) ⊎ InSpan (area_span p 8 8) (addr e l)
-  own_in Fred l i = ⊎_elim (λ (y : InWord _ l). inl (located_in e _ (stack_span p n used 0xc0) l (own_located Fred).0 y.place)) (λ z. absurd (cc)) (cases _ [] l i)
+  pub own_in : (mode : Mode) (l : Loc) → in_win (ground_of mode).own l ≡ true → InSpan (stack_span p n used 0xc0) (addr e l)
+      ⊎ InSpan (area_span p 8 8) (addr e l)
+  own_in Fred l i = ⊎_elim (λ (y : InWord _ l). inl (located_in e _ (stack_span p n used 0xc0) l (own_located Fred).0 y.place)) (λ z. absurd (cc))
+      (cases _ [] l i)
   own_in Idt l i =
       ⊎_elim (λ (y : InWord _ l). inl (deeper (addr e l) (located_in e _ (stack_span p n used 0xb0) l (own_located Idt).0 y.place)))
-      (λ z. ⊎_elim (λ (y : InWord _ l). inr (located_in e _ (area_span p 8 8) l (own_located Idt).1.0 y.place)) (λ t. absurd (cc)) (cases _ [] l z)) (cases _ (rsp_window ∷ []) l i)
+      (λ z. ⊎_elim (λ (y : InWord _ l). inr (located_in e _ (area_span p 8 8) l (own_located Idt).1.0 y.place)) (λ t. absurd (cc)) (cases _ [] l z))
+      (cases _ (rsp_window ∷ []) l i)
 
   pub port_in : (mode : Mode) (l : Loc) → in_win (ground_of mode).shared l ≡ true → InSpan (area_span p 0x28 8) (addr e l)
   port_in Fred l i = ⊎_elim (λ (y : InWord _ l). located_in e _ (area_span p 0x28 8) l (shared_located Fred).0 y.place) (λ z. absurd (cc)) (cases _ [] l i)
   port_in Idt l i = ⊎_elim (λ (y : InWord _ l). located_in e _ (area_span p 0x28 8) l (shared_located Idt).0 y.place) (λ z. absurd (cc)) (cases _ [] l i)
 
   -- a word that stands at none of these is left alone
-  pub left_alone : (mode : Mode) (m m' : NatMap ℕ) → Within e (ground_of mode).own (ground_of mode).shared m m' → (a : ℕ) → Misses (stack_span p n used 0xc0) a → Misses (area_span p 8 8) a → Misses (area_span p 0x28 8) a → m' a ≡ m a
+  pub left_alone : (mode : Mode) (m m' : NatMap ℕ) → Within e (ground_of mode).own (ground_of mode).shared m m' → (a : ℕ)
+      → Misses (stack_span p n used 0xc0) a → Misses (area_span p 8 8) a → Misses (area_span p 0x28 8) a → m' a ≡ m a
   left_alone mode m m' w a h j k =
       w a
-      (λ l i q. ⊎_elim (λ (s : InSpan (stack_span p n used 0xc0) (addr e l)). misses (stack_span p n used 0xc0) a h (subst (InSpan (stack_span p n used 0xc0)) (sym q) s)) (λ (s : InSpan (area_span p 8 8) (addr e l)). misses (area_span p 8 8) a j (subst (InSpan (area_span p 8 8)) (sym q) s)) (own_in mode l i))
+      (λ l i q. ⊎_elim (λ (s : InSpan (stack_span p n used 0xc0) (addr e l)). misses (stack_span p n used 0xc0) a h
+      (subst (InSpan (stack_span p n used 0xc0)) (sym q) s))
+      (λ (s : InSpan (area_span p 8 8) (addr e l)). misses (area_span p 8 8) a j (subst (InSpan (area_span p 8 8)) (sym q) s)) (own_in mode l i))
       (λ l i q. misses (area_span p 0x28 8) a k (subst (InSpan (area_span p 0x28 8)) (sym q) (port_in mode l i)))
 
 -- and the kernel reads and writes these windows, by the regions of the opening
-module _ (image : Image) (e : Env) (p n used : ℕ) (b : Bases e p n used) (hp : p < 32) (hi : p < image.processors) (hn : n < 7) (hu : used + 0xc0 ≤ 0x2000) (ha : used % 8 ≡ 0) where
+module _ (image : Image) (e : Env) (p n used : ℕ) (b : Bases e p n used) (hp : p < 32) (hi : p < image.processors) (hn : n < 7) (hu : used + 0xc0 ≤ 0x2000)
+    (ha : used % 8 ≡ 0) where
   pub known_open : (mode : Mode) → Open e (ground_of mode).known (regions image)
-  known_open Fred = open_ok e (regions image) (ground_of Fred).known (known_spans Fred p n used) (known_located e p n used b hp hn (omega arith) Fred) (ap (λ t. t && true) (eq-eqb ((0x4000 - used - 0xc0) % 8) 0 (omega arith)))
-      (stack_covered image p n (0x4000 - used - 0xc0) 0xc0 hi hn (omega arith) (omega arith), (area_covered image p 0x20 8 hi (omega arith), (user_table_covered image 0 0x808 (omega arith), tt)))
-  known_open Idt = open_ok e (regions image) (ground_of Idt).known (known_spans Idt p n used) (known_located e p n used b hp hn (omega arith) Idt) (ap (λ t. t && true) (eq-eqb ((0x4000 - used - 0xb0) % 8) 0 (omega arith)))
-      (stack_covered image p n (0x4000 - used - 0xb0) 0xb0 hi hn (omega arith) (omega arith), (area_covered image p 8 0x20 hi (omega arith), (user_table_covered image 0 0x808 (omega arith), tt)))
+  known_open Fred = open_ok e (regions image) (ground_of Fred).known (known_spans Fred p n used) (known_located e p n used b hp hn (omega arith) Fred)
+      (ap (λ t. t && true) (eq-eqb ((0x4000 - used - 0xc0) % 8) 0 (omega arith))) (
+        stack_covered image p n (0x4000 - used - 0xc0) 0xc0 hi hn (omega arith) (omega arith),
+        (area_covered image p 0x20 8 hi (omega arith), (user_table_covered image 0 0x808 (omega arith), tt)),
+      )
+  known_open Idt = open_ok e (regions image) (ground_of Idt).known (known_spans Idt p n used) (known_located e p n used b hp hn (omega arith) Idt)
+      (ap (λ t. t && true) (eq-eqb ((0x4000 - used - 0xb0) % 8) 0 (omega arith))) (
+        stack_covered image p n (0x4000 - used - 0xb0) 0xb0 hi hn (omega arith) (omega arith),
+        (area_covered image p 8 0x20 hi (omega arith), (user_table_covered image 0 0x808 (omega arith), tt)),
+      )
 
   pub shared_open : (mode : Mode) → Open e (ground_of mode).shared (regions image)
-  shared_open Fred = open_ok e (regions image) (ground_of Fred).shared (area_span p 0x28 8 ∷ []) (shared_located e p n used b hp hn (omega arith) Fred) refl (area_covered image p 0x28 8 hi (omega arith), tt)
-  shared_open Idt = open_ok e (regions image) (ground_of Idt).shared (area_span p 0x28 8 ∷ []) (shared_located e p n used b hp hn (omega arith) Idt) refl (area_covered image p 0x28 8 hi (omega arith), tt)
+  shared_open Fred = open_ok e (regions image) (ground_of Fred).shared (area_span p 0x28 8 ∷ []) (shared_located e p n used b hp hn (omega arith) Fred) refl
+      (area_covered image p 0x28 8 hi (omega arith), tt)
+  shared_open Idt = open_ok e (regions image) (ground_of Idt).shared (area_span p 0x28 8 ∷ []) (shared_located e p n used b hp hn (omega arith) Idt) refl
+      (area_covered image p 0x28 8 hi (omega arith), tt)
 
 -- ---- the activations of today
 
 -- the lines of a block are the kernel's, or none
-lines_stand : (mode : Mode) (image : Image) (spot : Spot) (e : Env) → agrees.Stands (code_table mode image) e (lines_of_mode mode) → agrees.Stands (code_table mode image) e (block_of mode SystemCall spot).lines
+lines_stand : (mode : Mode) (image : Image) (spot : Spot) (e : Env) → agrees.Stands (code_table mode image) e (lines_of_mode mode)
+    → agrees.Stands (code_table mode image) e (block_of mode SystemCall spot).lines
 lines_stand Fred image AtEntry e h = h
 lines_stand Fred image AtItem e h = tt
 lines_stand Fred image AtExit e h = h
@@ -168,29 +195,37 @@ lines_stand Idt image AtItem e h = tt
 lines_stand Idt image AtExit e h = h
 
 module _ (mode : Mode) (image : Image) (facts : Facts mode image) (p : ℕ) (hp : p < 32) (hi : p < image.processors) where
-  pub bases_at : (w : Processor) (b : BodyContext) (v : ℕ → ℕ) (f : Flags) → top_of mode image SystemCall w ≡ stack_top p 0 → Bases (here mode image p SystemCall w b v f) p 0 0
+  pub bases_at : (w : Processor) (b : BodyContext) (v : ℕ → ℕ) (f : Flags) → top_of mode image SystemCall w ≡ stack_top p 0
+      → Bases (here mode image p SystemCall w b v f) p 0 0
   bases_at w b v f ht = record { top = plus_zero _ ∙ ht; area = refl; zero_base = refl }
     where
       plus_zero : (x : ℕ) → x + 0 ≡ x
       plus_zero x = omega arith
 
-  pub fits_at : (spot : Spot) (w : Processor) (b : BodyContext) (v : ℕ → ℕ) (f : Flags) → top_of mode image SystemCall w ≡ stack_top p 0 → is_user (rest_in mode image SystemCall w) ≡ false → has_fred (rest_in mode image SystemCall w) ≡ is_fred mode
+  pub fits_at : (spot : Spot) (w : Processor) (b : BodyContext) (v : ℕ → ℕ) (f : Flags) → top_of mode image SystemCall w ≡ stack_top p 0
+      → is_user (rest_in mode image SystemCall w) ≡ false → has_fred (rest_in mode image SystemCall w) ≡ is_fred mode
       → Fits (code_table mode image) (here mode image p SystemCall w b v f) (block_of mode SystemCall spot)
   fits_at spot w b v f ht hk hf = record {
-    ground = subst (Grounded (here mode image p SystemCall w b v f)) (sym (ground_is mode spot)) (grounded _ p 0 0 (bases_at w b v f ht) hp (omega arith) (omega arith) mode hk hf);
+    ground = subst (Grounded (here mode image p SystemCall w b v f)) (sym (ground_is mode spot))
+        (grounded _ p 0 0 (bases_at w b v f ht) hp (omega arith) (omega arith) mode hk hf);
     spaced = facts.spaced;
     stands = lines_stand mode image spot (here mode image p SystemCall w b v f) (facts.stands (here mode image p SystemCall w b v f) refl);
   }
 
-  pub opens_at : (w : Processor) (b : BodyContext) (v : ℕ → ℕ) (f : Flags) (m : Memory) → m.regions ≡ regions image → top_of mode image SystemCall w ≡ stack_top p 0
-      → Open (here mode image p SystemCall w b v f) (ground_of mode).known m.regions × Open (here mode image p SystemCall w b v f) (ground_of mode).shared m.regions
+  pub opens_at : (w : Processor) (b : BodyContext) (v : ℕ → ℕ) (f : Flags) (m : Memory) → m.regions ≡ regions image
+      → top_of mode image SystemCall w ≡ stack_top p 0
+      → Open (here mode image p SystemCall w b v f) (ground_of mode).known m.regions × Open (here mode image p SystemCall w b v f)
+      (ground_of mode).shared m.regions
   opens_at w b v f m hr ht =
       let e : Env = here mode image p SystemCall w b v f in
-      let bs : Bases e p 0 0 = bases_at w b v f ht in
-      (subst (Open e (ground_of mode).known) (sym hr) (known_open image e p 0 0 bs hp hi (omega arith) (omega arith) (omega arith) mode), subst (Open e (ground_of mode).shared) (sym hr) (shared_open image e p 0 0 bs hp hi (omega arith) (omega arith) (omega arith) mode))
+      let bs : Bases e p 0 0 = bases_at w b v f ht in (
+        subst (Open e (ground_of mode).known) (sym hr) (known_open image e p 0 0 bs hp hi (omega arith) (omega arith) (omega arith) mode),
+        subst (Open e (ground_of mode).shared) (sym hr) (shared_open image e p 0 0 bs hp hi (omega arith) (omega arith) (omega arith) mode),
+      )
 
   -- what an activation writes leaves the words that nothing writes, the mark and the running task's
-  module _ (w : Processor) (b : BodyContext) (v : ℕ → ℕ) (f : Flags) (ht : top_of mode image SystemCall w ≡ stack_top p 0) (m m' : NatMap ℕ) (wrote : Within (here mode image p SystemCall w b v f) (ground_of mode).own (ground_of mode).shared m m') where
+  module _ (w : Processor) (b : BodyContext) (v : ℕ → ℕ) (f : Flags) (ht : top_of mode image SystemCall w ≡ stack_top p 0) (m m' : NatMap ℕ)
+      (wrote : Within (here mode image p SystemCall w b v f) (ground_of mode).own (ground_of mode).shared m m') where
     alone : (a : ℕ) → Misses (stack_span p 0 0 0xc0) a → Misses (area_span p 8 8) a → Misses (area_span p 0x28 8) a → m' a ≡ m a
     alone a h j k = left_alone _ p 0 0 (bases_at w b v f ht) hp (omega arith) (omega arith) mode m m' wrote a h j k
 

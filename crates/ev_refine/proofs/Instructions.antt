@@ -26,8 +26,10 @@ not_return G Eretu l s t h = absurd (cc)
 not_return G Erets l s t h = absurd (cc)
 not_return G _ l s t h = refl
 
-pub stays_inside : (code : Code) (b : Block) (k : ℕ) (e : Env) (c : Processor) (m : Memory) → At code b k e c m → (t : SS) → brun b (suc k) ≡ Some t → (i : Ins) (next : ℕ) → code c.rip ≡ Some (edge_cell i next) → is_return (Some i) ≡ false
-stays_inside code b k e c m at t h i next hc = go (line_at at.state.rip b.lines) (line_ok code e at.state.rip b.lines at.fits.stands) (ap (bnext b) (sym at.is) ∙ h)
+pub stays_inside : (code : Code) (b : Block) (k : ℕ) (e : Env) (c : Processor) (m : Memory) → At code b k e c m → (t : SS) → brun b (suc k) ≡ Some t
+    → (i : Ins) (next : ℕ) → code c.rip ≡ Some (edge_cell i next) → is_return (Some i) ≡ false
+stays_inside code b k e c m at t h i next hc = go (line_at at.state.rip b.lines) (line_ok code e at.state.rip b.lines at.fits.stands)
+    (ap (bnext b) (sym at.is) ∙ h)
   where
     go : (o : Option Line) → LineOk code e at.state.rip o → bstep b o at.state ≡ Some t → is_return (Some i) ≡ false
     go None q r = absurd (cc)
@@ -42,10 +44,12 @@ jumped c a = with_effect (completed c) (record (task_of c) { rip = a })
 abbrev jump_if : Processor → ℕ → NatMap ℕ → ℕ → Bool → Executed
 jump_if c next words a b = changed c ((if b then Ok (record (sound.task c next) { rip = a }) else Err (gp 0)) >>= (λ t. Ok (t, words)))
 
-pub jump_by_register : (c : Processor) (m : Memory) (r next : ℕ) → is_canonical (get_or c.regs r 0) ≡ true → exec c m (JmpReg r) next ≡ Done (jumped c (get_or c.regs r 0)) m.words
+pub jump_by_register : (c : Processor) (m : Memory) (r next : ℕ) → is_canonical (get_or c.regs r 0) ≡ true
+    → exec c m (JmpReg r) next ≡ Done (jumped c (get_or c.regs r 0)) m.words
 unfolding exec effect
 jump_by_register c m r next h = ap (jump_if c next m.words (get_or c.regs r 0)) h
 
-pub jump : (c : Processor) (m : Memory) (d : ℤ) (next : ℕ) → is_canonical (displaced next d) ≡ true → exec c m (Jmp d) next ≡ Done (jumped c (displaced next d)) m.words
+pub jump : (c : Processor) (m : Memory) (d : ℤ) (next : ℕ) → is_canonical (displaced next d) ≡ true
+    → exec c m (Jmp d) next ≡ Done (jumped c (displaced next d)) m.words
 unfolding exec effect
 jump c m d next h = ap (jump_if c next m.words (displaced next d)) h

@@ -26,7 +26,8 @@ all_at t (y ∷ ys) zero x h k = ap t (let e : x ≡ y = cc in e) ∙ and_left (
 all_at t (y ∷ ys) (suc i) x h k = all_at t ys i x (and_right (t y) _ h) k
 
 -- the item behind one that doesn't end the body
-pub next_there : (items : List Item) (i : ℕ) (x : Item) → ends_with is_ret items ≡ true → slice_get items i ≡ Some x → is_ret x ≡ false → (y : Item) × (slice_get items (suc i) ≡ Some y)
+pub next_there : (items : List Item) (i : ℕ) (x : Item) → ends_with is_ret items ≡ true → slice_get items i ≡ Some x → is_ret x ≡ false
+    → (y : Item) × (slice_get items (suc i) ≡ Some y)
 unfolding ends_with
 next_there [] i x h k n = absurd (cc)
 next_there (a ∷ []) zero x h k n = let e : x ≡ a = cc in let f : true ≡ false = sym h ∙ ap is_ret (sym e) ∙ n in absurd (cc)
@@ -68,14 +69,17 @@ module _ (image : Image) (built : IsBuilt image) (good : IsImage image) (n : ℕ
   items_are = main_items b (and_left (has_no_parts b.parts) _ (and_right _ _ built_body))
 
   parsed : (ends_with is_ret b.items ≡ true) × (list_all (has_operands (length image.text) 0 (length b.items)) b.items ≡ true)
-  parsed = both_of (is_key b.key) (not (is_user_only b.key) || is_user_side b.side) (ends_with is_ret b.items) (list_all (has_operands (length image.text) 0 (length b.items)) b.items) (has_no_parts b.parts || (key_number b.key == 0xfb)) (are_parts (length image.text) (length b.items) b.parts) (nat_le (length (body_items b)) 256)
+  parsed = both_of (is_key b.key) (not (is_user_only b.key) || is_user_side b.side) (ends_with is_ret b.items)
+      (list_all (has_operands (length image.text) 0 (length b.items)) b.items) (has_no_parts b.parts || (key_number b.key == 0xfb))
+      (are_parts (length image.text) (length b.items) b.parts) (nat_le (length (body_items b)) 256)
       (all_at (is_body (length image.text)) image.bodies n b good.bodies_given.1 hb)
 
   pub which : (i : ℕ) (x : Item) → item_at (Some b) i ≡ Some x → Today x
   unfolding is_built_item has_operands
   which i x h =
       let there : slice_get b.items i ≡ Some x = ap (λ xs. slice_get xs i) (sym items_are) ∙ h in
-      pick x (all_at is_built_item b.items i x (and_right (has_no_parts b.parts) _ (and_right _ _ built_body)) there) (all_at (has_operands (length image.text) 0 (length b.items)) b.items i x parsed.1 there)
+      pick x (all_at is_built_item b.items i x (and_right (has_no_parts b.parts) _ (and_right _ _ built_body)) there)
+      (all_at (has_operands (length image.text) 0 (length b.items)) b.items i x parsed.1 there)
     where
       pick : (y : Item) → is_built_item y ≡ true → has_operands (length image.text) 0 (length b.items) y ≡ true → Today y
       pick (Log s) h k = IsLog s refl (leb-true 6 s (and_left (nat_le 6 s) _ k)) (ltb-true s 14 (and_right (nat_le 6 s) _ k))
@@ -107,10 +111,12 @@ from_six P a b c d e f g i (suc (suc (suc (suc (suc (suc (suc (suc (suc (suc (su
 from_six P a b c d e f g i (suc (suc (suc (suc (suc (suc (suc (suc (suc (suc (suc (suc (suc zero))))))))))))) h k = i
 from_six P a b c d e f g i (suc (suc (suc (suc (suc (suc (suc (suc (suc (suc (suc (suc (suc (suc n)))))))))))))) h k = absurd (omega arith)
 
-pub local_is : (e : Env) (rsp : V) (regs locals : List ℕ) → regs ≡ map (eval e) (all_regs rsp) → locals ≡ e.var 6 ∷ e.var 7 ∷ e.var 8 ∷ e.var 9 ∷ e.var 10 ∷ e.var 11 ∷ e.var 12 ∷ e.var 13 ∷ []
+pub local_is : (e : Env) (rsp : V) (regs locals : List ℕ) → regs ≡ map (eval e) (all_regs rsp)
+    → locals ≡ e.var 6 ∷ e.var 7 ∷ e.var 8 ∷ e.var 9 ∷ e.var 10 ∷ e.var 11 ∷ e.var 12 ∷ e.var 13 ∷ []
     → (s : ℕ) → 6 ≤ s → s < 14 → get_or regs s 0 ≡ get_or locals (s - 6) 0
 unfolding eval
 local_is e rsp regs locals h k s lo hi =
     let r = λ (n : ℕ). ap (λ (xs : List ℕ). get_or xs n 0) h in
     let l = λ (n : ℕ). sym (ap (λ (xs : List ℕ). get_or xs n 0) k) in
-    from_six (λ n. get_or regs n 0 ≡ get_or locals (n - 6) 0) (r 6 ∙ l 0) (r 7 ∙ l 1) (r 8 ∙ l 2) (r 9 ∙ l 3) (r 10 ∙ l 4) (r 11 ∙ l 5) (r 12 ∙ l 6) (r 13 ∙ l 7) s lo hi
+    from_six (λ n. get_or regs n 0 ≡ get_or locals (n - 6) 0) (r 6 ∙ l 0) (r 7 ∙ l 1) (r 8 ∙ l 2) (r 9 ∙ l 3) (r 10 ∙ l 4) (r 11 ∙ l 5) (r 12 ∙ l 6)
+    (r 13 ∙ l 7) s lo hi

@@ -120,11 +120,13 @@ module _ (mode : Mode) (image : Image) (built : IsBuilt image) (good : IsImage i
     block spot = block_of mode SystemCall spot
 
     -- the blocks' ground
-    grounded_in : (spot : Spot) (e : Env) (z : SS) (cpu : Processor) (mem : Memory) → Agrees e (block spot).ground z cpu mem → Agrees e (ground_of mode) z cpu mem
+    grounded_in : (spot : Spot) (e : Env) (z : SS) (cpu : Processor) (mem : Memory) → Agrees e (block spot).ground z cpu mem
+        → Agrees e (ground_of mode) z cpu mem
     grounded_in spot e z cpu mem a = subst (λ g. Agrees e g z cpu mem) (ground_is mode spot) a
 
     -- an activation at the opening of a block
-    opened : (spot : Spot) (b' : BodyContext) (v : ℕ → ℕ) (f : Flags) (cpu : Processor) (mem : Memory) → Agrees (env b' v f) (ground_of mode) (block spot).opening cpu mem → At code (block spot) 0 (env b' v f) cpu mem
+    opened : (spot : Spot) (b' : BodyContext) (v : ℕ → ℕ) (f : Flags) (cpu : Processor) (mem : Memory)
+        → Agrees (env b' v f) (ground_of mode) (block spot).opening cpu mem → At code (block spot) 0 (env b' v f) cpu mem
     opened spot b' v f cpu mem a = record {
       fits = fits_at mode image facts p small hp spot w b' v f top refl fred;
       state = (block spot).opening;
@@ -141,15 +143,21 @@ module _ (mode : Mode) (image : Image) (built : IsBuilt image) (good : IsImage i
     edge v f cell hc hm hr hu cpu words he hb wrote now fewer act =
         let run : Runs s p cpu words = runs cell hc hu cpu words he in
         let few : left p ≤ most_edges mode image = on.few in
-        let chain : Chain mode image p now x.running (task x) x.bodies cpu (with_words s.memory words) = subst (λ bs. Chain mode image p now x.running (task x) bs cpu (with_words s.memory words)) (sym bodies) (w, SystemCall, refl, ctx, λ a. with_cr2 mode image p x.running (task x) w a r, act) in
-        let there : StandsOn mode image p now (after_ran s p cpu words) x = stands_on_after mode image built p (left p) now s x cpu words x.bodies on (omega arith) (leaves_mark mode image facts p small hp w b v f top s.memory.words words wrote) (leaves_top mode image facts p small hp w b v f top s.memory.words words wrote) (leaves_task mode image facts p small hp w b v f top s.memory.words words wrote)
+        let chain : Chain mode image p now x.running (task x) x.bodies cpu (with_words s.memory words) =
+        subst (λ bs. Chain mode image p now x.running (task x) bs cpu (with_words s.memory words)) (sym bodies)
+        (w, SystemCall, refl, ctx, λ a. with_cr2 mode image p x.running (task x) w a r, act) in
+        let there : StandsOn mode image p now (after_ran s p cpu words) x = stands_on_after mode image built p (left p) now s x cpu words x.bodies on
+        (omega arith) (leaves_mark mode image facts p small hp w b v f top s.memory.words words wrote)
+        (leaves_top mode image facts p small hp w b v f top s.memory.words words wrote)
+        (leaves_task mode image facts p small hp w b v f top s.memory.words words wrote)
         (ap length (ran_stays s p cpu cell.ins (fetches c.rip cell hc).1 hr) ∙ on.depth) hb chain in (
           inl (record {
             hidden = hidden (marks_of mode image) s p first hu (facts.unmarked c.rip cell hc hm);
             now_left = now;
             fewer = fewer;
             stands = subst (λ z. Stands mode image (put_at left p now) z.0 m) (sym (ran_step image.processors s p cpu words run))
-                (stands_after mode image built left s m m p now cpu words h hp (leaves_fixed mode image facts p small hp w b v f top s.memory.words words wrote) refl refl there);
+                (stands_after mode image built left s m m p now cpu words h hp
+                (leaves_fixed mode image facts p small hp w b v f top s.memory.words words wrote) refl refl there);
           }),
           ran_safe mode image s p cpu words run,
         )
@@ -159,13 +167,22 @@ module _ (mode : Mode) (image : Image) (built : IsBuilt image) (good : IsImage i
         → Within (env b v f) (ground_of mode).own (ground_of mode).shared s.memory.words words
         → (bs : List BodyContext) → length (activations_by s p (s.activations p) cpu Stepped.Ran) ≡ length bs
         → (now : ℕ) → now ≤ most_edges mode image → Chain mode image p now x.running (task x) bs cpu (with_words s.memory words)
-        → (es : List Entry) → shown_always p (length (s.activations p)) c s.memory.words (Some cell.ins) ≡ es → turn image m p ≡ (with_processor m p (record x { bodies = bs }), es) → Result
+        → (es : List Entry) → shown_always p (length (s.activations p)) c s.memory.words (Some cell.ins) ≡ es
+        → turn image m p ≡ (with_processor m p (record x { bodies = bs }), es) → Result
     visible v f cell hc hm hu cpu words he hb wrote bs depth now few chain es hes ht =
         let run : Runs s p cpu words = runs cell hc hu cpu words he in
-        let there : StandsOn mode image p now (after_ran s p cpu words) (record x { bodies = bs }) = stands_on_after mode image built p (left p) now s x cpu words bs on few (leaves_mark mode image facts p small hp w b v f top s.memory.words words wrote) (leaves_top mode image facts p small hp w b v f top s.memory.words words wrote) (leaves_task mode image facts p small hp w b v f top s.memory.words words wrote) depth hb chain in
-        let placed : StandsOn mode image p now (after_ran s p cpu words) (put_at m.processors p (record x { bodies = bs }) p) = subst (StandsOn mode image p now (after_ran s p cpu words)) (sym (at_same m.processors p p (record x { bodies = bs }) refl)) there in
-        let all : Stands mode image (put_at left p now) (after_ran s p cpu words) (with_processor m p (record x { bodies = bs })) = stands_after mode image built left s m (with_processor m p (record x { bodies = bs })) p now cpu words h hp (leaves_fixed mode image facts p small hp w b v f top s.memory.words words wrote) refl refl placed in
-        let turned : Stands mode image (put_at left p now) (after_ran s p cpu words) (turn image m p).0 = subst (λ z. Stands mode image (put_at left p now) (after_ran s p cpu words) z.0) (sym ht) all in (
+        let there : StandsOn mode image p now (after_ran s p cpu words) (record x { bodies = bs }) =
+        stands_on_after mode image built p (left p) now s x cpu words bs on few
+        (leaves_mark mode image facts p small hp w b v f top s.memory.words words wrote)
+        (leaves_top mode image facts p small hp w b v f top s.memory.words words wrote)
+        (leaves_task mode image facts p small hp w b v f top s.memory.words words wrote) depth hb chain in
+        let placed : StandsOn mode image p now (after_ran s p cpu words) (put_at m.processors p (record x { bodies = bs }) p) =
+        subst (StandsOn mode image p now (after_ran s p cpu words)) (sym (at_same m.processors p p (record x { bodies = bs }) refl)) there in
+        let all : Stands mode image (put_at left p now) (after_ran s p cpu words) (with_processor m p (record x { bodies = bs })) =
+        stands_after mode image built left s m (with_processor m p (record x { bodies = bs })) p now cpu words h hp
+        (leaves_fixed mode image facts p small hp w b v f top s.memory.words words wrote) refl refl placed in
+        let turned : Stands mode image (put_at left p now) (after_ran s p cpu words) (turn image m p).0 =
+        subst (λ z. Stands mode image (put_at left p now) (after_ran s p cpu words) z.0) (sym ht) all in (
           inr (record {
             seen = seen (marks_of mode image) s p first hu (facts.marked c.rip cell hc hm);
             now_left = now;
@@ -186,7 +203,8 @@ module _ (mode : Mode) (image : Image) (built : IsBuilt image) (good : IsImage i
         ∙ ap (λ z. if z then interrupt_or_next (greatest_below 256 (deliverable x)) else Choice.Next) ctx.interrupts)
         ∙ ap (next_step image m p) bodies ∙ ap (item_or_nothing image m p b) hi
 
-    log_turn : (q : ℕ) → item_at (slice_get image.bodies b.body) b.place ≡ Some (Log q) → turn image m p ≡ (with_processor m p (record x { bodies = onward b ∷ [] }), Entry.Log p (local b q) ∷ [])
+    log_turn : (q : ℕ) → item_at (slice_get image.bodies b.body) b.place ≡ Some (Log q)
+        → turn image m p ≡ (with_processor m p (record x { bodies = onward b ∷ [] }), Entry.Log p (local b q) ∷ [])
     unfolding item_step
     log_turn q hi = turns (Log q) hi ∙ ap (λ bs. (with_processor m p (record x { bodies = replace_last (onward b) bs }), Entry.Log p (local b q) ∷ [])) bodies
 
@@ -194,34 +212,44 @@ module _ (mode : Mode) (image : Image) (built : IsBuilt image) (good : IsImage i
     unfolding item_step
     ret_turn hi =
         turns Ret hi ∙ ap (λ bs. (with_processor m p (dropped image b x (below_last bs)), [])) bodies
-        ∙ ap (λ z. (with_processor m p (if z && not (is_nmi_body image b) then rescheduled (record x { bodies = [] }) else record x { bodies = [] }), [])) on.resched
+        ∙ ap (λ z. (with_processor m p (if z && not (is_nmi_body image b) then rescheduled (record x { bodies = [] }) else record x { bodies = [] }), []))
+        on.resched
 
     -- ---- inside a block
 
-    inside : (spot : Spot) (k : ℕ) (v : ℕ → ℕ) (f : Flags) → At code (block spot) k (env b v f) c s.memory → Means mode image SystemCall spot v w b → length c.regs ≡ 16 → edges_of mode spot k ≤ left p → k < (block spot).steps → Result
+    inside : (spot : Spot) (k : ℕ) (v : ℕ → ℕ) (f : Flags) → At code (block spot) k (env b v f) c s.memory → Means mode image SystemCall spot v w b
+        → length c.regs ≡ 16 → edges_of mode spot k ≤ left p → k < (block spot).steps → Result
     inside spot k v f at means long enough lt =
         let S : ℕ = (block spot).steps in
         let run = runs_to_end mode spot in
         let i : Inside code (block spot) (suc k) (env b v f) c s.memory = goes_on code (block spot) S (end_of mode spot) run k (env b v f) c s.memory at lt in
-        let next = earlier (block spot) (suc k) (S - suc k) (end_of mode spot) (ap (brun (block spot)) (let q : (S - suc k) + suc k ≡ S = omega arith in q) ∙ run) in
-        edge v f (edge_cell i.ins i.next) i.stands refl (stays_inside code (block spot) k (env b v f) c s.memory at next.0 next.1 i.ins i.next i.stands) (ap is_user at.agrees.rest) i.cpu i.words i.runs (i.blocking ∙ on.blocking)
-        (subst (λ g. Within (env b v f) g.own g.shared s.memory.words i.words) (ground_is mode spot) i.within) (edges_of mode spot (suc k)) (one_less mode spot k (left p) enough lt)
+        let next = earlier (block spot) (suc k) (S - suc k) (end_of mode spot) (ap (brun (block spot)) (let q : (S - suc k) + suc k ≡ S = omega arith in q)
+        ∙ run) in
+        edge v f (edge_cell i.ins i.next) i.stands refl (stays_inside code (block spot) k (env b v f) c s.memory at next.0 next.1 i.ins i.next i.stands)
+        (ap is_user at.agrees.rest) i.cpu i.words i.runs (i.blocking ∙ on.blocking)
+        (subst (λ g. Within (env b v f) g.own g.shared s.memory.words i.words) (ground_is mode spot) i.within) (edges_of mode spot (suc k))
+        (one_less mode spot k (left p) enough lt)
         (record { spot = spot; k = suc k; var = v; flags = f; within = lt; enough = omega arith; at = i.there; means = means; long = i.long ∙ long })
 
     -- ---- the entry's end: the jump to the body's first item
 
-    at_entry : (v : ℕ → ℕ) (f : Flags) → At code (block AtEntry) (block AtEntry).steps (env b v f) c s.memory → Means mode image SystemCall AtEntry v w b → length c.regs ≡ 16 → edges_of mode AtEntry (block AtEntry).steps ≤ left p
+    at_entry : (v : ℕ → ℕ) (f : Flags) → At code (block AtEntry) (block AtEntry).steps (env b v f) c s.memory → Means mode image SystemCall AtEntry v w b
+        → length c.regs ≡ 16 → edges_of mode AtEntry (block AtEntry).steps ≤ left p
         → (body : Body) → slice_get image.bodies b.body ≡ Some body → Result
     unfolding eval is_return
     at_entry v f at means long enough body is =
         let e : Env = env b v f in
-        let a : Agrees e (ground_of mode) (end_of mode AtEntry) c s.memory = grounded_in AtEntry e (end_of mode AtEntry) c s.memory (at_end code (block AtEntry) (block AtEntry).steps (end_of mode AtEntry) (runs_to_end mode AtEntry) e c s.memory at) in
+        let a : Agrees e (ground_of mode) (end_of mode AtEntry) c s.memory =
+        grounded_in AtEntry e (end_of mode AtEntry) c s.memory
+        (at_end code (block AtEntry) (block AtEntry).steps (end_of mode AtEntry) (runs_to_end mode AtEntry) e c s.memory at) in
         let hu : is_user c ≡ false = ap is_user a.rest in
         let io : OpensItem (block AtItem).opening = item_opening mode in
         let cell : Cell = edge_cell (JmpReg 0) (body_jump mode + 2) in
         let hc : code c.rip ≡ Some cell = ap code (a.rip ∙ entry_ends mode e refl) ∙ facts.body_jump_cell in
         let begun = begins_body image mode v w b means in
-        let rax : get_or c.regs 0 0 ≡ v 24 = reg_ok e (block AtEntry).ground at.fits.ground (end_of mode AtEntry) c s.memory (at_end code (block AtEntry) (block AtEntry).steps (end_of mode AtEntry) (runs_to_end mode AtEntry) e c s.memory at) 0 ∙ ap (eval e) (jumps_to_body mode) in
+        let rax : get_or c.regs 0 0 ≡ v 24 = reg_ok e (block AtEntry).ground at.fits.ground (end_of mode AtEntry) c s.memory
+        (at_end code (block AtEntry) (block AtEntry).steps (end_of mode AtEntry) (runs_to_end mode AtEntry) e c s.memory at) 0
+        ∙ ap (eval e) (jumps_to_body mode) in
         let first_is : item_address mode b.body body b.place ≡ body_code b.body = ap (item_address mode b.body body) begun.1 ∙ facts.first_item b.body body in
         let target : get_or c.regs 0 0 ≡ item_address mode b.body body b.place = rax ∙ begun.0 ∙ sym first_is in
         let fine = facts.item_small b.body b.place body is in
@@ -231,10 +259,13 @@ module _ (mode : Mode) (image : Image) (built : IsBuilt image) (good : IsImage i
         let g : Flags = flags_of c.flags in
         let u : Env = env_after e (values_of mode) g in
         let open_at = opens_at mode image facts p small hp w b u.var g s.memory h.regions_are top in
-        let agrees : Agrees u (ground_of mode) (block AtItem).opening cpu s.memory = joined e (values_of mode) (ground_of mode) (ground_of mode) (end_of mode AtEntry) c s.memory (block AtItem).opening a (opens_item mode) cpu g refl refl refl refl refl (sym io.blocked)
+        let agrees : Agrees u (ground_of mode) (block AtItem).opening cpu s.memory =
+        joined e (values_of mode) (ground_of mode) (ground_of mode) (end_of mode AtEntry) c s.memory (block AtItem).opening a
+        (opens_item mode) cpu g refl refl refl refl refl (sym io.blocked)
         (target ∙ low ∙ ap (λ y. (y + 0) % M) (sym place_is) ∙ ap (addr e) (sym io.rip)) refl io.flags open_at.0 open_at.1 in
         edge v f cell hc refl refl hu cpu s.memory.words
-        (executes c s.memory (JmpReg 0) cell.next (Done cpu s.memory.words) hu (sym (facts.spaced c.rip cell hc)) (jump_by_register c s.memory 0 cell.next (ap is_canonical target ∙ fine.0)))
+        (executes c s.memory (JmpReg 0) cell.next (Done cpu s.memory.words) hu (sym (facts.spaced c.rip cell hc))
+        (jump_by_register c s.memory 0 cell.next (ap is_canonical target ∙ fine.0)))
         on.blocking (λ y far far'. refl) (edges_of mode AtItem 0) (less_in_item mode (left p) enough)
         (record {
           spot = AtItem;
@@ -251,9 +282,11 @@ module _ (mode : Mode) (image : Image) (built : IsBuilt image) (good : IsImage i
     -- ---- an item
 
     -- the place of the context's item
-    at_item : (v : ℕ → ℕ) (f : Flags) → Agrees (env b v f) (ground_of mode) (block AtItem).opening c s.memory → (body : Body) → slice_get image.bodies b.body ≡ Some body → c.rip ≡ item_address mode b.body body b.place
+    at_item : (v : ℕ → ℕ) (f : Flags) → Agrees (env b v f) (ground_of mode) (block AtItem).opening c s.memory → (body : Body)
+        → slice_get image.bodies b.body ≡ Some body → c.rip ≡ item_address mode b.body body b.place
     at_item v f a body is =
-        a.rip ∙ ap (addr (env b v f)) (item_opening mode).rip ∙ ap (λ y. (y + 0) % M) (ap (address_of_item mode b.body b.place) is) ∙ sym (plus_zero _ (facts.item_small b.body b.place body is).1)
+        a.rip ∙ ap (addr (env b v f)) (item_opening mode).rip ∙ ap (λ y. (y + 0) % M) (ap (address_of_item mode b.body b.place) is)
+        ∙ sym (plus_zero _ (facts.item_small b.body b.place body is).1)
 
     at_log : (v : ℕ → ℕ) (f : Flags) → At code (block AtItem) 0 (env b v f) c s.memory → InItem mode image v w b → length c.regs ≡ 16
         → (body : Body) → slice_get image.bodies b.body ≡ Some body → (q : ℕ) → item_at (Some body) b.place ≡ Some (Log q) → 6 ≤ q → q < 14 → Result
@@ -270,13 +303,22 @@ module _ (mode : Mode) (image : Image) (built : IsBuilt image) (good : IsImage i
         let next_small : next + 16 < 2 ^ 64 = (facts.item_small b.body (suc b.place) body is).1 in
         let st : Steps e (ground_of mode) (GsStore (pos 0x28) q) (moved o o.regs (absolute next)) c s.memory
         = subst (λ z. StepsIf e (ground_of mode) (GsStore (pos 0x28) q) z c s.memory) (log_moves mode q next)
-        (step_ok e (ground_of mode) (subst (Grounded e) (ground_is mode AtItem) at.fits.ground) (GsStore (pos 0x28) q) next (absolute next) o c s.memory a (sym (facts.spaced c.rip cell hc)) (zero_plus next next_small)) in
+        (step_ok e (ground_of mode) (subst (Grounded e) (ground_is mode AtItem) at.fits.ground) (GsStore (pos 0x28) q) next (absolute next) o c s.memory a
+        (sym (facts.spaced c.rip cell hc)) (zero_plus next next_small)) in
         let behind = behind_log image built good b.body body is b.place q hi in
-        let on_next : IsContext mode image (onward b) = record { item = behind.0; is = ap (λ o. item_at o (suc b.place)) is ∙ behind.1; interrupts = ctx.interrupts; service = ctx.service; calls = ctx.calls } in
+        let on_next : IsContext mode image (onward b) = record {
+          item = behind.0;
+          is = ap (λ o. item_at o (suc b.place)) is ∙ behind.1;
+          interrupts =
+              ctx.interrupts;
+          service = ctx.service;
+          calls = ctx.calls;
+        } in
         let same : SaysSame e (env (onward b) v f) (ground_of mode).known o = any_item mode image p w b (onward b) v f in
         let agrees : Agrees (env (onward b) v f) (ground_of mode) o st.cpu (with_words s.memory st.words) = record {
           regs = st.agrees.regs ∙ same.regs;
-          rip = st.agrees.rip ∙ sym (zero_plus next next_small) ∙ plus_zero next next_small ∙ ap (λ y. (y + 0) % M) (sym (ap (address_of_item mode b.body (suc b.place)) is)) ∙ ap (addr (env (onward b) v f)) (sym io.rip);
+          rip = st.agrees.rip ∙ sym (zero_plus next next_small) ∙ plus_zero next next_small
+              ∙ ap (λ y. (y + 0) % M) (sym (ap (address_of_item mode b.body (suc b.place)) is)) ∙ ap (addr (env (onward b) v f)) (sym io.rip);
           flags = st.agrees.flags ∙ ap flags_word same.flags;
           gs = st.agrees.gs ∙ same.gs;
           kernel_gs = st.agrees.kernel_gs ∙ same.kernel_gs;
@@ -301,12 +343,15 @@ module _ (mode : Mode) (image : Image) (built : IsBuilt image) (good : IsImage i
           long = st.long ∙ long;
         } in
         visible v f cell hc refl hu st.cpu st.words st.runs (st.blocking ∙ on.blocking) st.within (onward b ∷ [])
-        (ap length (ran_stays s p st.cpu cell.ins (fetches c.rip cell hc).1 refl) ∙ on.depth ∙ ap length bodies) (edges_of mode AtItem 0) (few_in_item mode image)
+        (ap length (ran_stays s p st.cpu cell.ins (fetches c.rip cell hc).1 refl) ∙ on.depth ∙ ap length bodies) (edges_of mode AtItem 0)
+        (few_in_item mode image)
         (w, SystemCall, refl, on_next, λ a. with_cr2 mode image p x.running (task x) w a r, act)
-        (Entry.Log p (local b q) ∷ []) (ap (λ y. Entry.Log p y ∷ []) (local_is e io.rsp c.regs b.locals (a.regs ∙ ap (map (eval e)) io.regs) means.locals q lo hq))
+        (Entry.Log p (local b q) ∷ [])
+        (ap (λ y. Entry.Log p y ∷ []) (local_is e io.rsp c.regs b.locals (a.regs ∙ ap (map (eval e)) io.regs) means.locals q lo hq))
         (log_turn q (ap (λ o. item_at o b.place) is ∙ hi))
 
-    at_ret : (k : ℕ) (v : ℕ → ℕ) (f : Flags) → At code (block AtItem) 0 (env b v f) c s.memory → InItem mode image v w b → length c.regs ≡ 16 → edges_of mode AtItem k ≤ left p
+    at_ret : (k : ℕ) (v : ℕ → ℕ) (f : Flags) → At code (block AtItem) 0 (env b v f) c s.memory → InItem mode image v w b → length c.regs ≡ 16
+        → edges_of mode AtItem k ≤ left p
         → (body : Body) → slice_get image.bodies b.body ≡ Some body → item_at (Some body) b.place ≡ Some Ret → Result
     unfolding is_return
     at_ret k v f at means long enough body is hi =
@@ -317,7 +362,8 @@ module _ (mode : Mode) (image : Image) (built : IsBuilt image) (good : IsImage i
         let rc : RetCell (code_table mode image) (item_address mode b.body body b.place) (other_exit mode) = facts.ret_cell b.body b.place body is hi in
         let hc : code c.rip ≡ Some rc.cell = ap code (at_item v f a body is) ∙ rc.is in
         let cpu : Processor = jumped c (displaced rc.cell.next rc.distance) in
-        let run : exec c s.memory rc.cell.ins rc.cell.next ≡ Done cpu s.memory.words = ap (λ i. exec c s.memory i rc.cell.next) rc.jump ∙ jump c s.memory rc.distance rc.cell.next (ap is_canonical rc.leads ∙ exit_canonical mode) in
+        let run : exec c s.memory rc.cell.ins rc.cell.next ≡ Done cpu s.memory.words = ap (λ i. exec c s.memory i rc.cell.next) rc.jump
+        ∙ jump c s.memory rc.distance rc.cell.next (ap is_canonical rc.leads ∙ exit_canonical mode) in
         let agrees : Agrees e (ground_of mode) (record o { rip = absolute (other_exit mode) }) cpu s.memory = record {
           regs = a.regs;
           rip = rc.leads ∙ sym (exit_at mode e refl);
@@ -353,29 +399,40 @@ module _ (mode : Mode) (image : Image) (built : IsBuilt image) (good : IsImage i
     at_exit : (v : ℕ → ℕ) (f : Flags) → At code (block AtExit) (block AtExit).steps (env b v f) c s.memory → Leaving mode image v w b → Result
     at_exit v f at means =
         let e : Env = env b v f in
-        let a : Agrees e (ground_of mode) (end_of mode AtExit) c s.memory = grounded_in AtExit e (end_of mode AtExit) c s.memory (at_end code (block AtExit) (block AtExit).steps (end_of mode AtExit) (runs_to_end mode AtExit) e c s.memory at) in
+        let a : Agrees e (ground_of mode) (end_of mode AtExit) c s.memory =
+        grounded_in AtExit e (end_of mode AtExit) c s.memory
+        (at_end code (block AtExit) (block AtExit).steps (end_of mode AtExit) (runs_to_end mode AtExit) e c s.memory at) in
         let hu : is_user c ≡ false = ap is_user a.rest in
         let rip : c.rip ≡ task_return mode = a.rip ∙ exit_ends mode e refl in
         let cell : Cell = task_return_cell mode in
         let is : IsReturn cell = task_returns mode in
         let hc : code c.rip ≡ Some cell = ap code rip ∙ facts.return_cell in
         let back : Processor = record w { cr2 = c.cr2 } in
-        let does : Executes cell.ins back s.memory.words = returns image mode p small x.running (task x) on.running w r b v f c s.memory a means.saved cell.next (sym (facts.spaced c.rip cell hc)) on.blocking in
+        let does : Executes cell.ins back s.memory.words =
+        returns image mode p small x.running (task x) on.running w r b v f c s.memory a means.saved cell.next (sym (facts.spaced c.rip cell hc))
+        on.blocking in
         visible v f cell hc is.marked hu back s.memory.words does (ap (λ (y : Processor). y.nmi_blocked) r.is) (λ y far far'. refl) []
-        (ap length (ran_returns s p back cell.ins (fetches c.rip cell hc).1 is.returns hu (not_repeated mode c back rip)) ∙ none_left (s.activations p) (on.depth ∙ ap length bodies)) 0 (omega arith)
+        (ap length (ran_returns s p back cell.ins (fetches c.rip cell hc).1 is.returns hu (not_repeated mode c back rip))
+        ∙ none_left (s.activations p) (on.depth ∙ ap length bodies)) 0 (omega arith)
         (with_cr2 mode image p x.running (task x) w c.cr2 r) [] (is.silent p (length (s.activations p)) c s.memory.words) (ret_turn means.ret)
 
     -- ---- every step
 
-    by_item : (k : ℕ) (v : ℕ → ℕ) (f : Flags) → At code (block AtItem) 0 (env b v f) c s.memory → InItem mode image v w b → length c.regs ≡ 16 → edges_of mode AtItem k ≤ left p
+    by_item : (k : ℕ) (v : ℕ → ℕ) (f : Flags) → At code (block AtItem) 0 (env b v f) c s.memory → InItem mode image v w b → length c.regs ≡ 16
+        → edges_of mode AtItem k ≤ left p
         → (body : Body) → slice_get image.bodies b.body ≡ Some body → (i : Item) → Today i → item_at (Some body) b.place ≡ Some i → Result
     by_item k v f at means long enough body is i (IsLog q e lo hq) hi = at_log v f at means long body is q (hi ∙ ap (λ j. Some j) e) lo hq
     by_item k v f at means long enough body is i (IsRet e) hi = at_ret k v f at means long enough body is (hi ∙ ap (λ j. Some j) e)
 
-    at_the_end : (spot : Spot) (k : ℕ) (v : ℕ → ℕ) (f : Flags) → k ≡ (block spot).steps → At code (block spot) k (env b v f) c s.memory → Means mode image SystemCall spot v w b → length c.regs ≡ 16 → edges_of mode spot k ≤ left p
+    at_the_end : (spot : Spot) (k : ℕ) (v : ℕ → ℕ) (f : Flags) → k ≡ (block spot).steps → At code (block spot) k (env b v f) c s.memory
+        → Means mode image SystemCall spot v w b → length c.regs ≡ 16 → edges_of mode spot k ≤ left p
         → (body : Body) → slice_get image.bodies b.body ≡ Some body → item_at (Some body) b.place ≡ Some ctx.item → Result
-    at_the_end AtEntry k v f q at means long enough body is hi = at_entry v f (subst (λ j. At code (block AtEntry) j (env b v f) c s.memory) q at) means long (subst (λ j. edges_of mode AtEntry j ≤ left p) q enough) body is
-    at_the_end AtItem k v f q at means long enough body is hi = by_item k v f (subst (λ j. At code (block AtItem) j (env b v f) c s.memory) (q ∙ no_steps mode) at) means long enough body is ctx.item (which image built good b.body body is b.place ctx.item hi) hi
+    at_the_end AtEntry k v f q at means long enough body is hi =
+        at_entry v f (subst (λ j. At code (block AtEntry) j (env b v f) c s.memory) q at) means long
+        (subst (λ j. edges_of mode AtEntry j ≤ left p) q enough) body is
+    at_the_end AtItem k v f q at means long enough body is hi =
+        by_item k v f (subst (λ j. At code (block AtItem) j (env b v f) c s.memory) (q ∙ no_steps mode) at) means long enough body is ctx.item
+        (which image built good b.body body is b.place ctx.item hi) hi
     at_the_end AtExit k v f q at means long enough body is hi = at_exit v f (subst (λ j. At code (block AtExit) j (env b v f) c s.memory) q at) means
 
     act_step : Active mode image p (left p) SystemCall w b c s.memory → Result
@@ -383,9 +440,11 @@ module _ (mode : Mode) (image : Image) (built : IsBuilt image) (good : IsImage i
         let found = body_at (slice_get image.bodies b.body) b.place ctx.item ctx.is in
         pick (nat_le (suc act.k) (block act.spot).steps) refl found.0 found.1 found.2
       where
-        pick : (t : Bool) → nat_le (suc act.k) (block act.spot).steps ≡ t → (body : Body) → slice_get image.bodies b.body ≡ Some body → item_at (Some body) b.place ≡ Some ctx.item → Result
+        pick : (t : Bool) → nat_le (suc act.k) (block act.spot).steps ≡ t → (body : Body) → slice_get image.bodies b.body ≡ Some body
+            → item_at (Some body) b.place ≡ Some ctx.item → Result
         pick true q body is hi = inside act.spot act.k act.var act.flags act.at act.means act.long act.enough (leb-true _ _ q)
-        pick false q body is hi = at_the_end act.spot act.k act.var act.flags (let up = leb-false _ _ q in let down = act.within in omega arith) act.at act.means act.long act.enough body is hi
+        pick false q body is hi = at_the_end act.spot act.k act.var act.flags (let up = leb-false _ _ q in let down = act.within in omega arith) act.at
+            act.means act.long act.enough body is hi
 
   -- a step of a processor on which a body stands: an edge or a turn, and it writes no frame
   pub kernel_step : (b : BodyContext) (below : List BodyContext) → x.bodies ≡ b ∷ below → Result
@@ -397,4 +456,5 @@ module _ (mode : Mode) (image : Image) (built : IsBuilt image) (good : IsImage i
       go : (w : Processor) (κ : Kind) → StandsOver mode image κ below → IsContext mode image b
           → Beneath mode image (keeps_cr2 mode image κ) (λ v. Chain mode image p (left p) x.running (task x) below v s.memory) w
           → Active mode image p (left p) κ w b c s.memory → Result
-      go w SystemCall none ctx under act = act_step b (hb ∙ ap (λ bs. b ∷ bs) none) ctx w (subst (λ bs. Chain mode image p (left p) x.running (task x) bs w s.memory) none (under w.cr2)) act
+      go w SystemCall none ctx under act =
+          act_step b (hb ∙ ap (λ bs. b ∷ bs) none) ctx w (subst (λ bs. Chain mode image p (left p) x.running (task x) bs w s.memory) none (under w.cr2)) act

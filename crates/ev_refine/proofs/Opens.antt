@@ -38,7 +38,9 @@ zero_only p n h lt = omega arith
 -- the registers of a task of the image
 the_one : (ts : List (List TaskSpec)) (t : TaskSpec) (n : ℕ) → ts ≡ (t ∷ []) ∷ []
     → list_all (λ (us : List TaskSpec). nat_lt 0 (length us) && nat_le (length us) 4 && list_all (is_task n) us) ts ≡ true → length t.regs ≡ 16
-the_one ts t n h k = found (subst (λ (us : List (List TaskSpec)). list_all (λ (us : List TaskSpec). nat_lt 0 (length us) && nat_le (length us) 4 && list_all (is_task n) us) us ≡ true) h k)
+the_one ts t n h k = found
+    (subst (λ (us : List (List TaskSpec)). list_all (λ (us : List TaskSpec). nat_lt 0 (length us) && nat_le (length us) 4 && list_all (is_task n) us) us
+    ≡ true) h k)
   where
     left : (a b : Bool) → (a && b) ≡ true → a ≡ true
     left true b h = refl
@@ -48,7 +50,8 @@ the_one ts t n h k = found (subst (λ (us : List (List TaskSpec)). list_all (λ 
     right true b h = h
     right false b h = absurd (cc)
 
-    found : list_all (λ (us : List TaskSpec). nat_lt 0 (length us) && nat_le (length us) 4 && list_all (is_task n) us) ((t ∷ []) ∷ []) ≡ true → length t.regs ≡ 16
+    found : list_all (λ (us : List TaskSpec). nat_lt 0 (length us) && nat_le (length us) 4 && list_all (is_task n) us) ((t ∷ []) ∷ []) ≡ true
+        → length t.regs ≡ 16
     found h =
         let a = left (list_all (is_task n) (t ∷ [])) true h in
         let b = left (is_task n t) true a in

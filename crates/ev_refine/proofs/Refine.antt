@@ -39,7 +39,8 @@ module _ (mode : Mode) (image : Image) (built : IsBuilt image) (given : IsImage 
 
       opened : OpensAt mode image p
       opened w b v f m' hr ht =
-          subst (λ (g : Ground). Open (here mode image p SystemCall w b v f) g.known m'.regions × Open (here mode image p SystemCall w b v f) g.shared m'.regions) (sym (ground_is mode AtEntry))
+          subst (λ (g : Ground). Open (here mode image p SystemCall w b v f) g.known m'.regions
+          × Open (here mode image p SystemCall w b v f) g.shared m'.regions) (sym (ground_is mode AtEntry))
           (opens_at mode image code p small lt w b v f m' hr ht)
 
       by_bodies : (bs : List BodyContext) → (processor m p).bodies ≡ bs → Simulated mode image left s m p
@@ -63,7 +64,8 @@ pub turns_follow : TurnsFollow
 turns_follow mode image built h given left s m r p lt = runs.turn_follows mode image (refines mode image built h given) left s m r p lt
 
 pub runs_follow : RunsFollow
-runs_follow mode image built h given script i b = runs.lines_follow mode image (refines mode image built h given) script (λ p. 0) _ _ (opens mode image built h given) i b
+runs_follow mode image built h given script i b = runs.lines_follow mode image (refines mode image built h given) script (λ p. 0) _ _
+    (opens mode image built h given) i b
 
 pub tells : StandsTells
 tells mode image built h given left s m r p lt = telling.stands_tells mode image given (facts mode image given built) left s m r p lt

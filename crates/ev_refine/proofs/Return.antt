@@ -43,7 +43,8 @@ use Rattle.ev_refine.specs.Relation.{RunsTask, Saved, here, top_of, rest_in}
 use Rattle.ev_refine.proofs.Spots.{ground_of, end_of}
 
 -- a processor, by all that a symbolic state tells of it and by the rest
-whole : (c d : Processor) → untracked c ≡ untracked d → c.nmi_blocked ≡ d.nmi_blocked → c.regs ≡ d.regs → c.rip ≡ d.rip → c.flags ≡ d.flags → c.cr2 ≡ d.cr2 → c.gs ≡ d.gs → c.sti_blocked ≡ d.sti_blocked
+whole : (c d : Processor) → untracked c ≡ untracked d → c.nmi_blocked ≡ d.nmi_blocked → c.regs ≡ d.regs → c.rip ≡ d.rip → c.flags ≡ d.flags → c.cr2 ≡ d.cr2
+    → c.gs ≡ d.gs → c.sti_blocked ≡ d.sti_blocked
     → c.msrs.gs_base ≡ d.msrs.gs_base → c.msrs.kernel_gs_base ≡ d.msrs.kernel_gs_base → c.msrs.rsp ≡ d.msrs.rsp → c ≡ d
 whole c d hu nmi regs rip flags cr2 gs sti base kernel rsp = λ i. record (hu i) {
   regs = regs i;
@@ -66,7 +67,8 @@ module _ (image : Image) where
     -- at the task's privilege, with the rest as the activation left it
     returned : (d : Processor) → untracked d ≡ record (rest_in mode image SystemCall w) { cpl = 3; cs = 0x33; ss = 0x2b } → d.nmi_blocked ≡ false
         → d.regs ≡ w.regs → d.rip ≡ w.rip → d.flags ≡ modelled w.flags → d.gs ≡ w.gs → d.sti_blocked ≡ false
-        → d.msrs.gs_base ≡ w.msrs.gs_base → d.msrs.kernel_gs_base ≡ (pcpu p + 0) % M → d.msrs.rsp ≡ (top_of mode image SystemCall w + 0) % M ∷ drop 1 w.msrs.rsp → d ≡ record w { cr2 = d.cr2 }
+        → d.msrs.gs_base ≡ w.msrs.gs_base → d.msrs.kernel_gs_base ≡ (pcpu p + 0) % M
+        → d.msrs.rsp ≡ (top_of mode image SystemCall w + 0) % M ∷ drop 1 w.msrs.rsp → d ≡ record w { cr2 = d.cr2 }
     returned d rest blocking regs rip flags gs sti base kernel levels =
         let s : w ≡ _ = r.is in
         let h_cpl : 3 ≡ w.cpl = sym (ap (λ (y : Processor). y.cpl) s) in
@@ -75,8 +77,11 @@ module _ (image : Image) where
         let h_level : 0 ≡ w.level = sym (ap (λ (y : Processor). y.level) s) in
         let h_rest : untracked d ≡ untracked w = rest ∙ (λ i. record (untracked w) { cpl = h_cpl i; cs = h_cs i; ss = h_ss i; level = h_level i }) in
         let h_top : get_or w.msrs.rsp 0 0 ≡ stack_top p 0 = ap (λ (y : Processor). get_or y.msrs.rsp 0 0) s ∙ ap (stack_top p) hq in
-        whole d (record w { cr2 = d.cr2 }) h_rest (blocking ∙ sym (ap (λ (y : Processor). y.nmi_blocked) s)) regs rip (flags ∙ sym (kept w.flags t.flags (ap (λ (y : Processor). y.flags) s))) refl gs (sti ∙ sym (ap (λ (y : Processor). y.sti_blocked) s))
-        base (kernel ∙ area_low ∙ sym (ap (λ (y : Processor). y.msrs.kernel_gs_base) s)) (levels ∙ ap (λ n. n ∷ drop 1 w.msrs.rsp) (top_low (get_or w.msrs.rsp 0 0) h_top) ∙ sym (levels_split w.msrs.rsp (ap (λ (y : Processor). length y.msrs.rsp) s)))
+        whole d (record w { cr2 = d.cr2 }) h_rest (blocking ∙ sym (ap (λ (y : Processor). y.nmi_blocked) s)) regs rip
+        (flags ∙ sym (kept w.flags t.flags (ap (λ (y : Processor). y.flags) s))) refl gs (sti ∙ sym (ap (λ (y : Processor). y.sti_blocked) s))
+        base (kernel ∙ area_low ∙ sym (ap (λ (y : Processor). y.msrs.kernel_gs_base) s))
+        (levels ∙ ap (λ n. n ∷ drop 1 w.msrs.rsp) (top_low (get_or w.msrs.rsp 0 0) h_top)
+        ∙ sym (levels_split w.msrs.rsp (ap (λ (y : Processor). length y.msrs.rsp) s)))
       where
         area_low : (pcpu p + 0) % M ≡ pcpu p
         area_low = omega arith
@@ -86,8 +91,10 @@ module _ (image : Image) where
 
   -- ---- under FRED: ERETU takes the frame
 
-  module _ (p : ℕ) (hp : p < 32) (q : ℕ) (t : Task) (hq : q ≡ 0) (w : Processor) (r : RunsTask Fred image p q t w) (b : BodyContext) (v : ℕ → ℕ) (f : Flags) (c : Processor) (m : Memory)
-      (a : Agrees (here Fred image p SystemCall w b v f) fred_ground (fred.leave_end SystemCall) c m) (saved : Saved Fred image v w) (hb : c.nmi_blocked ≡ false) where
+  module _ (p : ℕ) (hp : p < 32) (q : ℕ) (t : Task) (hq : q ≡ 0) (w : Processor) (r : RunsTask Fred image p q t w) (b : BodyContext) (v : ℕ → ℕ) (f : Flags)
+      (c : Processor) (m : Memory)
+      (a : Agrees (here Fred image p SystemCall w b v f) fred_ground (fred.leave_end SystemCall) c m) (saved : Saved Fred image v w)
+      (hb : c.nmi_blocked ≡ false) where
     abbrev e : Env
     e = here Fred image p SystemCall w b v f
 
@@ -118,7 +125,8 @@ module _ (image : Image) where
 
     all_readable : first_event (view m false) false frame_places ≡ None
     all_readable =
-        ap (λ o. or_else o (first_event (view m false) false (addr e (below 48) ∷ addr e (below 40) ∷ addr e (below 32) ∷ addr e (below 24) ∷ []))) (readable (below 56) refl)
+        ap (λ o. or_else o (first_event (view m false) false (addr e (below 48) ∷ addr e (below 40) ∷ addr e (below 32) ∷ addr e (below 24) ∷ [])))
+        (readable (below 56) refl)
         ∙ ap (λ o. or_else o (first_event (view m false) false (addr e (below 40) ∷ addr e (below 32) ∷ addr e (below 24) ∷ []))) (readable (below 48) refl)
         ∙ ap (λ o. or_else o (first_event (view m false) false (addr e (below 32) ∷ addr e (below 24) ∷ []))) (readable (below 40) refl)
         ∙ ap (λ o. or_else o (first_event (view m false) false (addr e (below 24) ∷ []))) (readable (below 32) refl)
@@ -146,7 +154,8 @@ module _ (image : Image) where
         let z = fred_ends.leave_gs SystemCall in
         let rest : untracked by_frame ≡ record (rest_in Fred image SystemCall w) { cpl = 3; cs = 0x33; ss = 0x2b } =
         ap {A = Processor} {B = Processor} (λ y. record y { cpl = 3; cs = 0x33; ss = 0x2b }) a.rest in
-        returned Fred p hp q t hq w r by_frame rest (ap (λ n. n && not (bit 18 0x220700010002002b)) hb) (ap (λ xs. set xs 4 (v 20)) regs ∙ sym saved.regs) refl (ap modelled saved.framed.flags) (a.selector ∙ ap (eval e) z.2 ∙ saved.framed.selector) refl
+        returned Fred p hp q t hq w r by_frame rest (ap (λ n. n && not (bit 18 0x220700010002002b)) hb) (ap (λ xs. set xs 4 (v 20)) regs ∙ sym saved.regs)
+        refl (ap modelled saved.framed.flags) (a.selector ∙ ap (eval e) z.2 ∙ saved.framed.selector) refl
         (a.kernel_gs ∙ ap (eval e) z.1 ∙ saved.framed.gs) (a.gs ∙ ap (eval e) z.0) (a.levels ∙ ap (λ y. eval e y ∷ drop 1 w.msrs.rsp) z.3)
 
     eretu_gives : eretu c m ≡ Went (record w { cr2 = c.cr2 }) m.words 0
@@ -163,8 +172,10 @@ module _ (image : Image) where
 
   -- ---- under IDT: SYSRETQ takes RIP from RCX and the flags from R11
 
-  module _ (p : ℕ) (hp : p < 32) (q : ℕ) (t : Task) (hq : q ≡ 0) (w : Processor) (r : RunsTask Idt image p q t w) (b : BodyContext) (v : ℕ → ℕ) (f : Flags) (c : Processor) (m : Memory)
-      (a : Agrees (here Idt image p SystemCall w b v f) idt_ground (idt.leave_end SystemCall) c m) (saved : Saved Idt image v w) (hb : c.nmi_blocked ≡ false) where
+  module _ (p : ℕ) (hp : p < 32) (q : ℕ) (t : Task) (hq : q ≡ 0) (w : Processor) (r : RunsTask Idt image p q t w) (b : BodyContext) (v : ℕ → ℕ) (f : Flags)
+      (c : Processor) (m : Memory)
+      (a : Agrees (here Idt image p SystemCall w b v f) idt_ground (idt.leave_end SystemCall) c m) (saved : Saved Idt image v w)
+      (hb : c.nmi_blocked ≡ false) where
     abbrev env : Env
     env = here Idt image p SystemCall w b v f
 
@@ -185,7 +196,8 @@ module _ (image : Image) where
     unfolding eval
     by_registers_is =
         let z = idt_ends.leave_gs SystemCall in
-        returned Idt p hp q t hq w r by_registers (ap {A = Processor} {B = Processor} (λ y. record y { cpl = 3; cs = 0x33; ss = 0x2b }) a.rest) hb registers rcx (ap modelled r11) (a.selector ∙ ap (eval env) z.2 ∙ saved.framed.selector) refl
+        returned Idt p hp q t hq w r by_registers (ap {A = Processor} {B = Processor} (λ y. record y { cpl = 3; cs = 0x33; ss = 0x2b }) a.rest) hb registers
+        rcx (ap modelled r11) (a.selector ∙ ap (eval env) z.2 ∙ saved.framed.selector) refl
         (a.gs ∙ ap (eval env) z.0 ∙ saved.framed.gs) (a.kernel_gs ∙ ap (eval env) z.1) (a.levels ∙ ap (λ y. eval env y ∷ drop 1 w.msrs.rsp) z.3)
 
     sysretq_gives : sysretq c m.words ≡ Went (record w { cr2 = c.cr2 }) m.words 0
@@ -197,8 +209,10 @@ module _ (image : Image) where
 
   -- ---- the step
 
-  pub returns : (mode : Mode) (p : ℕ) → p < 32 → (q : ℕ) (t : Task) → q ≡ 0 → (w : Processor) → RunsTask mode image p q t w → (b : BodyContext) (v : ℕ → ℕ) (f : Flags) (c : Processor) (m : Memory)
-      → Agrees (here mode image p SystemCall w b v f) (ground_of mode) (end_of mode AtExit) c m → Saved mode image v w → (next : ℕ) → c.rip + length (spelling (task_return_cell mode).ins) ≡ next → c.nmi_blocked ≡ false
+  pub returns : (mode : Mode) (p : ℕ) → p < 32 → (q : ℕ) (t : Task) → q ≡ 0 → (w : Processor) → RunsTask mode image p q t w
+      → (b : BodyContext) (v : ℕ → ℕ) (f : Flags) (c : Processor) (m : Memory)
+      → Agrees (here mode image p SystemCall w b v f) (ground_of mode) (end_of mode AtExit) c m → Saved mode image v w → (next : ℕ)
+      → c.rip + length (spelling (task_return_cell mode).ins) ≡ next → c.nmi_blocked ≡ false
       → (n : Apic) (nmi : Bool) → executed c n m nmi (Some (task_return_cell mode).ins) ≡ ran (record w { cr2 = c.cr2 }) n m.words nmi
   unfolding exec special
   returns Fred p hp q t hq w r b v f c m a saved next hn hb n nmi =

@@ -56,15 +56,28 @@ module _ (mode : Mode) (image : Image) where
 
   -- ---- edges
 
-  first_edge : (k : ℕ) (s : System) (p : ℕ) → is_visible (marks_of mode image) s p ≡ false → (edges (suc k) (marks_of mode image) image.processors s p).0 ≡ (edges k (marks_of mode image) image.processors (concrete_step image.processors s p).0 p).0
+  first_edge : (k : ℕ) (s : System) (p : ℕ) → is_visible (marks_of mode image) s p ≡ false
+      → (edges (suc k) (marks_of mode image) image.processors s p).0
+      ≡ (edges k (marks_of mode image) image.processors (concrete_step image.processors s p).0 p).0
   unfolding edges
-  first_edge k s p h = ap (λ (b : Bool). (let r : System × List FrameNote = elim b [ true ↦ (s, []) | false ↦ with_frames (concrete_step image.processors s p).1 (edges k (marks_of mode image) image.processors (concrete_step image.processors s p).0 p) ] in r).0) h
+  first_edge k s p h = ap (λ (b : Bool). (let r : System × List FrameNote =
+      elim b [
+        | true ↦ (s, [])
+        | false ↦ with_frames (concrete_step image.processors s p).1
+            (edges k (marks_of mode image) image.processors (concrete_step image.processors s p).0 p)
+      ] in r).0) h
 
   no_edge : (k : ℕ) (s : System) (p : ℕ) → is_visible (marks_of mode image) s p ≡ true → (edges (suc k) (marks_of mode image) image.processors s p).0 ≡ s
   unfolding edges
-  no_edge k s p h = ap (λ (b : Bool). (let r : System × List FrameNote = elim b [ true ↦ (s, []) | false ↦ with_frames (concrete_step image.processors s p).1 (edges k (marks_of mode image) image.processors (concrete_step image.processors s p).0 p) ] in r).0) h
+  no_edge k s p h = ap (λ (b : Bool). (let r : System × List FrameNote =
+      elim b [
+        | true ↦ (s, [])
+        | false ↦ with_frames (concrete_step image.processors s p).1
+            (edges k (marks_of mode image) image.processors (concrete_step image.processors s p).0 p)
+      ] in r).0) h
 
-  module _ (step : (left : NatMap ℕ) (s : System) (m : Machine) → Stands mode image left s m → (p : ℕ) → p < image.processors → Simulated mode image left s m p) where
+  module _ (step : (left : NatMap ℕ) (s : System) (m : Machine) → Stands mode image left s m → (p : ℕ) → p < image.processors
+      → Simulated mode image left s m p) where
     pub edges_follow : (k : ℕ) (left : NatMap ℕ) (s : System) (m : Machine) → Follows left s m → (p : ℕ) → p < image.processors
         → (now_left : ℕ) × Follows (put_at left p now_left) (edges k (marks_of mode image) image.processors s p).0 m
     unfolding edges
@@ -72,12 +85,20 @@ module _ (mode : Mode) (image : Image) where
     edges_follow (suc k) left s m r p lt = go (step left s m r p lt).how (edges_follow k)
       where
         go : MakesEdge mode image left s m p ⊎ MakesTurn mode image left s m p
-            → ((left : NatMap ℕ) (s : System) (m : Machine) → Follows left s m → (p : ℕ) → p < image.processors → (now_left : ℕ) × Follows (put_at left p now_left) (edges k (marks_of mode image) image.processors s p).0 m)
+            → ((left : NatMap ℕ) (s : System) (m : Machine) → Follows left s m → (p : ℕ) → p < image.processors
+            → (now_left : ℕ) × Follows (put_at left p now_left) (edges k (marks_of mode image) image.processors s p).0 m)
             → (now_left : ℕ) × Follows (put_at left p now_left) (edges (suc k) (marks_of mode image) image.processors s p).0 m
         go (inl e) next =
-            let x = next (put_at left p e.now_left) (concrete_step image.processors s p).0 m e.stands p lt in
-            (x.0, subst (λ t. Follows (put_at left p x.0) t m) (sym (first_edge k s p e.hidden)) (with_left (put_at (put_at left p e.now_left) p x.0) (put_at left p x.0) (put_twice left p e.now_left x.0) _ m x.1))
-        go (inr t) next = (left p, subst (λ u. Follows (put_at left p (left p)) u m) (sym (no_edge k s p t.seen)) (with_left left (put_at left p (left p)) (put_own left p) s m r))
+            let x = next (put_at left p e.now_left) (concrete_step image.processors s p).0 m e.stands p lt in (
+              x.0,
+              subst (λ t. Follows (put_at left p x.0) t m) (sym (first_edge k s p e.hidden))
+                  (with_left (put_at (put_at left p e.now_left) p x.0) (put_at left p x.0) (put_twice left p e.now_left x.0) _ m x.1),
+            )
+        go (inr t) next = (
+          left p,
+          subst (λ u. Follows (put_at left p (left p)) u m) (sym (no_edge k s p t.seen))
+              (with_left left (put_at left p (left p)) (put_own left p) s m r),
+        )
 
     pub edges_end : (k : ℕ) (left : NatMap ℕ) (s : System) (m : Machine) → Follows left s m → (p : ℕ) → p < image.processors → left p ≤ k
         → is_visible (marks_of mode image) (edges k (marks_of mode image) image.processors s p).0 p ≡ true
@@ -86,11 +107,14 @@ module _ (mode : Mode) (image : Image) where
     edges_end (suc k) left s m r p lt h = go (step left s m r p lt).how (edges_end k)
       where
         go : MakesEdge mode image left s m p ⊎ MakesTurn mode image left s m p
-            → ((left : NatMap ℕ) (s : System) (m : Machine) → Follows left s m → (p : ℕ) → p < image.processors → left p ≤ k → is_visible (marks_of mode image) (edges k (marks_of mode image) image.processors s p).0 p ≡ true)
+            → ((left : NatMap ℕ) (s : System) (m : Machine) → Follows left s m → (p : ℕ) → p < image.processors → left p ≤ k
+            → is_visible (marks_of mode image) (edges k (marks_of mode image) image.processors s p).0 p ≡ true)
             → is_visible (marks_of mode image) (edges (suc k) (marks_of mode image) image.processors s p).0 p ≡ true
         go (inl e) next =
-            let fits : put_at left p e.now_left p ≤ k = subst (λ n. n ≤ k) (sym (at_same left p p e.now_left refl)) (let z : e.now_left < left p = e.fewer in omega arith) in
-            ap (λ t. is_visible (marks_of mode image) t p) (first_edge k s p e.hidden) ∙ next (put_at left p e.now_left) (concrete_step image.processors s p).0 m e.stands p lt fits
+            let fits : put_at left p e.now_left p ≤ k = subst (λ n. n ≤ k) (sym (at_same left p p e.now_left refl)) (let z : e.now_left < left p =
+            e.fewer in omega arith) in
+            ap (λ t. is_visible (marks_of mode image) t p) (first_edge k s p e.hidden)
+            ∙ next (put_at left p e.now_left) (concrete_step image.processors s p).0 m e.stands p lt fits
         go (inr t) next = ap (λ u. is_visible (marks_of mode image) u p) (no_edge k s p t.seen) ∙ t.seen
 
     pub settles : (left : NatMap ℕ) (s : System) (m : Machine) → Follows left s m → (p : ℕ) → p < image.processors → Settles mode image left s m p
@@ -102,7 +126,8 @@ module _ (mode : Mode) (image : Image) where
     -- ---- turns and scripts
 
     turn_from : (k : ℕ) (left : NatMap ℕ) (s : System) (m : Machine) → Follows left s m → (p : ℕ) → p < image.processors → left p ≤ k
-        → (now_left : ℕ) × Follows (put_at left p now_left) (concrete_step image.processors (edges k (marks_of mode image) image.processors s p).0 p).0 (turn image m p).0
+        → (now_left : ℕ) × Follows (put_at left p now_left) (concrete_step image.processors (edges k (marks_of mode image) image.processors s p).0 p).0
+        (turn image m p).0
     turn_from k left s m r p lt h =
         let e = edges_follow k left s m r p lt in
         let seen = edges_end k left s m r p lt h in
@@ -115,11 +140,13 @@ module _ (mode : Mode) (image : Image) where
         → (now_left : ℕ) × Follows (put_at left p now_left) (concrete_turn (marks_of mode image) image.processors s p).0 (turn image m p).0
     turn_follows left s m r p lt = turn_from 1024 left s m r p lt (let few : left p ≤ 75 = (r.each p lt).few in omega arith)
 
-    pub lines_follow : (script : List Line) (left : NatMap ℕ) (s : System) (m : Machine) → Follows left s m → IsScript image script → list_all line_is_built script ≡ true
+    pub lines_follow : (script : List Line) (left : NatMap ℕ) (s : System) (m : Machine) → Follows left s m → IsScript image script
+        → list_all line_is_built script ≡ true
         → (now_left : NatMap ℕ) × Follows now_left (concrete_lines (marks_of mode image) image.processors s script).0 (after image m script)
     unfolding concrete_line line_step is_line line_is_built
     lines_follow [] left s m r i b = (left, r)
-    lines_follow (l ∷ ls) left s m r i b = line l (one (is_line image l) _ i) (one (line_is_built l) _ b) (two (is_line image l) _ i) (two (line_is_built l) _ b) (lines_follow ls)
+    lines_follow (l ∷ ls) left s m r i b = line l (one (is_line image l) _ i) (one (line_is_built l) _ b) (two (is_line image l) _ i)
+        (two (line_is_built l) _ b) (lines_follow ls)
       where
         Rest : Type 0
         Rest = (left : NatMap ℕ) (s : System) (m : Machine) → Follows left s m → IsScript image ls → list_all line_is_built ls ≡ true

@@ -119,11 +119,34 @@ pub record SaysSame (e u : Env) (W : List Win) (o : SS) : Type 0 where
 pub any_item : (mode : Mode) (image : Image) (p : ℕ) (w : Processor) (b b' : BodyContext) (v : ℕ → ℕ) (f : Flags)
     → SaysSame (here mode image p SystemCall w b v f) (here mode image p SystemCall w b' v f) (ground_of mode).known (block_of mode SystemCall AtItem).opening
 unfolding eval eval_flags
-any_item Fred image p w b b' v f = record { regs = refl; flags = refl; gs = refl; kernel_gs = refl; selector = refl; cr2 = λ a h. h; rsp0 = refl; words = λ m h. h }
-any_item Idt image p w b b' v f = record { regs = refl; flags = refl; gs = refl; kernel_gs = refl; selector = refl; cr2 = λ a h. h; rsp0 = refl; words = λ m h. h }
+any_item Fred image p w b b' v f = record {
+  regs = refl;
+  flags = refl;
+  gs = refl;
+  kernel_gs = refl;
+  selector = refl;
+  cr2 = λ a h. h;
+  rsp0 = refl;
+  words =
+      λ m h. h;
+}
+any_item Idt image p w b b' v f = record {
+  regs = refl;
+  flags = refl;
+  gs = refl;
+  kernel_gs = refl;
+  selector = refl;
+  cr2 = λ a h. h;
+  rsp0 = refl;
+  words =
+      λ m h. h;
+}
 
 -- and the exit opens with what an item has
-pub exit_opening : (mode : Mode) → (block_of mode SystemCall AtExit).opening ≡ record ((block_of mode SystemCall AtItem).opening) { rip = absolute (other_exit mode) }
+pub exit_opening : (mode : Mode) → (block_of mode SystemCall AtExit).opening ≡ record ((block_of mode SystemCall AtItem).opening) {
+  rip =
+      absolute (other_exit mode);
+}
 exit_opening Fred = refl
 exit_opening Idt = refl
 
@@ -144,14 +167,20 @@ log_moves Idt q next = refl
 -- ---- what an activation's variables mean, from the entry to the item
 
 module _ (image : Image) where
-  pub begins_body : (mode : Mode) (v : ℕ → ℕ) (w : Processor) (b : BodyContext) → Means mode image SystemCall AtEntry v w b → (v 24 ≡ body_code b.body) × (b.place ≡ 0)
+  pub begins_body : (mode : Mode) (v : ℕ → ℕ) (w : Processor) (b : BodyContext) → Means mode image SystemCall AtEntry v w b
+      → (v 24 ≡ body_code b.body) × (b.place ≡ 0)
   begins_body Fred v w b means = (means.code, means.place)
   begins_body Idt v w b means = (means.code, means.place)
 
-  pub means_item : (mode : Mode) (e : Env) (w : Processor) (b : BodyContext) (f : Flags) → Means mode image SystemCall AtEntry e.var w b → InItem mode image (env_after e (values_of mode) f).var w b
+  pub means_item : (mode : Mode) (e : Env) (w : Processor) (b : BodyContext) (f : Flags) → Means mode image SystemCall AtEntry e.var w b
+      → InItem mode image (env_after e (values_of mode) f).var w b
   unfolding eval
   means_item Fred e w b f means = record {
-    saved = record { framed = record { rip = means.framed.rip; flags = means.framed.flags; gs = means.framed.gs; selector = means.framed.selector }; regs = means.regs };
+    saved = record {
+      framed = record { rip = means.framed.rip; flags = means.framed.flags; gs = means.framed.gs; selector = means.framed.selector };
+      regs =
+          means.regs;
+    };
     locals = means.locals ∙ (λ i. sym means.error i ∷ 0x100 ∷ sym means.info i ∷ 0 ∷ 0 ∷ 0 ∷ 0 ∷ 0 ∷ []);
   }
   means_item Idt e w b f means = record {

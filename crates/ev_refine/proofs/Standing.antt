@@ -40,7 +40,16 @@ idle = refl
 pub instruction_first : (c : Processor) (a : Apic) (nmi : Bool) → nmi ≡ false → a ≡ opening_apic → next_of c a nmi ≡ Next.Instruction
 unfolding next_of first_of
 instruction_first c a nmi hn ha =
-    ap (λ x. next_of c a x) hn ∙ ap (λ x. next_of c x false) ha ∙ ap (λ v. first_of (record { debug = false; nmi = false; nmi_blocked = c.nmi_blocked; sti_blocked = c.sti_blocked; if_set = interrupts_on c; vector = v })) idle
+    ap (λ x. next_of c a x) hn ∙ ap (λ x. next_of c x false) ha
+    ∙ ap (λ v. first_of (record {
+      debug = false;
+      nmi = false;
+      nmi_blocked = c.nmi_blocked;
+      sti_blocked = c.sti_blocked;
+      if_set =
+          interrupts_on c;
+      vector = v;
+    })) idle
     ∙ either (interrupts_on c && not c.sti_blocked)
   where
     either : (b : Bool) → (if b then Next.Instruction else Next.Instruction) ≡ Next.Instruction
@@ -49,11 +58,13 @@ instruction_first c a nmi hn ha =
 
 -- ---- whether the step is visible
 
-pub hidden : (marks : Marks) (s : System) (p : ℕ) → next_of (s.cpus p) (s.apics p) (s.latches p) ≡ Next.Instruction → is_user (s.cpus p) ≡ false → mark_at marks (s.cpus p).rip ≡ Never → is_visible marks s p ≡ false
+pub hidden : (marks : Marks) (s : System) (p : ℕ) → next_of (s.cpus p) (s.apics p) (s.latches p) ≡ Next.Instruction → is_user (s.cpus p) ≡ false
+    → mark_at marks (s.cpus p).rip ≡ Never → is_visible marks s p ≡ false
 unfolding is_visible
 hidden marks s p hn hu hm = ap (is_visible_by marks s p (s.cpus p)) hn ∙ ap (λ k. is_user (s.cpus p) || is_seen k s (s.cpus p)) hm ∙ ap (λ b. b || false) hu
 
-pub seen : (marks : Marks) (s : System) (p : ℕ) → next_of (s.cpus p) (s.apics p) (s.latches p) ≡ Next.Instruction → is_user (s.cpus p) ≡ false → mark_at marks (s.cpus p).rip ≡ Always → is_visible marks s p ≡ true
+pub seen : (marks : Marks) (s : System) (p : ℕ) → next_of (s.cpus p) (s.apics p) (s.latches p) ≡ Next.Instruction → is_user (s.cpus p) ≡ false
+    → mark_at marks (s.cpus p).rip ≡ Always → is_visible marks s p ≡ true
 unfolding is_visible
 seen marks s p hn hu hm = ap (is_visible_by marks s p (s.cpus p)) hn ∙ ap (λ k. is_user (s.cpus p) || is_seen k s (s.cpus p)) hm ∙ ap (λ b. b || true) hu
 
@@ -85,12 +96,16 @@ ran_shown marks s p cpu words i h hu hm hi =
 
 -- ---- its activations
 
-pub ran_stays : (s : System) (p : ℕ) (cpu : Processor) (i : Ins) → instruction_at s.memory.words (s.cpus p).rip ≡ Some i → is_return (Some i) ≡ false → activations_by s p (s.activations p) cpu Stepped.Ran ≡ s.activations p
-ran_stays s p cpu i hi hr = ap (λ b. if b && not (is_user (s.cpus p)) && not (is_repeated (s.cpus p) cpu) then without_last (s.activations p) else s.activations p) (ap is_return hi ∙ hr)
+pub ran_stays : (s : System) (p : ℕ) (cpu : Processor) (i : Ins) → instruction_at s.memory.words (s.cpus p).rip ≡ Some i → is_return (Some i) ≡ false
+    → activations_by s p (s.activations p) cpu Stepped.Ran ≡ s.activations p
+ran_stays s p cpu i hi hr = ap (λ b. if b && not (is_user (s.cpus p)) && not (is_repeated (s.cpus p) cpu) then without_last (s.activations p) else
+    s.activations p) (ap is_return hi ∙ hr)
 
-pub ran_returns : (s : System) (p : ℕ) (cpu : Processor) (i : Ins) → instruction_at s.memory.words (s.cpus p).rip ≡ Some i → is_return (Some i) ≡ true → is_user (s.cpus p) ≡ false → is_repeated (s.cpus p) cpu ≡ false → activations_by s p (s.activations p) cpu Stepped.Ran ≡ without_last (s.activations p)
+pub ran_returns : (s : System) (p : ℕ) (cpu : Processor) (i : Ins) → instruction_at s.memory.words (s.cpus p).rip ≡ Some i → is_return (Some i) ≡ true
+    → is_user (s.cpus p) ≡ false → is_repeated (s.cpus p) cpu ≡ false → activations_by s p (s.activations p) cpu Stepped.Ran ≡ without_last (s.activations p)
 ran_returns s p cpu i hi hr hu hl =
-    ap (λ b. if b && not (is_user (s.cpus p)) && not (is_repeated (s.cpus p) cpu) then without_last (s.activations p) else s.activations p) (ap is_return hi ∙ hr)
+    ap (λ b. if b && not (is_user (s.cpus p)) && not (is_repeated (s.cpus p) cpu) then without_last (s.activations p) else s.activations p)
+    (ap is_return hi ∙ hr)
     ∙ ap (λ b. if not b && not (is_repeated (s.cpus p) cpu) then without_last (s.activations p) else s.activations p) hu
     ∙ ap (λ b. if not b then without_last (s.activations p) else s.activations p) hl
 
@@ -111,8 +126,10 @@ with_cr2 mode image p r t w a h = record {
 
 module _ (mode : Mode) (image : Image) (built : IsBuilt image) where
   -- of this processor, where only its bodies have changed
-  pub stands_on_after : (p left now : ℕ) (s : System) (x : abstract.Processor) (cpu : Processor) (words : NatMap ℕ) (bs : List BodyContext) → StandsOn mode image p left s x → now ≤ most_edges mode image
-      → words (pcpu p + 0x20) ≡ s.memory.words (pcpu p + 0x20) → words (pcpu p + 0x10) ≡ s.memory.words (pcpu p + 0x10) → words (pcpu p + 0x18) ≡ s.memory.words (pcpu p + 0x18)
+  pub stands_on_after : (p left now : ℕ) (s : System) (x : abstract.Processor) (cpu : Processor) (words : NatMap ℕ) (bs : List BodyContext)
+      → StandsOn mode image p left s x → now ≤ most_edges mode image
+      → words (pcpu p + 0x20) ≡ s.memory.words (pcpu p + 0x20) → words (pcpu p + 0x10) ≡ s.memory.words (pcpu p + 0x10)
+      → words (pcpu p + 0x18) ≡ s.memory.words (pcpu p + 0x18)
       → length (activations_by s p (s.activations p) cpu Stepped.Ran) ≡ length bs → cpu.nmi_blocked ≡ false
       → Chain mode image p now x.running (task x) bs cpu (with_words s.memory words)
       → StandsOn mode image p now (after_ran s p cpu words) (record x { bodies = bs })
@@ -134,7 +151,8 @@ module _ (mode : Mode) (image : Image) (built : IsBuilt image) where
   }
 
   -- of the whole machine
-  pub stands_after : (left : NatMap ℕ) (s : System) (m m' : Machine) (p now : ℕ) (cpu : Processor) (words : NatMap ℕ) → Stands mode image left s m → p < image.processors
+  pub stands_after : (left : NatMap ℕ) (s : System) (m m' : Machine) (p now : ℕ) (cpu : Processor) (words : NatMap ℕ) → Stands mode image left s m
+      → p < image.processors
       → ((a : ℕ) → IsFixed a → words a ≡ s.memory.words a) → m'.words ≡ m.words → m'.present ≡ m.present
       → StandsOn mode image p now (after_ran s p cpu words) (processor m' p)
       → Stands mode image (put_at left p now) (after_ran s p cpu words) m'

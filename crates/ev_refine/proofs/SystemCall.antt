@@ -35,7 +35,8 @@ use Rattle.ev_refine.proofs.UserSafe.{OnlyTask}
 
 abbrev pub listed : List ℕ → List ℕ
 listed xs =
-    get_or xs 0 0 ∷ get_or xs 1 0 ∷ get_or xs 2 0 ∷ get_or xs 3 0 ∷ get_or xs 4 0 ∷ get_or xs 5 0 ∷ get_or xs 6 0 ∷ get_or xs 7 0 ∷ get_or xs 8 0 ∷ get_or xs 9 0 ∷ get_or xs 10 0 ∷ get_or xs 11 0
+    get_or xs 0 0 ∷ get_or xs 1 0 ∷ get_or xs 2 0 ∷ get_or xs 3 0 ∷ get_or xs 4 0 ∷ get_or xs 5 0 ∷ get_or xs 6 0 ∷ get_or xs 7 0 ∷ get_or xs 8 0
+    ∷ get_or xs 9 0 ∷ get_or xs 10 0 ∷ get_or xs 11 0
     ∷ get_or xs 12 0 ∷ get_or xs 13 0 ∷ get_or xs 14 0 ∷ get_or xs 15 0 ∷ []
 
 pub listed_is : (xs : List ℕ) → length xs ≡ 16 → xs ≡ listed xs
@@ -58,7 +59,8 @@ FitsAt mode image p = (w : Processor) (b : BodyContext) (v : ℕ → ℕ) (f : F
     → Fits (code_table mode image) (here mode image p SystemCall w b v f) (block_of mode SystemCall AtEntry)
 
 abbrev pub OpensAt : Mode → Image → ℕ → Type 0
-OpensAt mode image p = (w : Processor) (b : BodyContext) (v : ℕ → ℕ) (f : Flags) (m : Memory) → m.regions ≡ regions image → top_of mode image SystemCall w ≡ stack_top p 0
+OpensAt mode image p = (w : Processor) (b : BodyContext) (v : ℕ → ℕ) (f : Flags) (m : Memory) → m.regions ≡ regions image
+    → top_of mode image SystemCall w ≡ stack_top p 0
     → Open (here mode image p SystemCall w b v f) (block_of mode SystemCall AtEntry).ground.known m.regions
     × Open (here mode image p SystemCall w b v f) (block_of mode SystemCall AtEntry).ground.shared m.regions
 
@@ -101,4 +103,5 @@ module _ (mode : Mode) (image : Image) (p n : ℕ) (t : Task) (cr2 next body : �
     pub active : Active mode image p (most_edges mode image) SystemCall over context cpu (with_words m words)
     pub stays : (a : ℕ) → (a < 0xffffc90000000000) ⊎ (0xffffffff81000000 ≤ a) → words a ≡ m.words a
     pub saved : saved_rip (has_fred caller) cpu words call_event frame ≡ next
-    pub safe : (s : System) → OnlyTask s → (k : ℕ) (z : System) → list_any (overwrites mode image s) (acted k z p (Stepped.Delivered call_event frame)).1 ≡ false
+    pub safe : (s : System) → OnlyTask s → (k : ℕ) (z : System) → list_any (overwrites mode image s) (acted k z p (Stepped.Delivered call_event frame)).1
+        ≡ false

@@ -39,7 +39,8 @@ use Rattle.ev_refine.proofs.SystemCall.{listed_is, call_event, arrival, Ready, B
 -- the variables of the entry block
 abbrev variables : Task → (next selector cr2 code : ℕ) → ℕ → ℕ
 variables t next selector cr2 code i =
-    if i == 16 then 0 else (if i == 17 then next else (if i == 19 then flags_word t.flags else (if i == 20 then get_or t.regs 4 0 else (if i == 22 then 0 else (if i == 24 then code
+    if i == 16 then 0 else (if i == 17 then next else
+    (if i == 19 then flags_word t.flags else (if i == 20 then get_or t.regs 4 0 else (if i == 22 then 0 else (if i == 24 then code
     else (if i == 60 then t.gs else (if i == 61 then selector else (if i == 62 then cr2 else get_or t.regs i 0))))))))
 
 abbrev no_flags : Flags
@@ -49,12 +50,14 @@ frame_address : (top : ℕ) → (top + (M - 64)) % M ≡ below top 8
 frame_address top = ap (λ z. z % M) (let e : top + (M - 64) ≡ top + M - 64 = omega arith in e)
 
 -- the frame lies between the areas and the code
-between : (n p : ℕ) → n ≡ 0 → p < 32 → (vs : List ℕ) → length vs ≡ 8 → (words : NatMap ℕ) (x : ℕ) → (x < 0xffffc90000000000) ⊎ (0xffffffff81000000 ≤ x) → placed words ((stack_top p n + (M - 64)) % M) vs x ≡ words x
+between : (n p : ℕ) → n ≡ 0 → p < 32 → (vs : List ℕ) → length vs ≡ 8 → (words : NatMap ℕ) (x : ℕ) → (x < 0xffffc90000000000) ⊎ (0xffffffff81000000 ≤ x)
+    → placed words ((stack_top p n + (M - 64)) % M) vs x ≡ words x
 between n p hn hp vs hl words x h = from ((stack_top p n + (M - 64)) % M) refl
   where
     from : (a : ℕ) → a ≡ (stack_top p n + (M - 64)) % M → placed words a vs x ≡ words x
     from a ha = placed_other vs words a x (omega arith)
-        (⊎_elim (λ (l : x < 0xffffc90000000000). inl (let z : x < a = omega arith in z)) (λ (l : 0xffffffff81000000 ≤ x). inr (let z : a + 8 * length vs ≤ x = omega arith in z)) h)
+        (⊎_elim (λ (l : x < 0xffffc90000000000). inl (let z : x < a = omega arith in z))
+        (λ (l : 0xffffffff81000000 ≤ x). inr (let z : a + 8 * length vs ≤ x = omega arith in z)) h)
 
 module _ (image : Image) (built : IsBuilt image) (p n : ℕ) (t : Task) (cr2 next body : ℕ) where
   abbrev caller : Processor
@@ -79,21 +82,25 @@ module _ (image : Image) (built : IsBuilt image) (p n : ℕ) (t : Task) (cr2 nex
   unfolding ss_word type_number eval
   frame_is = refl
 
-  delivery_is : (m : Memory) → first_event (view m false) true (reverse (addresses frame_at 8)) ≡ None → fred_delivery (record caller { rip = next }) m call_event false ≡ Went handler (words_after m.words) frame_at
+  delivery_is : (m : Memory) → first_event (view m false) true (reverse (addresses frame_at 8)) ≡ None
+      → fred_delivery (record caller { rip = next }) m call_event false ≡ Went handler (words_after m.words) frame_at
   unfolding fred_delivery
   delivery_is m h =
       let c : Processor = record caller { rip = next } in
-      ap (λ a. frame_written c (in_fred_handler c call_event 0 a) m.words a (fred_frame c call_event false) (first_event (view m false) true (reverse (addresses a 8)))) (sym (frame_address (stack_top p n)))
+      ap (λ a. frame_written c (in_fred_handler c call_event 0 a) m.words a (fred_frame c call_event false)
+      (first_event (view m false) true (reverse (addresses a 8)))) (sym (frame_address (stack_top p n)))
       ∙ ap (frame_written c handler m.words frame_at (fred_frame c call_event false)) h
       ∙ ap (λ f. Went handler (placed m.words frame_at f) frame_at) frame_is
 
   -- the instruction delivers it
-  runs : (a : Apic) (m : Memory) (nmi : Bool) → t.rip + length (spelling Syscall) ≡ next → first_event (view m false) true (reverse (addresses frame_at 8)) ≡ None
+  runs : (a : Apic) (m : Memory) (nmi : Bool) → t.rip + length (spelling Syscall) ≡ next
+      → first_event (view m false) true (reverse (addresses frame_at 8)) ≡ None
       → executed caller a m nmi (Some Syscall) ≡ arrival handler (words_after m.words) (Some frame_at) a nmi
   unfolding exec special user_may
   runs a m nmi hn h =
       ap (λ x. after_arrival a nmi (deliveries 4 (record caller { rip = x }) t.rip m call_event false)) hn
-      ∙ ap (after_arrival a nmi) (sym (went 3 4 (record caller { rip = next }) handler t.rip frame_at m (words_after m.words) call_event false refl (sym (delivery_is m h))))
+      ∙ ap (after_arrival a nmi)
+      (sym (went 3 4 (record caller { rip = next }) handler t.rip frame_at m (words_after m.words) call_event false refl (sym (delivery_is m h))))
 
   -- ---- the activation that begins
 
@@ -109,15 +116,26 @@ module _ (image : Image) (built : IsBuilt image) (p n : ℕ) (t : Task) (cr2 nex
 
     -- the kernel has access to the frame's words
     frame_open : first_event (view m false) true (reverse (addresses frame_at 8)) ≡ None
-    frame_open = no_event m true (reverse (addresses frame_at 8)) (eight_open m.regions _ _ _ _ _ _ _ _ (places_open env fred_ground.known m.regions open_windows.0 8 (M - 64) refl))
+    frame_open = no_event m true (reverse (addresses frame_at 8))
+        (eight_open m.regions _ _ _ _ _ _ _ _ (places_open env fred_ground.known m.regions open_windows.0 8 (M - 64) refl))
 
     -- the words that the entry reads: its frame, the table's word and the mark
     known : Known env fred_ground.known (words_after m.words) (enter SystemCall).opening.words
     unfolding eval
     known = eight_known env fred_ground.known (words_after m.words)
-        (word_at_top (M - 8) (K 0)) (word_at_top (M - 16) (X 22)) (word_at_top (M - 24) (K (ss_of SystemCall))) (word_at_top (M - 32) (X 20)) (word_at_top (M - 40) (X 19)) (word_at_top (M - 48) (K (cs_of SystemCall))) (word_at_top (M - 56) (X 17)) (word_at_top (M - 64) (X 16)) fixed_words
-        (placed_known env fred_ground.known fred_ground.own fit.ground.sep (frame SystemCall) (M - 64) m.words fixed_words refl refl
-        (refl, ready.table, (refl, ap m.words (let small : p < 32 = ready.small in let e : (pcpu p + 0x20) % M ≡ pcpu p + 0x20 = omega arith in e) ∙ ready.mark, tt)))
+        (word_at_top (M - 8) (K 0)) (word_at_top (M - 16) (X 22)) (word_at_top (M - 24) (K (ss_of SystemCall))) (word_at_top (M - 32) (X 20))
+        (word_at_top (M - 40) (X 19)) (word_at_top (M - 48) (K (cs_of SystemCall))) (word_at_top (M - 56) (X 17))
+        (word_at_top (M - 64) (X 16)) fixed_words
+        (placed_known env fred_ground.known fred_ground.own fit.ground.sep (frame SystemCall) (M - 64) m.words fixed_words refl refl (
+          refl,
+          ready.table,
+          (
+            refl,
+            ap m.words (let small : p < 32 = ready.small in let e : (pcpu p + 0x20) % M ≡ pcpu p + 0x20 = omega arith in e)
+                ∙ ready.mark,
+            tt,
+          ),
+        ))
 
     -- the frame's second word is the RIP that was saved
     saved_is : words_after m.words (wrap (frame_at + 8)) ≡ next

@@ -50,7 +50,8 @@ module _ (image : Image) (p n : ℕ) (t : Task) (cr2 next body : ℕ) where
   handler = syscall_idt (record caller { rip = next })
 
   -- the instruction delivers it
-  runs : (a : Apic) (m : Memory) (nmi : Bool) → t.rip + length (spelling Syscall) ≡ next → executed caller a m nmi (Some Syscall) ≡ arrival handler m.words None a nmi
+  runs : (a : Apic) (m : Memory) (nmi : Bool) → t.rip + length (spelling Syscall) ≡ next
+      → executed caller a m nmi (Some Syscall) ≡ arrival handler m.words None a nmi
   unfolding exec special user_may
   runs a m nmi hn = ap (λ x. arrival (syscall_idt (record caller { rip = x })) m.words None a nmi) hn
 
@@ -61,7 +62,8 @@ module _ (image : Image) (p n : ℕ) (t : Task) (cr2 next body : ℕ) where
     top_is = ap (stack_top p) ready.running
 
     open_windows : Open env idt_ground.known m.regions × Open env idt_ground.shared m.regions
-    open_windows = ready.opens (call.over Idt image p n t cr2 next body) (call.context Idt image p n t cr2 next body) var (masked_flags t.flags) m ready.regions_are top_is
+    open_windows = ready.opens (call.over Idt image p n t cr2 next body) (call.context Idt image p n t cr2 next body) var
+        (masked_flags t.flags) m ready.regions_are top_is
 
     fit : Fits (code_table Idt image) env (enter SystemCall)
     fit = ready.fits (call.over Idt image p n t cr2 next body) (call.context Idt image p n t cr2 next body) var (masked_flags t.flags) top_is refl refl
@@ -76,7 +78,8 @@ module _ (image : Image) (p n : ℕ) (t : Task) (cr2 next body : ℕ) where
           ready.table,
           (
             refl,
-            ap m.words (let e : (pcpu p + 0x10) % M ≡ pcpu p + 0x10 = omega arith in e) ∙ ready.top_is ∙ (let e : stack_top p n ≡ (stack_top p n + 0) % M = omega arith in e),
+            ap m.words (let e : (pcpu p + 0x10) % M ≡ pcpu p + 0x10 = omega arith in e) ∙ ready.top_is ∙ (let e : stack_top p n ≡ (stack_top p n + 0) % M =
+                omega arith in e),
             (refl, ap m.words (let e : (pcpu p + 0x20) % M ≡ pcpu p + 0x20 = omega arith in e) ∙ ready.mark, tt),
           ),
         )

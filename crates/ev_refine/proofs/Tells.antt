@@ -43,7 +43,12 @@ module _ (mode : Mode) (image : Image) where
   over_any C false w h = h w.cr2
 
   pub chain_kept : (p left r : ℕ) (t : Task) (bs : List BodyContext) (c : Processor) (m : Memory) → Chain mode image p left r t bs c m → Kept p c
-  chain_kept p left r t [] c m h = record { fred = ap has_fred h.is ∙ mode_fred mode; idt = ap (λ (c : Processor). c.idt) h.is; tss = ap (λ (c : Processor). c.tss) h.is }
+  chain_kept p left r t [] c m h = record {
+    fred = ap has_fred h.is ∙ mode_fred mode;
+    idt = ap (λ (c : Processor). c.idt) h.is;
+    tss =
+        ap (λ (c : Processor). c.tss) h.is;
+  }
   chain_kept p left r t (b ∷ below) c m h =
       let k : Kept p (rest_in mode image h.1 h.0) = kind_kept p h.1 h.0
       (chain_kept p left r t below h.0 m (over_any (λ v. Chain mode image p left r t below v m) (keeps_cr2 mode image h.1) h.0 h.4)) in
@@ -51,15 +56,18 @@ module _ (mode : Mode) (image : Image) where
       record { fred = ap has_fred same ∙ k.fred; idt = ap (λ (c : Processor). c.idt) same ∙ k.idt; tss = ap (λ (c : Processor). c.tss) same ∙ k.tss }
 
   -- without FRED the tables of a delivery stand
-  tables : (mode' : Mode) → mode' ≡ mode → IsImage image → (p : ℕ) → p < image.processors → (c : Processor) (m : Memory) → Kept p c → m.regions ≡ regions image → HasFixed mode' image m → has_fred c ≡ false → HasTables c m
+  tables : (mode' : Mode) → mode' ≡ mode → IsImage image → (p : ℕ) → p < image.processors → (c : Processor) (m : Memory) → Kept p c
+      → m.regions ≡ regions image → HasFixed mode' image m → has_fred c ≡ false → HasTables c m
   tables Fred e given p lt c m k hr hf h = absurd (let clash : true ≡ false = ap is_fred e ∙ sym k.fred ∙ h in cc)
   tables Idt e given p lt c m k hr hf h = stand image m c p given lt hr (λ a ha lo hi. hf a (InTables (omega arith) hi)) k.idt k.tss
 
-  pub stands_tells : IsImage image → Facts mode image → (left : NatMap ℕ) (s : System) (m : Machine) → Stands mode image left s m → (p : ℕ) → p < image.processors → Tells mode image s m p
+  pub stands_tells : IsImage image → Facts mode image → (left : NatMap ℕ) (s : System) (m : Machine) → Stands mode image left s m → (p : ℕ)
+      → p < image.processors → Tells mode image s m p
   stands_tells given facts left s m r p lt =
       let on = r.each p lt in
       let kept : Kept p (s.cpus p) = chain_kept p (left p) (processor m p).running (task (processor m p)) (processor m p).bodies (s.cpus p) s.memory on.chain in
-      let task = λ (h : (processor m p).bodies ≡ []). subst (λ bs. Chain mode image p (left p) (processor m p).running (task (processor m p)) bs (s.cpus p) s.memory) h on.chain in
+      let task = λ (h : (processor m p).bodies ≡ []). subst (λ bs. Chain mode image p (left p) (processor m p).running (task (processor m p)) bs
+      (s.cpus p) s.memory) h on.chain in
       record {
         entries = record { tables = tables mode refl given p lt (s.cpus p) s.memory kept r.regions_are r.fixed };
         in_code = facts.in_code s.memory r.regions_are (s.cpus p);

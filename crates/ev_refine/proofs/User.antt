@@ -66,7 +66,8 @@ entered_is : (p : ℕ) (x : abstract.Processor) (n : ℕ) (bodies : List Body) (
     ≡ (record x { bodies = body_at_start n User call_event ∷ [] }, Enter p b.key Other User 1 0 0 (Some (task x).rip) ∷ [])
 entered_is p x n bodies b h = rw h refl
 
-delivered_is : (image : Image) (p : ℕ) (x : abstract.Processor) (n : ℕ) (c : IsSystemCall image n) → x.bodies ≡ [] → first_body 0 image.bodies 0x100 User ≡ Some n
+delivered_is : (image : Image) (p : ℕ) (x : abstract.Processor) (n : ℕ) (c : IsSystemCall image n) → x.bodies ≡ []
+    → first_body 0 image.bodies 0x100 User ≡ Some n
     → delivered image p x call_event ≡ (record x { bodies = body_at_start n User call_event ∷ [] }, Enter p Sys Other User 1 0 0 (Some (task x).rip) ∷ [])
 unfolding delivered
 delivered_is image p x n c hb hf =
@@ -79,7 +80,8 @@ delivered_is image p x n c hb hf =
 abbrev called : abstract.Processor → (next body : ℕ) → abstract.Processor
 called x next body = record (with_task x (returning (task x) next)) { bodies = body_at_start body User call_event ∷ [] }
 
-call_steps : (image : Image) (m : Machine) (p next body : ℕ) (c : IsSystemCall image body) → (processor m p).bodies ≡ [] → first_body 0 image.bodies 0x100 User ≡ Some body
+call_steps : (image : Image) (m : Machine) (p next body : ℕ) (c : IsSystemCall image body) → (processor m p).bodies ≡ []
+    → first_body 0 image.bodies 0x100 User ≡ Some body
     → task_step image m p (user.executed (user_view (user_memory image m)) (task (processor m p)) next Syscall)
     ≡ (with_processor m p (called (processor m p) next body), Enter p Sys Other User 1 0 0 (Some next) ∷ [])
 unfolding user.executed
@@ -102,7 +104,8 @@ shown_is p depth user fred told c words frame next hu hd hs =
 
 -- ---- what the delivery comes to, by the mode
 
-begins_call : (mode : Mode) (image : Image) (built : IsBuilt image) (p n : ℕ) (t : Task) (cr2 next body : ℕ) (m : Memory) → Ready mode image p n t cr2 next body m → Begins mode image p n t cr2 next body m
+begins_call : (mode : Mode) (image : Image) (built : IsBuilt image) (p n : ℕ) (t : Task) (cr2 next body : ℕ) (m : Memory)
+    → Ready mode image p n t cr2 next body m → Begins mode image p n t cr2 next body m
 begins_call Idt image built p n t cr2 next body m ready = idt.begins_call image p n t cr2 next body m ready
 begins_call Fred image built p n t cr2 next body m ready = fred.begins_call image built p n t cr2 next body m ready
 
@@ -114,7 +117,8 @@ not_there a (InCode h) = inr h
 
 module _ (mode : Mode) (image : Image) (formed : IsImage image) (built : IsBuilt image) (facts : Facts mode image) where
   -- a system call
-  pub call_turn : (left : NatMap ℕ) (s : System) (m : Machine) → Stands mode image left s m → (p : ℕ) → p < image.processors → (processor m p).bodies ≡ [] → FitsAt mode image p → OpensAt mode image p
+  pub call_turn : (left : NatMap ℕ) (s : System) (m : Machine) → Stands mode image left s m → (p : ℕ) → p < image.processors → (processor m p).bodies ≡ []
+      → FitsAt mode image p → OpensAt mode image p
       → (u : AtUser mode image formed built facts left s m p) → u.ins ≡ Syscall → TurnsTo mode image built left s m p
   call_turn left s m h p lt hb fits opens u hi =
       let x : abstract.Processor = processor m p in
@@ -128,7 +132,8 @@ module _ (mode : Mode) (image : Image) (formed : IsImage image) (built : IsBuilt
       let small : p < 32 = omega (arith, built.one_processor) in
       let zero_is : p ≡ 0 = omega (arith, built.one_processor) in
       let words : NatMap ℕ = s.memory.words in
-      let table : words (user_table + 0x800) ≡ body_code body = h.fixed (user_table + 0x800) (InTables (omega arith) (omega arith)) ∙ table_word_is mode image built body found.1 in
+      let table : words (user_table + 0x800) ≡ body_code body = h.fixed (user_table + 0x800) (InTables (omega arith) (omega arith))
+      ∙ table_word_is mode image built body found.1 in
       let begun : Begins mode image p n t c.cr2 next body s.memory = begins_call mode image built p n t c.cr2 next body s.memory (record {
         running = u.on.running;
         small = small;
@@ -162,7 +167,8 @@ module _ (mode : Mode) (image : Image) (formed : IsImage image) (built : IsBuilt
         at = λ program is. ap (λ (q : Task). begins program q.rip) task_is ∙ sym (ap (λ i. begins program (leads_to t.rip i)) hi) ∙ u.leads program is;
       } in
       let is_context : IsContext mode image b = record { item = call.item; is = call.first; interrupts = refl; service = refl; calls = refl } in
-      let chain : Chain mode image p most y.running (task y) (b ∷ []) d (with_words s.memory words') = (w, SystemCall, refl, is_context, λ a. with_cr2 mode image p n (task y) w a runs, begun.active) in
+      let chain : Chain mode image p most y.running (task y) (b ∷ []) d (with_words s.memory words') =
+      (w, SystemCall, refl, is_context, λ a. with_cr2 mode image p n (task y) w a runs, begun.active) in
       let stands_on : StandsOn mode image p most s' y = record {
         few = omega arith;
         running = u.on.running;
@@ -176,7 +182,8 @@ module _ (mode : Mode) (image : Image) (formed : IsImage image) (built : IsBuilt
         mark = begun.stays (pcpu p + 0x20) (inl (omega arith)) ∙ u.on.mark;
         top_is = begun.stays (pcpu p + 0x10) (inl (omega arith)) ∙ u.on.top_is;
         task_is = begun.stays (pcpu p + 0x18) (inl (omega arith)) ∙ u.on.task_is;
-        depth = ap length (put_same s.activations p (activations_by s p (s.activations p) d r.step)) ∙ ap (λ (as' : List Activation). suc (length (interrupted c as'))) empty;
+        depth = ap length (put_same s.activations p (activations_by s p (s.activations p) d r.step))
+            ∙ ap (λ (as' : List Activation). suc (length (interrupted c as'))) empty;
         chain = subst (λ q. Chain mode image p most y.running (task y) (b ∷ []) q (with_words s.memory words')) (sym (put_same s.cpus p d)) chain;
       } in
       let only : OnlyTask s = record {
@@ -195,7 +202,8 @@ module _ (mode : Mode) (image : Image) (formed : IsImage image) (built : IsBuilt
         seen = u.seen;
         now_left = most;
         stands = stands_acted mode image built _ s' m' image.processors p call_event begun.frame
-            (stands_again mode image built left s m h p lt most s' m' refl (λ q i. begun.stays q (not_there q i)) refl refl (subst (λ q. StandsOn mode image p most s' q) (sym (put_same m.processors p y)) stands_on));
+            (stands_again mode image built left s m h p lt most s' m' refl (λ q i. begun.stays q (not_there q i)) refl refl
+            (subst (λ q. StandsOn mode image p most s' q) (sym (put_same m.processors p y)) stands_on));
         shows = λ told. shown_is p (length (s.activations p)) (is_user c) (has_fred c) told begun.cpu begun.words begun.frame next u.at_cpl3 u.shallow
             (ap (λ q. saved_rip (has_fred q) begun.cpu begun.words call_event begun.frame) u.runs.is ∙ begun.saved);
         safe = begun.safe s only image.processors s';
@@ -207,5 +215,7 @@ module _ (mode : Mode) (image : Image) (formed : IsImage image) (built : IsBuilt
   user_turn left s m h p lt hb fits opens =
       let u : AtUser mode image formed built facts left s m p = at_user mode image formed built facts left s m h p lt hb in
       let t : TurnsTo mode image built left s m p
-      = ⊎_elim (λ (hi : u.ins ≡ Syscall). call_turn left s m h p lt hb fits opens u hi) (λ (k : Makes (task (processor m p)) u.ins). plain_turn mode image formed built facts left s m h p lt hb u k) (makes (task (processor m p)) u.ins u.is_built u.canonical) in
+      = ⊎_elim (λ (hi : u.ins ≡ Syscall). call_turn left s m h p lt hb fits opens u hi)
+      (λ (k : Makes (task (processor m p)) u.ins). plain_turn mode image formed built facts left s m h p lt hb u k)
+      (makes (task (processor m p)) u.ins u.is_built u.canonical) in
       (makes_turn mode image built left s m p t, is_safe mode image built left s m p t)

@@ -74,12 +74,21 @@ is_system_call image formed n h =
     let well = all_get (is_body (length image.text)) image.bodies n b formed.bodies_given.1 f.is in
     let front = and_left (_ && ends_with is_ret b.items) _ (and_left _ _ (and_left _ _ (and_left _ _ well))) in
     let i = first_item b.items (flat_map (λ (part : Part). part.items) b.parts) (and_right (is_key b.key && _) (ends_with is_ret b.items) front) in
-    record { body = b; is = f.is; key = only_key b.key (and_left (is_key b.key) _ (and_left (is_key b.key && _) _ front)) f.key_is; item = i.0; first = ap (λ o. item_at o 0) f.is ∙ i.1 }
+    record {
+      body = b;
+      is = f.is;
+      key = only_key b.key (and_left (is_key b.key) _ (and_left (is_key b.key && _) _ front)) f.key_is;
+      item = i.0;
+      first =
+          ap (λ o. item_at o 0) f.is ∙ i.1;
+    }
 
 -- its address is the word of the table for the event's key
-pub table_word_is : (mode : Mode) (image : Image) → IsBuilt image → (n : ℕ) → first_body 0 image.bodies 0x100 User ≡ Some n → first_word mode image (user_table + 0x800) ≡ body_code n
+pub table_word_is : (mode : Mode) (image : Image) → IsBuilt image → (n : ℕ) → first_body 0 image.bodies 0x100 User ≡ Some n
+    → first_word mode image (user_table + 0x800) ≡ body_code n
 unfolding opening_word word_there
 table_word_is mode image built n h =
-    ap (λ (processors : ℕ). if nat_lt (user_table + 0x800) (pcpu 0 + 0x10000 * processors) then pcpu_word ((user_table + 0x800 - pcpu 0) / 0x10000) ((user_table + 0x800) % 0x10000)
+    ap (λ (processors : ℕ). if nat_lt (user_table + 0x800) (pcpu 0 + 0x10000 * processors) then pcpu_word ((user_table + 0x800 - pcpu 0) / 0x10000)
+    ((user_table + 0x800) % 0x10000)
     else body_address (first_body 0 image.bodies 0x100 User)) built.one_processor
     ∙ ap body_address h

@@ -27,14 +27,16 @@ all_in W off (suc n) = in_win W (at_top off) && all_in W ((off + 8) % M) n
 pub next_place : (b off : ℕ) → wrap ((b + off) % M + 8) ≡ (b + (off + 8) % M) % M
 next_place b off = sym (add_shift b off 8)
 
-pub placed_known : (e : Env) (K W : List Win) → Apart e K W → (vs : List V) (off : ℕ) (words : NatMap ℕ) (ws : List Word) → all_in W off (length vs) ≡ true → all_in K off (length vs) ≡ true
+pub placed_known : (e : Env) (K W : List Win) → Apart e K W → (vs : List V) (off : ℕ) (words : NatMap ℕ) (ws : List Word) → all_in W off (length vs) ≡ true
+    → all_in K off (length vs) ≡ true
     → Known e K words ws → Known e K (placed words ((e.base 16 + off) % M) (map (eval e) vs)) (words_placed off vs ws)
 placed_known e K W sep [] off words ws i j k = k
 placed_known e K W sep (v ∷ vs) off words ws i j k =
     let l : Loc = at_top off in
     let q : in_win W l ≡ true = and_left _ _ i in
     let q' : in_win K l ≡ true = and_left _ _ j in
-    subst (λ a. Known e K (placed (put_at words (addr e l) (eval e v)) a (map (eval e) vs)) (words_placed ((off + 8) % M) vs (write l v ws))) (sym (next_place (e.base 16) off))
+    subst (λ a. Known e K (placed (put_at words (addr e l) (eval e v)) a (map (eval e) vs)) (words_placed ((off + 8) % M) vs (write l v ws)))
+    (sym (next_place (e.base 16) off))
     (placed_known e K W sep vs ((off + 8) % M) (put_at words (addr e l) (eval e v)) (write l v ws) (and_right (in_win W l) _ i) (and_right (in_win K l) _ j)
     (q', put_same words (addr e l) (eval e v), without_ok e K W sep words l (eval e v) q ws k))
 
@@ -44,7 +46,8 @@ placed_other [] words a x h k = refl
 placed_other (v ∷ vs) words a x h k =
     let next : wrap (a + 8) ≡ a + 8 = omega arith in
     ap (λ b. placed (put_at words a v) b vs x) next
-    ∙ placed_other vs (put_at words a v) (a + 8) x (omega arith) (⊎_elim (λ l. inl (let z : x < a + 8 = omega arith in z)) (λ l. inr (let z : (a + 8) + 8 * length vs ≤ x = omega arith in z)) k)
+    ∙ placed_other vs (put_at words a v) (a + 8) x (omega arith)
+    (⊎_elim (λ l. inl (let z : x < a + 8 = omega arith in z)) (λ l. inr (let z : (a + 8) + 8 * length vs ≤ x = omega arith in z)) k)
     ∙ put_other words a v x (λ q. ⊎_elim (λ (l : x < a). absurd (omega arith)) (λ (l : a + 8 * length (v ∷ vs) ≤ x). absurd (omega arith)) k)
 
 -- ---- access
@@ -53,23 +56,30 @@ abbrev pub AllOpen : List Region → List ℕ → Type 0
 AllOpen regions [] = Unit {0}
 AllOpen regions (a ∷ as') = IsOpen regions a × AllOpen regions as'
 
-pub places_open : (e : Env) (W : List Win) (regions : List Region) → Open e W regions → (n off : ℕ) → all_in W off n ≡ true → AllOpen regions (addresses ((e.base 16 + off) % M) n)
+pub places_open : (e : Env) (W : List Win) (regions : List Region) → Open e W regions → (n off : ℕ) → all_in W off n ≡ true
+    → AllOpen regions (addresses ((e.base 16 + off) % M) n)
 places_open e W regions o zero off i = tt
-places_open e W regions o (suc n) off i =
-    (o (at_top off) (and_left _ _ i), subst (λ a. AllOpen regions (addresses a n)) (sym (next_place (e.base 16) off)) (places_open e W regions o n ((off + 8) % M) (and_right (in_win W (at_top off)) _ i)))
+places_open e W regions o (suc n) off i = (
+  o (at_top off) (and_left _ _ i),
+  subst (λ a. AllOpen regions (addresses a n)) (sym (next_place (e.base 16) off))
+      (places_open e W regions o n ((off + 8) % M) (and_right (in_win W (at_top off)) _ i)),
+)
 
 pub no_event : (m : Memory) (write : Bool) (as' : List ℕ) → AllOpen m.regions as' → first_event (view m false) write as' ≡ None
 no_event m write [] o = refl
-no_event m write (a ∷ as') o = ap (λ z. or_else z (first_event (view m false) write as')) (accessible m false refl write (ss 0) a o.0) ∙ no_event m write as' o.1
+no_event m write (a ∷ as') o = ap (λ z. or_else z (first_event (view m false) write as')) (accessible m false refl write (ss 0) a o.0)
+    ∙ no_event m write as' o.1
 
 -- eight places, from the highest down
-pub eight_open : (regions : List Region) (a b c d e f g h : ℕ) → AllOpen regions (a ∷ b ∷ c ∷ d ∷ e ∷ f ∷ g ∷ h ∷ []) → AllOpen regions (h ∷ g ∷ f ∷ e ∷ d ∷ c ∷ b ∷ a ∷ [])
+pub eight_open : (regions : List Region) (a b c d e f g h : ℕ) → AllOpen regions (a ∷ b ∷ c ∷ d ∷ e ∷ f ∷ g ∷ h ∷ [])
+    → AllOpen regions (h ∷ g ∷ f ∷ e ∷ d ∷ c ∷ b ∷ a ∷ [])
 eight_open regions a b c d e f g h (i, (j, (k, (l, (m, (n, (o, (q, r)))))))) = (q, (o, (n, (m, (l, (k, (j, (i, r))))))))
 
 abbrev pub word_at_top : ℕ → V → Word
 word_at_top off v = record { at = at_top off; val = v }
 
 -- eight known words in the other order
-pub eight_known : (e : Env) (W : List Win) (m : NatMap ℕ) (a b c d f g h i : Word) (ws : List Word) → Known e W m (a ∷ b ∷ c ∷ d ∷ f ∷ g ∷ h ∷ i ∷ ws) → Known e W m (i ∷ h ∷ g ∷ f ∷ d ∷ c ∷ b ∷ a ∷ ws)
+pub eight_known : (e : Env) (W : List Win) (m : NatMap ℕ) (a b c d f g h i : Word) (ws : List Word) → Known e W m (a ∷ b ∷ c ∷ d ∷ f ∷ g ∷ h ∷ i ∷ ws)
+    → Known e W m (i ∷ h ∷ g ∷ f ∷ d ∷ c ∷ b ∷ a ∷ ws)
 eight_known e W m a b c d f g h i ws (a0, a1, (b0, b1, (c0, c1, (d0, d1, (f0, f1, (g0, g1, (h0, h1, (i0, i1, r)))))))) =
     (i0, i1, (h0, h1, (g0, g1, (f0, f1, (d0, d1, (c0, c1, (b0, b1, (a0, a1, r))))))))

@@ -45,7 +45,8 @@ module _ (mode : Mode) (image : Image) (formed : IsImage image) (built : IsBuilt
         ≡ task_step image m p (user.executed (user_view (user_memory image m)) (task (processor m p)) ((task (processor m p)).rip + length (spelling ins)) ins)
     pub seen : is_visible (marks_of mode image) s p ≡ true
 
-  pub at_user : (left : NatMap ℕ) (s : System) (m : Machine) → Stands mode image left s m → (p : ℕ) → p < image.processors → (processor m p).bodies ≡ [] → AtUser left s m p
+  pub at_user : (left : NatMap ℕ) (s : System) (m : Machine) → Stands mode image left s m → (p : ℕ) → p < image.processors → (processor m p).bodies ≡ []
+      → AtUser left s m p
   unfolding is_visible
   at_user left s m h p lt hb =
       let x : abstract.Processor = processor m p in
@@ -54,7 +55,8 @@ module _ (mode : Mode) (image : Image) (formed : IsImage image) (built : IsBuilt
       let on : StandsOn mode image p (left p) s x = h.each p lt in
       let runs : RunsTask mode image p x.running (task x) c = subst (λ bs. Chain mode image p (left p) x.running (task x) bs c s.memory) hb on.chain in
       let is_program : IsProgram image.text (first_start image) built.program = first_program image built in
-      let reads_it : Reads built.program image.text t.rip = reads image.text (first_start image) built.program is_program t.rip (runs.at built.program is_program) in
+      let reads_it : Reads built.program image.text t.rip =
+      reads image.text (first_start image) built.program is_program t.rip (runs.at built.program is_program) in
       let rip : c.rip ≡ t.rip = ap (λ (z : Processor). z.rip) runs.is in
       let is_it : is_user c ≡ true = ap is_user runs.is in
       let fetch = facts.user_fetch s.memory h.regions_are h.fixed t.rip reads_it.from reads_it.to in
@@ -75,7 +77,8 @@ module _ (mode : Mode) (image : Image) (formed : IsImage image) (built : IsBuilt
             ∙ ap (λ a. executed (task_processor mode image p x.running t c.cr2) a s.memory (s.latches p) (Some reads_it.ins)) on.apic
             ∙ ap (λ n. executed (task_processor mode image p x.running t c.cr2) opening_apic s.memory n (Some reads_it.ins)) on.latch;
         turns = task_turns image m p on.nmi on.pending hb
-            ∙ ap (task_step image m p) (user_reads (user_memory image m) t reads_it.ins reads_it.from (omega (arith, reads_it.to, formed.text_fits)) reads_it.is);
+            ∙ ap (task_step image m p)
+            (user_reads (user_memory image m) t reads_it.ins reads_it.from (omega (arith, reads_it.to, formed.text_fits)) reads_it.is);
         seen = ap (is_visible_by (marks_of mode image) s p c) next ∙ ap (λ b. b || is_seen (mark_at (marks_of mode image) c.rip) s c) is_it;
       }
 
@@ -90,7 +93,8 @@ module _ (mode : Mode) (image : Image) (formed : IsImage image) (built : IsBuilt
       pick false b = refl
 
   -- a turn that raises no event
-  pub plain_turn : (left : NatMap ℕ) (s : System) (m : Machine) → Stands mode image left s m → (p : ℕ) → p < image.processors → (processor m p).bodies ≡ [] → (u : AtUser left s m p) → Makes (task (processor m p)) u.ins
+  pub plain_turn : (left : NatMap ℕ) (s : System) (m : Machine) → Stands mode image left s m → (p : ℕ) → p < image.processors → (processor m p).bodies ≡ []
+      → (u : AtUser left s m p) → Makes (task (processor m p)) u.ins
       → TurnsTo mode image built left s m p
   plain_turn left s m h p lt hb u k =
       let x : abstract.Processor = processor m p in
@@ -108,7 +112,8 @@ module _ (mode : Mode) (image : Image) (formed : IsImage image) (built : IsBuilt
         canonical = ap (λ (t : Task). is_canonical t.rip) task_is ∙ ap is_canonical k.rip ∙ u.canonical;
         at = λ program is. ap (λ (t : Task). begins program t.rip) task_is ∙ ap (begins program) k.rip ∙ u.leads program is;
       } in
-      let chain : Chain mode image p 0 y.running (task y) y.bodies d s.memory = subst (λ bs. Chain mode image p 0 y.running (task y) bs d s.memory) (sym hb) runs in
+      let chain : Chain mode image p 0 y.running (task y) y.bodies d s.memory =
+      subst (λ bs. Chain mode image p 0 y.running (task y) bs d s.memory) (sym hb) runs in
       let stands_on : StandsOn mode image p 0 s' y = record {
         few = omega arith;
         running = u.on.running;
@@ -122,7 +127,8 @@ module _ (mode : Mode) (image : Image) (formed : IsImage image) (built : IsBuilt
         mark = u.on.mark;
         top_is = u.on.top_is;
         task_is = u.on.task_is;
-        depth = ap length (put_same s.activations p (activations_by s p (s.activations p) d Stepped.Ran)) ∙ ap length (same_activations s p (s.activations p) d u.at_cpl3) ∙ u.on.depth;
+        depth = ap length (put_same s.activations p (activations_by s p (s.activations p) d Stepped.Ran))
+            ∙ ap length (same_activations s p (s.activations p) d u.at_cpl3) ∙ u.on.depth;
         chain = subst (λ z. Chain mode image p 0 y.running (task y) y.bodies z s.memory) (sym (put_same s.cpus p d)) chain;
       } in
       record {
@@ -133,7 +139,8 @@ module _ (mode : Mode) (image : Image) (formed : IsImage image) (built : IsBuilt
         turns = u.turns ∙ ap (task_step image m p) (k.user (user_view (user_memory image m)) ∙ ap (step_of (task x)) (k.is (user_view (user_memory image m))));
         seen = u.seen;
         now_left = 0;
-        stands = stands_again mode image built left s m h p lt 0 s' m' refl (λ a i. refl) refl refl (subst (λ z. StandsOn mode image p 0 s' z) (sym (put_same m.processors p y)) stands_on);
+        stands = stands_again mode image built left s m h p lt 0 s' m' refl (λ a i. refl) refl refl
+            (subst (λ z. StandsOn mode image p 0 s' z) (sym (put_same m.processors p y)) stands_on);
         shows = λ told. ap (λ b. if b then [] else told) u.at_cpl3;
         safe = refl;
       }

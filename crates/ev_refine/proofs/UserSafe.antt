@@ -32,17 +32,21 @@ pub record OnlyTask (s : System) : Type 0 where
 
 unused : (s : System) → OnlyTask s → (address n : ℕ) → is_in_use Fred s 0 n address ≡ false
 unused s o address n =
-    ap (λ (as' : List Activation). nat_lt address (stack_top 0 n) && is_from (lowest (map (λ (a : Activation). a.rsp) (filter (stands_on Fred s.memory.words 0 n) (interrupted (s.cpus 0) as')))) address && true) o.none
+    ap (λ (as' : List Activation). nat_lt address (stack_top 0 n) && is_from
+    (lowest (map (λ (a : Activation). a.rsp) (filter (stands_on Fred s.memory.words 0 n) (interrupted (s.cpus 0) as')))) address && true) o.none
     ∙ ap (λ b. b && true) (never (nat_lt address (stack_top 0 n)))
 
 in_no_area : (s : System) → OnlyTask s → (address : ℕ) → is_kept Fred s 0 0 address ≡ false
 in_no_area s o address =
-    let front : Bool = nat_le (stack_top 0 0 - area_bytes Fred) address && nat_lt address (stack_top 0 0) && not (list_any (λ (a : Activation). nat_lt a.rsp (stack_top 0 0)) (standing Fred s 0 0)) in
-    ap (λ b. front && not (b && (s.memory.words (pcpu 0 + 0x18) == task_words 0 0))) o.user ∙ ap (λ b. front && not b) (eq-eqb (s.memory.words (pcpu 0 + 0x18)) (task_words 0 0) o.task_is) ∙ never front
+    let front : Bool = nat_le (stack_top 0 0 - area_bytes Fred) address && nat_lt address (stack_top 0 0) && not
+    (list_any (λ (a : Activation). nat_lt a.rsp (stack_top 0 0)) (standing Fred s 0 0)) in
+    ap (λ b. front && not (b && (s.memory.words (pcpu 0 + 0x18) == task_words 0 0))) o.user
+    ∙ ap (λ b. front && not b) (eq-eqb (s.memory.words (pcpu 0 + 0x18)) (task_words 0 0) o.task_is) ∙ never front
 
 not_live_on : (s : System) → OnlyTask s → (address tasks : ℕ) → tasks ≡ 1 → is_live_on Fred s address tasks 0 ≡ false
 not_live_on s o address tasks h =
-    ap (λ b. b || list_any (λ i. is_kept Fred s 0 i address) (numbers_from 0 tasks)) (none_of (λ n. is_in_use Fred s 0 n address) (unused s o address) (numbers_from 0 7))
+    ap (λ b. b || list_any (λ i. is_kept Fred s 0 i address) (numbers_from 0 tasks))
+    (none_of (λ n. is_in_use Fred s 0 n address) (unused s o address) (numbers_from 0 7))
     ∙ ap (λ n. list_any (λ i. is_kept Fred s 0 i address) (numbers_from 0 n)) h
     ∙ ap (λ b. b || false) (in_no_area s o address)
 
@@ -54,4 +58,5 @@ not_live image built s o address =
 
 -- so no frame writes over a live word
 pub overwrites_none : (image : Image) → IsBuilt image → (s : System) → OnlyTask s → (fs : List FrameNote) → list_any (overwrites Fred image s) fs ≡ false
-overwrites_none image built s o fs = none_of (overwrites Fred image s) (λ f. none_of (is_live Fred image s) (not_live image built s o) (addresses f.address (length f.words.items))) fs
+overwrites_none image built s o fs =
+    none_of (overwrites Fred image s) (λ f. none_of (is_live Fred image s) (not_live image built s o) (addresses f.address (length f.words.items))) fs

@@ -38,7 +38,8 @@ module _ (mode : Mode) (image : Image) (built : IsBuilt image) where
         → shown_by p (length (s.activations p)) (is_user (s.cpus p)) (has_fred (s.cpus p)) told after.cpu after.words after.step ≡ entries
     pub safe : list_any (overwrites mode image s) (acted image.processors (after_step s p after) p after.step).1 ≡ false
 
-  concrete_is : (left : NatMap ℕ) (s : System) (m : Machine) (p : ℕ) (t : TurnsTo left s m p) → concrete_step image.processors s p ≡ acted image.processors (after_step s p t.after) p t.after.step
+  concrete_is : (left : NatMap ℕ) (s : System) (m : Machine) (p : ℕ) (t : TurnsTo left s m p)
+      → concrete_step image.processors s p ≡ acted image.processors (after_step s p t.after) p t.after.step
   unfolding concrete_step
   concrete_is left s m p t = ap (λ r. acted image.processors (after_step s p r) p r.step) t.steps
 
@@ -48,7 +49,8 @@ module _ (mode : Mode) (image : Image) (built : IsBuilt image) where
     seen = t.seen;
     now_left = t.now_left;
     stands = subst (λ z. Stands mode image (put_at left p t.now_left) z.0 (turn image m p).0) (sym (concrete_is left s m p t))
-        (subst (λ z. Stands mode image (put_at left p t.now_left) (acted image.processors (after_step s p t.after) p t.after.step).0 z.0) (sym t.turns) t.stands);
+        (subst (λ z. Stands mode image (put_at left p t.now_left) (acted image.processors (after_step s p t.after) p t.after.step).0 z.0)
+        (sym t.turns) t.stands);
     entries = let told : List Entry = told_at (mark_at (marks_of mode image) (s.cpus p).rip) s p in
         ap (λ r. shown_by p (length (s.activations p)) (is_user (s.cpus p)) (has_fred (s.cpus p)) told r.cpu r.words r.step) t.steps
         ∙ t.shows told ∙ sym (ap (λ z. z.1) t.turns);
@@ -58,7 +60,8 @@ module _ (mode : Mode) (image : Image) (built : IsBuilt image) where
   is_safe left s m p t = ap (λ z. list_any (overwrites mode image s) z.1) (concrete_is left s m p t) ∙ t.safe
 
   -- what else stands, where the step leaves the words that nothing writes
-  pub stands_again : (left : NatMap ℕ) (s : System) (m : Machine) → Stands mode image left s m → (p : ℕ) → p < image.processors → (now_left : ℕ) (s' : System) (m' : Machine)
+  pub stands_again : (left : NatMap ℕ) (s : System) (m : Machine) → Stands mode image left s m → (p : ℕ) → p < image.processors
+      → (now_left : ℕ) (s' : System) (m' : Machine)
       → s'.memory.regions ≡ s.memory.regions → ((a : ℕ) → IsFixed a → s'.memory.words a ≡ s.memory.words a) → m'.words ≡ m.words → m'.present ≡ m.present
       → StandsOn mode image p now_left s' (processor m' p) → Stands mode image (put_at left p now_left) s' m'
   stands_again left s m h p lt now_left s' m' hr hf hw hp ho = record {
@@ -72,7 +75,8 @@ module _ (mode : Mode) (image : Image) (built : IsBuilt image) where
   }
 
   -- a delivery that is counted leaves the rest
-  pub stands_acted : (left : NatMap ℕ) (s : System) (m : Machine) (n p : ℕ) (e : Event) (frame : Option ℕ) → Stands mode image left s m → Stands mode image left (acted n s p (Stepped.Delivered e frame)).0 m
+  pub stands_acted : (left : NatMap ℕ) (s : System) (m : Machine) (n p : ℕ) (e : Event) (frame : Option ℕ) → Stands mode image left s m
+      → Stands mode image left (acted n s p (Stepped.Delivered e frame)).0 m
   stands_acted left s m n p e None h = h
   stands_acted left s m n p e (Some a) h = record {
     regions_are = h.regions_are;

@@ -65,7 +65,8 @@ next_item : (image : Image) (x : abstract.Processor) → x.nmi ≡ false → x.p
 unfolding choice
 next_item image x hn hp =
     ap (λ b. if b && not (list_any (is_nmi_body image) x.bodies) then Choice.Nmi else maskable x) hn
-    ∙ ap (λ (q : ℕ → Bool). if open_to_interrupts x.bodies then interrupt_or_next (greatest_below 256 (λ v. q v && list_all (λ c. outranks v c.service) x.bodies)) else NextItem) hp
+    ∙ ap (λ (q : ℕ → Bool). if open_to_interrupts x.bodies then interrupt_or_next
+    (greatest_below 256 (λ v. q v && list_all (λ c. outranks v c.service) x.bodies)) else NextItem) hp
     ∙ pick (open_to_interrupts x.bodies)
   where
     pick : (b : Bool) → (if b then interrupt_or_next None else NextItem) ≡ NextItem
@@ -144,10 +145,12 @@ makes t Syscall h k = inl refl
 makes t _ h k = absurd (cc)
 
 -- the processor that runs the task is then the one that runs the task made
-processor_after : (mode : Mode) (image : Image) (p running : ℕ) (t u : Task) (cr2 : ℕ) → u.gs ≡ t.gs → with_effect (completed (task_processor mode image p running t cr2)) u ≡ task_processor mode image p running u cr2
+processor_after : (mode : Mode) (image : Image) (p running : ℕ) (t u : Task) (cr2 : ℕ) → u.gs ≡ t.gs
+    → with_effect (completed (task_processor mode image p running t cr2)) u ≡ task_processor mode image p running u cr2
 processor_after mode image p running t u cr2 h = ap (λ g. task_processor mode image p running (record u { gs = g }) cr2) (sym h)
 
-pub task_at : (mode : Mode) (image : Image) (p running : ℕ) (t : Task) (cr2 next : ℕ) → record (task_of (task_processor mode image p running t cr2)) { rip = next } ≡ record t { rip = next }
+pub task_at : (mode : Mode) (image : Image) (p running : ℕ) (t : Task) (cr2 next : ℕ)
+    → record (task_of (task_processor mode image p running t cr2)) { rip = next } ≡ record t { rip = next }
 task_at mode image p running t cr2 next = ap (λ (f : Flags). record t { rip = next; flags = f }) (flags_of-flags_word t.flags)
 
 pub plain_runs : (mode : Mode) (image : Image) (p running : ℕ) (t : Task) (cr2 : ℕ) (i : Ins) (k : Makes t i) (a : Apic) (m : Memory) (nmi : Bool)

@@ -49,9 +49,12 @@ pub record StandsAt (program : List Ins) (a : ℕ) (is : List Ins) (x : ℕ) (i 
   pub encodable : IsEncodable i
   pub leads : begins program (leads_to x i) ≡ true
 
-stands_at : (program : List Ins) (a : ℕ) (is : List Ins) (x : ℕ) (i : Ins) → instruction_from a is x ≡ Some i → all_built is ≡ true → AllEncodable is → all_lead program a is ≡ true → StandsAt program a is x i
+stands_at : (program : List Ins) (a : ℕ) (is : List Ins) (x : ℕ) (i : Ins) → instruction_from a is x ≡ Some i → all_built is ≡ true → AllEncodable is
+    → all_lead program a is ≡ true → StandsAt program a is x i
 stands_at program a [] x i h b e l = absurd (cc)
-stands_at program a (j ∷ js) x i h b e l = pick (x == a) refl h (λ k. stands_at program (a + length (spelling j)) js x i k (and_right (is_built_instruction j) (all_built js) b) e.1 (and_right (begins program (leads_to a j)) _ l))
+stands_at program a (j ∷ js) x i h b e l =
+    pick (x == a) refl h (λ k. stands_at program (a + length (spelling j)) js x i k (and_right (is_built_instruction j) (all_built js) b) e.1
+    (and_right (begins program (leads_to a j)) _ l))
   where
     here : x ≡ a → j ≡ i → StandsAt program a (j ∷ js) x i
     here q r =
@@ -112,7 +115,8 @@ reads text start program p x h = pick (instruction_from text_base program x) ref
           from = omega (arith, s.at);
           to = omega (arith, s.at, s.short, ap length p.text_is);
           is = ap (λ t. reading (take 15 (t ++ zeros))) at ∙ ap (λ t. reading (take 15 t)) (append_assoc (spelling i) s.rest zeros)
-              ∙ ap reading (take_front (spelling i) (s.rest ++ zeros) 15 (spelling_length i)) ∙ reading_again i (take (15 - length (spelling i)) (s.rest ++ zeros)) s.encodable;
+              ∙ ap reading (take_front (spelling i) (s.rest ++ zeros) 15 (spelling_length i))
+              ∙ reading_again i (take (15 - length (spelling i)) (s.rest ++ zeros)) s.encodable;
           built = s.built;
           encodable = s.encodable;
           leads = s.leads;

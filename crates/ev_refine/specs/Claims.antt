@@ -41,12 +41,14 @@ module _ (mode : Mode) (image : Image) where
 
 -- each concrete step is an edge or visible
 abbrev pub Refines : Type 0
-Refines = (mode : Mode) (image : Image) → IsBuilt image → mode_is_built mode ≡ true → IsImage image → (left : NatMap ℕ) (s : System) (m : Machine) → Stands mode image left s m
+Refines = (mode : Mode) (image : Image) → IsBuilt image → mode_is_built mode ≡ true → IsImage image → (left : NatMap ℕ) (s : System) (m : Machine)
+    → Stands mode image left s m
     → (p : ℕ) → p < image.processors → Simulated mode image left s m p
 
 -- the opening of the one stands for that of the other
 abbrev pub Opens : Type 0
-Opens = (mode : Mode) (image : Image) → IsBuilt image → mode_is_built mode ≡ true → IsImage image → Stands mode image (λ p. 0) (opening_system mode image) (opening image)
+Opens = (mode : Mode) (image : Image) → IsBuilt image → mode_is_built mode ≡ true → IsImage image
+    → Stands mode image (λ p. 0) (opening_system mode image) (opening image)
 
 -- ---- runs of edges, turns and scripts
 
@@ -56,18 +58,21 @@ pub record Settles (mode : Mode) (image : Image) (left : NatMap ℕ) (s : System
   pub seen : (k : ℕ) → left p ≤ k → is_visible (marks_of mode image) (edges k (marks_of mode image) image.processors s p).0 p ≡ true
 
 abbrev pub AllSettle : Type 0
-AllSettle = (mode : Mode) (image : Image) → IsBuilt image → mode_is_built mode ≡ true → IsImage image → (left : NatMap ℕ) (s : System) (m : Machine) → Stands mode image left s m
+AllSettle = (mode : Mode) (image : Image) → IsBuilt image → mode_is_built mode ≡ true → IsImage image → (left : NatMap ℕ) (s : System) (m : Machine)
+    → Stands mode image left s m
     → (p : ℕ) → p < image.processors → Settles mode image left s m p
 
 -- a turn of the one is a turn of the other
 abbrev pub TurnsFollow : Type 0
-TurnsFollow = (mode : Mode) (image : Image) → IsBuilt image → mode_is_built mode ≡ true → IsImage image → (left : NatMap ℕ) (s : System) (m : Machine) → Stands mode image left s m
+TurnsFollow = (mode : Mode) (image : Image) → IsBuilt image → mode_is_built mode ≡ true → IsImage image → (left : NatMap ℕ) (s : System) (m : Machine)
+    → Stands mode image left s m
     → (p : ℕ) → p < image.processors
     → (now_left : ℕ) × Stands mode image (put_at left p now_left) (concrete_turn (marks_of mode image) image.processors s p).0 (turn image m p).0
 
 -- after every script of today's lines the concrete run stands for the abstract one
 abbrev pub RunsFollow : Type 0
-RunsFollow = (mode : Mode) (image : Image) → IsBuilt image → mode_is_built mode ≡ true → IsImage image → (script : List Line) → IsScript image script → list_all line_is_built script ≡ true
+RunsFollow = (mode : Mode) (image : Image) → IsBuilt image → mode_is_built mode ≡ true → IsImage image → (script : List Line) → IsScript image script
+    → list_all line_is_built script ≡ true
     → (left : NatMap ℕ) × Stands mode image left (concrete_run mode image script).0 (run image script)
 
 -- ---- what the relation says to those who make the steps
@@ -84,5 +89,6 @@ pub record Tells (mode : Mode) (image : Image) (s : System) (m : Machine) (p : �
   pub gs : (processor m p).bodies ≡ [] → (s.cpus p).msrs.gs_base ≡ (task (processor m p)).gs
 
 abbrev pub StandsTells : Type 0
-StandsTells = (mode : Mode) (image : Image) → IsBuilt image → mode_is_built mode ≡ true → IsImage image → (left : NatMap ℕ) (s : System) (m : Machine) → Stands mode image left s m
+StandsTells = (mode : Mode) (image : Image) → IsBuilt image → mode_is_built mode ≡ true → IsImage image → (left : NatMap ℕ) (s : System) (m : Machine)
+    → Stands mode image left s m
     → (p : ℕ) → p < image.processors → Tells mode image s m p

@@ -42,9 +42,19 @@ times : (k : ℕ) (b : Bool) → bit_if k b ≡ bit_if k true * number b
 times k true = omega arith
 times k false = omega arith
 
-word_is : (f : Flags) → flags_word f ≡ word (number f.status.carry) (number f.status.zero) (number f.status.sign) (number f.interrupts) (number f.status.overflow) (number f.alignment)
+word_is : (f : Flags) → flags_word f ≡ word (number f.status.carry) (number f.status.zero) (number f.status.sign) (number f.interrupts)
+    (number f.status.overflow) (number f.alignment)
 unfolding flags_word
-word_is f = omega (arith, times 0 f.status.carry, times 6 f.status.zero, times 7 f.status.sign, times 9 f.interrupts, times 11 f.status.overflow, times 18 f.alignment)
+word_is f = omega (
+  arith,
+  times 0 f.status.carry,
+  times 6 f.status.zero,
+  times 7 f.status.sign,
+  times 9 f.interrupts,
+  times 11 f.status.overflow,
+  times 18
+      f.alignment,
+)
 
 abbrev flags : Bool → Bool → Bool → Bool → Bool → Bool → Flags
 flags c z s i o a = record { status = record { carry = c; zero = z; sign = s; overflow = o }; interrupts = i; alignment = a }
@@ -62,7 +72,8 @@ flags_of-flags_word f =
     let i : number f.interrupts < 2 = small f.interrupts in
     let o : number f.status.overflow < 2 = small f.status.overflow in
     let a : number f.alignment < 2 = small f.alignment in
-    let w : flags_word f ≡ word (number f.status.carry) (number f.status.zero) (number f.status.sign) (number f.interrupts) (number f.status.overflow) (number f.alignment) = word_is f in
+    let w : flags_word f ≡ word (number f.status.carry) (number f.status.zero) (number f.status.sign) (number f.interrupts) (number f.status.overflow)
+    (number f.alignment) = word_is f in
     let at_0 : bit 0 (flags_word f) ≡ f.status.carry = ap (bit 0) w ∙ ap (λ (n : ℕ). n == 1) (bit_0 _ _ _ _ _ _ c) ∙ is_one f.status.carry in
     let at_6 : bit 6 (flags_word f) ≡ f.status.zero = ap (bit 6) w ∙ ap (λ (n : ℕ). n == 1) (bit_6 _ _ _ _ _ _ c z) ∙ is_one f.status.zero in
     let at_7 : bit 7 (flags_word f) ≡ f.status.sign = ap (bit 7) w ∙ ap (λ (n : ℕ). n == 1) (bit_7 _ _ _ _ _ _ c z s) ∙ is_one f.status.sign in

@@ -21,10 +21,12 @@ back false b h = cc
 list_all-set : (p : ℕ → Bool) (xs : List ℕ) (i v : ℕ) → list_all p xs ≡ true → p v ≡ true → list_all p (set xs i v) ≡ true
 list_all-set p [] i v h k = h
 list_all-set p (x ∷ xs) zero v h k = both (p v) (list_all p xs) k (back (p x) (list_all p xs) h)
-list_all-set p (x ∷ xs) (suc i) v h k = both (p x) (list_all p (set xs i v)) (front (p x) (list_all p xs) h) (list_all-set p xs i v (back (p x) (list_all p xs) h) k)
+list_all-set p (x ∷ xs) (suc i) v h k = both (p x) (list_all p (set xs i v)) (front (p x) (list_all p xs) h)
+    (list_all-set p xs i v (back (p x) (list_all p xs) h) k)
 
 -- a stack level's RSP is written
-pub with_rsp : {lstar gs kernel_gs config : ℕ} {rsp : List ℕ} (i v : ℕ) → AreMsrs lstar gs kernel_gs config rsp → true ≡ is_level_rsp v → AreMsrs lstar gs kernel_gs config (set rsp i v)
+pub with_rsp : {lstar gs kernel_gs config : ℕ} {rsp : List ℕ} (i v : ℕ) → AreMsrs lstar gs kernel_gs config rsp → true ≡ is_level_rsp v
+    → AreMsrs lstar gs kernel_gs config (set rsp i v)
 with_rsp {rsp = rsp} i v m h = record {
   lstar_canonical = m.lstar_canonical;
   gs_canonical = m.gs_canonical;

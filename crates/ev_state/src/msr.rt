@@ -38,7 +38,8 @@ impl Model for MsrFile {
 impl MsrFile {
     /// What the registers keep.
     pub fn kept(&self)
-        ensures { AreMsrs self.now.lstar self.now.gs_base self.now.kernel_gs_base self.now.config self.now.rsp }
+        ensures { AreMsrs self.now.lstar self.now.gs_base self.now.kernel_gs_base self.now.config
+            self.now.rsp }
     {
         let _ = &self.star;
     }

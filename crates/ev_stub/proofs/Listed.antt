@@ -39,12 +39,15 @@ blocks_same env (b ∷ bs) = ap (λ (x : List Block). block_of env b ∷ x) (blo
 pub linked_is : (bs : List Marks.Listing) → linked (map section_of bs) ≡ blocks_of bs
 linked_is bs = blocks_same (section_places (map section_of bs)) bs ∙ ap (λ (env : Places). map (block_of env) bs) (sections_places bs)
 
-pub listing_linkable : (env : Places) (ls : List Listing) (n : ℕ) (l : Listing) → list_all (is_linkable env) (map section_of (listings_of ls)) ≡ true → n < length ls → l ≡ get_or ls n l
+pub listing_linkable : (env : Places) (ls : List Listing) (n : ℕ) (l : Listing) → list_all (is_linkable env) (map section_of (listings_of ls)) ≡ true
+    → n < length ls → l ≡ get_or ls n l
     → IsLinkable env (section_of (listing_of l))
 listing_linkable env [] n l h lt e = absurd (omega arith)
-listing_linkable env (x ∷ xs) zero l h lt e = linkable_at env (map section_of (listings_of (x ∷ xs))) 0 (section_of (listing_of l)) h (omega arith) (ap (λ (y : Listing). section_of (listing_of y)) e)
+listing_linkable env (x ∷ xs) zero l h lt e = linkable_at env (map section_of (listings_of (x ∷ xs))) 0 (section_of (listing_of l)) h (omega arith)
+    (ap (λ (y : Listing). section_of (listing_of y)) e)
 listing_linkable env (x ∷ xs) (suc n) l h lt e =
-    listing_linkable env xs n l ((both (is_linkable env (section_of (listing_of x))) (list_all (is_linkable env) (map section_of (listings_of xs))) h).1) (omega arith) e
+    listing_linkable env xs n l ((both (is_linkable env (section_of (listing_of x))) (list_all (is_linkable env) (map section_of (listings_of xs))) h).1)
+    (omega arith) e
 
 -- ---- visible instructions
 
@@ -54,7 +57,8 @@ marks_before Mark.Always a rest = refl
 marks_before Mark.IfNonzero a rest = refl
 marks_before Mark.IfEqual a rest = refl
 
-pub marks_step : (ls : List Line) (n m a b : ℕ) (l : Line) (done more W : List (ℕ × Mark)) → n < length ls → m ≡ suc n → l ≡ get_or ls n l → b ≡ a + size (stmt_of l) → more ≡ done ++ with_mark (marked_of l).mark a []
+pub marks_step : (ls : List Line) (n m a b : ℕ) (l : Line) (done more W : List (ℕ × Mark)) → n < length ls → m ≡ suc n → l ≡ get_or ls n l
+    → b ≡ a + size (stmt_of l) → more ≡ done ++ with_mark (marked_of l).mark a []
     → done ++ marks a (map marked_of (drop n ls)) ≡ W → more ++ marks b (map marked_of (drop m ls)) ≡ W
 unfolding marks
 marks_step ls n m a b l done more W lt k e f g w =
@@ -66,10 +70,12 @@ pub marks_end : (ls : List Line) (n a : ℕ) (done W : List (ℕ × Mark)) → l
 unfolding marks
 marks_end ls n a done W le w = sym (append-nil done) ∙ ap (λ (x : List Line). done ++ marks a (map marked_of x)) (sym (drop_all n ls le)) ∙ w
 
-pub room_step : (ls : List Line) (n m : ℕ) (l : Line) → n < length ls → m ≡ suc n → l ≡ get_or ls n l → total_size (map stmt_of (drop n ls)) ≡ size (stmt_of l) + total_size (map stmt_of (drop m ls))
+pub room_step : (ls : List Line) (n m : ℕ) (l : Line) → n < length ls → m ≡ suc n → l ≡ get_or ls n l
+    → total_size (map stmt_of (drop n ls)) ≡ size (stmt_of l) + total_size (map stmt_of (drop m ls))
 room_step ls n m l lt k e = rw k (ap (λ (x : List Line). total_size (map stmt_of x)) (item_at ls n l lt e))
 
-pub encoded_at : (ls : List Line) (n : ℕ) (l : Line) → are_instructions (map stmt_of ls) ≡ true → n < length ls → l ≡ get_or ls n l → is_encoded (stmt_of l) ≡ true
+pub encoded_at : (ls : List Line) (n : ℕ) (l : Line) → are_instructions (map stmt_of ls) ≡ true → n < length ls → l ≡ get_or ls n l
+    → is_encoded (stmt_of l) ≡ true
 encoded_at [] n l h lt e = absurd (omega arith)
 encoded_at (x ∷ xs) zero l h lt e = ap (λ (y : Line). is_encoded (stmt_of y)) e ∙ (both (is_encoded (stmt_of x)) (are_instructions (map stmt_of xs)) h).0
 encoded_at (x ∷ xs) (suc n) l h lt e = encoded_at xs n l ((both (is_encoded (stmt_of x)) (are_instructions (map stmt_of xs)) h).1) (omega arith) e

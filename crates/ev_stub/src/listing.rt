@@ -22,7 +22,8 @@ pub fn add_listing(
     address: u64,
     lines: &[Line],
 ) -> Result<(), AllocError>
-    ensures { OnOk result (listings_of listings.new.items ≡ listings_of listings.old.items ++ record { address = address; lines = map marked_of lines.now } ∷ []) }
+    ensures { OnOk result (listings_of listings.new.items ≡ listings_of listings.old.items
+        ++ record { address = address; lines = map marked_of lines.now } ∷ []) }
 {
     let mut copied = Vec::new(alloc);
     copied.extend_from_slice(lines)?;

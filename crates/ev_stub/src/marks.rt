@@ -16,7 +16,8 @@ use std::alloc::{AllocError, Global};
 
 /// The address is added where the line's instruction is a visible one.
 fn note(visible: &mut Vec<u64>, line: &Line, at: u64) -> Result<(), AllocError>
-    ensures { OnOk result (always visible.new.items ≡ always visible.old.items ++ with_mark (marked_of line.now).mark at []) }
+    ensures { OnOk result (always visible.new.items ≡ always visible.old.items ++ with_mark
+        (marked_of line.now).mark at []) }
 {
     if matches!(line, Line::Seen(_) | Line::SeenJump(_, _)) {
         visible.push(at)?;
@@ -29,7 +30,8 @@ fn note(visible: &mut Vec<u64>, line: &Line, at: u64) -> Result<(), AllocError>
 fn note_all(visible: &mut Vec<u64>, address: u64, lines: &[Line]) -> Result<(), AllocError>
     requires counts { are_instructions (map stmt_of lines.now) ≡ true }
     requires room { address + total_size (map stmt_of lines.now) < 2 ^ 64 }
-    ensures { OnOk result (always visible.new.items ≡ always visible.old.items ++ marks address (map marked_of lines.now)) }
+    ensures { OnOk result (always visible.new.items ≡ always visible.old.items ++ marks address
+        (map marked_of lines.now)) }
 {
     let mut at = address;
     for line in lines {

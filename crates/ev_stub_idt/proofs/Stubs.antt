@@ -21,7 +21,8 @@ next : (v : ℕ) → v < 256 → stubs_from v ≡ stub_listing v ∷ stubs_from 
 unfolding stubs_from
 next v h = let e : 256 - v ≡ suc (256 - suc v) = omega arith in rw e refl
 
-pub stubs_step : (v w : ℕ) (done more W : List Listing) → v < 256 → w ≡ suc v → more ≡ done ++ stub_listing v ∷ [] → done ++ stubs_from v ≡ W → more ++ stubs_from w ≡ W
+pub stubs_step : (v w : ℕ) (done more W : List Listing) → v < 256 → w ≡ suc v → more ≡ done ++ stub_listing v ∷ [] → done ++ stubs_from v ≡ W
+    → more ++ stubs_from w ≡ W
 stubs_step v w done more W lt k g h =
     rw (k, g) (append_assoc done (stub_listing v ∷ []) (stubs_from (suc v)) ∙ ap (λ (x : List Listing). done ++ x) (sym (next v lt)) ∙ h)
 

@@ -37,7 +37,8 @@ fn stub(alloc: Global, vector: u8) -> Result<Vec<Line>, AllocError>
 
 /// The stub of a vector becomes the last listing, unless memory is refused.
 fn add_stub(alloc: Global, listings: &mut Vec<Listing>, vector: u8) -> Result<(), AllocError>
-    ensures { OnOk result (listings_of listings.new.items ≡ listings_of listings.old.items ++ record { address = vector_stub vector; lines = stub vector } ∷ []) }
+    ensures { OnOk result (listings_of listings.new.items ≡ listings_of listings.old.items
+        ++ record { address = vector_stub vector; lines = stub vector } ∷ []) }
 {
     let lines = stub(alloc, vector)?;
     let address = VECTOR_STUBS + 0x10 * u64::from(vector);
@@ -46,7 +47,8 @@ fn add_stub(alloc: Global, listings: &mut Vec<Listing>, vector: u8) -> Result<()
 
 /// The stubs of all vectors become the last listings, unless memory is refused.
 pub fn add_stubs(alloc: Global, listings: &mut Vec<Listing>) -> Result<(), AllocError>
-    ensures { OnOk result (listings_of listings.new.items ≡ listings_of listings.old.items ++ vector_stubs) }
+    ensures { OnOk result (listings_of listings.new.items ≡ listings_of listings.old.items
+        ++ vector_stubs) }
 {
     for vector in 0..=255 {
         add_stub(alloc, listings, vector)?;

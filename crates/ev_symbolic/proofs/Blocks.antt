@@ -39,10 +39,12 @@ line_ok code e l (x ∷ xs) h = pick (loc_eq x.at l) refl (line_ok code e l xs h
     pick false q r = r
 
 -- from a state in a block to the next state of that block
-pub inside : (code : Code) (b : Block) (k : ℕ) (e : Env) (c : Processor) (m : Memory) → At code b k e c m → (s : SS) → brun b (suc k) ≡ Some s → Inside code b (suc k) e c m
+pub inside : (code : Code) (b : Block) (k : ℕ) (e : Env) (c : Processor) (m : Memory) → At code b k e c m → (s : SS) → brun b (suc k) ≡ Some s
+    → Inside code b (suc k) e c m
 inside code b k e c m at s h = with_line (line_at at.state.rip b.lines) (line_ok code e at.state.rip b.lines at.fits.stands) (ap (bnext b) (sym at.is) ∙ h)
   where
-    finish : (x : Line) → code c.rip ≡ Some (edge_cell x.ins (addr e x.next)) → (o : Option SS) → StepsIf e b.ground x.ins o c m → o ≡ Some s → Inside code b (suc k) e c m
+    finish : (x : Line) → code c.rip ≡ Some (edge_cell x.ins (addr e x.next)) → (o : Option SS) → StepsIf e b.ground x.ins o c m → o ≡ Some s
+        → Inside code b (suc k) e c m
     finish x q None r t = absurd (cc)
     finish x q (Some y) r t = record {
       ins = x.ins;
@@ -68,21 +70,26 @@ inside code b k e c m at s h = with_line (line_at at.state.rip b.lines) (line_ok
     with_line (Some x) q t =
         let here : code c.rip ≡ Some (edge_cell x.ins (addr e x.next)) = ap code at.agrees.rip ∙ q in
         let length_is : c.rip + length (spelling x.ins) ≡ addr e x.next = sym (at.fits.spaced c.rip (edge_cell x.ins (addr e x.next)) here) in
-        finish x here (sstep b.ground x.ins x.next at.state) (step_ok e b.ground at.fits.ground x.ins (addr e x.next) x.next at.state c m at.agrees length_is refl) t
+        finish x here (sstep b.ground x.ins x.next at.state)
+        (step_ok e b.ground at.fits.ground x.ins (addr e x.next) x.next at.state c m at.agrees length_is refl) t
 
 -- the choice of an instruction at the boundary, and what is read there
-pub steps_as : (c : Processor) (a : Apic) (m : Memory) (nmi : Bool) (i : Ins) → next_of c a nmi ≡ Next.Instruction → is_user c ≡ false → page_fault m (record { user = false; write = false; fetch = true }) c.rip ≡ None → instruction_at m.words c.rip ≡ Some i → step c a m nmi ≡ executed c a m nmi (Some i)
+pub steps_as : (c : Processor) (a : Apic) (m : Memory) (nmi : Bool) (i : Ins) → next_of c a nmi ≡ Next.Instruction → is_user c ≡ false
+    → page_fault m (record { user = false; write = false; fetch = true }) c.rip ≡ None → instruction_at m.words c.rip ≡ Some i
+    → step c a m nmi ≡ executed c a m nmi (Some i)
 unfolding step
 steps_as c a m nmi i hn hu hp hi =
     ap (step_by c a m nmi) hn ∙ ap (λ b. fetched c a m nmi (page_fault m (record { user = b; write = false; fetch = true }) c.rip)) hu
     ∙ ap (fetched c a m nmi) hp ∙ ap (executed c a m nmi) hi
 
 -- an instruction of the code at RIP, marked or not: so an exit that is proved by hand begins
-pub cell_step : (code : Code) (c : Processor) (a : Apic) (m : Memory) (nmi : Bool) (x : Cell) → Fetches code m → code c.rip ≡ Some x → next_of c a nmi ≡ Next.Instruction → is_user c ≡ false → step c a m nmi ≡ executed c a m nmi (Some x.ins)
+pub cell_step : (code : Code) (c : Processor) (a : Apic) (m : Memory) (nmi : Bool) (x : Cell) → Fetches code m → code c.rip ≡ Some x
+    → next_of c a nmi ≡ Next.Instruction → is_user c ≡ false → step c a m nmi ≡ executed c a m nmi (Some x.ins)
 cell_step code c a m nmi x f q hn hu = let r = f c.rip x q in steps_as c a m nmi x.ins hn hu r.0 r.1
 
 -- a step inside a block is the processor's, where an instruction comes first at the boundary
-pub inside_step : (code : Code) (b : Block) (k : ℕ) (e : Env) (c : Processor) (m : Memory) (at : At code b k e c m) (s : SS) (h : brun b (suc k) ≡ Some s) → Fetches code m → (a : Apic) (nmi : Bool) → next_of c a nmi ≡ Next.Instruction
+pub inside_step : (code : Code) (b : Block) (k : ℕ) (e : Env) (c : Processor) (m : Memory) (at : At code b k e c m) (s : SS) (h : brun b (suc k) ≡ Some s)
+    → Fetches code m → (a : Apic) (nmi : Bool) → next_of c a nmi ≡ Next.Instruction
     → let n : Inside code b (suc k) e c m = inside code b k e c m at s h in step c a m nmi ≡ ran n.cpu a n.words nmi
 inside_step code b k e c m at s h f a nmi hn =
     let n = inside code b k e c m at s h in
@@ -93,7 +100,8 @@ pub earlier : (b : Block) (k j : ℕ) (s : SS) → brun b (j + k) ≡ Some s →
 earlier b k zero s h = (s, ap (brun b) (let e : k ≡ 0 + k = omega arith in e) ∙ h)
 earlier b k (suc j) s h = back (brun b (j + k)) refl (ap (brun b) (let e : suc (j + k) ≡ suc j + k = omega arith in e) ∙ h) (earlier b k j)
   where
-    back : (o : Option SS) → brun b (j + k) ≡ o → bnext b (brun b (j + k)) ≡ Some s → ((t : SS) → brun b (j + k) ≡ Some t → (t : SS) × (brun b k ≡ Some t)) → (t : SS) × (brun b k ≡ Some t)
+    back : (o : Option SS) → brun b (j + k) ≡ o → bnext b (brun b (j + k)) ≡ Some s → ((t : SS) → brun b (j + k) ≡ Some t → (t : SS) × (brun b k ≡ Some t))
+        → (t : SS) × (brun b k ≡ Some t)
     back None q r f = let n : bnext b None ≡ Some s = ap (bnext b) (sym q) ∙ r in absurd (cc)
     back (Some t) q r f = f t q
 
@@ -101,20 +109,26 @@ earlier b k (suc j) s h = back (brun b (j + k)) refl (ap (brun b) (let e : suc (
 pub begins : (code : Code) (b : Block) (e : Env) (c : Processor) (m : Memory) → Fits code e b → Agrees e b.ground b.opening c m → At code b 0 e c m
 begins code b e c m f g = record { fits = f; state = b.opening; is = refl; agrees = g }
 
-pub goes_on : (code : Code) (b : Block) (n : ℕ) (z : SS) → brun b n ≡ Some z → (k : ℕ) (e : Env) (c : Processor) (m : Memory) → At code b k e c m → k < n → Inside code b (suc k) e c m
-goes_on code b n z r k e c m at lt = let t = earlier b (suc k) (n - suc k) z (ap (brun b) (let q : (n - suc k) + suc k ≡ n = omega arith in q) ∙ r) in inside code b k e c m at t.0 t.1
+pub goes_on : (code : Code) (b : Block) (n : ℕ) (z : SS) → brun b n ≡ Some z → (k : ℕ) (e : Env) (c : Processor) (m : Memory) → At code b k e c m → k < n
+    → Inside code b (suc k) e c m
+goes_on code b n z r k e c m at lt = let t = earlier b (suc k) (n - suc k) z (ap (brun b) (let q : (n - suc k) + suc k ≡ n = omega arith in q) ∙ r) in
+    inside code b k e c m at t.0 t.1
 
-pub at_end : (code : Code) (b : Block) (n : ℕ) (z : SS) → brun b n ≡ Some z → (e : Env) (c : Processor) (m : Memory) → At code b n e c m → Agrees e b.ground z c m
+pub at_end : (code : Code) (b : Block) (n : ℕ) (z : SS) → brun b n ≡ Some z → (e : Env) (c : Processor) (m : Memory) → At code b n e c m
+    → Agrees e b.ground z c m
 at_end code b n z r e c m at = subst (λ s. Agrees e b.ground s c m) (unsome at.state z (sym at.is ∙ r)) at.agrees
 
 -- what a closed test says of each state of a run
-every_on : (test : SS → Bool) (b : Block) (n k : ℕ) (s : SS) → brun b k ≡ Some s → every_from test b n s ≡ true → (j : ℕ) → j ≤ n → (t : SS) → brun b (j + k) ≡ Some t → test t ≡ true
+every_on : (test : SS → Bool) (b : Block) (n k : ℕ) (s : SS) → brun b k ≡ Some s → every_from test b n s ≡ true → (j : ℕ) → j ≤ n → (t : SS)
+    → brun b (j + k) ≡ Some t → test t ≡ true
 every_on test b zero k s r h zero l t q = ap test (unsome t s (sym q ∙ ap (brun b) (let e : 0 + k ≡ k = omega arith in e) ∙ r)) ∙ h
 every_on test b zero k s r h (suc j) l t q = absurd (omega arith)
 every_on test b (suc n) k s r h zero l t q = ap test (unsome t s (sym q ∙ ap (brun b) (let e : 0 + k ≡ k = omega arith in e) ∙ r)) ∙ and_left (test s) _ h
 every_on test b (suc n) k s r h (suc j) l t q = next (bnext b (Some s)) refl (and_right (test s) _ h) (every_on test b n (suc k))
   where
-    next : (o : Option SS) → bnext b (Some s) ≡ o → elim o [ None ↦ true | Some u ↦ every_from test b n u ] ≡ true → ((u : SS) → brun b (suc k) ≡ Some u → every_from test b n u ≡ true → (i : ℕ) → i ≤ n → (v : SS) → brun b (i + suc k) ≡ Some v → test v ≡ true) → test t ≡ true
+    next : (o : Option SS) → bnext b (Some s) ≡ o → elim o [ None ↦ true | Some u ↦ every_from test b n u ] ≡ true
+        → ((u : SS) → brun b (suc k) ≡ Some u → every_from test b n u ≡ true → (i : ℕ) → i ≤ n → (v : SS) → brun b (i + suc k) ≡ Some v → test v ≡ true)
+        → test t ≡ true
     next None p e f =
         let none : brun b (suc k) ≡ None = ap (bnext b) r ∙ p in
         let back = earlier b (suc k) j t (ap (brun b) (let z : j + suc k ≡ suc j + k = omega arith in z) ∙ q) in
@@ -144,7 +158,8 @@ head_same x y xs ys h = cc
 tail_same : {A : Type 0} (x y : A) (xs ys : List A) → x ∷ xs ≡ y ∷ ys → xs ≡ ys
 tail_same x y xs ys h = cc
 
-joined_words : (e : Env) (θ : List V) (f : Flags) (W U : List Win) (m : NatMap ℕ) (s : List Word) → Known e W m s → (ws : List Word) → map (λ w. find w.at s) ws ≡ map (λ w. Some (inst θ w.val)) ws → map (λ w. in_win U w.at) ws ≡ map (λ w. true) ws → Known (env_after e θ f) U m ws
+joined_words : (e : Env) (θ : List V) (f : Flags) (W U : List Win) (m : NatMap ℕ) (s : List Word) → Known e W m s → (ws : List Word)
+    → map (λ w. find w.at s) ws ≡ map (λ w. Some (inst θ w.val)) ws → map (λ w. in_win U w.at) ws ≡ map (λ w. true) ws → Known (env_after e θ f) U m ws
 joined_words e θ f W U m s k [] h i = tt
 joined_words e θ f W U m s k (w ∷ ws) h i =
     let found = subst (Found e W m w.at) (head_same _ _ _ _ h) (found_ok e W m w.at s k) in
@@ -159,7 +174,8 @@ all_found e W m s k (w ∷ ws) h =
 
 -- The state that a block opens with, from a state that it joins. The processor d has come to the opening's place with flags of its own.
 pub joined : (e : Env) (θ : List V) (G U : Ground) (s : SS) (c : Processor) (m : Memory) (o : SS) → Agrees e G s c m → Joins s θ U.known o
-    → (d : Processor) (f : Flags) → d.regs ≡ c.regs → d.msrs ≡ c.msrs → d.gs ≡ c.gs → d.cr2 ≡ c.cr2 → untracked d ≡ untracked c → d.sti_blocked ≡ o.blocked → d.rip ≡ addr e o.rip → d.flags ≡ flags_word f → o.flags ≡ FVar
+    → (d : Processor) (f : Flags) → d.regs ≡ c.regs → d.msrs ≡ c.msrs → d.gs ≡ c.gs → d.cr2 ≡ c.cr2 → untracked d ≡ untracked c → d.sti_blocked ≡ o.blocked
+    → d.rip ≡ addr e o.rip → d.flags ≡ flags_word f → o.flags ≡ FVar
     → Open e U.known m.regions → Open e U.shared m.regions → Agrees (env_after e θ f) U o d m
 unfolding eval_flags
 joined e θ G U s c m o g j d f hr hm hs hc hu hb hp hf ho hk hw = record {
@@ -197,7 +213,8 @@ kept e W m n h [] k = tt
 kept e W m n h (w ∷ ws) k = (k.0, h w.at k.0 ∙ k.1, kept e W m n h ws k.2)
 
 -- the same state, with other memory of the same regions
-agrees_in : (e : Env) (G : Ground) (s : SS) (c : Processor) (m n : Memory) → n.regions ≡ m.regions → Agrees e G s c m → Known e G.known n.words s.words → Agrees e G s c n
+agrees_in : (e : Env) (G : Ground) (s : SS) (c : Processor) (m n : Memory) → n.regions ≡ m.regions → Agrees e G s c m → Known e G.known n.words s.words
+    → Agrees e G s c n
 agrees_in e G s c m n r g k = record {
   regs = g.regs;
   rip = g.rip;
@@ -214,7 +231,8 @@ agrees_in e G s c m n r g k = record {
   shared_open = subst (Open e G.shared) (sym r) g.shared_open;
 }
 
-pub stays : (code : Code) (b : Block) (k : ℕ) (e : Env) (c : Processor) (m n : Memory) → At code b k e c m → n.regions ≡ m.regions → Foreign e b.ground.known m.words n.words → At code b k e c n
+pub stays : (code : Code) (b : Block) (k : ℕ) (e : Env) (c : Processor) (m n : Memory) → At code b k e c m → n.regions ≡ m.regions
+    → Foreign e b.ground.known m.words n.words → At code b k e c n
 stays code b k e c m n at r h = record {
   fits = at.fits;
   state = at.state;
@@ -232,7 +250,8 @@ stands_after : (code : Code) (e : Env) (θ : List V) (f : Flags) (xs : List Line
 stands_after code e θ f [] h = tt
 stands_after code e θ f (x ∷ xs) h = (h.0, stands_after code e θ f xs h.1)
 
-pub fits_after : (code : Code) (e : Env) (b : Block) (θ : List V) (f : Flags) → Fits code e b → FactsHold (env_after e θ f) b.ground.facts → Described (env_after e θ f) b.ground.descriptors → AreTops (env_after e θ f) b.ground.tops → Fits code (env_after e θ f) b
+pub fits_after : (code : Code) (e : Env) (b : Block) (θ : List V) (f : Flags) → Fits code e b → FactsHold (env_after e θ f) b.ground.facts
+    → Described (env_after e θ f) b.ground.descriptors → AreTops (env_after e θ f) b.ground.tops → Fits code (env_after e θ f) b
 fits_after code e b θ f h facts descriptors tops = record {
   ground = record {
     zero_base = h.ground.zero_base;

@@ -38,7 +38,8 @@ times : (n : ℕ) (b : Bool) → (if b then n else 0) ≡ n * digit b
 times n true = omega arith
 times n false = omega arith
 
-parts : (f : Flags) → flags_word f ≡ 2 + digit f.status.carry + 64 * digit f.status.zero + 128 * digit f.status.sign + 512 * digit f.interrupts + 2048 * digit f.status.overflow + 262144 * digit f.alignment
+parts : (f : Flags) → flags_word f ≡ 2 + digit f.status.carry + 64 * digit f.status.zero + 128 * digit f.status.sign + 512 * digit f.interrupts + 2048
+    * digit f.status.overflow + 262144 * digit f.alignment
 unfolding flags_word
 parts f =
     let z = times 64 f.status.zero in
@@ -57,12 +58,18 @@ flags_back f =
     let i = small f.interrupts in
     let o = small f.status.overflow in
     let a = small f.alignment in
-    let pc : bit 0 (flags_word f) ≡ f.status.carry = ap (λ n. n / 2 ^ 0 % 2 == 1) (parts f) ∙ ap (λ n. n == 1) (bit_0 _ ∙ digit_0 _ _ _ _ _ _ c z s i o a) ∙ digit_is f.status.carry in
-    let pz : bit 6 (flags_word f) ≡ f.status.zero = ap (λ n. n / 2 ^ 6 % 2 == 1) (parts f) ∙ ap (λ n. n == 1) (digit_6 _ _ _ _ _ _ c z s i o a) ∙ digit_is f.status.zero in
-    let ps : bit 7 (flags_word f) ≡ f.status.sign = ap (λ n. n / 2 ^ 7 % 2 == 1) (parts f) ∙ ap (λ n. n == 1) (digit_7 _ _ _ _ _ _ c z s i o a) ∙ digit_is f.status.sign in
-    let pi : bit 9 (flags_word f) ≡ f.interrupts = ap (λ n. n / 2 ^ 9 % 2 == 1) (parts f) ∙ ap (λ n. n == 1) (digit_9 _ _ _ _ _ _ c z s i o a) ∙ digit_is f.interrupts in
-    let po : bit 11 (flags_word f) ≡ f.status.overflow = ap (λ n. n / 2 ^ 11 % 2 == 1) (parts f) ∙ ap (λ n. n == 1) (digit_11 _ _ _ _ _ _ c z s i o a) ∙ digit_is f.status.overflow in
-    let pa : bit 18 (flags_word f) ≡ f.alignment = ap (λ n. n / 2 ^ 18 % 2 == 1) (parts f) ∙ ap (λ n. n == 1) (digit_18 _ _ _ _ _ _ c z s i o a) ∙ digit_is f.alignment in
+    let pc : bit 0 (flags_word f) ≡ f.status.carry = ap (λ n. n / 2 ^ 0 % 2 == 1) (parts f) ∙ ap (λ n. n == 1) (bit_0 _ ∙ digit_0 _ _ _ _ _ _ c z s i o a)
+    ∙ digit_is f.status.carry in
+    let pz : bit 6 (flags_word f) ≡ f.status.zero = ap (λ n. n / 2 ^ 6 % 2 == 1) (parts f) ∙ ap (λ n. n == 1) (digit_6 _ _ _ _ _ _ c z s i o a)
+    ∙ digit_is f.status.zero in
+    let ps : bit 7 (flags_word f) ≡ f.status.sign = ap (λ n. n / 2 ^ 7 % 2 == 1) (parts f) ∙ ap (λ n. n == 1) (digit_7 _ _ _ _ _ _ c z s i o a)
+    ∙ digit_is f.status.sign in
+    let pi : bit 9 (flags_word f) ≡ f.interrupts = ap (λ n. n / 2 ^ 9 % 2 == 1) (parts f) ∙ ap (λ n. n == 1) (digit_9 _ _ _ _ _ _ c z s i o a)
+    ∙ digit_is f.interrupts in
+    let po : bit 11 (flags_word f) ≡ f.status.overflow = ap (λ n. n / 2 ^ 11 % 2 == 1) (parts f) ∙ ap (λ n. n == 1) (digit_11 _ _ _ _ _ _ c z s i o a)
+    ∙ digit_is f.status.overflow in
+    let pa : bit 18 (flags_word f) ≡ f.alignment = ap (λ n. n / 2 ^ 18 % 2 == 1) (parts f) ∙ ap (λ n. n == 1) (digit_18 _ _ _ _ _ _ c z s i o a)
+    ∙ digit_is f.alignment in
     λ j. record { status = record { carry = pc j; zero = pz j; sign = ps j; overflow = po j }; interrupts = pi j; alignment = pa j }
   where
     bit_0 : (n : ℕ) → n / 2 ^ 0 % 2 ≡ n % 2

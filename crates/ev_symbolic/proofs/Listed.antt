@@ -22,7 +22,8 @@ skipped : (x : ℕ × Cell) (xs ys : Cells) → absent x.0 ys ≡ true → AllFo
 skipped x xs [] h f = tt
 skipped x xs (y ∷ ys) h f = pick (x.0 == y.0) refl h (λ a. skipped x xs ys a f.1)
   where
-    pick : (b : Bool) → (x.0 == y.0) ≡ b → (if b then false else absent x.0 ys) ≡ true → (absent x.0 ys ≡ true → AllFound (cell_at (x ∷ xs)) ys) → AllFound (cell_at (x ∷ xs)) (y ∷ ys)
+    pick : (b : Bool) → (x.0 == y.0) ≡ b → (if b then false else absent x.0 ys) ≡ true → (absent x.0 ys ≡ true → AllFound (cell_at (x ∷ xs)) ys)
+        → AllFound (cell_at (x ∷ xs)) (y ∷ ys)
     pick true q a k = absurd (cc)
     pick false q a k = (ap (λ b. if b then Some x.1 else cell_at xs y.0) q ∙ f.0, k a)
 
@@ -30,7 +31,8 @@ pub all_found : (xs : Cells) → distinct xs ≡ true → AllFound (cell_at xs) 
 all_found [] h = tt
 all_found (x ∷ xs) h = pick (absent x.0 xs) refl h (all_found xs)
   where
-    pick : (b : Bool) → absent x.0 xs ≡ b → (if b then distinct xs else false) ≡ true → (distinct xs ≡ true → AllFound (cell_at xs) xs) → AllFound (cell_at (x ∷ xs)) (x ∷ xs)
+    pick : (b : Bool) → absent x.0 xs ≡ b → (if b then distinct xs else false) ≡ true → (distinct xs ≡ true → AllFound (cell_at xs) xs)
+        → AllFound (cell_at (x ∷ xs)) (x ∷ xs)
     pick true q d k = (ap (λ b. if b then Some x.1 else cell_at xs x.0) (eq-eqb x.0 x.0 refl), skipped x xs xs q (k d))
     pick false q d k = absurd (cc)
 
@@ -65,7 +67,8 @@ module _ (code : Code) (e : Env) (zero_base : e.base 1000 ≡ 0) where
       pick true r = r
       pick false r = absurd (cc)
 
-  one_stands : (mark : Mark) (a next : ℕ) (o : Option Ins) (cells : Cells) (lines : List Line) → Both cells lines → Both (with_cell mark a next o cells) (with_line mark (absolute a) (absolute next) o lines)
+  one_stands : (mark : Mark) (a next : ℕ) (o : Option Ins) (cells : Cells) (lines : List Line) → Both cells lines
+      → Both (with_cell mark a next o cells) (with_line mark (absolute a) (absolute next) o lines)
   one_stands Never a next None cells lines k f h = k f h
   one_stands Always a next None cells lines k f h = k f h
   one_stands IfNonzero a next None cells lines k f h = k f h
@@ -81,7 +84,8 @@ module _ (code : Code) (e : Env) (zero_base : e.base 1000 ≡ 0) where
 
   stands_from : (env : Places) (a : ℕ) (ls : List Marked) → Both (cells_from env a ls) (lines_from env a ls)
   stands_from env a [] f h = tt
-  stands_from env a (l ∷ ls) f h = one_stands l.mark a (a + size l.stmt) (instruction env a l.stmt) (cells_from env (a + size l.stmt) ls) (lines_from env (a + size l.stmt) ls) (stands_from env (a + size l.stmt) ls) f h
+  stands_from env a (l ∷ ls) f h = one_stands l.mark a (a + size l.stmt) (instruction env a l.stmt) (cells_from env (a + size l.stmt) ls)
+      (lines_from env (a + size l.stmt) ls) (stands_from env (a + size l.stmt) ls) f h
 
   stands_append : (xs ys : List Line) → Stands code e xs → Stands code e ys → Stands code e (xs ++ ys)
   stands_append [] ys h k = k
@@ -109,7 +113,8 @@ module _ (code : Code) (e : Env) (zero_base : e.base 1000 ≡ 0) where
   stands_in env (b ∷ bs) f h =
       let xs = cells_from env b.address b.lines in
       let ys = cells_in env bs in
-      stands_append (lines_from env b.address b.lines) (lines_in env bs) (stands_from env b.address b.lines (first_found xs ys f) (first_low xs ys h)) (stands_in env bs (rest_found xs ys f) (last_low xs ys h))
+      stands_append (lines_from env b.address b.lines) (lines_in env bs) (stands_from env b.address b.lines (first_found xs ys f) (first_low xs ys h))
+      (stands_in env bs (rest_found xs ys f) (last_low xs ys h))
 
 -- ---- bytes
 
@@ -124,7 +129,8 @@ unfolding size
 laid env a [] = tt
 laid env a (l ∷ ls) = one l.stmt (laid env (a + size l.stmt) ls)
   where
-    one : (s : Stmt) → Laid (a + size s) (cells_from env (a + size s) ls) → Laid a (with_cell l.mark a (a + size s) (instruction env a s) (cells_from env (a + size s) ls))
+    one : (s : Stmt) → Laid (a + size s) (cells_from env (a + size s) ls)
+        → Laid a (with_cell l.mark a (a + size s) (instruction env a s) (cells_from env (a + size s) ls))
     one (Label name) k = subst (λ x. Laid x (cells_from env (a + size (Label name)) ls)) (let z : a + 0 ≡ a = omega arith in z) k
     one (Plain i) k = (refl, refl, k)
     one (Jump c name) k = (refl, ap (λ n. a + n) (sizes env a c name (a + size (Jump c name))), k)
@@ -135,7 +141,9 @@ unfolding code stmt_bytes
 bytes_spelled env a [] = refl
 bytes_spelled env a (l ∷ ls) = one l.stmt (bytes_spelled env (a + size l.stmt) ls)
   where
-    one : (s : Stmt) → code env (a + size s) (stmts_of ls) ≡ spelled (cells_from env (a + size s) ls) → stmt_bytes env a s ++ code env (a + size s) (stmts_of ls) ≡ spelled (with_cell l.mark a (a + size s) (instruction env a s) (cells_from env (a + size s) ls))
+    one : (s : Stmt) → code env (a + size s) (stmts_of ls) ≡ spelled (cells_from env (a + size s) ls)
+        → stmt_bytes env a s ++ code env (a + size s) (stmts_of ls) ≡ spelled
+        (with_cell l.mark a (a + size s) (instruction env a s) (cells_from env (a + size s) ls))
     one (Label name) k = k
     one (Plain i) k = ap (λ x. spelling i ++ x) k
     one (Jump c name) k = ap (λ x. spelling (jump c (distance (place env name) (a + size (Jump c name)))) ++ x) k
@@ -155,14 +163,18 @@ both_spaced (x ∷ xs) ys h k = (h.0, both_spaced xs ys h.1 k)
 
 listings_spaced : (env : Places) (bs : List Listing) → AllSpaced (cells_in env bs)
 listings_spaced env [] = tt
-listings_spaced env (b ∷ bs) = both_spaced (cells_from env b.address b.lines) (cells_in env bs) (laid_spaced b.address (cells_from env b.address b.lines) (laid env b.address b.lines)) (listings_spaced env bs)
+listings_spaced env (b ∷ bs) =
+    both_spaced (cells_from env b.address b.lines) (cells_in env bs) (laid_spaced b.address (cells_from env b.address b.lines) (laid env b.address b.lines))
+    (listings_spaced env bs)
 
 look_up : (xs : Cells) → AllSpaced xs → Spaced (cell_at xs)
 look_up [] h a x q = absurd (cc)
 look_up (y ∷ ys) h a x q = pick (y.0 == a) refl q (look_up ys h.1 a x)
   where
-    pick : (t : Bool) → (y.0 == a) ≡ t → (if t then Some y.1 else cell_at ys a) ≡ Some x → (cell_at ys a ≡ Some x → x.next ≡ a + length (spelling x.ins)) → x.next ≡ a + length (spelling x.ins)
-    pick true r w k = subst (λ (z : Cell). z.next ≡ a + length (spelling z.ins)) (unsome y.1 x w) (h.0 ∙ ap (λ n. n + length (spelling y.1.ins)) (eqb-true y.0 a r))
+    pick : (t : Bool) → (y.0 == a) ≡ t → (if t then Some y.1 else cell_at ys a) ≡ Some x → (cell_at ys a ≡ Some x → x.next ≡ a + length (spelling x.ins))
+        → x.next ≡ a + length (spelling x.ins)
+    pick true r w k = subst (λ (z : Cell). z.next ≡ a + length (spelling z.ins)) (unsome y.1 x w)
+        (h.0 ∙ ap (λ n. n + length (spelling y.1.ins)) (eqb-true y.0 a r))
     pick false r w k = k w
 
 -- a code table of listings is spaced

@@ -215,10 +215,12 @@ carry_tells e fs h OLess a b = tt
 carry_tells e fs h OSame a b = tt
 
 zero_flag : (e : Env) (fs : List Fact) → FactsHold e fs → (o : Op) (a b : V) → TellsBool (status o (eval e a) (eval e b)).zero (szero fs (norm fs (sop o a b)))
-zero_flag e fs h o a b = subst (λ z. TellsBool z (szero fs (norm fs (sop o a b)))) (sym (zero_is o (eval e a) (eval e b))) (zero_tells e fs h (norm fs (sop o a b)) (number o (eval e a) (eval e b)) (nop_ok e fs h o a b))
+zero_flag e fs h o a b = subst (λ z. TellsBool z (szero fs (norm fs (sop o a b)))) (sym (zero_is o (eval e a) (eval e b)))
+    (zero_tells e fs h (norm fs (sop o a b)) (number o (eval e a) (eval e b)) (nop_ok e fs h o a b))
 
 sign_flag : (e : Env) (fs : List Fact) → FactsHold e fs → (o : Op) (a b : V) → TellsBool (status o (eval e a) (eval e b)).sign (sign_if (norm fs (sop o a b)))
-sign_flag e fs h o a b = subst (λ z. TellsBool z (sign_if (norm fs (sop o a b)))) (sym (sign_is o (eval e a) (eval e b))) (sign_tells e (norm fs (sop o a b)) (number o (eval e a) (eval e b)) (nop_ok e fs h o a b))
+sign_flag e fs h o a b = subst (λ z. TellsBool z (sign_if (norm fs (sop o a b)))) (sym (sign_is o (eval e a) (eval e b)))
+    (sign_tells e (norm fs (sop o a b)) (number o (eval e a) (eval e b)) (nop_ok e fs h o a b))
 
 pub holds_ok : (e : Env) (fs : List Fact) → FactsHold e fs → (c : Cond) (x : F) → TellsBool (holds c (eval_flags e x).status) (sholds fs c x)
 unfolding holds eval_flags

@@ -82,15 +82,18 @@ put_same m a v = ap (λ b. elim b [ true ↦ v | false ↦ m a ]) (eq-eqb a a re
 pub put_other : (m : NatMap ℕ) (a v x : ℕ) → (x ≡ a → ⊥) → put_at m a v x ≡ m x
 put_other m a v x h = ⊎_elim (λ p. absurd (h p.1)) (λ p. ap (λ b. elim b [ true ↦ v | false ↦ m x ]) p.0) (eqb_tells x a)
 
-pub without_ok : (e : Env) (N W : List Win) → Apart e N W → (m : NatMap ℕ) (l : Loc) (v : ℕ) → in_win W l ≡ true → (ws : List Word) → Known e N m ws → Known e N (put_at m (addr e l) v) (without l ws)
+pub without_ok : (e : Env) (N W : List Win) → Apart e N W → (m : NatMap ℕ) (l : Loc) (v : ℕ) → in_win W l ≡ true → (ws : List Word) → Known e N m ws
+    → Known e N (put_at m (addr e l) v) (without l ws)
 without_ok e N W sep m l v h [] k = tt
 without_ok e N W sep m l v h (w ∷ ws) k = pick (loc_eq w.at l) refl (without_ok e N W sep m l v h ws k.2)
   where
-    pick : (b : Bool) → loc_eq w.at l ≡ b → Known e N (put_at m (addr e l) v) (without l ws) → Known e N (put_at m (addr e l) v) (if b then without l ws else (w ∷ without l ws))
+    pick : (b : Bool) → loc_eq w.at l ≡ b → Known e N (put_at m (addr e l) v) (without l ws)
+        → Known e N (put_at m (addr e l) v) (if b then without l ws else (w ∷ without l ws))
     pick true q r = r
     pick false q r = (k.0, put_other m (addr e l) v (addr e w.at) (sep w.at l k.0 h q) ∙ k.1, r)
 
-pub shared_ok : (e : Env) (W S : List Win) → Far e W e S → (m : NatMap ℕ) (l : Loc) (v : ℕ) → in_win S l ≡ true → (ws : List Word) → Known e W m ws → Known e W (put_at m (addr e l) v) ws
+pub shared_ok : (e : Env) (W S : List Win) → Far e W e S → (m : NatMap ℕ) (l : Loc) (v : ℕ) → in_win S l ≡ true → (ws : List Word) → Known e W m ws
+    → Known e W (put_at m (addr e l) v) ws
 shared_ok e W S across m l v h [] k = tt
 shared_ok e W S across m l v h (w ∷ ws) k = (k.0, put_other m (addr e l) v (addr e w.at) (across w.at l k.0 h) ∙ k.1, shared_ok e W S across m l v h ws k.2)
 
@@ -103,7 +106,8 @@ within_put_shared e W S m l v h x far far' = put_other m (addr e l) v x (far' l 
 -- ---- accesses
 
 -- the kernel has access to an open word, whatever the words of memory are
-pub accessible : (m : Memory) (user : Bool) → user ≡ false → (write : Bool) (bad : Event) (a : ℕ) → IsOpen m.regions a → access_event (view m user) write bad a ≡ None
+pub accessible : (m : Memory) (user : Bool) → user ≡ false → (write : Bool) (bad : Event) (a : ℕ) → IsOpen m.regions a
+    → access_event (view m user) write bad a ≡ None
 unfolding access_event fault_at
 accessible m user u write bad a o =
     ap (λ b. access_event (view m b) write bad a) u

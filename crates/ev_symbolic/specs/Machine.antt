@@ -11,7 +11,8 @@ use Rattle.ev_symbolic.specs.Agrees.{Env, untracked, with_words, Within, Cell, C
 
 -- memory holds the code's bytes, and the kernel can fetch them
 abbrev pub Fetches : Code → Memory → Type 0
-Fetches code m = (a : ℕ) (x : Cell) → code a ≡ Some x → (page_fault m (record { user = false; write = false; fetch = true }) a ≡ None) × (instruction_at m.words a ≡ Some x.ins)
+Fetches code m = (a : ℕ) (x : Cell) → code a ≡ Some x → (page_fault m (record { user = false; write = false; fetch = true }) a ≡ None)
+    × (instruction_at m.words a ≡ Some x.ins)
 
 -- a step from a state in a block to the next state of that block
 pub record Inside (code : Code) (b : Block) (k : ℕ) (e : Env) (c : Processor) (m : Memory) : Type 0 where

@@ -71,7 +71,8 @@ is_msr n v = false
 -- RDMSR of the GS base
 abbrev pub srdmsr : Ground → Loc → SS → Option SS
 srdmsr G next s =
-    if is_msr 0xc0000101 (sreg s 1) then Some (moved s (set (set s.regs 0 (norm G.facts (sop OAnd s.gs (K 4294967295)))) 2 (norm G.facts (sop OShr s.gs (K 32)))) next)
+    if is_msr 0xc0000101 (sreg s 1) then Some
+    (moved s (set (set s.regs 0 (norm G.facts (sop OAnd s.gs (K 4294967295)))) 2 (norm G.facts (sop OShr s.gs (K 32)))) next)
     else None
 
 -- below 2^64 whatever the variables are
@@ -83,7 +84,8 @@ is_word v = false
 -- WRMSR of RSP of level 0: EAX and EDX are the halves of RAX
 abbrev pub swrmsr : Ground → Loc → SS → Option SS
 swrmsr G next s =
-    if is_msr 0x1cc (sreg s 1) && (v_eq (norm G.facts (sop OShr (sreg s 0) (K 32))) (sreg s 2) && (is_word (sreg s 0) && is_listed (sreg s 0) G.tops)) then Some (record (moved s s.regs next) { rsp0 = sreg s 0 })
+    if is_msr 0x1cc (sreg s 1) && (v_eq (norm G.facts (sop OShr (sreg s 0) (K 32))) (sreg s 2) && (is_word (sreg s 0) && is_listed (sreg s 0) G.tops)) then
+    Some (record (moved s s.regs next) { rsp0 = sreg s 0 })
     else None
 
 abbrev pub sstep : Ground → Ins → Loc → SS → Option SS

@@ -51,11 +51,16 @@ few_items bytes b h =
 is_short : (bytes : ℕ) (b : Body) → is_body bytes b ≡ true → is_built_body b ≡ true → IsShort b
 is_short bytes b h k =
     let inner = and_right (is_user_side b.side) _ k in
-    record { built = built_items b.items b.parts (and_left _ _ inner) (and_right (has_no_parts b.parts) _ inner); short = leb-true (length (body_items b)) 256 (few_items bytes b h) }
+    record {
+      built = built_items b.items b.parts (and_left _ _ inner) (and_right (has_no_parts b.parts) _ inner);
+      short =
+          leb-true (length (body_items b)) 256 (few_items bytes b h);
+    }
 
 pub all_short : (bytes : ℕ) (bs : List Body) → list_all (is_body bytes) bs ≡ true → list_all is_built_body bs ≡ true → AllShort bs
 all_short bytes [] h k = tt
-all_short bytes (b ∷ bs) h k = (is_short bytes b (and_left _ _ h) (and_left _ _ k), all_short bytes bs (and_right (is_body bytes b) _ h) (and_right (is_built_body b) _ k))
+all_short bytes (b ∷ bs) h k =
+    (is_short bytes b (and_left _ _ h) (and_left _ _ k), all_short bytes bs (and_right (is_body bytes b) _ h) (and_right (is_built_body b) _ k))
 
 pub short_at : (bs : List Body) → AllShort bs → (n : ℕ) (b : Body) → slice_get bs n ≡ Some b → IsShort b
 short_at [] f n b h = absurd (cc)
@@ -81,11 +86,14 @@ pub bodies_distinct : (mode : Mode) (env : Places) (n : ℕ) (bs : List Body) �
 bodies_distinct mode env n [] f = refl
 bodies_distinct mode env n (b ∷ bs) f =
     let fits : body_code n + items_size (body_items b) ≤ body_code (suc n) = omega (arith, items_size_most (body_items b), f.0.short) in
-    distinct_append (cells_of mode env n b) (body_cells mode env (suc n) bs) (items_distinct _ (body_code n) (body_items b)) (bodies_distinct mode env (suc n) bs f.1)
-    (under (body_code (suc n)) (cells_of mode env n b) (body_cells mode env (suc n) bs) (items_below _ (body_code n) (body_code (suc n)) (body_items b) fits) (bodies_from mode env (suc n) bs))
+    distinct_append (cells_of mode env n b) (body_cells mode env (suc n) bs) (items_distinct _ (body_code n) (body_items b))
+    (bodies_distinct mode env (suc n) bs f.1)
+    (under (body_code (suc n)) (cells_of mode env n b) (body_cells mode env (suc n) bs)
+    (items_below _ (body_code n) (body_code (suc n)) (body_items b) fits) (bodies_from mode env (suc n) bs))
 
 -- those of one body are found where all are
-pub body_found : (mode : Mode) (code : Code) (env : Places) (n : ℕ) (bs : List Body) → AllFound code (body_cells mode env n bs) → (j : ℕ) (b : Body) → slice_get bs j ≡ Some b → AllFound code (cells_of mode env (n + j) b)
+pub body_found : (mode : Mode) (code : Code) (env : Places) (n : ℕ) (bs : List Body) → AllFound code (body_cells mode env n bs) → (j : ℕ) (b : Body)
+    → slice_get bs j ≡ Some b → AllFound code (cells_of mode env (n + j) b)
 body_found mode code env n [] f j b h = absurd (cc)
 body_found mode code env n (x ∷ xs) f zero b h =
     subst (λ k. AllFound code (cells_of mode env k b)) (let e : n ≡ n + 0 = omega arith in e)
@@ -101,7 +109,8 @@ module _ (mode : Mode) (image : Image) where
   unfolding body_stmts
   listed env n [] f = refl
   listed env n (b ∷ bs) f =
-      ap (λ xs. xs ++ cells_in env (body_listings mode image (suc n) bs)) (cells mode n b.key (function_address mode image) env (body_code n) 0 (body_items b) f.0.built)
+      ap (λ xs. xs ++ cells_in env (body_listings mode image (suc n) bs))
+      (cells mode n b.key (function_address mode image) env (body_code n) 0 (body_items b) f.0.built)
       ∙ ap (λ xs. cells_of mode env n b ++ xs) (listed env (suc n) bs f.1)
 
   pub labels : (n : ℕ) (bs : List Body) → AllShort bs → AllOfBodies (all_places (body_listings mode image n bs))
@@ -115,10 +124,12 @@ module _ (mode : Mode) (image : Image) where
   unfolding body_stmts
   marks_are env n [] f = refl
   marks_are env n (b ∷ bs) f =
-      ap (λ (ms : Marks). ms ++ all_marks (body_listings mode image (suc n) bs)) (marked mode n b.key (function_address mode image) (place env (exit_of mode b.key)) (body_code n) 0 (body_items b) f.0.built)
+      ap (λ (ms : Marks). ms ++ all_marks (body_listings mode image (suc n) bs))
+      (marked mode n b.key (function_address mode image) (place env (exit_of mode b.key)) (body_code n) 0 (body_items b) f.0.built)
       ∙ ap (λ (ms : Marks). marks_by (cells_of mode env n b) ++ ms) (marks_are env (suc n) bs f.1)
       ∙ sym (marks_by_append (cells_of mode env n b) (body_cells mode env (suc n) bs))
 
 pub all_marks_append : (bs cs : List Listing) → all_marks (bs ++ cs) ≡ all_marks bs ++ all_marks cs
 all_marks_append [] cs = refl
-all_marks_append (b ∷ bs) cs = ap (λ (ms : Marks). marks b.address b.lines ++ ms) (all_marks_append bs cs) ∙ sym (append_assoc (marks b.address b.lines) (all_marks bs) (all_marks cs))
+all_marks_append (b ∷ bs) cs = ap (λ (ms : Marks). marks b.address b.lines ++ ms) (all_marks_append bs cs)
+    ∙ sym (append_assoc (marks b.address b.lines) (all_marks bs) (all_marks cs))

@@ -68,7 +68,8 @@ absent_append : (a : ℕ) (xs ys : Cells) → absent a xs ≡ true → absent a 
 absent_append a [] ys h k = k
 absent_append a (x ∷ xs) ys h k = pick (a == x.0) h (absent_append a xs ys)
   where
-    pick : (b : Bool) → (if b then false else absent a xs) ≡ true → (absent a xs ≡ true → absent a ys ≡ true → absent a (xs ++ ys) ≡ true) → (if b then false else absent a (xs ++ ys)) ≡ true
+    pick : (b : Bool) → (if b then false else absent a xs) ≡ true → (absent a xs ≡ true → absent a ys ≡ true → absent a (xs ++ ys) ≡ true)
+        → (if b then false else absent a (xs ++ ys)) ≡ true
     pick true q r = q
     pick false q r = r q k
 
@@ -91,7 +92,8 @@ distinct_cons x xs a d = ap (λ b. if b then distinct xs else false) a ∙ d
 
 pub distinct_append : (xs ys : Cells) → distinct xs ≡ true → distinct ys ≡ true → Elsewhere xs ys → distinct (xs ++ ys) ≡ true
 distinct_append [] ys d e f = e
-distinct_append (x ∷ xs) ys d e f = distinct_cons x (xs ++ ys) (absent_append x.0 xs ys (first_absent x xs d) f.0) (distinct_append xs ys (rest_distinct x xs d) e f.1)
+distinct_append (x ∷ xs) ys d e f = distinct_cons x (xs ++ ys) (absent_append x.0 xs ys (first_absent x xs d) f.0)
+    (distinct_append xs ys (rest_distinct x xs d) e f.1)
 
 -- ---- what is found
 
@@ -155,7 +157,8 @@ mark_found (x ∷ xs) d a c h = pick x.1.mark (x.0 == a) refl refl h (mark_found
     gone : (x.0 == a) ≡ true → mark_at (marks_by xs) a ≡ Never
     gone q = no_mark a xs (subst (λ y. absent y xs ≡ true) (eqb-true x.0 a q) (first_absent x xs d))
 
-    pick : (m b : Bool) → x.1.mark ≡ m → (x.0 == a) ≡ b → (if b then Some x.1 else cell_at xs a) ≡ Some c → (cell_at xs a ≡ Some c → mark_at (marks_by xs) a ≡ mark_by c.mark)
+    pick : (m b : Bool) → x.1.mark ≡ m → (x.0 == a) ≡ b → (if b then Some x.1 else cell_at xs a) ≡ Some c
+        → (cell_at xs a ≡ Some c → mark_at (marks_by xs) a ≡ mark_by c.mark)
         → mark_at (if m then (x.0, Always) ∷ marks_by xs else marks_by xs) a ≡ mark_by c.mark
     pick true true p q r k = ap (λ b. if b then Always else mark_at (marks_by xs) a) q ∙ ap mark_by (sym p ∙ ap (λ (z : Cell). z.mark) (unsome x.1 c r))
     pick false true p q r k = gone q ∙ ap mark_by (sym p ∙ ap (λ (z : Cell). z.mark) (unsome x.1 c r))

@@ -79,7 +79,8 @@ take_size_most (suc n) (i ∷ is) = omega (arith, size_most i, take_size_most n 
 
 pub items_from : (exit a : ℕ) (items : List Item) → From a (item_cells exit a items)
 items_from exit a [] = tt
-items_from exit a (i ∷ is) = (omega arith, from_lower a (a + item_size i) (item_cells exit (a + item_size i) is) (omega arith) (items_from exit (a + item_size i) is))
+items_from exit a (i ∷ is) =
+    (omega arith, from_lower a (a + item_size i) (item_cells exit (a + item_size i) is) (omega arith) (items_from exit (a + item_size i) is))
 
 pub items_below : (exit a hi : ℕ) (items : List Item) → a + items_size items ≤ hi → Below hi (item_cells exit a items)
 items_below exit a hi [] h = tt
@@ -100,7 +101,8 @@ item_found code exit a [] f n i h = absurd (cc)
 item_found code exit a (x ∷ xs) f zero i h =
     subst (λ b. code b ≡ Some (item_cell exit b i)) (let e : a ≡ a + 0 = omega arith in e) (f.0 ∙ ap (λ y. Some (item_cell exit a y)) (let e : x ≡ i = cc in e))
 item_found code exit a (x ∷ xs) f (suc n) i h =
-    subst (λ b. code b ≡ Some (item_cell exit b i)) (let e : (a + item_size x) + items_size (take n xs) ≡ a + (item_size x + items_size (take n xs)) = omega arith in e)
+    subst (λ b. code b ≡ Some (item_cell exit b i)) (let e : (a + item_size x) + items_size (take n xs) ≡ a + (item_size x + items_size (take n xs)) =
+    omega arith in e)
     (item_found code exit (a + item_size x) xs f.1 n i h)
 
 -- the address behind an item
@@ -118,13 +120,15 @@ module _ (mode : Mode) (n : ℕ) (key : Key) (function : ℕ → ℕ) where
   sizes k [] h = refl
   sizes k (i ∷ is) h =
       let rest : total_size (stmts_of (expansions mode n key function (suc k) is)) ≡ items_size is = sizes (suc k) is (rest_built i is h) in
-      by_item (λ j. total_size (stmts_of (expansions mode n key function k (j ∷ is))) ≡ items_size (j ∷ is)) (λ s. one 9 _ _ rest) (one 5 _ _ rest) i (first_built i is h)
+      by_item (λ j. total_size (stmts_of (expansions mode n key function k (j ∷ is))) ≡ items_size (j ∷ is)) (λ s. one 9 _ _ rest) (one 5 _ _ rest) i
+      (first_built i is h)
     where
       one : (s x y : ℕ) → x ≡ y → 0 + (s + x) ≡ s + y
       one s x y e = omega arith
 
   -- its cells
-  pub cells : (env : Places) (a k : ℕ) (items : List Item) → AreBuilt items → cells_from env a (expansions mode n key function k items) ≡ item_cells (place env (exit_of mode key)) a items
+  pub cells : (env : Places) (a k : ℕ) (items : List Item) → AreBuilt items → cells_from env a (expansions mode n key function k items) ≡ item_cells
+      (place env (exit_of mode key)) a items
   unfolding expansion size spelling four_bytes
   cells env a k [] h = refl
   cells env a k (i ∷ is) h =
@@ -132,8 +136,10 @@ module _ (mode : Mode) (n : ℕ) (key : Key) (function : ℕ → ℕ) where
       let E : ℕ = place env (exit_of mode key) in
       let rest = λ (b : ℕ). cells env b (suc k) is (rest_built i is h) in
       by_item (λ j. cells_from env a (expansions mode n key function k (j ∷ is)) ≡ item_cells E a (j ∷ is))
-      (λ s. ap (λ b. (b, item_cell E b (Log s)) ∷ cells_from env (b + 9) (expansions mode n key function (suc k) is)) e ∙ ap (λ (xs : Cells). (a, item_cell E a (Log s)) ∷ xs) (rest (a + 9)))
-      (ap (λ b. (b, item_cell E b Ret) ∷ cells_from env (b + 5) (expansions mode n key function (suc k) is)) e ∙ ap (λ (xs : Cells). (a, item_cell E a Ret) ∷ xs) (rest (a + 5)))
+      (λ s. ap (λ b. (b, item_cell E b (Log s)) ∷ cells_from env (b + 9) (expansions mode n key function (suc k) is)) e
+      ∙ ap (λ (xs : Cells). (a, item_cell E a (Log s)) ∷ xs) (rest (a + 9)))
+      (ap (λ b. (b, item_cell E b Ret) ∷ cells_from env (b + 5) (expansions mode n key function (suc k) is)) e
+      ∙ ap (λ (xs : Cells). (a, item_cell E a Ret) ∷ xs) (rest (a + 5)))
       i (first_built i is h)
 
   -- its marks

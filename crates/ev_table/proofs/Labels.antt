@@ -32,7 +32,8 @@ all_append [] ys h k = k
 all_append (x ∷ xs) ys h k = (h.0, all_append xs ys h.1 k)
 
 -- the labels of a body's listing
-pub body_labels : (mode : Mode) (n : ℕ) (key : Key) (function : ℕ → ℕ) (a k : ℕ) (items : List Item) → AreBuilt items → AllOfBodies (places a (stmts_of (expansions mode n key function k items)))
+pub body_labels : (mode : Mode) (n : ℕ) (key : Key) (function : ℕ → ℕ) (a k : ℕ) (items : List Item) → AreBuilt items
+    → AllOfBodies (places a (stmts_of (expansions mode n key function k items)))
 unfolding expansion size spelling four_bytes places
 body_labels mode n key function a k [] h = tt
 body_labels mode n key function a k (i ∷ is) h =
@@ -96,8 +97,10 @@ exit_inner Fred _ = refl
 
 pub all_places_append : (bs cs : List Listing) → all_places (bs ++ cs) ≡ all_places bs ++ all_places cs
 all_places_append [] cs = refl
-all_places_append (b ∷ bs) cs = ap (λ xs. places b.address (stmts_of b.lines) ++ xs) (all_places_append bs cs) ∙ sym (append_assoc (places b.address (stmts_of b.lines)) (all_places bs) (all_places cs))
+all_places_append (b ∷ bs) cs = ap (λ xs. places b.address (stmts_of b.lines) ++ xs) (all_places_append bs cs)
+    ∙ sym (append_assoc (places b.address (stmts_of b.lines)) (all_places bs) (all_places cs))
 
 pub cells_in_append : (env : Places) (bs cs : List Listing) → cells_in env (bs ++ cs) ≡ cells_in env bs ++ cells_in env cs
 cells_in_append env [] cs = refl
-cells_in_append env (b ∷ bs) cs = ap (λ xs. cells_from env b.address b.lines ++ xs) (cells_in_append env bs cs) ∙ sym (append_assoc (cells_from env b.address b.lines) (cells_in env bs) (cells_in env cs))
+cells_in_append env (b ∷ bs) cs = ap (λ xs. cells_from env b.address b.lines ++ xs) (cells_in_append env bs cs)
+    ∙ sym (append_assoc (cells_from env b.address b.lines) (cells_in env bs) (cells_in env cs))

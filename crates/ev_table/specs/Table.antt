@@ -71,7 +71,8 @@ pub record RetCell (code : Code) (a exit : ℕ) : Type 0 where
 
 -- the kernel's lines stand in the table
 abbrev pub LinesStand : Type 0
-LinesStand = (mode : Mode) (image : Image) → IsImage image → IsBuilt image → (e : Env) → e.base 1000 ≡ 0 → agrees.Stands (code_table mode image) e (lines_of_mode mode)
+LinesStand = (mode : Mode) (image : Image) → IsImage image → IsBuilt image → (e : Env) → e.base 1000 ≡ 0
+    → agrees.Stands (code_table mode image) e (lines_of_mode mode)
 
 -- each cell leads to the address behind its bytes
 abbrev pub CellsAreSpaced : Type 0
@@ -79,12 +80,14 @@ CellsAreSpaced = (mode : Mode) (image : Image) → Spaced (code_table mode image
 
 -- `log` is its marked store to the port
 abbrev pub LogStands : Type 0
-LogStands = (mode : Mode) (image : Image) → IsImage image → IsBuilt image → (n i s : ℕ) (b : Body) → slice_get image.bodies n ≡ Some b → item_at (Some b) i ≡ Some (Log s)
+LogStands = (mode : Mode) (image : Image) → IsImage image → IsBuilt image → (n i s : ℕ) (b : Body) → slice_get image.bodies n ≡ Some b
+    → item_at (Some b) i ≡ Some (Log s)
     → code_table mode image (item_address mode n b i) ≡ Some (record { ins = GsStore (pos 0x28) s; next = item_address mode n b (suc i); mark = true })
 
 -- `ret` is a jump to the exit of its body's key
 abbrev pub RetStands : Type 0
-RetStands = (mode : Mode) (image : Image) → IsImage image → IsBuilt image → (n i : ℕ) (b : Body) → slice_get image.bodies n ≡ Some b → item_at (Some b) i ≡ Some Ret
+RetStands = (mode : Mode) (image : Image) → IsImage image → IsBuilt image → (n i : ℕ) (b : Body) → slice_get image.bodies n ≡ Some b
+    → item_at (Some b) i ≡ Some Ret
     → RetCell (code_table mode image) (item_address mode n b i) (exit_address mode b.key)
 
 -- a body begins with its first item
@@ -98,14 +101,17 @@ ItemsAreCanonical = (mode : Mode) (image : Image) → IsImage image → IsBuilt 
 
 -- the marked addresses are those of the marked cells, always seen
 abbrev pub UnmarkedCellsAreEdges : Type 0
-UnmarkedCellsAreEdges = (mode : Mode) (image : Image) → IsImage image → IsBuilt image → (a : ℕ) (x : Cell) → code_table mode image a ≡ Some x → x.mark ≡ false → mark_at (marks_of mode image) a ≡ Never
+UnmarkedCellsAreEdges = (mode : Mode) (image : Image) → IsImage image → IsBuilt image → (a : ℕ) (x : Cell) → code_table mode image a ≡ Some x
+    → x.mark ≡ false → mark_at (marks_of mode image) a ≡ Never
 
 abbrev pub MarkedCellsAreSeen : Type 0
-MarkedCellsAreSeen = (mode : Mode) (image : Image) → IsImage image → IsBuilt image → (a : ℕ) (x : Cell) → code_table mode image a ≡ Some x → x.mark ≡ true → mark_at (marks_of mode image) a ≡ Always
+MarkedCellsAreSeen = (mode : Mode) (image : Image) → IsImage image → IsBuilt image → (a : ℕ) (x : Cell) → code_table mode image a ≡ Some x → x.mark ≡ true
+    → mark_at (marks_of mode image) a ≡ Always
 
 -- the ends of the entry and of the exit
 abbrev pub BodyJumpStands : Type 0
-BodyJumpStands = (mode : Mode) (image : Image) → IsImage image → IsBuilt image → code_table mode image (body_jump mode) ≡ Some (record { ins = JmpReg 0; next = body_jump mode + 2; mark = false })
+BodyJumpStands = (mode : Mode) (image : Image) → IsImage image → IsBuilt image
+    → code_table mode image (body_jump mode) ≡ Some (record { ins = JmpReg 0; next = body_jump mode + 2; mark = false })
 
 abbrev pub TaskReturnStands : Type 0
 TaskReturnStands = (mode : Mode) (image : Image) → IsImage image → IsBuilt image → code_table mode image (task_return mode) ≡ Some (task_return_cell mode)

@@ -68,8 +68,28 @@ bytes_small : (g : Gate) → IsGate g → (i : ℕ) → get_or (gate_bytes g) i 
 unfolding gate_bytes
 bytes_small g h i =
     let k : kind_byte g < 256 = kind_small g h.3 in
-    byte_small (gate_bytes g)
-    (omega arith, (omega arith, (omega arith, (omega arith, (omega arith, (k, (omega arith, (omega arith, (omega arith, (omega arith, (omega arith, (omega arith, (omega arith, (omega arith, (omega arith, (omega arith, tt))))))))))))))))
+    byte_small (gate_bytes g) (
+      omega arith,
+      (
+        omega arith,
+        (
+          omega arith,
+          (
+            omega arith,
+            (
+              omega arith,
+              (
+                k,
+                (
+                  omega arith,
+                  (omega arith, (omega arith, (omega arith, (omega arith, (omega arith, (omega arith, (omega arith, (omega arith, (omega arith, tt))))))))),
+                ),
+              ),
+            ),
+          ),
+        ),
+      ),
+    )
     i
 
 bytes_long : (g : Gate) → length (gate_bytes g) ≡ 16
@@ -84,7 +104,8 @@ bytes_whole g = refl
 two_words : (bytes : List ℕ) → ((i : ℕ) → get_or bytes i 0 < 256) → length bytes ≡ 16
     → to_le_bytes w64 (from_le_bytes w64 bytes) ++ to_le_bytes w64 (from_le_bytes w64 (drop 8 bytes)) ≡ take 16 bytes
 two_words bytes small long =
-    ap (λ (xs : List ℕ). to_le_bytes w64 (from_le_bytes w64 bytes) ++ xs) (word_back 8 bytes small (omega arith)) ∙ sym (words_back 0 8 bytes small (omega arith))
+    ap (λ (xs : List ℕ). to_le_bytes w64 (from_le_bytes w64 bytes) ++ xs) (word_back 8 bytes small (omega arith))
+    ∙ sym (words_back 0 8 bytes small (omega arith))
 
 -- ---- the words of a gate
 
@@ -103,7 +124,8 @@ high_is v =
     rw (half, odd) refl
 
 gate_is : (v : ℕ) → v < 256 → gate_in (idt_word (2 * v)) (idt_word (2 * v + 1)) ≡ gate v
-gate_is v h = ap (λ (x : ℕ). gate_in x (idt_word (2 * v + 1))) (low_is v) ∙ ap (gate_in (from_le_bytes w64 (gate_bytes (gate v)))) (high_is v) ∙ in_words (gate v) (fields_fit v h)
+gate_is v h = ap (λ (x : ℕ). gate_in x (idt_word (2 * v + 1))) (low_is v) ∙ ap (gate_in (from_le_bytes w64 (gate_bytes (gate v)))) (high_is v)
+    ∙ in_words (gate v) (fields_fit v h)
 
 bytes_are : (v : ℕ) → v < 256 → to_le_bytes w64 (idt_word (2 * v)) ++ to_le_bytes w64 (idt_word (2 * v + 1)) ≡ gate_bytes (gate v)
 bytes_are v h =

@@ -15,7 +15,8 @@ kernel_reads : (m : Memory) (a : ℕ) → place_in m.regions a ≡ KernelWord �
 unfolding fault_at
 kernel_reads m a h = ap (fault_at (present_in m) (data_access false false)) h
 
-readable : (image : Image) (m : Memory) (a : ℕ) → m.regions ≡ regions image → place_in (regions image) a ≡ KernelWord → 0xffff800000000000 ≤ a → a < 2 ^ 64 → IsReadable m a
+readable : (image : Image) (m : Memory) (a : ℕ) → m.regions ≡ regions image → place_in (regions image) a ≡ KernelWord → 0xffff800000000000 ≤ a → a < 2 ^ 64
+    → IsReadable m a
 readable image m a same place lo hi = record {
   canonical = upper_canonical a lo hi;
   mapped = kernel_reads m a (ap (λ (rs : List Region). place_in rs a) same ∙ place);
@@ -23,8 +24,13 @@ readable image m a same place lo hi = record {
 
 pub idt_readable : (image : Image) (m : Memory) (k : ℕ) → m.regions ≡ regions image → k < 512 → IsReadable m (idt_base + 8 * k)
 idt_readable image m k same h =
-    readable image m (idt_base + 8 * k) same (idt_covered image 0x10000 0x1000 (omega arith) (omega arith) (idt_base + 8 * k) (record { from = omega arith; to = omega arith })) (omega arith) (omega arith)
+    readable image m (idt_base + 8 * k) same
+    (idt_covered image 0x10000 0x1000 (omega arith) (omega arith) (idt_base + 8 * k) (record { from = omega arith; to = omega arith })) (omega arith)
+    (omega arith)
 
-pub tss_readable : (image : Image) (m : Memory) (p k : ℕ) → m.regions ≡ regions image → p < image.processors → p < 8 → k < 11 → IsReadable m (pcpu p + 0x408 + 8 * k)
+pub tss_readable : (image : Image) (m : Memory) (p k : ℕ) → m.regions ≡ regions image → p < image.processors → p < 8 → k < 11
+    → IsReadable m (pcpu p + 0x408 + 8 * k)
 tss_readable image m p k same hp few h =
-    readable image m (pcpu p + 0x408 + 8 * k) same (area_covered image p 0 0x10000 hp (omega arith) (pcpu p + 0x408 + 8 * k) (record { from = omega arith; to = omega arith })) (omega arith) (omega arith)
+    readable image m (pcpu p + 0x408 + 8 * k) same
+    (area_covered image p 0 0x10000 hp (omega arith) (pcpu p + 0x408 + 8 * k) (record { from = omega arith; to = omega arith })) (omega arith)
+    (omega arith)

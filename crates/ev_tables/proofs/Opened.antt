@@ -25,12 +25,14 @@ inside base bytes a h k =
     let u : nat_lt a (base + bytes) ≡ true = lt-ltb a (base + bytes) k in
     rw (t, u) refl
 
-pub idt_there : (es : Placed) (mode : Mode) (image : Image) (a : ℕ) → image.processors ≤ 8 → idt_base ≤ a → a < idt_base + 0x1000 → word_there es mode image a ≡ idt_word ((a - idt_base) / 8)
+pub idt_there : (es : Placed) (mode : Mode) (image : Image) (a : ℕ) → image.processors ≤ 8 → idt_base ≤ a → a < idt_base + 0x1000
+    → word_there es mode image a ≡ idt_word ((a - idt_base) / 8)
 unfolding word_there
 idt_there es mode image a few h k =
     let upper : nat_lt a (2 ^ 63) ≡ false = le-ltb a (2 ^ 63) (omega arith) in
     let code : nat_le fred_page a ≡ false = lt-leb fred_page a (omega arith) in
-    let stacks : within (stack_top 0 0 - 0x4000) (0x100000 * image.processors) a ≡ false = above (stack_top 0 0 - 0x4000) (0x100000 * image.processors) a (omega arith) in
+    let stacks : within (stack_top 0 0 - 0x4000) (0x100000 * image.processors) a ≡ false =
+    above (stack_top 0 0 - 0x4000) (0x100000 * image.processors) a (omega arith) in
     let areas : within (pcpu 0) (0x10000 * image.processors) a ≡ false = below (pcpu 0) (0x10000 * image.processors) a (omega arith) in
     let tasks : within (task_words 0 0) (0x100 * image.processors) a ≡ false = above (task_words 0 0) (0x100 * image.processors) a (omega arith) in
     let users : within user_table (8 * 257) a ≡ false = below user_table (8 * 257) a (omega arith) in

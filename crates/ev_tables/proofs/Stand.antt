@@ -15,13 +15,16 @@ use Rattle.ev_tables.proofs.Mapped.{idt_readable, tss_readable}
 
 -- words of memory that are the opening's from the IDT's base on
 abbrev HoldsIdt : Mode → Image → NatMap ℕ → Type 0
-HoldsIdt mode image words = (a : ℕ) → is_aligned a ≡ true → idt_base ≤ a → a < idt_base + 0x1000 → words a ≡ opening_word (code_of (listings mode image)) mode image a
+HoldsIdt mode image words = (a : ℕ) → is_aligned a ≡ true → idt_base ≤ a → a < idt_base + 0x1000
+    → words a ≡ opening_word (code_of (listings mode image)) mode image a
 
-held_word : (mode : Mode) (image : Image) (words : NatMap ℕ) (n : ℕ) → image.processors ≤ 8 → HoldsIdt mode image words → n < 512 → words (idt_base + 8 * n) ≡ idt_word n
+held_word : (mode : Mode) (image : Image) (words : NatMap ℕ) (n : ℕ) → image.processors ≤ 8 → HoldsIdt mode image words → n < 512
+    → words (idt_base + 8 * n) ≡ idt_word n
 held_word mode image words n few holds h =
     let al : is_aligned (idt_base + 8 * n) ≡ true = eq-eqb ((idt_base + 8 * n) % 8) 0 (omega arith) in
     let place : (idt_base + 8 * n - idt_base) / 8 ≡ n = omega arith in
-    holds (idt_base + 8 * n) al (omega arith) (omega arith) ∙ opened_idt (code_of (listings mode image)) mode image (idt_base + 8 * n) few al (omega arith) (omega arith) ∙ ap idt_word place
+    holds (idt_base + 8 * n) al (omega arith) (omega arith) ∙ opened_idt (code_of (listings mode image)) mode image (idt_base + 8 * n) few al (omega arith)
+    (omega arith) ∙ ap idt_word place
 
 held_handler : (mode : Mode) (image : Image) (words : NatMap ℕ) (v : ℕ) → image.processors ≤ 8 → HoldsIdt mode image words → v < 256
     → IsHandler (words (idt_base + 16 * v)) (words (idt_base + 16 * v + 8))
@@ -29,7 +32,8 @@ held_handler mode image words v few holds h =
     let low_place : idt_base + 8 * (2 * v) ≡ idt_base + 16 * v = omega arith in
     let high_place : idt_base + 8 * (2 * v + 1) ≡ idt_base + 16 * v + 8 = omega arith in
     let low : idt_word (2 * v) ≡ words (idt_base + 16 * v) = sym (held_word mode image words (2 * v) few holds (omega arith)) ∙ ap words low_place in
-    let high : idt_word (2 * v + 1) ≡ words (idt_base + 16 * v + 8) = sym (held_word mode image words (2 * v + 1) few holds (omega arith)) ∙ ap words high_place in
+    let high : idt_word (2 * v + 1) ≡ words (idt_base + 16 * v + 8) = sym (held_word mode image words (2 * v + 1) few holds (omega arith))
+    ∙ ap words high_place in
     subst (λ (y : ℕ). IsHandler (words (idt_base + 16 * v)) y) high (subst (λ (x : ℕ). IsHandler x (idt_word (2 * v + 1))) low (handler v h))
 
 pub stand : TablesStand

@@ -7,5 +7,6 @@ pub words-cons : (w : Text) (ws : List Text) → words (w ∷ ws) ≡ w ++ space
 words-cons w [] = sym (append-nil w)
 words-cons w (v ∷ ws) = ap (λ x. w ++ 32 ∷ x) (words-cons v ws)
 
-pub line_is : (mode : Text) (ws : List Text) (start body whole : Text) → start ≡ mode → body ≡ start ++ spaced ws → whole ≡ body ++ 10 ∷ [] → whole ≡ line_text mode ws
+pub line_is : (mode : Text) (ws : List Text) (start body whole : Text) → start ≡ mode → body ≡ start ++ spaced ws → whole ≡ body ++ 10 ∷ []
+    → whole ≡ line_text mode ws
 line_is mode ws start body whole s b w = rw (words-cons mode ws) cc

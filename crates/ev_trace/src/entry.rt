@@ -72,7 +72,8 @@ fn push_entry(e: &Entry, out: &mut ArrayString<256>)
 /// The front of `enter`: what was delivered.
 fn push_event(p: u32, key: Key, kind: EventType, side: Side, out: &mut ArrayString<256>)
     requires { array_string_len out.old ≤ 4 }
-    ensures bytes { out.new.bytes ≡ out.old.bytes ++ spaced (decimal p ∷ codes "enter" ∷ key_text key
+    ensures bytes { out.new.bytes ≡ out.old.bytes ++ spaced
+        (decimal p ∷ codes "enter" ∷ key_text key
         ∷ codes "type" ∷ decimal (type_number kind) ∷ side_text side ∷ []) }
     ensures room { array_string_len out.new ≤ 90 }
 {
@@ -103,7 +104,8 @@ fn push_delivery(depth: u8, error: u64, info: u64, rip: Option<u64>, out: &mut A
 
 fn push_log(p: u32, value: u64, out: &mut ArrayString<256>)
     requires { array_string_len out.old ≤ 4 }
-    ensures bytes { out.new.bytes ≡ out.old.bytes ++ spaced (decimal p ∷ codes "log" ∷ hex value ∷ []) }
+    ensures bytes { out.new.bytes ≡ out.old.bytes ++ spaced
+        (decimal p ∷ codes "log" ∷ hex value ∷ []) }
     ensures room { array_string_len out.new < 256 }
 {
     push_decimal(u64::from(p), out);
@@ -142,7 +144,8 @@ fn push_request(to: u32, func: u32, arg: u64, out: &mut ArrayString<256>)
 
 fn push_busy(p: u32, site: u8, out: &mut ArrayString<256>)
     requires { array_string_len out.old ≤ 4 }
-    ensures bytes { out.new.bytes ≡ out.old.bytes ++ spaced (decimal p ∷ codes "busy" ∷ decimal site ∷ []) }
+    ensures bytes { out.new.bytes ≡ out.old.bytes ++ spaced
+        (decimal p ∷ codes "busy" ∷ decimal site ∷ []) }
     ensures room { array_string_len out.new < 256 }
 {
     push_decimal(u64::from(p), out);

@@ -57,7 +57,8 @@ pub fn print_totals(
     out: &mut ArrayString<256>,
 )
     requires { out.old.bytes ≡ [] }
-    ensures { out.new.bytes ≡ totals_text (mode_text mode) (record { steps = steps; frames = frames; low = low }) }
+    ensures { out.new.bytes ≡ totals_text (mode_text mode)
+        (record { steps = steps; frames = frames; low = low }) }
 {
     start_line(mode, out);
     push_totals(steps, frames, low, out);

@@ -42,7 +42,8 @@ fn push_task(
     out: &mut ArrayString<512>,
 )
     requires { array_string_len out.old ≤ 4 }
-    ensures bytes { out.new.bytes ≡ out.old.bytes ++ spaced (state_words p i regs.now rip flags gs) }
+    ensures bytes { out.new.bytes ≡ out.old.bytes ++ spaced
+        (state_words p i regs.now rip flags gs) }
     ensures room { array_string_len out.new < 512 }
 {
     push_number(p, i, out);
@@ -75,7 +76,8 @@ fn push_busy(p: u32, depth: u8, out: &mut ArrayString<256>)
 
 fn push_number(p: u32, i: usize, out: &mut ArrayString<512>)
     requires { array_string_len out.old ≤ 4 }
-    ensures bytes { out.new.bytes ≡ out.old.bytes ++ spaced (codes "task" ∷ decimal p ∷ decimal i ∷ []) }
+    ensures bytes { out.new.bytes ≡ out.old.bytes ++ spaced
+        (codes "task" ∷ decimal p ∷ decimal i ∷ []) }
     ensures room { array_string_len out.new ≤ 51 }
 {
     push_word("task", out);
@@ -125,7 +127,8 @@ fn register_name(number: usize) -> &'static str
 
 fn push_registers(regs: &[u64; 16], out: &mut ArrayString<512>)
     requires { array_string_len out.old ≤ 115 }
-    ensures bytes { out.new.bytes ≡ out.old.bytes ++ spaced (register_words register_names regs.now) }
+    ensures bytes { out.new.bytes ≡ out.old.bytes ++ spaced
+        (register_words register_names regs.now) }
     ensures room { array_string_len out.new < 512 }
 {
     for (i, value) in regs.iter().enumerate() {

@@ -25,16 +25,23 @@ last (suc k) a h = let below : wrap (a + 8) < 2 ^ 64 = omega arith in
     ap (λ (as' : List ℕ). a ∷ as') (last k (wrap (a + 8)) below ∙ ap (λ (b : ℕ). addresses (wrap (a + 8)) k ++ b ∷ []) (next a k))
 
 -- the last word comes first from the highest down
-pub first_event_last : (v : View) (a k : ℕ) → a < 2 ^ 64 → first_event v true (reverse (addresses a (k + 1))) ≡ or_else (access_event v true (ss 0) (wrap (a + 8 * k))) (first_event v true (reverse (addresses a k)))
-first_event_last v a k h = rw add-one (ap (λ (as' : List ℕ). first_event v true (reverse as')) (last k a h) ∙ ap (first_event v true) (reverse-append (addresses a k) (wrap (a + 8 * k) ∷ [])))
+pub first_event_last : (v : View) (a k : ℕ) → a < 2 ^ 64
+    → first_event v true (reverse (addresses a (k + 1))) ≡ or_else (access_event v true (ss 0) (wrap (a + 8 * k)))
+    (first_event v true (reverse (addresses a k)))
+first_event_last v a k h =
+    rw add-one (ap (λ (as' : List ℕ). first_event v true (reverse as')) (last k a h)
+    ∙ ap (first_event v true) (reverse-append (addresses a k) (wrap (a + 8 * k) ∷ [])))
 
-first_of : (v : View) (a k j : ℕ) → a < 2 ^ 64 → j < k → j ≡ k - 1 → first_event v true (reverse (addresses a k)) ≡ or_else (access_event v true (ss 0) (wrap (a + 8 * j))) (first_event v true (reverse (addresses a j)))
+first_of : (v : View) (a k j : ℕ) → a < 2 ^ 64 → j < k → j ≡ k - 1
+    → first_event v true (reverse (addresses a k)) ≡ or_else (access_event v true (ss 0) (wrap (a + 8 * j))) (first_event v true (reverse (addresses a j)))
 first_of v a k j h l e = let k_is : k ≡ j + 1 = omega arith in rw k_is (first_event_last v a j h)
 
-pub found : (v : View) (a k j : ℕ) (e : Event) → a < 2 ^ 64 → j < k → j ≡ k - 1 → Some e ≡ access_event v true (ss 0) (wrap (a + 8 * j)) → Some e ≡ first_event v true (reverse (addresses a k))
+pub found : (v : View) (a k j : ℕ) (e : Event) → a < 2 ^ 64 → j < k → j ≡ k - 1 → Some e ≡ access_event v true (ss 0) (wrap (a + 8 * j))
+    → Some e ≡ first_event v true (reverse (addresses a k))
 found v a k j e h l q w = rw (first_of v a k j h l q) (ap (λ (o : Option Event). or_else o (first_event v true (reverse (addresses a j)))) w)
 
-pub passed : (v : View) (a k j : ℕ) → a < 2 ^ 64 → j < k → j ≡ k - 1 → None ≡ access_event v true (ss 0) (wrap (a + 8 * j)) → first_event v true (reverse (addresses a j)) ≡ first_event v true (reverse (addresses a k))
+pub passed : (v : View) (a k j : ℕ) → a < 2 ^ 64 → j < k → j ≡ k - 1 → None ≡ access_event v true (ss 0) (wrap (a + 8 * j))
+    → first_event v true (reverse (addresses a j)) ≡ first_event v true (reverse (addresses a k))
 passed v a k j h l q w = rw (first_of v a k j h l q) (ap (λ (o : Option Event). or_else o (first_event v true (reverse (addresses a j)))) w)
 
 -- a word of memory stands at the address
@@ -67,7 +74,8 @@ pub is_word : (m : MappedWords) (write : Bool) (bad : Event) (a : ℕ) → acces
 unfolding access_event
 is_word m write bad a h =
     let v : View = kernel_view (memory m) in
-    let t : (is_aligned a ≡ true) × (page_event (v.fault write a) a ≡ None) = tested (is_canonical a) (is_aligned a) bad ac (page_event (v.fault write a) a) h in
+    let t : (is_aligned a ≡ true) × (page_event (v.fault write a) a ≡ None) =
+    tested (is_canonical a) (is_aligned a) bad ac (page_event (v.fault write a) a) h in
     (t.0, mapped_in m (data_access false write) a (no_fault (v.fault write a) a t.1))
 
 neither : (o q : Option Event) → or_else o q ≡ None → (o ≡ None) × (q ≡ None)
@@ -98,13 +106,16 @@ pub record IsPlacedSoFar (old new : MappedWords) (address : ℕ) (words : List �
   pub regions : new.regions ≡ old.regions
   pub are_words : AreWords old.regions (addresses at (length (drop index words)))
 
-pub at_start : (m : MappedWords) (address : ℕ) (words : List ℕ) → first_event (kernel_view (memory m)) true (reverse (addresses address (length words))) ≡ None → IsPlacedSoFar m m address words address 0
+pub at_start : (m : MappedWords) (address : ℕ) (words : List ℕ) → first_event (kernel_view (memory m)) true (reverse (addresses address (length words)))
+    ≡ None → IsPlacedSoFar m m address words address 0
 at_start m address words h = record { rest = refl; regions = refl; are_words = writable m (addresses address (length words)) h }
 
-pub here : (old new : MappedWords) (address : ℕ) (words : List ℕ) (at i : ℕ) → IsPlacedSoFar old new address words at i → i < length words → IsWord new.regions at
+pub here : (old new : MappedWords) (address : ℕ) (words : List ℕ) (at i : ℕ) → IsPlacedSoFar old new address words at i → i < length words
+    → IsWord new.regions at
 here old new address words at i p h = rw p.regions ((rw (drop-cons words i 0 h) at p.are_words).0)
 
-pub one_more : (old new after : MappedWords) (address : ℕ) (words : List ℕ) (at i v : ℕ) → IsPlacedSoFar old new address words at i → i < length words → v ≡ get_or words i 0 → memory after ≡ with_word (memory new) at v → IsPlacedSoFar old after address words (wrap (at + 8)) (i + 1)
+pub one_more : (old new after : MappedWords) (address : ℕ) (words : List ℕ) (at i v : ℕ) → IsPlacedSoFar old new address words at i → i < length words
+    → v ≡ get_or words i 0 → memory after ≡ with_word (memory new) at v → IsPlacedSoFar old after address words (wrap (at + 8)) (i + 1)
 one_more old new after address words at i v p h e w = rw add-one (record {
   rest = ap (λ (m : Memory). placed m.words (wrap (at + 8)) (drop (suc i) words)) w
       ∙ ap (λ (x : ℕ). placed (with_word (memory new) at x).words (wrap (at + 8)) (drop (suc i) words)) e
@@ -113,11 +124,13 @@ one_more old new after address words at i v p h e w = rw add-one (record {
   are_words = (rw (drop-cons words i 0 h) at p.are_words).1;
 })
 
-pub at_end : (old new : MappedWords) (address : ℕ) (words : List ℕ) (at i : ℕ) → IsPlacedSoFar old new address words at i → length words ≤ i → memory new ≡ record (memory old) { words = placed (memory old).words address words }
+pub at_end : (old new : MappedWords) (address : ℕ) (words : List ℕ) (at i : ℕ) → IsPlacedSoFar old new address words at i → length words ≤ i
+    → memory new ≡ record (memory old) { words = placed (memory old).words address words }
 unfolding memory
 at_end old new address words at i p h =
     let none : drop i words ≡ [] = grind (arith, common_steps) in
     joined new.regions old.regions (memory new).words (placed (memory old).words address words) p.regions (rw none at p.rest)
   where
-    joined : (r s : List Region) (v w : NatMap ℕ) → r ≡ s → v ≡ w → (let x : Memory = record { regions = r; words = v } in x) ≡ (let y : Memory = record { regions = s; words = w } in y)
+    joined : (r s : List Region) (v w : NatMap ℕ) → r ≡ s → v ≡ w
+        → (let x : Memory = record { regions = r; words = v } in x) ≡ (let y : Memory = record { regions = s; words = w } in y)
     joined r s v w h k = cc

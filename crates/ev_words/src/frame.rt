@@ -21,7 +21,8 @@ pub fn below(end: u64, count: u64) -> u64
 /// The event of the first word that can't be written, from the highest down, if there is one.
 fn first_event(mem: &Mem, address: u64, count: usize) -> Option<Event>
     requires { count ≤ 8 }
-    ensures { result ≡ first_event (kernel_view (memory mem.now)) true (reverse (addresses address count)) }
+    ensures { result ≡ first_event (kernel_view (memory mem.now)) true
+        (reverse (addresses address count)) }
 {
     for k in (0..count).rev() {
         if let Some(e) = access_event(mem, true, address.wrapping_add(8 * k as u64)) {
@@ -36,10 +37,17 @@ fn first_event(mem: &Mem, address: u64, count: usize) -> Option<Event>
 /// all of them before one is written.
 pub fn write_frame(mem: &mut Mem, address: u64, words: &[u64]) -> Result<(), Event>
     requires { length words.now ≤ 8 }
-    ensures ok { OnOk result (memory mem.new ≡ record (memory mem.old) { words = placed (memory mem.old).words address words.now }) }
-    ensures writable { OnOk result (first_event (kernel_view (memory mem.old)) true (reverse (addresses address (length words.now))) ≡ None) }
+    ensures ok { OnOk result (memory mem.new ≡ record (memory mem.old) {
+      words =
+          placed (memory mem.old).words address words.now;
+    }) }
+    ensures writable { OnOk result
+        (first_event (kernel_view (memory mem.old)) true
+        (reverse (addresses address (length words.now))) ≡ None) }
     ensures err { OnErr result (mem.new ≡ mem.old) }
-    ensures met { IfErr result (λ e. first_event (kernel_view (memory mem.old)) true (reverse (addresses address (length words.now))) ≡ Some e) }
+    ensures met { IfErr result
+        (λ e. first_event (kernel_view (memory mem.old)) true
+        (reverse (addresses address (length words.now))) ≡ Some e) }
 {
     match first_event(mem, address, words.len()) {
         Some(e) => Err(e),
@@ -52,8 +60,12 @@ pub fn write_frame(mem: &mut Mem, address: u64, words: &[u64]) -> Result<(), Eve
 
 /// The words stand in memory from an address up. Each of them can be written.
 fn place(mem: &mut Mem, address: u64, words: &[u64])
-    requires writable { first_event (kernel_view (memory mem.old)) true (reverse (addresses address (length words.now))) ≡ None }
-    ensures { memory mem.new ≡ record (memory mem.old) { words = placed (memory mem.old).words address words.now } }
+    requires writable { first_event (kernel_view (memory mem.old)) true
+        (reverse (addresses address (length words.now))) ≡ None }
+    ensures { memory mem.new ≡ record (memory mem.old) {
+      words =
+          placed (memory mem.old).words address words.now;
+    } }
 {
     let mut at = address;
     for word in words {

@@ -34,9 +34,12 @@ fn read_word(mem: &Mem, a: u64) -> Result<u64, Event>
 /// The five words from an address up, or the event of the first that can't be read (SDM volume 2,
 /// IRET; FRED specification, ERETU and ERETS).
 pub fn read_return(mem: &Mem, a: u64) -> Result<ReturnWords, Event>
-    ensures ok { IfOk result (λ words. words_at (memory mem.now).words (addresses a 5) ≡ listed words) }
-    ensures readable { IfOk result (λ words. first_event (kernel_view (memory mem.now)) false (addresses a 5) ≡ None) }
-    ensures err { IfErr result (λ e. first_event (kernel_view (memory mem.now)) false (addresses a 5) ≡ Some e) }
+    ensures ok { IfOk result (λ words. words_at (memory mem.now).words (addresses a 5)
+        ≡ listed words) }
+    ensures readable { IfOk result
+        (λ words. first_event (kernel_view (memory mem.now)) false (addresses a 5) ≡ None) }
+    ensures err { IfErr result
+        (λ e. first_event (kernel_view (memory mem.now)) false (addresses a 5) ≡ Some e) }
 {
     Ok(ReturnWords {
         rip: read_word(mem, a)?,

@@ -59,7 +59,8 @@ text_same : (c : Command) (x : Document) (f : FirstForm) → IsDocumentOf x f �
 text_same c x f p = rw (p.1, p.2) refl
 
 -- a run of the document that was found
-pub ran_answers : (left old new : Option (List ℕ)) (c : Command) (x : Document) (s : Status) (f : FirstForm) → IsDocumentOf x f → IfSome left (λ bytes. bytes ≡ text_of f)
+pub ran_answers : (left old new : Option (List ℕ)) (c : Command) (x : Document) (s : Status) (f : FirstForm) → IsDocumentOf x f
+    → IfSome left (λ bytes. bytes ≡ text_of f)
     → Ran s old new (run_text x.image x.script (modes_of c.modes) c.frames) → Answers left old new c s
 ran_answers left old new c x Done f p k r = (f, p.0, k, r ∙ ap (append_known old) (text_same c x f p))
 ran_answers left old new c x WriteFault f p k r = (f, p.0, k, subst (TookPrefix old new) (text_same c x f p) r)

@@ -58,15 +58,21 @@ one_by : (a : List ℕ) (w : List ℕ) (c : Command) → a ≡ codes "run" → (
 one_by a w c e true p h = before (a ∷ w ∷ []) true [] true c (run_and _ _ a e (ap (λ (x : List ℕ). x ∷ []) (same w (codes "--frames") p))) (Both, refl, cc)
 one_by a w c e false p h = before (a ∷ w ∷ []) true (w ∷ []) false c (run_and _ _ a e refl) (joined w false c h)
 
-two_by : (a : List ℕ) (v w : List ℕ) (c : Command) → a ≡ codes "run" → (x y z : Bool) → bytes_eq v (codes "--mode") ≡ x → bytes_eq v (codes "--frames") ≡ y → bytes_eq w (codes "--frames") ≡ z
+two_by : (a : List ℕ) (v w : List ℕ) (c : Command) → a ≡ codes "run" → (x y z : Bool) → bytes_eq v (codes "--mode") ≡ x → bytes_eq v (codes "--frames") ≡ y
+    → bytes_eq w (codes "--frames") ≡ z
     → (if x then in_mode w false else (if y then in_joined w true else (if z then in_joined v true else None))) ≡ Some c → Says (a ∷ v ∷ w ∷ []) c
-two_by a v w c e true y z p q r h = before (a ∷ v ∷ w ∷ []) false (codes "--mode" ∷ w ∷ []) false c (run_and _ _ a e (ap (λ (x : List ℕ). x ∷ w ∷ []) (same v (codes "--mode") p))) (named w false c h)
-two_by a v w c e false true z p q r h = behind (a ∷ v ∷ w ∷ []) true (w ∷ []) true c (run_and _ _ a e (ap (λ (x : List ℕ). x ∷ w ∷ []) (same v (codes "--frames") q))) (joined w true c h)
-two_by a v w c e false false true p q r h = before (a ∷ v ∷ w ∷ []) true (v ∷ []) true c (run_and _ _ a e (ap (λ (x : List ℕ). v ∷ x ∷ []) (same w (codes "--frames") r))) (joined v true c h)
+two_by a v w c e true y z p q r h =
+    before (a ∷ v ∷ w ∷ []) false (codes "--mode" ∷ w ∷ []) false c (run_and _ _ a e (ap (λ (x : List ℕ). x ∷ w ∷ []) (same v (codes "--mode") p)))
+    (named w false c h)
+two_by a v w c e false true z p q r h =
+    behind (a ∷ v ∷ w ∷ []) true (w ∷ []) true c (run_and _ _ a e (ap (λ (x : List ℕ). x ∷ w ∷ []) (same v (codes "--frames") q))) (joined w true c h)
+two_by a v w c e false false true p q r h =
+    before (a ∷ v ∷ w ∷ []) true (v ∷ []) true c (run_and _ _ a e (ap (λ (x : List ℕ). v ∷ x ∷ []) (same w (codes "--frames") r))) (joined v true c h)
 two_by a v w c e false false false p q r h = absurd cc
 
 three_by : (a : List ℕ) (u v w : List ℕ) (c : Command) → a ≡ codes "run" → (x : Bool) → bytes_eq u (codes "--mode") ≡ x
-    → (if x then (if bytes_eq w (codes "--frames") then in_mode v true else None) else (if bytes_eq u (codes "--frames") && bytes_eq v (codes "--mode") then in_mode w true else None)) ≡ Some c
+    → (if x then (if bytes_eq w (codes "--frames") then in_mode v true else None) else
+    (if bytes_eq u (codes "--frames") && bytes_eq v (codes "--mode") then in_mode w true else None)) ≡ Some c
     → Says (a ∷ u ∷ v ∷ w ∷ []) c
 three_by a u v w c e true p h =
     let t = tested (bytes_eq w (codes "--frames")) (in_mode v true) c h in

@@ -42,7 +42,8 @@ fn read_document<S: Source>(alloc: Global, src: &mut S) -> Result<Document, Stat
 /// Runs a document and writes the text of its run.
 fn run<K: Sink>(alloc: Global, document: &Document, command: Command, sink: &mut K) -> Status
     requires form { (f : FirstForm) × IsDocumentOf document.now f }
-    ensures ran { Ran result (K.taken sink.old) (K.taken sink.new) (run_text document.now.image document.now.script (modes_of command.modes) command.frames) }
+    ensures ran { Ran result (K.taken sink.old) (K.taken sink.new)
+        (run_text document.now.image document.now.script (modes_of command.modes) command.frames) }
     ensures cause { result ≡ Status.WriteFault → Rose (K.faults sink.old) (K.faults sink.new) }
 {
     let script = document.script.as_slice();
@@ -62,7 +63,8 @@ fn run<K: Sink>(alloc: Global, document: &Document, command: Command, sink: &mut
 
 /// Does what a command says: reads a document whole and writes the text of its run.
 fn answer<S: Source, K: Sink>(alloc: Global, command: Command, src: &mut S, sink: &mut K) -> Status
-    ensures answers { Answers (S.left src.old) (K.taken sink.old) (K.taken sink.new) command result }
+    ensures answers { Answers (S.left src.old) (K.taken sink.old)
+        (K.taken sink.new) command result }
     ensures unwritten { result ≡ Status.NotBuilt → sink.new ≡ sink.old }
     ensures most { DrawsWithin 0 (S.left src.old) (S.left src.new) }
     ensures read { result ≡ Status.ReadFault → Rose (S.faults src.old) (S.faults src.new) }
@@ -78,30 +80,45 @@ fn answer<S: Source, K: Sink>(alloc: Global, command: Command, src: &mut S, sink
 /// run. Own.
 pub fn top<S: Source, K: Sink>(alloc: Global, words: &[&str], src: &mut S, sink: &mut K) -> Status
     // words of no command are Usage, with nothing read and nothing taken
-    ensures usage { command_of (map (λ w. w.now) words.now) ≡ None → (result ≡ Status.Usage) × (S.left src.new ≡ S.left src.old) × (K.taken sink.new ≡ K.taken sink.old) }
+    ensures usage { command_of (map (λ w. w.now) words.now) ≡ None
+        → (result ≡ Status.Usage) × (S.left src.new ≡ S.left src.old)
+        × (K.taken sink.new ≡ K.taken sink.old) }
     // and no others are
     ensures command { result ≡ Status.Usage → command_of (map (λ w. w.now) words.now) ≡ None }
     // a document of the form is run, and the text of its run is taken
-    ensures done { (c : Command) (f : FirstForm) → command_of (map (λ w. w.now) words.now) ≡ Some c → IsForm f → S.left src.old ≡ Some (text_of f)
-        → (Rose (S.faults src.old) (S.faults src.new) → ⊥) → (Rose (K.faults sink.old) (K.faults sink.new) → ⊥) → result ≢ Status.NoMemory
-        → (result ≡ Status.Done) × (K.taken sink.new ≡ append_known (K.taken sink.old) (run_text (image_of f) (script_of f) (modes_of c.modes) c.frames)) }
+    ensures done { (c : Command) (f : FirstForm)
+        → command_of (map (λ w. w.now) words.now) ≡ Some c → IsForm f
+        → S.left src.old ≡ Some (text_of f)
+        → (Rose (S.faults src.old) (S.faults src.new) → ⊥)
+        → (Rose (K.faults sink.old) (K.faults sink.new) → ⊥) → result ≢ Status.NoMemory
+        → (result ≡ Status.Done) × (K.taken sink.new ≡ append_known (K.taken sink.old)
+        (run_text (image_of f) (script_of f) (modes_of c.modes) c.frames)) }
     // what is taken of a run is a prefix of its text, whatever the answer
-    ensures prefix { (c : Command) (f : FirstForm) → command_of (map (λ w. w.now) words.now) ≡ Some c → IsForm f → S.left src.old ≡ Some (text_of f)
-        → TookPrefix (K.taken sink.old) (K.taken sink.new) (run_text (image_of f) (script_of f) (modes_of c.modes) c.frames) }
+    ensures prefix { (c : Command) (f : FirstForm)
+        → command_of (map (λ w. w.now) words.now) ≡ Some c → IsForm f
+        → S.left src.old ≡ Some (text_of f)
+        → TookPrefix (K.taken sink.old) (K.taken sink.new)
+        (run_text (image_of f) (script_of f) (modes_of c.modes) c.frames) }
     // nothing is taken before the document is read
     ensures kept { result ≡ Status.ReadFault → K.taken sink.new ≡ K.taken sink.old }
     // NotBuilt says that the bytes are of no form, with nothing taken
-    ensures unread { result ≡ Status.NotBuilt → (K.taken sink.new ≡ K.taken sink.old) × ((f : FirstForm) → IsForm f → S.left src.old ≡ Some (text_of f) → ⊥) }
+    ensures unread { result ≡ Status.NotBuilt → (K.taken sink.new ≡ K.taken sink.old)
+        × ((f : FirstForm) → IsForm f → S.left src.old ≡ Some (text_of f) → ⊥) }
     // and it is the answer to bytes of no form
-    ensures not_built { (c : Command) (bytes : List ℕ) → command_of (map (λ w. w.now) words.now) ≡ Some c → S.left src.old ≡ Some bytes → IsNoForm bytes
-        → (Rose (S.faults src.old) (S.faults src.new) → ⊥) → result ≢ Status.NoMemory → result ≡ Status.NotBuilt }
+    ensures not_built { (c : Command) (bytes : List ℕ)
+        → command_of (map (λ w. w.now) words.now) ≡ Some c → S.left src.old ≡ Some bytes
+        → IsNoForm bytes
+        → (Rose (S.faults src.old) (S.faults src.new) → ⊥) → result ≢ Status.NoMemory
+        → result ≡ Status.NotBuilt }
     ensures read { result ≡ Status.ReadFault → Rose (S.faults src.old) (S.faults src.new) }
     ensures write { result ≡ Status.WriteFault → Rose (K.faults sink.old) (K.faults sink.new) }
     ensures answers { (c : Command) → command_of (map (λ w. w.now) words.now) ≡ Some c
         → Answers (S.left src.old) (K.taken sink.old) (K.taken sink.new) c result }
-    ensures untouched { command_of (map (λ w. w.now) words.now) ≡ None → (src.new ≡ src.old) × (sink.new ≡ sink.old) }
+    ensures untouched { command_of (map (λ w. w.now) words.now) ≡ None
+        → (src.new ≡ src.old) × (sink.new ≡ sink.old) }
     ensures unwritten { result ≡ Status.NotBuilt → sink.new ≡ sink.old }
-    ensures unread_all { (c : Command) → command_of (map (λ w. w.now) words.now) ≡ Some c → DrawsWithin 0 (S.left src.old) (S.left src.new) }
+    ensures unread_all { (c : Command) → command_of (map (λ w. w.now) words.now) ≡ Some c
+        → DrawsWithin 0 (S.left src.old) (S.left src.new) }
 {
     match command_of(words) {
         Some(command) => answer(alloc, command, src, sink),

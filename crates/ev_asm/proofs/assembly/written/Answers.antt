@@ -17,11 +17,13 @@ overflow_add-at c =
 pub loop-s-preserved : goal.loop-s-preserved
 loop-s-preserved c =
     let size-is = ap length c.statement-code.ensures in
-    let next : c.loop-s.at + c.len.result ≡ c.loop-s.at + size c.s-item.result = omega (arith, c.len.ensures.value, size-is, bytes_size (places c.args.base c.args.stmts.now) c.loop-s.at c.s-item.result) in
+    let next : c.loop-s.at + c.len.result ≡ c.loop-s.at + size c.s-item.result =
+    omega (arith, c.len.ensures.value, size-is, bytes_size (places c.args.base c.args.stmts.now) c.loop-s.at c.s-item.result) in
     let total = total_step c.args.stmts.now c.loop-s.s-index (c.loop-s.s-index + 1) c.s-item.result (omega arith) (omega arith) c.s-item.is in
     record {
       written = code_step _ c.args.stmts.now c.loop-s.s-index _ c.loop-s.at _ c.s-item.result _ _ _ (omega arith) (omega arith) c.s-item.is next
-          (kept _ _ _ _ (c.is_err-in-loop-s.ensures.negation ∙ ap not c.if-is_err-2.false) c.extend_from_slice.ensures.items ∙ ap (λ (x : List ℕ). c.loop-s.bytes.items ++ x) (c.deref.ensures.0 ∙ c.statement-code.ensures))
+          (kept _ _ _ _ (c.is_err-in-loop-s.ensures.negation ∙ ap not c.if-is_err-2.false) c.extend_from_slice.ensures.items
+          ∙ ap (λ (x : List ℕ). c.loop-s.bytes.items ++ x) (c.deref.ensures.0 ∙ c.statement-code.ensures))
           c.loop-s.invariant.written;
       placed = addresses_step c.args.stmts.now c.loop-s.s-index _ c.loop-s.at _ c.s-item.result _ _ _ (omega arith) (omega arith) c.s-item.is next
           (kept _ _ _ _ (c.is_err.ensures.negation ∙ ap not c.if-is_err.false) c.push.ensures.items)

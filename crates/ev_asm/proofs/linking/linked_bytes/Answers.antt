@@ -7,7 +7,8 @@ use Rattle.ev_asm.proofs.linking.linked_bytes.Goals as goal
 
 pub linked_statement-code-requires-clause-reaches : goal.linked_statement-code-requires-clause-reaches
 linked_statement-code-requires-clause-reaches c =
-    (reach_step (section_places c.args.sections.now) c.args.stmts.now c.loop-s.s-index (c.loop-s.s-index + 1) c.loop-s.at _ c.s-item.result (omega arith) (omega arith) c.s-item.is (λ i. c.loop-s.at + size c.s-item.result) c.loop-s.invariant.reach).0
+    (reach_step (section_places c.args.sections.now) c.args.stmts.now c.loop-s.s-index (c.loop-s.s-index + 1) c.loop-s.at _ c.s-item.result (omega arith)
+    (omega arith) c.s-item.is (λ i. c.loop-s.at + size c.s-item.result) c.loop-s.invariant.reach).0
 
 pub overflow_add-at : goal.overflow_add-at
 overflow_add-at c =
@@ -24,13 +25,15 @@ pub loop-s-preserved : goal.loop-s-preserved
 loop-s-preserved c =
     let env = section_places c.args.sections.now in
     let size-is = ap length c.linked_statement-code.ensures in
-    let next : c.loop-s.at + c.len.result ≡ c.loop-s.at + size c.s-item.result = omega (arith, c.len.ensures.value, size-is, bytes_size env c.loop-s.at c.s-item.result) in
+    let next : c.loop-s.at + c.len.result ≡ c.loop-s.at + size c.s-item.result =
+    omega (arith, c.len.ensures.value, size-is, bytes_size env c.loop-s.at c.s-item.result) in
     let total = total_step c.args.stmts.now c.loop-s.s-index (c.loop-s.s-index + 1) c.s-item.result (omega arith) (omega arith) c.s-item.is in
     record {
       written = code_step env c.args.stmts.now c.loop-s.s-index _ c.loop-s.at _ c.s-item.result _ _ _ (omega arith) (omega arith) c.s-item.is next
           (c.in_ok-extend_from_slice.ensures.items ∙ ap (λ (x : List ℕ). c.loop-s.bytes.items ++ x) (c.deref.ensures.0 ∙ c.linked_statement-code.ensures))
           c.loop-s.invariant.written;
-      reach = (reach_step env c.args.stmts.now c.loop-s.s-index _ c.loop-s.at _ c.s-item.result (omega arith) (omega arith) c.s-item.is next c.loop-s.invariant.reach).1;
+      reach = (reach_step env c.args.stmts.now c.loop-s.s-index _ c.loop-s.at _ c.s-item.result (omega arith)
+          (omega arith) c.s-item.is next c.loop-s.invariant.reach).1;
       room = omega (arith, next, total, c.loop-s.invariant.room);
     }
 

@@ -17,4 +17,5 @@ pub loop-section-preserved : goal.loop-section-preserved
 loop-section-preserved c =
     let name = c.args.name.now in
     places_step c.args.sections.now c.loop-section.section-index _ c.section-item.result name _ (omega arith) (omega arith) c.section-item.is
-    (ap (λ (x : List Stmt). is_new_name (stmt_labels x) name) (sym c.as_slice-stmts.ensures) ∙ is_not_given _ (sym c.has_label.ensures ∙ c.if-has_label.false)) c.loop-section.invariant
+    (ap (λ (x : List Stmt). is_new_name (stmt_labels x) name) (sym c.as_slice-stmts.ensures)
+    ∙ is_not_given _ (sym c.has_label.ensures ∙ c.if-has_label.false)) c.loop-section.invariant

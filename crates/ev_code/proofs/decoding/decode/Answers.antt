@@ -15,16 +15,19 @@ overflow_cast-result c =
     omega (arith, spelling_length c.in-Ok.found, read_size c.args.bytes.now c.in-Ok.found c.in-Ok.rest.now are (c.in-Ok.ensures {u = tt}))
 
 pub returns-in-Ok-clause-spelled : goal.returns-in-Ok-clause-spelled
-returns-in-Ok-clause-spelled c = ok_spelled c.args.bytes.now c.in-Ok.found c.in-Ok.rest.now _ (λ k. omega (arith, c.type_inv.bytes k)) (c.in-Ok.ensures {u = tt}) refl
+returns-in-Ok-clause-spelled c = ok_spelled c.args.bytes.now c.in-Ok.found c.in-Ok.rest.now _ (λ k. omega (arith, c.type_inv.bytes k))
+    (c.in-Ok.ensures {u = tt}) refl
 
 pub returns-in-Ok-clause-decoded : goal.returns-in-Ok-clause-decoded
-returns-in-Ok-clause-decoded c = ok_decoded c.args.bytes.now c.in-Ok.found c.in-Ok.rest.now _ (λ k. omega (arith, c.type_inv.bytes k)) (c.in-Ok.ensures {u = tt}) refl
+returns-in-Ok-clause-decoded c = ok_decoded c.args.bytes.now c.in-Ok.found c.in-Ok.rest.now _ (λ k. omega (arith, c.type_inv.bytes k))
+    (c.in-Ok.ensures {u = tt}) refl
 
 pub returns-in-Ok-clause-short : goal.returns-in-Ok-clause-short
 returns-in-Ok-clause-short c = ok_not_short c.args.bytes.now c.in-Ok.found c.in-Ok.rest.now _ (c.in-Ok.ensures {u = tt})
 
 pub returns-in-Ok-clause-unknown : goal.returns-in-Ok-clause-unknown
-returns-in-Ok-clause-unknown c = ok_not_unknown c.args.bytes.now c.in-Ok.found c.in-Ok.rest.now _ (λ k. omega (arith, c.type_inv.bytes k)) (c.in-Ok.ensures {u = tt})
+returns-in-Ok-clause-unknown c = ok_not_unknown c.args.bytes.now c.in-Ok.found c.in-Ok.rest.now _ (λ k. omega (arith, c.type_inv.bytes k))
+    (c.in-Ok.ensures {u = tt})
 
 pub returns-in-Err-clause-decoded : goal.returns-in-Err-clause-decoded
 returns-in-Err-clause-decoded c = err_decoded c.args.bytes.now c.in-Err.fault (c.in-Err.ensures {u = tt})
@@ -36,7 +39,8 @@ pub returns-in-Err-clause-unknown : goal.returns-in-Err-clause-unknown
 returns-in-Err-clause-unknown c = err_unknown c.args.bytes.now c.in-Err.fault (λ k. omega (arith, c.type_inv.bytes k)) (c.in-Err.ensures {u = tt})
 
 pub returns-in-Ok-clause-reading : goal.returns-in-Ok-clause-reading
-returns-in-Ok-clause-reading c = read_reading c.args.bytes.now c.in-Ok.found c.in-Ok.rest.now (λ k. omega (arith, c.type_inv.bytes k)) (c.in-Ok.ensures {u = tt})
+returns-in-Ok-clause-reading c = read_reading c.args.bytes.now c.in-Ok.found c.in-Ok.rest.now (λ k. omega (arith, c.type_inv.bytes k))
+    (c.in-Ok.ensures {u = tt})
 
 pub returns-in-Err-clause-reading : goal.returns-in-Err-clause-reading
 returns-in-Err-clause-reading c = refused_reading c.args.bytes.now c.in-Err.fault (c.in-Err.ensures {u = tt})

@@ -25,6 +25,7 @@ returns c =
       flag_byte f.long,
       flag_byte f.nested,
     )
-    (ss_is _ _ _ _ _ _ _ _ _ _ (omega arith) (flag_small f.sti) (flag_small f.software) (flag_small f.nmi) (omega arith) c.requires.kind (flag_small f.enclave) (flag_small f.long)
+    (ss_is _ _ _ _ _ _ _ _ _ _ (omega arith) (flag_small f.sti) (flag_small f.software) (flag_small f.nmi) (omega arith) c.requires.kind
+    (flag_small f.enclave) (flag_small f.long)
     (flag_small f.nested) c.requires.length
     ∙ ss_word_is f)

@@ -24,7 +24,8 @@ returns-in-Ok-false-clause-told g c =
     let bytes = c.append.new.bytes in
     let same = grown c.loop-bytes.bytes.items bytes.items _ _ _ c.loop-bytes.invariant.same c.in-Ok-false.ensures.appends in
     let whole = same ∙ ap (λ xs. prepend_known xs (g.S.Source.left c.append.new.src)) (sym c.from_vec.ensures) in
-    told_whole c.from_vec.result _ _ whole (c.in-Ok-false.ensures.end c.in-Ok-false.field-0-test) (omega (arith, ap length c.from_vec.ensures, bytes.ok, c.append.ensures.within))
+    told_whole c.from_vec.result _ _ whole (c.in-Ok-false.ensures.end c.in-Ok-false.field-0-test)
+    (omega (arith, ap length c.from_vec.ensures, bytes.ok, c.append.ensures.within))
 
 pub returns-in-Ok-false-clause-whole : goal.returns-in-Ok-false-clause-whole
 returns-in-Ok-false-clause-whole g c =
@@ -39,10 +40,12 @@ pub returns-in-Ok-false-clause-most : goal.returns-in-Ok-false-clause-most
 returns-in-Ok-false-clause-most g c = within_more c.loop-bytes.bytes.items _ _ _ _ c.loop-bytes.bytes.ok.0 c.loop-bytes.invariant.same c.append.ensures.most
 
 pub returns-in-Err-clause-told : goal.returns-in-Err-clause-told
-returns-in-Err-clause-told g c = fault_told c.in-Err.fault c.loop-bytes.bytes.items _ _ _ _ c.loop-bytes.bytes.ok.0 c.loop-bytes.invariant.same c.in-Err.ensures.large
+returns-in-Err-clause-told g c = fault_told c.in-Err.fault c.loop-bytes.bytes.items _ _ _ _ c.loop-bytes.bytes.ok.0 c.loop-bytes.invariant.same
+    c.in-Err.ensures.large
 
 pub returns-in-Err-clause-whole : goal.returns-in-Err-clause-whole
-returns-in-Err-clause-whole g c = fault_whole c.in-Err.fault c.loop-bytes.bytes.items _ _ _ _ c.loop-bytes.bytes.ok.0 c.loop-bytes.invariant.same c.in-Err.ensures.large
+returns-in-Err-clause-whole g c = fault_whole c.in-Err.fault c.loop-bytes.bytes.items _ _ _ _ c.loop-bytes.bytes.ok.0 c.loop-bytes.invariant.same
+    c.in-Err.ensures.large
 
 pub returns-in-Err-clause-most : goal.returns-in-Err-clause-most
 returns-in-Err-clause-most g c = within_more c.loop-bytes.bytes.items _ _ _ _ c.loop-bytes.bytes.ok.0 c.loop-bytes.invariant.same c.append.ensures.most

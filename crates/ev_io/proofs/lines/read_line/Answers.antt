@@ -87,7 +87,8 @@ returns-then-b-eq10-clause-answer g c =
     let b = c.pop-b.result in
     let left = g.S.Source.left c.fill.new.src in
     let rest = prepend_known c.pop-b.new.self left in
-    let comes = kept.same ∙ ap (prepend_known t) (c.fill.ensures.same ∙ ap (λ x. prepend_known x left) c.pop-b.ensures ∙ prepend_first b c.pop-b.new.self left) in
+    let comes = kept.same ∙ ap (prepend_known t) (c.fill.ensures.same ∙ ap (λ x. prepend_known x left) c.pop-b.ensures
+    ∙ prepend_first b c.pop-b.new.self left) in
     at_line c.args.number c.args.gone.now k b t _ rest text kept.gone c.if-gone-ge-INPUT_LIMIT.false c.if-b-eq10.true comes
 
 pub returns-then-b-eq10-clause-line : goal.returns-then-b-eq10-clause-line
@@ -99,7 +100,8 @@ returns-then-b-eq10-clause-line g c =
     let b = c.pop-b.result in
     let left = g.S.Source.left c.fill.new.src in
     let rest = prepend_known c.pop-b.new.self left in
-    let comes = kept.same ∙ ap (prepend_known t) (c.fill.ensures.same ∙ ap (λ x. prepend_known x left) c.pop-b.ensures ∙ prepend_first b c.pop-b.new.self left) in
+    let comes = kept.same ∙ ap (prepend_known t) (c.fill.ensures.same ∙ ap (λ x. prepend_known x left) c.pop-b.ensures
+    ∙ prepend_first b c.pop-b.new.self left) in
     λ _. takes_line c.args.gone.now b t _ rest text c.if-b-eq10.true comes
 
 pub returns-then-b-eq10-clause-draws : goal.returns-then-b-eq10-clause-draws
@@ -115,8 +117,10 @@ returns-then-len-ge-LINE_LIMIT-clause-answer g c =
     let b = c.pop-b.result in
     let left = g.S.Source.left c.fill.new.src in
     let rest = prepend_known c.pop-b.new.self left in
-    let comes = kept.same ∙ ap (prepend_known t) (c.fill.ensures.same ∙ ap (λ x. prepend_known x left) c.pop-b.ensures ∙ prepend_first b c.pop-b.new.self left) in
-    at_long c.args.number c.args.gone.now k b t _ rest text kept.gone c.if-gone-ge-INPUT_LIMIT.false c.if-b-eq10.false (omega (arith, c.if-len-ge-LINE_LIMIT.true, c.len-in-loop-text.ensures.is)) comes
+    let comes = kept.same ∙ ap (prepend_known t) (c.fill.ensures.same ∙ ap (λ x. prepend_known x left) c.pop-b.ensures
+    ∙ prepend_first b c.pop-b.new.self left) in
+    at_long c.args.number c.args.gone.now k b t _ rest text kept.gone c.if-gone-ge-INPUT_LIMIT.false c.if-b-eq10.false
+    (omega (arith, c.if-len-ge-LINE_LIMIT.true, c.len-in-loop-text.ensures.is)) comes
 
 pub returns-then-len-ge-LINE_LIMIT-clause-draws : goal.returns-then-len-ge-LINE_LIMIT-clause-draws
 returns-then-len-ge-LINE_LIMIT-clause-draws g c =
@@ -131,9 +135,16 @@ returns-then-b-lt32-clause-answer g c =
     let b = c.pop-b.result in
     let left = g.S.Source.left c.fill.new.src in
     let rest = prepend_known c.pop-b.new.self left in
-    let comes = kept.same ∙ ap (prepend_known t) (c.fill.ensures.same ∙ ap (λ x. prepend_known x left) c.pop-b.ensures ∙ prepend_first b c.pop-b.new.self left) in
-    let side : (b < 32) ⊎ (126 < b) = elim c.then-b-lt32.branch [ then-b-lt32-via-then-b-lt32 w ↦ inl w.if-b-lt32.true | then-b-lt32-via-else-b-lt32+then-b-gt126 w ↦ inr w.if-b-gt126.true ] in
-    at_not_ascii c.args.number c.args.gone.now k b _ t _ rest text kept.gone c.if-gone-ge-INPUT_LIMIT.false c.if-b-eq10.false (omega (arith, c.if-len-ge-LINE_LIMIT.false, c.len-in-loop-text.ensures.is)) side c.len-then-b-lt32.ensures.is comes
+    let comes = kept.same ∙ ap (prepend_known t) (c.fill.ensures.same ∙ ap (λ x. prepend_known x left) c.pop-b.ensures
+    ∙ prepend_first b c.pop-b.new.self left) in
+    let side : (b < 32) ⊎ (126 < b) =
+    elim c.then-b-lt32.branch [
+      | then-b-lt32-via-then-b-lt32 w ↦ inl w.if-b-lt32.true
+      | then-b-lt32-via-else-b-lt32+then-b-gt126 w ↦ inr
+          w.if-b-gt126.true
+    ] in
+    at_not_ascii c.args.number c.args.gone.now k b _ t _ rest text kept.gone c.if-gone-ge-INPUT_LIMIT.false c.if-b-eq10.false
+    (omega (arith, c.if-len-ge-LINE_LIMIT.false, c.len-in-loop-text.ensures.is)) side c.len-then-b-lt32.ensures.is comes
 
 pub returns-then-b-lt32-clause-draws : goal.returns-then-b-lt32-clause-draws
 returns-then-b-lt32-clause-draws g c =
@@ -146,7 +157,8 @@ loop-text-preserved g c =
     let b = c.pop-b.result in
     let left = g.S.Source.left c.fill.new.src in
     let rest = prepend_known c.pop-b.new.self left in
-    let comes = kept.same ∙ ap (prepend_known t) (c.fill.ensures.same ∙ ap (λ x. prepend_known x left) c.pop-b.ensures ∙ prepend_first b c.pop-b.new.self left) in
+    let comes = kept.same ∙ ap (prepend_known t) (c.fill.ensures.same ∙ ap (λ x. prepend_known x left) c.pop-b.ensures
+    ∙ prepend_first b c.pop-b.new.self left) in
     let longer = ap length c.push.ensures ∙ length_push t b in
     record {
       within = omega (arith, c.if-gone-ge-INPUT_LIMIT.false);

@@ -12,7 +12,8 @@ unfolding value
 loop-b-init c = search rules
 
 pub returns-then-digit-base : goal.returns-then-digit-base
-returns-then-digit-base c = sym (bad_digit c.args.base c.loop-b.b-index c.args.digits.now c.loop-b-test.true (omega (arith, c.if-digit-base.true, c.digit_of-digit.ensures)))
+returns-then-digit-base c =
+    sym (bad_digit c.args.base c.loop-b.b-index c.args.digits.now c.loop-b-test.true (omega (arith, c.if-digit-base.true, c.digit_of-digit.ensures)))
 
 pub returns-in_err-checked_mul : goal.returns-in_err-checked_mul
 returns-in_err-checked_mul c =
@@ -33,7 +34,8 @@ returns-in_err-number c =
     let large : c.in_ok-checked_mul.field-0 + c.digit_of-digit.result < 2 ^ 64 → ⊥ = c.in_err-number.ensures in
     let more = value_more base i digits c.loop-b-test.true in
     let same = ap (λ v. v * base) c.loop-b.invariant.number in
-    c.from_residual-in_err-number.ensures ∙ sym (large_prefix base (i + 1) digits (omega (arith, c.requires.least)) (omega (arith, large, more, same, product.1, c.digit_of-digit.ensures)))
+    c.from_residual-in_err-number.ensures
+    ∙ sym (large_prefix base (i + 1) digits (omega (arith, c.requires.least)) (omega (arith, large, more, same, product.1, c.digit_of-digit.ensures)))
 
 pub loop-b-preserved : goal.loop-b-preserved
 loop-b-preserved c =
@@ -41,7 +43,8 @@ loop-b-preserved c =
     let base = c.args.base in
     let digits = c.args.digits.now in
     let product : (c.loop-b.number * base < 2 ^ 64) × (c.in_ok-checked_mul.field-0 ≡ c.loop-b.number * base) = c.in_ok-checked_mul.ensures in
-    let whole : (c.in_ok-checked_mul.field-0 + c.digit_of-digit.result < 2 ^ 64) × (c.in_ok-number.number ≡ c.in_ok-checked_mul.field-0 + c.digit_of-digit.result) = c.in_ok-number.ensures in
+    let whole : (c.in_ok-checked_mul.field-0 + c.digit_of-digit.result < 2 ^ 64)
+    × (c.in_ok-number.number ≡ c.in_ok-checked_mul.field-0 + c.digit_of-digit.result) = c.in_ok-number.ensures in
     let more = value_more base i digits c.loop-b-test.true in
     let same = ap (λ v. v * base) c.loop-b.invariant.number in
     record {

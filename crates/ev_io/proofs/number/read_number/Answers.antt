@@ -14,4 +14,5 @@ pub returns-then-text-ne120 : goal.returns-then-text-ne120
 returns-then-text-ne120 c = sym (no_number c.args.text.now c.if-text-lt2.false c.if-text-ne48.false c.if-text-ne120.true)
 
 pub returns : goal.returns
-returns c = c.read_digits-2.ensures ∙ ap (digits_number 16) (take_rest c.args.text.now 2) ∙ hexadecimal c.args.text.now c.if-text-lt2.false c.if-text-ne48.false c.if-text-ne120.false
+returns c = c.read_digits-2.ensures ∙ ap (digits_number 16) (take_rest c.args.text.now 2)
+    ∙ hexadecimal c.args.text.now c.if-text-lt2.false c.if-text-ne48.false c.if-text-ne120.false

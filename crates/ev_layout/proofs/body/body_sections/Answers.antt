@@ -15,5 +15,8 @@ loop-b-preserved c =
     let lt : c.loop-b.b < length i.bodies = subst (λ (x : List Body). c.loop-b.b < length x) list c.loop-b-test.true in
     let at : b ≡ get_or i.bodies c.loop-b.b b = c.body-item.is ∙ ap (λ (x : List Body). get_or x c.loop-b.b b) list in
     let built = built_at i.bodies c.loop-b.b b c.requires lt at in
-    let stmts = body_stmts_are c.args.mode i c.loop-b.b b c.from_vec.result built (λ f. c.from_vec.ensures ∙ c.in_ok-stmts.ensures f ∙ ap (λ (x : List Item). stmts_of (expansions c.args.mode c.loop-b.b b.key f 0 x)) c.as_slice.ensures) in
-    sections_step c.args.mode i i.bodies c.loop-b.b (c.loop-b.b + 1) b _ _ _ _ lt (omega arith) at (section_is c.args.mode i c.loop-b.b _ b _ refl stmts) c.in_ok-push.ensures.items c.loop-b.invariant
+    let stmts = body_stmts_are c.args.mode i c.loop-b.b b c.from_vec.result built
+    (λ f. c.from_vec.ensures ∙ c.in_ok-stmts.ensures f ∙ ap (λ (x : List Item). stmts_of (expansions c.args.mode c.loop-b.b b.key f 0 x))
+    c.as_slice.ensures) in
+    sections_step c.args.mode i i.bodies c.loop-b.b (c.loop-b.b + 1) b _ _ _ _ lt (omega arith) at (section_is c.args.mode i c.loop-b.b _ b _ refl stmts)
+    c.in_ok-push.ensures.items c.loop-b.invariant

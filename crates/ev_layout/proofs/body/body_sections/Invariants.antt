@@ -4,4 +4,5 @@ use Rattle.ev_concrete.specs.Opening.{body_listings}
 use Rattle.ev_layout.proofs.body.body_sections.Given as goal
 
 abbrev pub invariant-loop-b : goal.invariant-loop-b
-invariant-loop-b l = l.sections.items ++ map section_of (body_listings l.mode l.image l.b (drop l.b l.image.bodies)) ≡ map section_of (body_listings l.mode l.image 0 l.image.bodies)
+invariant-loop-b l = l.sections.items ++ map section_of (body_listings l.mode l.image l.b (drop l.b l.image.bodies)) ≡ map section_of
+    (body_listings l.mode l.image 0 l.image.bodies)

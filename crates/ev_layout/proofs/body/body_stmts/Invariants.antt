@@ -4,4 +4,5 @@ use Rattle.ev_listing.specs.Marks.{stmts_of}
 use Rattle.ev_layout.proofs.body.body_stmts.Given as goal
 
 abbrev pub invariant-loop-n : goal.invariant-loop-n
-invariant-loop-n l = (f : ℕ → ℕ) → l.stmts.items ++ stmts_of (expansions l.mode l.b l.key f l.n (drop l.n l.items)) ≡ stmts_of (expansions l.mode l.b l.key f 0 l.items)
+invariant-loop-n l = (f : ℕ → ℕ) → l.stmts.items ++ stmts_of (expansions l.mode l.b l.key f l.n (drop l.n l.items)) ≡ stmts_of
+    (expansions l.mode l.b l.key f 0 l.items)

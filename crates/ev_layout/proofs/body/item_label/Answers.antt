@@ -5,4 +5,9 @@ use Rattle.ev_layout.proofs.body.item_label.Goals as goal
 pub new-requires : goal.new-requires
 new-requires c =
     rw (c.as_str.ensures.value, c.in_ok-text.ensures.ok)
-    (simp length-append (omega (arith, length-decimal-le 3 c.args.b (omega arith) (omega arith) (omega arith), length-decimal-le 3 c.args.n (omega arith) (omega arith) (omega arith))))
+    (simp length-append (omega (
+      arith,
+      length-decimal-le 3 c.args.b (omega arith) (omega arith) (omega arith),
+      length-decimal-le 3 c.args.n (omega arith)
+          (omega arith) (omega arith),
+    )))

@@ -15,13 +15,15 @@ link-requires c =
     let i : Image = c.args.image.now in
     let few = subst (λ (v : Image). length v.bodies ≤ 64) c.image.view_is c.image.invariant.bodies_given.0 in
     let bodies = subst (λ (v : Image). list_all (is_body (length v.text)) v.bodies ≡ true) c.image.view_is c.image.invariant.bodies_given.1 in
-    subst AreLinkable (sym (c.deref.ensures.value ∙ c.in_ok-sections.ensures)) (all_linkable c.args.mode i c.requires.bodies (all_few (length i.text) i.bodies bodies c.requires.bodies) few)
+    subst AreLinkable (sym (c.deref.ensures.value ∙ c.in_ok-sections.ensures))
+    (all_linkable c.args.mode i c.requires.bodies (all_few (length i.text) i.bodies bodies c.requires.bodies) few)
 
 pub returns-clause-is : goal.returns-clause-is
 returns-clause-is c =
     let i : Image = c.args.image.now in
     let same = ap linked (c.deref.ensures.value ∙ c.in_ok-sections.ensures) in
-    if_ok c.link.result (λ b. b.blocks ≡ linked c.deref.result.now) (λ b. placed b.blocks ≡ code_of (listings c.args.mode i)) (λ b h. ap placed (h ∙ same) ∙ blocks_are (listings c.args.mode i)) c.link.ensures
+    if_ok c.link.result (λ b. b.blocks ≡ linked c.deref.result.now) (λ b. placed b.blocks ≡ code_of (listings c.args.mode i))
+    (λ b h. ap placed (h ∙ same) ∙ blocks_are (listings c.args.mode i)) c.link.ensures
 
 pub returns-clause-placed : goal.returns-clause-placed
 returns-clause-placed c =
@@ -29,4 +31,5 @@ returns-clause-placed c =
     let bodies = subst (λ (v : Image). list_all (is_body (length v.text)) v.bodies ≡ true) c.image.view_is c.image.invariant.bodies_given.1 in
     let same = ap linked (c.deref.ensures.value ∙ c.in_ok-sections.ensures) in
     if_ok c.link.result (λ b. b.blocks ≡ linked c.deref.result.now) (λ b. are_placed (length i.bodies) b.blocks ≡ true)
-    (λ b h. ap (are_placed (length i.bodies)) (h ∙ same) ∙ blocks_placed c.args.mode i c.requires.bodies (all_few (length i.text) i.bodies bodies c.requires.bodies)) c.link.ensures
+    (λ b h. ap (are_placed (length i.bodies)) (h ∙ same) ∙ blocks_placed c.args.mode i c.requires.bodies
+    (all_few (length i.text) i.bodies bodies c.requires.bodies)) c.link.ensures

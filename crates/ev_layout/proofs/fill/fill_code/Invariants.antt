@@ -9,5 +9,6 @@ use Rattle.ev_layout.proofs.fill.fill_code.Given as goal
 abbrev pub invariant-loop-block : goal.invariant-loop-block
 invariant-loop-block l = record {
   regions : l.mem.regions ≡ l.fn.mem.regions;
-  words : (mode : Mode) (a : ℕ) → (memory l.mem).words a ≡ code_filled (word_there (placed l.blocks) mode l.image) (take l.block-index l.blocks) (memory l.fn.mem).words a;
+  words : (mode : Mode) (a : ℕ) → (memory l.mem).words a ≡ code_filled (word_there (placed l.blocks) mode l.image) (take l.block-index l.blocks)
+      (memory l.fn.mem).words a;
 }

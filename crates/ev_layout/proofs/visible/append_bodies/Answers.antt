@@ -20,5 +20,6 @@ loop-b-preserved c =
     let at : b ≡ get_or i.bodies n b = c.body-item.is ∙ ap (λ (x : List Body). get_or x n b) list in
     let built = built_at i.bodies n b c.requires lt at in
     let new = body_marks c.args.mode i n b (marks_in c.loop-b.places) (marks_in c.append_body.new.places) built
-    (λ k f. c.in_ok-append_body.ensures k f ∙ ap (λ (x : List Item). marks_in c.loop-b.places ++ marks (body_code n) (expansions c.args.mode k b.key f 0 x)) c.as_slice.ensures) in
+    (λ k f. c.in_ok-append_body.ensures k f ∙ ap (λ (x : List Item). marks_in c.loop-b.places ++ marks (body_code n) (expansions c.args.mode k b.key f 0 x))
+    c.as_slice.ensures) in
     bodies_step c.args.mode i i.bodies n (n + 1) b _ _ _ lt (omega arith) at new c.loop-b.invariant

@@ -5,4 +5,5 @@ use Rattle.ev_layout.specs.Marks.{marks_in}
 use Rattle.ev_layout.proofs.visible.append_bodies.Given as goal
 
 abbrev pub invariant-loop-b : goal.invariant-loop-b
-invariant-loop-b l = marks_in l.places ++ all_marks (body_listings l.mode l.image l.b (drop l.b l.image.bodies)) ≡ marks_in l.fn.places ++ all_marks (body_listings l.mode l.image 0 l.image.bodies)
+invariant-loop-b l = marks_in l.places ++ all_marks (body_listings l.mode l.image l.b (drop l.b l.image.bodies)) ≡ marks_in l.fn.places ++ all_marks
+    (body_listings l.mode l.image 0 l.image.bodies)

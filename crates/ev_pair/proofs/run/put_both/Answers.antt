@@ -25,7 +25,8 @@ loop-line-preserved g c =
     let i = c.loop-line.line-index in
     let e : i + 1 ≡ suc i = omega arith in
     let lt : i < length ls = omega arith in record {
-      idt_at = λ image r. subst (λ done. IsRun Idt image done c.put_line.new.machine) (sym (up_to_place ls i (i + 1) _ e lt)) (c.in_ok-put_line.ensures.run image (take i ls) (c.loop-line.invariant.idt_at image r));
+      idt_at = λ image r. subst (λ done. IsRun Idt image done c.put_line.new.machine) (sym (up_to_place ls i (i + 1) _ e lt))
+          (c.in_ok-put_line.ensures.run image (take i ls) (c.loop-line.invariant.idt_at image r));
       fred_at = λ image q. subst (λ done. IsRun Fred image done c.put_line-in-loop-line.new.machine) (sym (up_to_place ls i (i + 1) _ e lt))
           (c.in_ok-put_line-2.ensures.run image (take i ls) (c.loop-line.invariant.fred_at image q));
       wrote = λ image r q.
@@ -71,8 +72,10 @@ returns-in_err-put_end-clause-failed g c image r q =
     let idt_end = shown_end c.args.frames Idt image ls in
     let fred_end = shown_end c.args.frames Fred image ls in
     let here = subst (λ done. IsRun Idt image done c.loop-line.idt) (all_done ls i past) (c.loop-line.invariant.idt_at image r) in
-    let left = subst (λ t. Wrote old now t whole) (end_place c.args.frames (Idt ∷ Fred ∷ []) image ls i past ∙ both_ends c.args.frames Idt Fred image ls) (c.loop-line.invariant.wrote image r q) in
-    err_now _ _ (failed_within old now (g.K.Sink.taken c.put_end.new.sink) (idt_end ++ fred_end) idt_end fred_end whole left refl (c.in_err-put_end.ensures.failed image ls here))
+    let left = subst (λ t. Wrote old now t whole) (end_place c.args.frames (Idt ∷ Fred ∷ []) image ls i past ∙ both_ends c.args.frames Idt Fred image ls)
+    (c.loop-line.invariant.wrote image r q) in
+    err_now _ _ (failed_within old now (g.K.Sink.taken c.put_end.new.sink) (idt_end ++ fred_end) idt_end fred_end whole left refl
+    (c.in_err-put_end.ensures.failed image ls here))
 
 pub returns-clause-ok : goal.returns-clause-ok
 returns-clause-ok g c image r q =
@@ -86,9 +89,12 @@ returns-clause-ok g c image r q =
     let fred_end = shown_end c.args.frames Fred image ls in
     let here = subst (λ done. IsRun Idt image done c.loop-line.idt) (all_done ls i past) (c.loop-line.invariant.idt_at image r) in
     let there = subst (λ done. IsRun Fred image done c.loop-line.fred) (all_done ls i past) (c.loop-line.invariant.fred_at image q) in
-    let left = subst (λ t. Wrote old now t whole) (end_place c.args.frames (Idt ∷ Fred ∷ []) image ls i past ∙ both_ends c.args.frames Idt Fred image ls) (c.loop-line.invariant.wrote image r q) in
-    let last = more_written old now (g.K.Sink.taken c.put_end.new.sink) (idt_end ++ fred_end) idt_end fred_end whole left refl (c.in_ok-put_end.ensures.ok image ls here) in
-    ok_then c.put_end-2.result _ _ (λ h. all_written old (g.K.Sink.taken c.put_end.new.sink) (g.K.Sink.taken c.put_end-2.new.sink) fred_end whole last h) (c.put_end-2.ensures.ok image ls there)
+    let left = subst (λ t. Wrote old now t whole) (end_place c.args.frames (Idt ∷ Fred ∷ []) image ls i past ∙ both_ends c.args.frames Idt Fred image ls)
+    (c.loop-line.invariant.wrote image r q) in
+    let last = more_written old now (g.K.Sink.taken c.put_end.new.sink) (idt_end ++ fred_end) idt_end fred_end whole left refl
+    (c.in_ok-put_end.ensures.ok image ls here) in
+    ok_then c.put_end-2.result _ _ (λ h. all_written old (g.K.Sink.taken c.put_end.new.sink) (g.K.Sink.taken c.put_end-2.new.sink) fred_end whole last h)
+    (c.put_end-2.ensures.ok image ls there)
 
 pub returns-clause-failed : goal.returns-clause-failed
 returns-clause-failed g c image r q =
@@ -102,6 +108,9 @@ returns-clause-failed g c image r q =
     let fred_end = shown_end c.args.frames Fred image ls in
     let here = subst (λ done. IsRun Idt image done c.loop-line.idt) (all_done ls i past) (c.loop-line.invariant.idt_at image r) in
     let there = subst (λ done. IsRun Fred image done c.loop-line.fred) (all_done ls i past) (c.loop-line.invariant.fred_at image q) in
-    let left = subst (λ t. Wrote old now t whole) (end_place c.args.frames (Idt ∷ Fred ∷ []) image ls i past ∙ both_ends c.args.frames Idt Fred image ls) (c.loop-line.invariant.wrote image r q) in
-    let last = more_written old now (g.K.Sink.taken c.put_end.new.sink) (idt_end ++ fred_end) idt_end fred_end whole left refl (c.in_ok-put_end.ensures.ok image ls here) in
-    err_then c.put_end-2.result _ _ (λ h. failed_at_end old (g.K.Sink.taken c.put_end.new.sink) (g.K.Sink.taken c.put_end-2.new.sink) fred_end whole last h) (c.put_end-2.ensures.failed image ls there)
+    let left = subst (λ t. Wrote old now t whole) (end_place c.args.frames (Idt ∷ Fred ∷ []) image ls i past ∙ both_ends c.args.frames Idt Fred image ls)
+    (c.loop-line.invariant.wrote image r q) in
+    let last = more_written old now (g.K.Sink.taken c.put_end.new.sink) (idt_end ++ fred_end) idt_end fred_end whole left refl
+    (c.in_ok-put_end.ensures.ok image ls here) in
+    err_then c.put_end-2.result _ _ (λ h. failed_at_end old (g.K.Sink.taken c.put_end.new.sink) (g.K.Sink.taken c.put_end-2.new.sink) fred_end whole last h)
+    (c.put_end-2.ensures.failed image ls there)

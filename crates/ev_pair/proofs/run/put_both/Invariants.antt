@@ -16,7 +16,8 @@ invariant-loop-line g l =
       idt_at : (image : Image) → IsRun Idt image [] l.fn.idt → IsRun Idt image (take l.line-index l.script) l.idt;
       fred_at : (image : Image) → IsRun Fred image [] l.fn.fred → IsRun Fred image (take l.line-index l.script) l.fred;
       wrote : (image : Image) → IsRun Idt image [] l.fn.idt → IsRun Fred image [] l.fn.fred
-          → Wrote (taken l.fn.sink) (taken l.sink) (rest_text l.frames (Idt ∷ Fred ∷ []) image (take l.line-index l.script) (drop l.line-index l.script)) (run_text image l.script (Idt ∷ Fred ∷ []) l.frames);
+          → Wrote (taken l.fn.sink) (taken l.sink) (rest_text l.frames (Idt ∷ Fred ∷ []) image (take l.line-index l.script) (drop l.line-index l.script))
+          (run_text image l.script (Idt ∷ Fred ∷ []) l.frames);
       idt_processors : length l.idt.parts.cpus ≡ 1;
       idt_totals : l.idt.parts.totals.steps ≤ 1024 * l.line-index;
       fred_processors : length l.fred.parts.cpus ≡ 1;

@@ -21,7 +21,8 @@ loop-line-preserved g c =
     let i = c.loop-line.line-index in
     let e : i + 1 ≡ suc i = omega arith in
     let lt : i < length ls = omega arith in record {
-      at = λ image r. subst (λ done. IsRun c.args.mode image done c.put_line.new.machine) (sym (up_to_place ls i (i + 1) _ e lt)) (c.in_ok-put_line.ensures.run image (take i ls) (c.loop-line.invariant.at image r));
+      at = λ image r. subst (λ done. IsRun c.args.mode image done c.put_line.new.machine) (sym (up_to_place ls i (i + 1) _ e lt))
+          (c.in_ok-put_line.ensures.run image (take i ls) (c.loop-line.invariant.at image r));
       wrote = λ image r. more_written _ _ _ _ _ _ _ (c.loop-line.invariant.wrote image r) (one_place c.args.frames image ls i (i + 1) _ e lt c.args.mode)
           (c.in_ok-put_line.ensures.ok image (take i ls) (c.loop-line.invariant.at image r));
       processors = c.put_line.ensures.same ∙ c.loop-line.invariant.processors;
@@ -47,8 +48,10 @@ returns-clause-ok g c image r =
     let now = g.K.Sink.taken c.loop-line.sink in
     let whole = run_text image ls (c.args.mode ∷ []) c.args.frames in
     let here = subst (λ done. IsRun c.args.mode image done c.loop-line.machine) (all_done ls i past) (c.loop-line.invariant.at image r) in
-    let left = subst (λ t. Wrote old now t whole) (end_place c.args.frames (c.args.mode ∷ []) image ls i past ∙ one_end c.args.frames c.args.mode image ls) (c.loop-line.invariant.wrote image r) in
-    ok_then c.put_end.result _ _ (λ h. all_written old now (g.K.Sink.taken c.put_end.new.sink) (shown_end c.args.frames c.args.mode image ls) whole left h) (c.put_end.ensures.ok image ls here)
+    let left = subst (λ t. Wrote old now t whole) (end_place c.args.frames (c.args.mode ∷ []) image ls i past ∙ one_end c.args.frames c.args.mode image ls)
+    (c.loop-line.invariant.wrote image r) in
+    ok_then c.put_end.result _ _ (λ h. all_written old now (g.K.Sink.taken c.put_end.new.sink) (shown_end c.args.frames c.args.mode image ls) whole left h)
+    (c.put_end.ensures.ok image ls here)
 
 pub returns-clause-failed : goal.returns-clause-failed
 returns-clause-failed g c image r =
@@ -59,5 +62,7 @@ returns-clause-failed g c image r =
     let now = g.K.Sink.taken c.loop-line.sink in
     let whole = run_text image ls (c.args.mode ∷ []) c.args.frames in
     let here = subst (λ done. IsRun c.args.mode image done c.loop-line.machine) (all_done ls i past) (c.loop-line.invariant.at image r) in
-    let left = subst (λ t. Wrote old now t whole) (end_place c.args.frames (c.args.mode ∷ []) image ls i past ∙ one_end c.args.frames c.args.mode image ls) (c.loop-line.invariant.wrote image r) in
-    err_then c.put_end.result _ _ (λ h. failed_at_end old now (g.K.Sink.taken c.put_end.new.sink) (shown_end c.args.frames c.args.mode image ls) whole left h) (c.put_end.ensures.failed image ls here)
+    let left = subst (λ t. Wrote old now t whole) (end_place c.args.frames (c.args.mode ∷ []) image ls i past ∙ one_end c.args.frames c.args.mode image ls)
+    (c.loop-line.invariant.wrote image r) in
+    err_then c.put_end.result _ _ (λ h. failed_at_end old now (g.K.Sink.taken c.put_end.new.sink) (shown_end c.args.frames c.args.mode image ls) whole left
+    h) (c.put_end.ensures.failed image ls here)

@@ -52,7 +52,9 @@ returns-clause-ok g c image script r =
     let before = then_ok old mid late first second (c.in_ok-put_settling.ensures.ok image script r)
     (c.in_ok-put_states.ensures.ok image (settled_first c.args.mode image script image.processors).0 r.can here.0 (run image script) at here.1) in
     ok_then c.put_totals.result _ _
-    (λ h. then_ok old late new (first ++ second) third before h ∙ ap (append_known old) (end_shown c.args.frames c.args.mode image script c.totals.result (c.totals.ensures ∙ at.shows.totals))) c.put_totals.ensures.ok
+    (λ h. then_ok old late new (first ++ second) third before h
+    ∙ ap (append_known old) (end_shown c.args.frames c.args.mode image script c.totals.result (c.totals.ensures ∙ at.shows.totals)))
+    c.put_totals.ensures.ok
 
 pub returns-clause-failed : goal.returns-clause-failed
 returns-clause-failed g c image script r =
@@ -69,4 +71,5 @@ returns-clause-failed g c image script r =
     let before = then_ok old mid late first second (c.in_ok-put_settling.ensures.ok image script r)
     (c.in_ok-put_states.ensures.ok image (settled_first c.args.mode image script image.processors).0 r.can here.0 (run image script) at here.1) in
     err_then c.put_totals.result _ _
-    (λ h. subst (TookPrefix old new) (end_shown c.args.frames c.args.mode image script c.totals.result (c.totals.ensures ∙ at.shows.totals)) (second_failed old late new (first ++ second) third before h)) c.put_totals.ensures.failed
+    (λ h. subst (TookPrefix old new) (end_shown c.args.frames c.args.mode image script c.totals.result (c.totals.ensures ∙ at.shows.totals))
+    (second_failed old late new (first ++ second) third before h)) c.put_totals.ensures.failed

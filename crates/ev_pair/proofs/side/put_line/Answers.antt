@@ -22,13 +22,15 @@ returns-in_err-put_shown_frames-clause-failed g c image done r =
     let e : c.in-Turn.p ≡ 0 = first_only c.args.line.now c.in-Turn.p c.in-Turn.is c.requires.built in
     let one = r.can.built.one_processor in
     let shown = c.turn-turned.ensures.frames c.args.mode image done r in
-    let few : length c.turn-turned.result.frames ≤ 2 = subst (λ fs. length fs ≤ 2) (sym shown) (few_frames c.args.mode image done _ r c.in-Turn.p (omega arith)) in
+    let few : length c.turn-turned.result.frames ≤ 2 =
+    subst (λ fs. length fs ≤ 2) (sym shown) (few_frames c.args.mode image done _ r c.in-Turn.p (omega arith)) in
     let old = g.K.Sink.taken c.args.sink.now in
     let new = g.K.Sink.taken c.put_shown_frames.new.sink in
     let first = shown_frames c.args.frames c.args.mode (noted c.in-Turn.p c.turn-turned.result.frames) in
     let second = trace_text (mode_text c.args.mode) (optional c.turn-turned.result.entry) in
     err_now _ _ (subst (TookPrefix old new)
-    (turn_shown c.args.frames c.args.mode image done c.args.line.now c.in-Turn.p c.turn-turned.result.frames (optional c.turn-turned.result.entry) c.in-Turn.is shown
+    (turn_shown c.args.frames c.args.mode image done c.args.line.now c.in-Turn.p c.turn-turned.result.frames (optional c.turn-turned.result.entry)
+    c.in-Turn.is shown
     (c.turn-turned.ensures.entry c.args.mode image done r)) (first_failed old new first second (c.in_err-put_shown_frames.ensures.failed few)))
 
 pub returns-clause-ok : goal.returns-clause-ok
@@ -36,7 +38,8 @@ returns-clause-ok g c image done r =
     let e : c.in-Turn.p ≡ 0 = first_only c.args.line.now c.in-Turn.p c.in-Turn.is c.requires.built in
     let one = r.can.built.one_processor in
     let shown = c.turn-turned.ensures.frames c.args.mode image done r in
-    let few : length c.turn-turned.result.frames ≤ 2 = subst (λ fs. length fs ≤ 2) (sym shown) (few_frames c.args.mode image done _ r c.in-Turn.p (omega arith)) in
+    let few : length c.turn-turned.result.frames ≤ 2 =
+    subst (λ fs. length fs ≤ 2) (sym shown) (few_frames c.args.mode image done _ r c.in-Turn.p (omega arith)) in
     let old = g.K.Sink.taken c.args.sink.now in
     let mid = g.K.Sink.taken c.put_shown_frames.new.sink in
     let new = g.K.Sink.taken c.put_entry.new.sink in
@@ -44,7 +47,8 @@ returns-clause-ok g c image done r =
     let second = trace_text (mode_text c.args.mode) (optional c.turn-turned.result.entry) in
     ok_then c.put_entry.result _ _
     (λ h. then_ok old mid new first second (c.in_ok-put_shown_frames.ensures.ok few) h
-    ∙ ap (append_known old) (turn_shown c.args.frames c.args.mode image done c.args.line.now c.in-Turn.p c.turn-turned.result.frames (optional c.turn-turned.result.entry) c.in-Turn.is shown
+    ∙ ap (append_known old) (turn_shown c.args.frames c.args.mode image done c.args.line.now c.in-Turn.p c.turn-turned.result.frames
+    (optional c.turn-turned.result.entry) c.in-Turn.is shown
     (c.turn-turned.ensures.entry c.args.mode image done r))) c.put_entry.ensures.ok
 
 pub returns-clause-failed : goal.returns-clause-failed
@@ -52,12 +56,15 @@ returns-clause-failed g c image done r =
     let e : c.in-Turn.p ≡ 0 = first_only c.args.line.now c.in-Turn.p c.in-Turn.is c.requires.built in
     let one = r.can.built.one_processor in
     let shown = c.turn-turned.ensures.frames c.args.mode image done r in
-    let few : length c.turn-turned.result.frames ≤ 2 = subst (λ fs. length fs ≤ 2) (sym shown) (few_frames c.args.mode image done _ r c.in-Turn.p (omega arith)) in
+    let few : length c.turn-turned.result.frames ≤ 2 =
+    subst (λ fs. length fs ≤ 2) (sym shown) (few_frames c.args.mode image done _ r c.in-Turn.p (omega arith)) in
     let old = g.K.Sink.taken c.args.sink.now in
     let mid = g.K.Sink.taken c.put_shown_frames.new.sink in
     let new = g.K.Sink.taken c.put_entry.new.sink in
     let first = shown_frames c.args.frames c.args.mode (noted c.in-Turn.p c.turn-turned.result.frames) in
     let second = trace_text (mode_text c.args.mode) (optional c.turn-turned.result.entry) in
     err_then c.put_entry.result _ _
-    (λ h. subst (TookPrefix old new) (turn_shown c.args.frames c.args.mode image done c.args.line.now c.in-Turn.p c.turn-turned.result.frames (optional c.turn-turned.result.entry) c.in-Turn.is shown
-    (c.turn-turned.ensures.entry c.args.mode image done r)) (second_failed old mid new first second (c.in_ok-put_shown_frames.ensures.ok few) h)) c.put_entry.ensures.failed
+    (λ h. subst (TookPrefix old new) (turn_shown c.args.frames c.args.mode image done c.args.line.now c.in-Turn.p c.turn-turned.result.frames
+    (optional c.turn-turned.result.entry) c.in-Turn.is shown
+    (c.turn-turned.ensures.entry c.args.mode image done r)) (second_failed old mid new first second (c.in_ok-put_shown_frames.ensures.ok few) h))
+    c.put_entry.ensures.failed

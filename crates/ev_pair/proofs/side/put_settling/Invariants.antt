@@ -11,7 +11,8 @@ invariant-loop-p g l =
     let taken = g.K.Sink.taken in
     let faults = g.K.Sink.faults in
     record {
-      at : (image : Image) (script : List Line) → IsRun l.mode image script l.fn.machine → IsAt l.mode image (settled_first l.mode image script l.p).0 l.machine;
+      at : (image : Image) (script : List Line) → IsRun l.mode image script l.fn.machine
+          → IsAt l.mode image (settled_first l.mode image script l.p).0 l.machine;
       taken : (image : Image) (script : List Line) → IsRun l.mode image script l.fn.machine → taken l.sink ≡ taken l.fn.sink;
       totals : l.machine.parts.totals.steps ≤ l.fn.machine.parts.totals.steps + 1024 * l.p;
       same : length l.machine.parts.cpus ≡ length l.fn.machine.parts.cpus;

@@ -12,15 +12,18 @@ pub returns-then-depth-gt0-clause-ok : goal.returns-then-depth-gt0-clause-ok
 returns-then-depth-gt0-clause-ok g c image s can left m at stands =
     let x = abstract.processor m c.args.p in
     let depth = c.depth-depth.ensures c.args.mode image s can left m at stands in
-    let text = busy_line (mode_text c.args.mode) c.args.p c.depth-depth.result x c.if-depth-gt0.true ∙ ap (end_lines (mode_text c.args.mode) c.args.p x) depth in
+    let text = busy_line (mode_text c.args.mode) c.args.p c.depth-depth.result x c.if-depth-gt0.true
+    ∙ ap (end_lines (mode_text c.args.mode) c.args.p x) depth in
     ok_then c.put_busy.result _ _ (λ h. h ∙ ap (append_known (g.K.Sink.taken c.args.sink.now)) text) c.put_busy.ensures.ok
 
 pub returns-then-depth-gt0-clause-failed : goal.returns-then-depth-gt0-clause-failed
 returns-then-depth-gt0-clause-failed g c image s can left m at stands =
     let x = abstract.processor m c.args.p in
     let depth = c.depth-depth.ensures c.args.mode image s can left m at stands in
-    let text = busy_line (mode_text c.args.mode) c.args.p c.depth-depth.result x c.if-depth-gt0.true ∙ ap (end_lines (mode_text c.args.mode) c.args.p x) depth in
-    err_then c.put_busy.result _ _ (λ h. subst (TookPrefix (g.K.Sink.taken c.args.sink.now) (g.K.Sink.taken c.put_busy.new.sink)) text h) c.put_busy.ensures.failed
+    let text = busy_line (mode_text c.args.mode) c.args.p c.depth-depth.result x c.if-depth-gt0.true
+    ∙ ap (end_lines (mode_text c.args.mode) c.args.p x) depth in
+    err_then c.put_busy.result _ _ (λ h. subst (TookPrefix (g.K.Sink.taken c.args.sink.now) (g.K.Sink.taken c.put_busy.new.sink)) text h)
+    c.put_busy.ensures.failed
 
 pub returns-clause-ok : goal.returns-clause-ok
 returns-clause-ok g c image s can left m at stands =
@@ -46,4 +49,5 @@ returns-clause-failed g c image s can left m at stands =
     task_line (mode_text c.args.mode) c.args.p c.depth-depth.result x c.task.result none (stands.each c.args.p lt).waiting
     (c.task.ensures c.args.mode image s can left m at stands (no_bodies x.bodies (sym depth ∙ none)))
     ∙ ap (end_lines (mode_text c.args.mode) c.args.p x) depth in
-    err_then c.put_task.result _ _ (λ h. subst (TookPrefix (g.K.Sink.taken c.args.sink.now) (g.K.Sink.taken c.put_task.new.sink)) text h) c.put_task.ensures.failed
+    err_then c.put_task.result _ _ (λ h. subst (TookPrefix (g.K.Sink.taken c.args.sink.now) (g.K.Sink.taken c.put_task.new.sink)) text h)
+    c.put_task.ensures.failed

@@ -10,7 +10,8 @@ loop-p-init g c = record {
   wrote = λ image s can left m at stands.
       let taken = g.K.Sink.taken c.args.sink.now in
       let e : image.processors ≡ image.processors - 0 = omega arith in
-      subst (λ n. Wrote taken taken (all_end_lines (mode_text c.args.mode) m 0 n) (all_end_lines (mode_text c.args.mode) m 0 image.processors)) e (none_yet taken _);
+      subst (λ n. Wrote taken taken (all_end_lines (mode_text c.args.mode) m 0 n) (all_end_lines (mode_text c.args.mode) m 0 image.processors)) e
+      (none_yet taken _);
   count = omega arith;
 }
 
@@ -37,5 +38,6 @@ pub returns-clause-ok : goal.returns-clause-ok
 returns-clause-ok g c image s can left m at stands =
     let processors = at.shows.processors in
     let e : image.processors - c.loop-p.p ≡ 0 = omega arith in
-    none_left _ _ _ (subst (λ n. Wrote (g.K.Sink.taken c.args.sink.now) (g.K.Sink.taken c.loop-p.sink) (all_end_lines (mode_text c.args.mode) m c.loop-p.p n) (all_end_lines (mode_text c.args.mode) m 0 image.processors)) e
+    none_left _ _ _ (subst (λ n. Wrote (g.K.Sink.taken c.args.sink.now) (g.K.Sink.taken c.loop-p.sink)
+    (all_end_lines (mode_text c.args.mode) m c.loop-p.p n) (all_end_lines (mode_text c.args.mode) m 0 image.processors)) e
     (c.loop-p.invariant.wrote image s can left m at stands))

@@ -16,7 +16,9 @@ invariant-loop-p g l =
     let taken = g.K.Sink.taken in
     let faults = g.K.Sink.faults in
     record {
-      wrote : (image : Image) (s : System) (can : CanRun l.mode image) (left : NatMap ℕ) (m : abstract.Machine) → IsAt l.mode image s l.machine → Stands l.mode image left s m
-          → Wrote (taken l.fn.sink) (taken l.sink) (all_end_lines (mode_text l.mode) m l.p (image.processors - l.p)) (all_end_lines (mode_text l.mode) m 0 image.processors);
+      wrote : (image : Image) (s : System) (can : CanRun l.mode image) (left : NatMap ℕ) (m : abstract.Machine) → IsAt l.mode image s l.machine
+          → Stands l.mode image left s m
+          → Wrote (taken l.fn.sink) (taken l.sink) (all_end_lines (mode_text l.mode) m l.p (image.processors - l.p))
+          (all_end_lines (mode_text l.mode) m 0 image.processors);
       count : faults l.fn.sink ≤ faults l.sink;
     }

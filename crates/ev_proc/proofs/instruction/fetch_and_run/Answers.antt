@@ -10,7 +10,9 @@ use Rattle.ev_proc.proofs.instruction.fetch_and_run.Goals as goal
 
 pub returns-in-Some-clause-is : goal.returns-in-Some-clause-is
 returns-in-Some-clause-is c = λ nmi.
-    let o : Some c.in-Some.code ≡ page_fault (memory c.args.mem.now) (record { user = is_user c.args.cpu.now; write = false; fetch = true }) c.args.cpu.now.rip = c.in-Some.ensures ∙ ap (λ (p : Processor). page_fault (memory c.args.mem.now) (record { user = is_user p; write = false; fetch = true }) p.rip) c.cpu.view_is in
+    let o : Some c.in-Some.code ≡ page_fault (memory c.args.mem.now) (record { user = is_user c.args.cpu.now; write = false; fetch = true })
+    c.args.cpu.now.rip = c.in-Some.ensures
+    ∙ ap (λ (p : Processor). page_fault (memory c.args.mem.now) (record { user = is_user p; write = false; fetch = true }) p.rip) c.cpu.view_is in
     c.fault-in-Some.ensures.is c.args.apic.now nmi ∙ ap (λ (e : Event). fault c.args.cpu.now c.args.apic.now (memory c.args.mem.now) nmi e) c.exception.ensures
     ∙ ap (λ (p : Processor). fault c.args.cpu.now c.args.apic.now (memory c.args.mem.now) nmi (pf c.in-Some.code p.rip)) c.cpu.view_is
     ∙ ap (λ (x : Option ℕ). fetched c.args.cpu.now c.args.apic.now (memory c.args.mem.now) nmi x) o

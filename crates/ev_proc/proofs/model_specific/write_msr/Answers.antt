@@ -5,4 +5,5 @@ use Rattle.ev_proc.proofs.model_specific.write_msr.Goals as goal
 
 pub returns-in-2059-clause-is : goal.returns-in-2059-clause-is
 returns-in-2059-clause-is c = λ nmi.
-    c.end_interrupt.ensures.is nmi ∙ ap (λ (n : ℕ). write_msr c.args.cpu.now c.args.apic.now (memory c.args.mem.now) nmi c.args.next n c.args.v) (sym c.in-2059.is)
+    c.end_interrupt.ensures.is nmi ∙ ap (λ (n : ℕ). write_msr c.args.cpu.now c.args.apic.now (memory c.args.mem.now) nmi c.args.next n c.args.v)
+    (sym c.in-2059.is)

@@ -10,7 +10,8 @@ use Rattle.ev_proc.proofs.model_specific.write_processor_msr.Goals as goal
 
 pub returns-in-Err-clause-is : goal.returns-in-Err-clause-is
 returns-in-Err-clause-is c = λ a nmi.
-    let o : written c.args.cpu.now.msrs c.args.n c.args.v ≡ None = ap (λ (p : Processor). written p.msrs c.args.n c.args.v) (sym c.cpu.view_is) ∙ c.in-Err.ensures.err in
+    let o : written c.args.cpu.now.msrs c.args.n c.args.v ≡ None = ap (λ (p : Processor). written p.msrs c.args.n c.args.v) (sym c.cpu.view_is)
+    ∙ c.in-Err.ensures.err in
     let unchanged : c.write_msr.new.self ≡ c.args.cpu.now.msrs = c.in-Err.ensures.unchanged ∙ ap (λ (p : Processor). p.msrs) c.cpu.view_is in
     c.fault.ensures.is a nmi
     ∙ ap (λ (p : Processor). fault (with_msrs p c.write_msr.new.self) a (memory c.args.mem.now) nmi c.gp.result) c.cpu.view_is

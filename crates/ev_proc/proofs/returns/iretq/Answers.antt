@@ -8,10 +8,12 @@ use Rattle.ev_proc.proofs.Specials.{is_iretq}
 use Rattle.ev_proc.proofs.returns.iretq.Goals as goal
 
 pub after_return-requires-clause-entries : goal.after_return-requires-clause-entries
-after_return-requires-clause-entries c = after_entries c.args.cpu.now c.iretq-answer.new.cpu (memory c.args.mem.now) c.iretq-answer.result (iretq c.args.cpu.now (memory c.args.mem.now)) (c.iretq-answer.ensures) (iretq_again c.args.cpu.now (memory c.args.mem.now)) c.requires
+after_return-requires-clause-entries c = after_entries c.args.cpu.now c.iretq-answer.new.cpu (memory c.args.mem.now) c.iretq-answer.result
+    (iretq c.args.cpu.now (memory c.args.mem.now)) (c.iretq-answer.ensures) (iretq_again c.args.cpu.now (memory c.args.mem.now)) c.requires
 
 pub after_return-requires-clause-event : goal.after_return-requires-clause-event
-after_return-requires-clause-event c = after_event c.args.cpu.now c.iretq-answer.new.cpu (memory c.args.mem.now) c.iretq-answer.result (iretq c.args.cpu.now (memory c.args.mem.now)) (c.iretq-answer.ensures) (iretq_again c.args.cpu.now (memory c.args.mem.now))
+after_return-requires-clause-event c = after_event c.args.cpu.now c.iretq-answer.new.cpu (memory c.args.mem.now) c.iretq-answer.result
+    (iretq c.args.cpu.now (memory c.args.mem.now)) (c.iretq-answer.ensures) (iretq_again c.args.cpu.now (memory c.args.mem.now))
 
 pub returns-clause-is : goal.returns-clause-is
 returns-clause-is c = λ a nmi next.

@@ -9,15 +9,21 @@ use Rattle.ev_proc.proofs.Specials.{no_sysretq, is_sysretq}
 use Rattle.ev_proc.proofs.returns.sysretq.Goals as goal
 
 pub returns-then-has_fred-clause-is : goal.returns-then-has_fred-clause-is
-returns-then-has_fred-clause-is c = λ a nmi next. c.fault.ensures.is a nmi ∙ ap (λ (e : Event). fault c.args.cpu.now a (memory c.args.mem.now) nmi e) c.ud.ensures ∙ no_sysretq c.args.cpu.now a (memory c.args.mem.now) nmi next c.if-has_fred.ensures
+returns-then-has_fred-clause-is c = λ a nmi next. c.fault.ensures.is a nmi ∙ ap (λ (e : Event). fault c.args.cpu.now a (memory c.args.mem.now) nmi e)
+    c.ud.ensures ∙ no_sysretq c.args.cpu.now a (memory c.args.mem.now) nmi next c.if-has_fred.ensures
 
 pub after_return-requires-clause-entries : goal.after_return-requires-clause-entries
-after_return-requires-clause-entries c = after_entries c.args.cpu.now c.sysretq-answer.new.cpu (memory c.args.mem.now) c.sysretq-answer.result (sysretq c.args.cpu.now (memory c.args.mem.now).words) (c.sysretq-answer.ensures (memory c.args.mem.now).words) (sysretq_again c.args.cpu.now (memory c.args.mem.now).words) c.requires
+after_return-requires-clause-entries c = after_entries c.args.cpu.now c.sysretq-answer.new.cpu (memory c.args.mem.now) c.sysretq-answer.result
+    (sysretq c.args.cpu.now (memory c.args.mem.now).words) (c.sysretq-answer.ensures (memory c.args.mem.now).words)
+    (sysretq_again c.args.cpu.now (memory c.args.mem.now).words) c.requires
 
 pub after_return-requires-clause-event : goal.after_return-requires-clause-event
-after_return-requires-clause-event c = after_event c.args.cpu.now c.sysretq-answer.new.cpu (memory c.args.mem.now) c.sysretq-answer.result (sysretq c.args.cpu.now (memory c.args.mem.now).words) (c.sysretq-answer.ensures (memory c.args.mem.now).words) (sysretq_again c.args.cpu.now (memory c.args.mem.now).words)
+after_return-requires-clause-event c = after_event c.args.cpu.now c.sysretq-answer.new.cpu (memory c.args.mem.now) c.sysretq-answer.result
+    (sysretq c.args.cpu.now (memory c.args.mem.now).words) (c.sysretq-answer.ensures (memory c.args.mem.now).words)
+    (sysretq_again c.args.cpu.now (memory c.args.mem.now).words)
 
 pub returns-clause-is : goal.returns-clause-is
 returns-clause-is c = λ a nmi next.
-    c.after_return.ensures.is a nmi ∙ ap (λ (o : Outcome). after_return a (memory c.args.mem.now) nmi o) (c.sysretq-answer.ensures (memory c.args.mem.now).words)
+    c.after_return.ensures.is a nmi ∙ ap (λ (o : Outcome). after_return a (memory c.args.mem.now) nmi o)
+    (c.sysretq-answer.ensures (memory c.args.mem.now).words)
     ∙ is_sysretq c.args.cpu.now a (memory c.args.mem.now) nmi next c.if-has_fred.ensures

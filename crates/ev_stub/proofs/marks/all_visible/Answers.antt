@@ -11,7 +11,8 @@ use Rattle.ev_stub.proofs.marks.all_visible.Goals as goal
 pub note_all-requires-clause-counts : goal.note_all-requires-clause-counts
 note_all-requires-clause-counts c =
     ap are_instructions (ap (map stmt_of) c.as_slice.ensures ∙ stmts_same c.listing-item.result.lines)
-    ∙ (listing_linkable (section_places (map section_of (listings_of c.args.listings.now))) c.args.listings.now c.loop-listing.listing-index c.listing-item.result c.requires c.loop-listing-test.true c.listing-item.is).counts
+    ∙ (listing_linkable (section_places (map section_of (listings_of c.args.listings.now))) c.args.listings.now c.loop-listing.listing-index
+    c.listing-item.result c.requires c.loop-listing-test.true c.listing-item.is).counts
 
 pub note_all-requires-clause-room : goal.note_all-requires-clause-room
 note_all-requires-clause-room c =
@@ -20,5 +21,6 @@ note_all-requires-clause-room c =
     omega (
       arith,
       e,
-      (listing_linkable (section_places (map section_of (listings_of c.args.listings.now))) c.args.listings.now c.loop-listing.listing-index c.listing-item.result c.requires c.loop-listing-test.true c.listing-item.is).room,
+      (listing_linkable (section_places (map section_of (listings_of c.args.listings.now))) c.args.listings.now c.loop-listing.listing-index
+          c.listing-item.result c.requires c.loop-listing-test.true c.listing-item.is).room,
     )

@@ -7,4 +7,5 @@ use Rattle.ev_stub.proofs.section.blocks.Goals as goal
 
 pub returns : goal.returns
 returns c =
-    subst (λ (x : List Block). IfOk c.link.result (λ b. b.blocks ≡ x)) (ap linked (c.as_slice.ensures ∙ c.in_ok-sections.ensures) ∙ linked_is (listings_of c.args.listings.now)) c.link.ensures
+    subst (λ (x : List Block). IfOk c.link.result (λ b. b.blocks ≡ x)) (ap linked (c.as_slice.ensures ∙ c.in_ok-sections.ensures)
+    ∙ linked_is (listings_of c.args.listings.now)) c.link.ensures

@@ -10,7 +10,11 @@ use Rattle.ev_stub_fred.proofs.fred.listings.Goals as goal
 
 abbrev around : List Marked → List Listing
 around lines =
-    record { address = fred_page; lines = map marked_of (Jump None Fu ∷ []) } ∷ record { address = fred_page + 0x100; lines = map marked_of (Jump None Fk ∷ []) }
+    record { address = fred_page; lines = map marked_of (Jump None Fu ∷ []) } ∷ record {
+      address = fred_page + 0x100;
+      lines =
+          map marked_of (Jump None Fk ∷ []);
+    }
     ∷ record { address = fred_page + 0x200; lines = lines } ∷ record { address = no_body; lines = none } ∷ []
 
 pub returns : goal.returns

@@ -20,6 +20,18 @@ returns c =
       c.in_ok-add_listing.ensures,
       c.new-listings.ensures.items,
     )
-    (λ i. record { address = no_body; lines = c.none.ensures i } ∷ record { address = sys_entry; lines = c.sys.ensures i } ∷ record { address = common_entry; lines = c.common.ensures i }
-    ∷ record { address = exit_entry; lines = c.exit.ensures i } ∷ record { address = nmi_entry; lines = c.nmi.ensures i } ∷ record { address = repeat_entry; lines = c.repeat.ensures i }
-    ∷ record { address = nbody_entry; lines = c.nbody.ensures i } ∷ record { address = exitn_entry; lines = c.exitn.ensures i } ∷ record { address = nlast_entry; lines = c.nlast.ensures i } ∷ vector_stubs)
+    (λ i. record { address = no_body; lines = c.none.ensures i } ∷ record { address = sys_entry; lines = c.sys.ensures i } ∷ record {
+      address =
+          common_entry;
+      lines = c.common.ensures i;
+    }
+    ∷ record { address = exit_entry; lines = c.exit.ensures i } ∷ record { address = nmi_entry; lines = c.nmi.ensures i } ∷ record {
+      address =
+          repeat_entry;
+      lines = c.repeat.ensures i;
+    }
+    ∷ record { address = nbody_entry; lines = c.nbody.ensures i } ∷ record { address = exitn_entry; lines = c.exitn.ensures i } ∷ record {
+      address =
+          nlast_entry;
+      lines = c.nlast.ensures i;
+    } ∷ vector_stubs)

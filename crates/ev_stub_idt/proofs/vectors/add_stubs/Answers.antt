@@ -9,7 +9,8 @@ loop-vector-init c = ap (λ (x : List Listing). listings_of c.args.listings.now.
 
 pub loop-vector-preserved : goal.loop-vector-preserved
 loop-vector-preserved c =
-    stubs_step c.loop-vector.vector (c.loop-vector.vector + 1) (listings_of c.loop-vector.listings.items) _ _ (omega arith) (omega arith) c.in_ok-add_stub.ensures c.loop-vector.invariant
+    stubs_step c.loop-vector.vector (c.loop-vector.vector + 1) (listings_of c.loop-vector.listings.items) _ _ (omega arith)
+    (omega arith) c.in_ok-add_stub.ensures c.loop-vector.invariant
 
 pub returns-in_ok-add_stub : goal.returns-in_ok-add_stub
 returns-in_ok-add_stub c =

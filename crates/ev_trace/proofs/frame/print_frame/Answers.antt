@@ -6,4 +6,5 @@ use Rattle.ev_trace.proofs.frame.print_frame.Goals as goal
 pub returns : goal.returns
 returns c =
     let note = c.args.frame.now in
-    line_is _ (decimal c.args.p ∷ codes "frame" ∷ hex note.address ∷ map hex note.words.items) _ _ _ c.start_line.ensures.bytes c.push_frame.ensures.bytes c.end_line.ensures
+    line_is _ (decimal c.args.p ∷ codes "frame" ∷ hex note.address ∷ map hex note.words.items) _ _ _ c.start_line.ensures.bytes c.push_frame.ensures.bytes
+    c.end_line.ensures

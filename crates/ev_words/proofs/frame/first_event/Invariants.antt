@@ -5,4 +5,5 @@ use Rattle.ev_words.specs.Answer.{kernel_view}
 use Rattle.ev_words.proofs.frame.first_event.Given as goal
 
 abbrev pub invariant-loop-k : goal.invariant-loop-k
-invariant-loop-k l = first_event (kernel_view (memory l.mem)) true (reverse (addresses l.address l.k)) ≡ first_event (kernel_view (memory l.mem)) true (reverse (addresses l.address l.count))
+invariant-loop-k l = first_event (kernel_view (memory l.mem)) true (reverse (addresses l.address l.k)) ≡ first_event (kernel_view (memory l.mem)) true
+    (reverse (addresses l.address l.count))

@@ -12,7 +12,8 @@ same_command c d h = cc
 pub returns-in-Some-clause-done : goal.returns-in-Some-clause-done
 returns-in-Some-clause-done g c = λ x f e p h no_read no_write enough.
     let k = same_command c.in-Some.command x (c.in-Some.ensures.is ∙ e) in
-    let d = answers_done _ _ _ c.in-Some.command _ f c.answer.ensures.answers p h (λ r. no_read (c.answer.ensures.read r)) (λ w. no_write (c.answer.ensures.write w)) enough in
+    let d = answers_done _ _ _ c.in-Some.command _ f c.answer.ensures.answers p h (λ r. no_read (c.answer.ensures.read r))
+    (λ w. no_write (c.answer.ensures.write w)) enough in
     (d.0, d.1 ∙ ap (λ (y : Command). append_known (g.K.Sink.taken c.args.sink.now) (run_of y f)) k)
 
 pub returns-in-Some-clause-prefix : goal.returns-in-Some-clause-prefix

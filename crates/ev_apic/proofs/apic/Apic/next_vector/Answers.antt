@@ -8,8 +8,10 @@ returns-in_err-v c = let none = next_none c.args.self.now (sym c.in_err-v.was �
 
 pub returns-then-v-class : goal.returns-then-v-class
 returns-then-v-class c =
-    next_some c.args.self.now c.priority_class-class.result c.in_ok-v.v c.priority_class-class.ensures (sym c.in_ok-v.was ∙ c.greatest.ensures) c.if-v-class.true
+    next_some c.args.self.now c.priority_class-class.result c.in_ok-v.v c.priority_class-class.ensures (sym c.in_ok-v.was ∙ c.greatest.ensures)
+    c.if-v-class.true
 
 pub returns-else-v-class : goal.returns-else-v-class
 returns-else-v-class c =
-    next_low c.args.self.now c.priority_class-class.result c.in_ok-v.v c.priority_class-class.ensures (sym c.in_ok-v.was ∙ c.greatest.ensures) c.if-v-class.false
+    next_low c.args.self.now c.priority_class-class.result c.in_ok-v.v c.priority_class-class.ensures (sym c.in_ok-v.was ∙ c.greatest.ensures)
+    c.if-v-class.false

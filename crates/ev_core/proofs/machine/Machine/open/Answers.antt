@@ -9,11 +9,13 @@ invariant_of-result c =
     open_stands c.args.mode c.args.image.now _
     (record { image_is = subst IsImage c.image.view_is c.image.invariant; built = c.requires.image; mode_built = c.requires.mode })
     c.in_ok-parts.ensures.places
-    (open_shows c.args.mode c.args.image.now _ (c.into_vec-cpus.ensures ∙ c.in_ok-parts.ensures.cpus) (c.in-Ok.ensures ∙ ap (λ n. replicate n start) (c.len.ensures ∙ c.into_vec-cpus.result.ok.0)) c.in_ok-parts.ensures.memory c.new.ensures)
+    (open_shows c.args.mode c.args.image.now _ (c.into_vec-cpus.ensures ∙ c.in_ok-parts.ensures.cpus)
+    (c.in-Ok.ensures ∙ ap (λ n. replicate n start) (c.len.ensures ∙ c.into_vec-cpus.result.ok.0)) c.in_ok-parts.ensures.memory c.new.ensures)
 
 pub returns : goal.returns
 returns c =
     open_run c.args.mode c.args.image.now _
     (record { image_is = subst IsImage c.image.view_is c.image.invariant; built = c.requires.image; mode_built = c.requires.mode })
     c.in_ok-parts.ensures.places
-    (open_shows c.args.mode c.args.image.now _ (c.into_vec-cpus.ensures ∙ c.in_ok-parts.ensures.cpus) (c.in-Ok.ensures ∙ ap (λ n. replicate n start) (c.len.ensures ∙ c.into_vec-cpus.result.ok.0)) c.in_ok-parts.ensures.memory c.new.ensures)
+    (open_shows c.args.mode c.args.image.now _ (c.into_vec-cpus.ensures ∙ c.in_ok-parts.ensures.cpus)
+    (c.in-Ok.ensures ∙ ap (λ n. replicate n start) (c.len.ensures ∙ c.into_vec-cpus.result.ok.0)) c.in_ok-parts.ensures.memory c.new.ensures)

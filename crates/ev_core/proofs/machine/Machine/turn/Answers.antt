@@ -17,7 +17,8 @@ step-shown-requires-clause-can g c =
 pub keep-requires : goal.keep-requires
 keep-requires g c =
     let e = ap length (c.settle.ensures.frames _ _ c.self.invariant.at.shows
-    ∙ no_frames _ c.self.invariant c.args.p (subst (λ (v : MachineView). c.args.p < length v.parts.cpus) (sym c.self.view_is) c.requires.place) 1024) in omega arith
+    ∙ no_frames _ c.self.invariant c.args.p (subst (λ (v : MachineView). c.args.p < length v.parts.cpus) (sym c.self.view_is) c.requires.place) 1024) in
+    omega arith
 
 pub invariant_of-self : goal.invariant_of-self
 invariant_of-self g c =
@@ -27,22 +28,28 @@ invariant_of-self g c =
 pub returns-clause-run : goal.returns-clause-run
 returns-clause-run g c mode image script h =
     let r : IsRun mode image script (the_view c.self.inside) = subst (λ v. IsRun mode image script v) (sym c.self.view_is) h in
-    let shows = subst (λ marks. Shows image.processors c.settle.new.state (settled marks image.processors (concrete_run mode image script).0 c.args.p).0) r.at.marks (c.settle.ensures.settled _ _ r.at.shows) in
-    run_more mode image script _ r c.args.p (subst (λ (v : MachineView). c.args.p < length v.parts.cpus) (sym c.self.view_is) c.requires.place) _ (c.step-shown.ensures.shows _ _ shows)
+    let shows = subst (λ marks. Shows image.processors c.settle.new.state (settled marks image.processors (concrete_run mode image script).0 c.args.p).0)
+    r.at.marks (c.settle.ensures.settled _ _ r.at.shows) in
+    run_more mode image script _ r c.args.p (subst (λ (v : MachineView). c.args.p < length v.parts.cpus) (sym c.self.view_is) c.requires.place) _
+    (c.step-shown.ensures.shows _ _ shows)
 
 pub returns-clause-entry : goal.returns-clause-entry
 returns-clause-entry g c mode image script h =
     let r : IsRun mode image script (the_view c.self.inside) = subst (λ v. IsRun mode image script v) (sym c.self.view_is) h in
-    let shows = subst (λ marks. Shows image.processors c.settle.new.state (settled marks image.processors (concrete_run mode image script).0 c.args.p).0) r.at.marks (c.settle.ensures.settled _ _ r.at.shows) in
+    let shows = subst (λ marks. Shows image.processors c.settle.new.state (settled marks image.processors (concrete_run mode image script).0 c.args.p).0)
+    r.at.marks (c.settle.ensures.settled _ _ r.at.shows) in
     let here : System = (settled (marks_of mode image) image.processors (concrete_run mode image script).0 c.args.p).0 in
     c.step-shown.ensures.entry _ _ shows ∙ ap (λ (k : Marks). shown k here c.args.p) r.at.marks ∙ turn_entry mode image script _ h c.args.p c.requires.place
 
 pub returns-clause-frames : goal.returns-clause-frames
 returns-clause-frames g c mode image script h =
     let r : IsRun mode image script (the_view c.self.inside) = subst (λ v. IsRun mode image script v) (sym c.self.view_is) h in
-    let shows = subst (λ marks. Shows image.processors c.settle.new.state (settled marks image.processors (concrete_run mode image script).0 c.args.p).0) r.at.marks (c.settle.ensures.settled _ _ r.at.shows) in
-    let edges = subst (λ marks. c.settle.new.frames ≡ (settled marks image.processors (concrete_run mode image script).0 c.args.p).1) r.at.marks (c.settle.ensures.frames _ _ r.at.shows) in
-    c.keep.ensures ∙ (λ k. edges k ++ c.step-shown.ensures.frame _ _ shows k) ∙ ap (λ (x : System × List FrameNote). x.1) (turn_frames mode image script _ h c.args.p c.requires.place)
+    let shows = subst (λ marks. Shows image.processors c.settle.new.state (settled marks image.processors (concrete_run mode image script).0 c.args.p).0)
+    r.at.marks (c.settle.ensures.settled _ _ r.at.shows) in
+    let edges = subst (λ marks. c.settle.new.frames ≡ (settled marks image.processors (concrete_run mode image script).0 c.args.p).1) r.at.marks
+    (c.settle.ensures.frames _ _ r.at.shows) in
+    c.keep.ensures ∙ (λ k. edges k ++ c.step-shown.ensures.frame _ _ shows k) ∙ ap (λ (x : System × List FrameNote). x.1)
+    (turn_frames mode image script _ h c.args.p c.requires.place)
 
 pub returns-clause-safe : goal.returns-clause-safe
 returns-clause-safe g c mode image script h = turn_safe mode image script _ h c.args.p c.requires.place

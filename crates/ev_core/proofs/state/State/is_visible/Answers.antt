@@ -6,4 +6,5 @@ use Rattle.ev_core.proofs.state.State.is_visible.Goals as goal
 pub returns : goal.returns
 returns c n s h =
     c.is_visible.ensures
-    ∙ visible_there (marks_in c.args.places.now) _ _ n c.args.p s _ _ c.self.view_is h c.self.invariant.same c.requires c.index-cpu.ensures c.index-local.ensures
+    ∙ visible_there (marks_in c.args.places.now) _ _ n c.args.p s _ _ c.self.view_is h c.self.invariant.same c.requires c.index-cpu.ensures
+    c.index-local.ensures

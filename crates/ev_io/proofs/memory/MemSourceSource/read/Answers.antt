@@ -9,4 +9,5 @@ returns-clause-bytes c =
     let n = c.fill-n.result in
     let whole = take_rest c.deref-2.result.now at ∙ ap (drop at) c.deref-2.ensures.value in
     let start = c.fill-n.ensures.bytes ∙ ap (take n) whole in
-    ap Some (sym (take-append-drop n (drop at bytes)) ∙ ap (λ xs. xs ++ drop n (drop at bytes)) (sym start) ∙ ap (λ xs. take n c.fill-n.new.buf ++ xs) (drop-drop n at bytes))
+    ap Some (sym (take-append-drop n (drop at bytes)) ∙ ap (λ xs. xs ++ drop n (drop at bytes)) (sym start) ∙ ap (λ xs. take n c.fill-n.new.buf ++ xs)
+    (drop-drop n at bytes))

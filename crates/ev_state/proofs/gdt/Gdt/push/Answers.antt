@@ -4,4 +4,5 @@ use Rattle.ev_state.proofs.Kept.{one_more}
 use Rattle.ev_state.proofs.gdt.Gdt.push.Goals as goal
 
 pub invariant_of-self : goal.invariant_of-self
-invariant_of-self c = rw c.push.ensures.items (one_more _ _ _ c.self.invariant c.requires.low (ap (λ v. base_of v c.args.selector) c.self.view_is ∙ c.requires.once))
+invariant_of-self c = rw c.push.ensures.items
+    (one_more _ _ _ c.self.invariant c.requires.low (ap (λ v. base_of v c.args.selector) c.self.view_is ∙ c.requires.once))
