@@ -1,3 +1,4 @@
 pub mod Bits
 pub mod Greatest
+pub mod Highest
 pub mod Laws
