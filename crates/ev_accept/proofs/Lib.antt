@@ -12,3 +12,4 @@ pub mod Small
 pub mod MissingSides
 pub mod RuleNames
 pub mod Acceptance
+pub mod Samples

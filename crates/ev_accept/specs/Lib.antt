@@ -5,3 +5,4 @@ pub mod Acceptance
 pub mod Checks
 pub mod Calls
 pub mod Missing
+pub mod Sample
