@@ -2,15 +2,12 @@
 
 ghost use Rattle.std.specs.Prelude.{◌≡◌, ◌<◌, Some, None};
 ghost use Rattle.ev_mem.specs.Mapped.{memory};
-ghost use Rattle.ev_proc.specs.ProcessorStep.{instruction_at};
 ghost use Rattle.ev_concrete.specs.Shown.{is_refused, key_of, key_of_vector, saved_rip, shown_by, shown_delivery, shown_event, told_event, told_rip};
 ghost use Rattle.ev_core.specs.Local.{optional};
 
 use ev_abstract::Entry;
 use ev_body::{Key, Side};
-use ev_code::decode;
 use ev_event::{Event, EventType};
-use ev_isa::Ins;
 use ev_mem::Mem;
 use ev_proc::Stepped;
 use ev_state::Cpu;
@@ -51,16 +48,6 @@ fn key_of(e: &Event) -> Key
         EventType::Other => Key::Sys,
         EventType::External => Key::Irq(e.vector),
         _ => key_of_vector(e.vector),
-    }
-}
-
-/// The instruction at RIP, if one begins there.
-pub(crate) fn instruction_at(cpu: &Cpu, mem: &Mem) -> Option<Ins>
-    ensures { result ≡ instruction_at (memory mem.now).words cpu.now.rip }
-{
-    match decode(&mem.fetch(cpu.rip)) {
-        Ok((instruction, _)) => Some(instruction),
-        Err(_) => None,
     }
 }
 

@@ -1,16 +1,17 @@
 // What belongs to one processor besides its registers, and what a step does to it.
 
-ghost use Rattle.std.specs.Prelude.{◌≡◌, ◌<◌, ◌+◌, ◌&&◌, ◌==◌, not, replicate, IfOk};
+ghost use Rattle.std.specs.Prelude.{◌≡◌, ◌<◌, ◌+◌, ◌&&◌, ◌==◌, not, replicate, Option, IfOk};
+ghost use Rattle.ev_isa.specs.declared.instruction.Ins.{Ins};
 ghost use Rattle.ev_mem.specs.Mapped.{memory};
 ghost use Rattle.ev_listing.specs.AddressMap.{nlast_entry, repeat_entry};
-ghost use Rattle.ev_proc.specs.Conditions.{HasEntries, IsInCode};
+ghost use Rattle.ev_proc.specs.Conditions.{HasEntries, IsDecoded, IsInCode};
 ghost use Rattle.ev_state.specs.Processor.{is_user};
 ghost use Rattle.ev_concrete.specs.ConcreteRun.{is_return};
 ghost use Rattle.ev_layout.specs.Marks.{mark_of};
 ghost use Rattle.ev_core.specs.Local.{depth_after, start};
 ghost use Rattle.ev_core.specs.Step.{LocalStep};
 
-use crate::entry::{Before, entry_of, instruction_at};
+use crate::entry::{Before, entry_of};
 use crate::told::told_of;
 use crate::visible::{LAST_RETURN, REPEAT};
 use ev_abstract::Entry;
@@ -18,7 +19,7 @@ use ev_apic::{Apic, Inbox};
 use ev_isa::Ins;
 use ev_layout::Mark;
 use ev_mem::Mem;
-use ev_proc::{Stepped, has_fred, step};
+use ev_proc::{Stepped, has_fred, instruction_at, step_decoded};
 use ev_state::Cpu;
 use std::alloc::{AllocError, Global};
 
@@ -105,6 +106,16 @@ fn ends(user: bool, instruction: &Option<Ins>, from: u64, after: &Cpu) -> bool
         && !(from == LAST_RETURN && after.rip == REPEAT && !after.is_user())
 }
 
+/// What was decoded, without its length.
+fn without_length(decoded: &Option<(Ins, u8)>) -> Option<Ins>
+    ensures { (found : Option Ins) → IsDecoded found decoded.now → result ≡ found }
+{
+    match decoded {
+        Some((instruction, _)) => Some(*instruction),
+        None => None,
+    }
+}
+
 /// One step of processor p at an instruction with this mark, with the entry that it shows.
 pub(crate) fn local_step(
     p: u32,
@@ -121,14 +132,15 @@ pub(crate) fn local_step(
         (memory mem.new) result }
 {
     let rip = cpu.rip;
-    let instruction = instruction_at(cpu, mem);
+    let decoded = instruction_at(cpu, mem);
+    let instruction = without_length(&decoded);
     let before = Before {
         depth: local.depth,
         user: cpu.is_user(),
         fred: has_fred(cpu),
         told: told_of(p, local.depth, cpu, mem, mark, &instruction),
     };
-    let stepped = step(cpu, &mut local.apic, mem, &mut local.latch);
+    let stepped = step_decoded(cpu, &mut local.apic, mem, &mut local.latch, &decoded);
     let ended = ends(before.user, &instruction, rip, cpu);
     local.depth = depth_after(before.depth, ended, &stepped);
     let entry = entry_of(p, &before, cpu, mem, &stepped);

@@ -1,6 +1,7 @@
 -- What a step asks of the tables and of the code, and what its calls leave. Own.
 use Rattle.std.specs.Prelude.{◌≡◌, ◌≢◌, ◌<◌, ◌+◌, true, false, ℕ, Bool, length, Option, Some, None}
 use Rattle.ev_isa.specs.Word.{is_canonical}
+use Rattle.ev_isa.specs.Instruction.{is_instruction}
 use Rattle.ev_isa.specs.Spelling.{spelling}
 use Rattle.ev_isa.specs.declared.instruction.Ins.{Ins}
 use Rattle.ev_event.specs.declared.event.EventType.TheVariants.{Hardware, Other}
@@ -21,6 +22,11 @@ pub record HasEntries (c : Processor) (m : Memory) : Type 0 where
 pub record IsInCode (c : Processor) (m : Memory) : Type 0 where
   pub ends : (i : Ins) → page_fault m (record { user = is_user c; write = false; fetch = true }) c.rip ≡ None → instruction_at m.words c.rip ≡ Some i
       → is_canonical (c.rip + length (spelling i)) ≡ true
+
+-- what was decoded of the instruction that memory has at RIP: it with its length, or none
+abbrev pub IsDecoded : Option Ins → Option (Ins × ℕ) → Type 0
+IsDecoded o None = o ≡ None
+IsDecoded o (Some d) = (o ≡ Some d.0) × (is_instruction d.0 ≡ true) × (d.1 ≡ length (spelling d.0))
 
 -- an event that can be delivered: the type of SYSCALL is one for FRED alone
 pub record IsDeliverable (c : Processor) (e : Event) : Type 0 where

@@ -3,15 +3,16 @@
 ghost use Rattle.std.specs.Prelude.{◌≡◌, Bool};
 ghost use Rattle.ev_mem.specs.Mapped.{memory};
 ghost use Rattle.ev_apic.specs.declared.apic.Apic.{Apic};
-ghost use Rattle.ev_proc.specs.ProcessorStep.{delivering, next_of, step};
-ghost use Rattle.ev_proc.specs.Conditions.{HasEntries, IsDeliverable, IsInCode, left};
+ghost use Rattle.ev_proc.specs.ProcessorStep.{delivering, instruction_at, next_of, step};
+ghost use Rattle.ev_proc.specs.Conditions.{HasEntries, IsDecoded, IsDeliverable, IsInCode, left};
 
 use crate::delivery::deliver;
 use crate::events;
-use crate::instruction::fetch_and_run;
+use crate::instruction::{instruction_at, run_decoded};
 use crate::stepped::Stepped;
 use ev_apic::Apic;
 use ev_event::{Boundary, Event, Next, first_of};
+use ev_isa::Ins;
 use ev_mem::Mem;
 use ev_state::Cpu;
 
@@ -50,8 +51,28 @@ fn deliver_at_boundary(cpu: &mut Cpu, mem: &mut Mem, e: &Event) -> Stepped
 /// event delivery"). A delivered NMI leaves the latch, and a delivered interrupt goes from IRR to
 /// ISR. Memory keeps its regions. Without FRED the IDT and the TSS stand in memory, and the
 /// instruction at RIP, if it can be fetched, ends at a canonical address.
-#[tactic(auto, unfolding(crate::specs::ProcessorStep::step))]
 pub fn step(cpu: &mut Cpu, apic: &mut Apic, mem: &mut Mem, nmi: &mut bool) -> Stepped
+    requires entries { HasEntries cpu.old (memory mem.old) }
+    requires code { IsInCode cpu.old (memory mem.old) }
+    ensures is { left cpu.new apic.new (memory mem.new) nmi.new result ≡ step cpu.old apic.old
+        (memory mem.old) nmi.old }
+    ensures regions { (memory mem.new).regions ≡ (memory mem.old).regions }
+{
+    let decoded = instruction_at(cpu, mem);
+    step_decoded(cpu, apic, mem, nmi, &decoded)
+}
+
+/// The step of a processor at whose RIP this instruction was decoded: `step`, for those who look at
+/// the instruction too.
+#[tactic(auto, unfolding(crate::specs::ProcessorStep::step))]
+pub fn step_decoded(
+    cpu: &mut Cpu,
+    apic: &mut Apic,
+    mem: &mut Mem,
+    nmi: &mut bool,
+    decoded: &Option<(Ins, u8)>,
+) -> Stepped
+    requires decoded { IsDecoded (instruction_at (memory mem.old).words cpu.old.rip) decoded.now }
     requires entries { HasEntries cpu.old (memory mem.old) }
     requires code { IsInCode cpu.old (memory mem.old) }
     ensures is { left cpu.new apic.new (memory mem.new) nmi.new result ≡ step cpu.old apic.old
@@ -67,6 +88,6 @@ pub fn step(cpu: &mut Cpu, apic: &mut Apic, mem: &mut Mem, nmi: &mut bool) -> St
             apic.begin(vector);
             deliver_at_boundary(cpu, mem, &events::interrupt(vector))
         }
-        Next::Debug | Next::Instruction => fetch_and_run(cpu, apic, mem),
+        Next::Debug | Next::Instruction => run_decoded(cpu, apic, mem, decoded),
     }
 }

@@ -8,7 +8,7 @@ ghost use Rattle.ev_mem.specs.Mapped.{memory};
 ghost use Rattle.ev_exec.specs.Exec.{exec};
 ghost use Rattle.ev_state.specs.Processor.{is_user};
 ghost use Rattle.ev_proc.specs.ProcessorStep.{after_exec, executed, fetched, instruction_at};
-ghost use Rattle.ev_proc.specs.Conditions.{HasEntries, IsInCode, left};
+ghost use Rattle.ev_proc.specs.Conditions.{HasEntries, IsDecoded, IsInCode, left};
 
 use crate::delivery::fault;
 use crate::events::ud;
@@ -39,9 +39,25 @@ fn execute(cpu: &mut Cpu, apic: &mut Apic, mem: &mut Mem, i: &Ins, next: u64) ->
     }
 }
 
-/// The instruction that memory has at RIP: #UD where there is none, and for user code where it isn't
+/// The instruction that memory has at RIP, with its length, if one begins there.
+pub fn instruction_at(cpu: &Cpu, mem: &Mem) -> Option<(Ins, u8)>
+    ensures { IsDecoded (instruction_at (memory mem.now).words cpu.now.rip) result }
+{
+    match decode(&mem.fetch(cpu.rip)) {
+        Ok(found) => Some(found),
+        Err(_) => None,
+    }
+}
+
+/// The instruction that was decoded at RIP: #UD where there is none, and for user code where it isn't
 /// one that user code may hold.
-fn execute_at_rip(cpu: &mut Cpu, apic: &mut Apic, mem: &mut Mem) -> Stepped
+fn execute_decoded(
+    cpu: &mut Cpu,
+    apic: &mut Apic,
+    mem: &mut Mem,
+    decoded: &Option<(Ins, u8)>,
+) -> Stepped
+    requires decoded { IsDecoded (instruction_at (memory mem.old).words cpu.old.rip) decoded.now }
     requires mapped { page_fault (memory mem.old)
         (record { user = is_user cpu.old; write = false; fetch = true }) cpu.old.rip ≡ None }
     requires code { IsInCode cpu.old (memory mem.old) }
@@ -51,20 +67,26 @@ fn execute_at_rip(cpu: &mut Cpu, apic: &mut Apic, mem: &mut Mem) -> Stepped
         (instruction_at (memory mem.old).words cpu.old.rip) }
     ensures regions { (memory mem.new).regions ≡ (memory mem.old).regions }
 {
-    match decode(&mem.fetch(cpu.rip)) {
-        Ok((i, length)) => {
-            if cpu.is_user() && !user_may(&i) {
+    match decoded {
+        Some((i, length)) => {
+            if cpu.is_user() && !user_may(i) {
                 return fault(cpu, mem, &ud());
             }
-            let next = cpu.rip + u64::from(length);
-            execute(cpu, apic, mem, &i, next)
+            let next = cpu.rip + u64::from(*length);
+            execute(cpu, apic, mem, i, next)
         }
-        Err(_) => fault(cpu, mem, &ud()),
+        None => fault(cpu, mem, &ud()),
     }
 }
 
-/// The instruction at RIP, or the page fault of its fetch.
-pub fn fetch_and_run(cpu: &mut Cpu, apic: &mut Apic, mem: &mut Mem) -> Stepped
+/// The instruction that was decoded at RIP, or the page fault of its fetch.
+pub fn run_decoded(
+    cpu: &mut Cpu,
+    apic: &mut Apic,
+    mem: &mut Mem,
+    decoded: &Option<(Ins, u8)>,
+) -> Stepped
+    requires decoded { IsDecoded (instruction_at (memory mem.old).words cpu.old.rip) decoded.now }
     requires code { IsInCode cpu.old (memory mem.old) }
     requires entries { HasEntries cpu.old (memory mem.old) }
     ensures is { (nmi : Bool) → left cpu.new apic.new (memory mem.new) nmi result
@@ -80,6 +102,6 @@ pub fn fetch_and_run(cpu: &mut Cpu, apic: &mut Apic, mem: &mut Mem) -> Stepped
     };
     match mem.fault(rip, who, false) {
         Some(code) => fault(cpu, mem, &Event::exception(14, code, rip)),
-        None => execute_at_rip(cpu, apic, mem),
+        None => execute_decoded(cpu, apic, mem, decoded),
     }
 }

@@ -10,6 +10,7 @@ mod returns;
 mod special;
 mod stepped;
 
-pub use boundary::{next, step};
+pub use boundary::{next, step, step_decoded};
 pub use delivery::has_fred;
+pub use instruction::instruction_at;
 pub use stepped::Stepped;

@@ -6,7 +6,7 @@ use Rattle.ev_proc.specs.ProcessorStep.{delivering}
 use Rattle.ev_event.specs.Event.{interrupt_event}
 use Rattle.ev_event.specs.declared.boundary.Next.TheVariants.{Nmi, Interrupt}
 use Rattle.ev_proc.proofs.Specials.{by_next}
-use Rattle.ev_proc.proofs.boundary.step.Goals as goal
+use Rattle.ev_proc.proofs.boundary.step_decoded.Goals as goal
 
 pub returns-in-Nmi-clause-is : goal.returns-in-Nmi-clause-is
 returns-in-Nmi-clause-is c =

@@ -1,12 +1,12 @@
+-- A fault of the fetch is delivered.
 use Rattle.std.proofs.Common.{◌≡◌, ℕ, true, false, Option, Some, ap, ◌∙◌}
 use Rattle.ev_event.specs.declared.event.Event.{Event}
+use Rattle.ev_event.specs.Event.{pf}
 use Rattle.ev_state.specs.Processor.{Processor, is_user}
 use Rattle.ev_mem.specs.Mapped.{memory}
-use Rattle.ev_proc.specs.ProcessorStep.{fault}
-use Rattle.ev_event.specs.Event.{pf}
 use Rattle.ev_mem.specs.Memory.{page_fault}
-use Rattle.ev_proc.specs.ProcessorStep.{fetched}
-use Rattle.ev_proc.proofs.instruction.fetch_and_run.Goals as goal
+use Rattle.ev_proc.specs.ProcessorStep.{fault, fetched}
+use Rattle.ev_proc.proofs.instruction.run_decoded.Goals as goal
 
 pub returns-in-Some-clause-is : goal.returns-in-Some-clause-is
 returns-in-Some-clause-is c = λ nmi.
