@@ -1,5 +1,6 @@
 pub mod Opening
 pub mod ConcreteRun
+pub mod Depth
 pub mod LiveWords
 pub mod Shown
 pub mod RunText

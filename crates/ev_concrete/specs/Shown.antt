@@ -1,6 +1,6 @@
 -- The entry that a visible step shows, told from the concrete machine alone: from the delivery, or from the instruction and its mark, and from registers,
--- words and depth. Own.
-use Rattle.std.specs.Prelude.{ℕ, suc, ◌+◌, ◌-◌, ◌*◌, ◌/◌, ◌%◌, ◌^◌, Bool, true, false, not, ◌&&◌, ◌||◌, ◌==◌, nat_lt, nat_le, if◌then◌else◌, List, [], ◌∷◌, length, Option, Some, None}
+-- words and bodies. Own.
+use Rattle.std.specs.Prelude.{ℕ, suc, ◌+◌, ◌-◌, ◌*◌, ◌/◌, ◌%◌, ◌^◌, Bool, true, false, not, ◌&&◌, ◌||◌, ◌==◌, if◌then◌else◌, List, [], ◌∷◌, Option, Some, None}
 use Rattle.ev_isa.specs.Word.{NatMap, wrap, sign_extend}
 use Rattle.ev_isa.specs.declared.instruction.Ins.{Ins}
 use Rattle.ev_isa.specs.declared.instruction.Ins.TheVariants.{GsStore, Load, Store, Jmp}
@@ -14,11 +14,12 @@ use Rattle.ev_body.specs.declared.key.Side.TheVariants.{User, Kernel}
 use Rattle.ev_state.specs.Processor.{Processor, is_user, register}
 use Rattle.ev_abstract.specs.declared.entry.Entry.{Entry}
 use Rattle.ev_abstract.specs.declared.entry.Entry.TheVariants.{Enter, Log, Call, Busy, Ran, Done}
-use Rattle.ev_listing.specs.AddressMap.{pcpu, stack_top, repeat_entry, nbody_entry}
+use Rattle.ev_listing.specs.AddressMap.{pcpu, stack_top}
 use Rattle.ev_listing.specs.Marks.{Mark, Never, Always, IfNonzero, IfEqual}
 use Rattle.ev_proc.specs.ProcessorStep.{After, has_fred, step, instruction_at}
 use Rattle.ev_proc.specs.declared.stepped.Stepped.{Stepped}
 use Rattle.ev_concrete.specs.ConcreteRun.{System, Marks, mark_at}
+use Rattle.ev_concrete.specs.Depth.{is_in_repeat, bodies_on}
 
 -- the key of an exception's vector (SDM volume 3, table 6-1); every other vector is an interrupt's
 abbrev pub key_of_vector : ℕ → Key
@@ -88,9 +89,9 @@ shown_wait p c words = if record_word c words 0 == 0 then Done p (record_site c 
 abbrev pub shown_ran : ℕ → Processor → NatMap ℕ → Entry
 shown_ran p c words = Ran p (record_word c words 0x20 % 2 ^ 32) (record_site c words) (record_word c words 0x28)
 
--- The last jump of REPEAT is the delivery of a held NMI, whose activation counts already. It interrupts what the outermost copy of the frame says.
+-- The last jump of REPEAT is the delivery of a held NMI. It interrupts what the outermost copy of the frame says.
 abbrev pub shown_again : ℕ → ℕ → NatMap ℕ → Entry
-shown_again p depth words = shown_event p depth (words (stack_top p 4 - 0x60) % 4 == 3) nmi_event (words (stack_top p 4 - 0x68))
+shown_again p depth words = shown_event p (suc depth) (words (stack_top p 4 - 0x60) % 4 == 3) nmi_event (words (stack_top p 4 - 0x68))
 
 -- An instruction that always is seen: the store of `log` to its port, the load of `wait`, the store of `finish`, the jump of REPEAT. No other one shows
 -- anything.
@@ -98,7 +99,7 @@ unfoldable pub shown_always : ℕ → ℕ → Processor → NatMap ℕ → Optio
 shown_always p depth c words (Some (GsStore n s)) = if sign_extend n == 0x28 then Log p (register c s) ∷ [] else []
 shown_always p depth c words (Some (Load d b n)) = if b == 3 then shown_wait p c words else []
 shown_always p depth c words (Some (Store b n s)) = if b == 3 then shown_ran p c words ∷ [] else []
-shown_always p depth c words (Some (Jmp n)) = if nat_le repeat_entry c.rip && nat_lt c.rip nbody_entry then shown_again p depth words ∷ [] else []
+shown_always p depth c words (Some (Jmp n)) = if is_in_repeat c.rip then shown_again p depth words ∷ [] else []
 shown_always p depth c words _ = []
 
 -- by its mark: the two marks with a condition are those of `call`
@@ -110,7 +111,7 @@ shown_instruction p depth c words IfEqual i = shown_call p c words ∷ []
 
 -- ---- a step
 
--- What a step of p with this outcome shows, where so many activations stood on p: the entries of its instruction where the kernel ran it. The processor and
+-- What a step of p with this outcome shows, where so many bodies stood on p: the entries of its instruction where the kernel ran it. The processor and
 -- the words are those after it.
 abbrev pub shown_by : ℕ → ℕ → Bool → Bool → List Entry → Processor → NatMap ℕ → Stepped → List Entry
 shown_by p depth user fred told c words (Stepped.Delivered e frame) = shown_delivery p depth user fred c words e frame ∷ []
@@ -121,10 +122,10 @@ shown_by p depth user fred told c words (Stepped.Sent m) = []
 -- what the instruction of p shows, with its mark
 abbrev pub told_at : Mark → System → ℕ → List Entry
 told_at mark s p =
-    shown_instruction p (length (s.activations p)) (s.cpus p) s.memory.words mark (instruction_at s.memory.words (s.cpus p).rip)
+    shown_instruction p (bodies_on s p) (s.cpus p) s.memory.words mark (instruction_at s.memory.words (s.cpus p).rip)
 
 -- what the next step of p shows, where it is visible
 unfoldable pub shown : Marks → System → ℕ → List Entry
 shown marks s p =
     let r : After = step (s.cpus p) (s.apics p) s.memory (s.latches p) in
-    shown_by p (length (s.activations p)) (is_user (s.cpus p)) (has_fred (s.cpus p)) (told_at (mark_at marks (s.cpus p).rip) s p) r.cpu r.words r.step
+    shown_by p (bodies_on s p) (is_user (s.cpus p)) (has_fred (s.cpus p)) (told_at (mark_at marks (s.cpus p).rip) s p) r.cpu r.words r.step

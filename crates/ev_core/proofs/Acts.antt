@@ -9,12 +9,11 @@ use Rattle.ev_apic.specs.Inbox.{mailed}
 use Rattle.ev_apic.specs.declared.send.SendKey.{SendKey}
 use Rattle.ev_apic.specs.declared.send.Target.{Target}
 use Rattle.ev_apic.specs.declared.send.Target.TheVariants.{One, Myself, All, Others}
-use Rattle.ev_state.specs.Processor.{Processor}
 use Rattle.ev_trace.specs.FrameText.{Totals}
 use Rattle.ev_proc.specs.declared.stepped.Stepped.{Stepped}
-use Rattle.ev_proc.specs.ProcessorStep.{instruction_at}
-use Rattle.ev_concrete.specs.ConcreteRun.{System, Activation, acted, posted, targets, interrupted, activations_by, lower, without_last}
-use Rattle.ev_core.specs.Local.{counted, frame_by, is_target, after_act, depth_after, ends}
+use Rattle.ev_concrete.specs.ConcreteRun.{System, acted, posted, targets, lower}
+use Rattle.ev_concrete.specs.Depth.{bodies_on}
+use Rattle.ev_core.specs.Local.{counted, frame_by, is_target, after_act}
 use Rattle.ev_core.specs.State.{local_of}
 
 -- ---- maps
@@ -152,23 +151,10 @@ frames_after n p Stepped.Ran s = refl
 frames_after n p Stepped.Shutdown s = refl
 frames_after n p (Stepped.Sent m) s = refl
 
--- ---- how many activations stand
-
-pub interrupted_length : (c : Processor) (xs : List Activation) → length (interrupted c xs) ≡ length xs
-interrupted_length c [] = refl
-interrupted_length c (a ∷ xs) = refl
-
-pub without_length : (xs : List Activation) → length (without_last xs) ≡ length xs - 1
-without_length [] = refl
-without_length (a ∷ xs) = omega arith
-
-pub depth_is : (s : System) (p : ℕ) (xs : List Activation) (c' : Processor) (st : Stepped)
-    → length (activations_by s p xs c' st) ≡ depth_after (length xs) (ends (s.cpus p) c' (instruction_at s.memory.words (s.cpus p).rip)) st
-depth_is s p xs c' (Stepped.Delivered e frame) = ap suc (interrupted_length (s.cpus p) xs)
-depth_is s p xs c' Stepped.Ran = pick (ends (s.cpus p) c' (instruction_at s.memory.words (s.cpus p).rip))
-  where
-    pick : (b : Bool) → length (if b then without_last xs else xs) ≡ elim b [ true ↦ length xs - 1 | false ↦ length xs ]
-    pick true = without_length xs
-    pick false = refl
-depth_is s p xs c' Stepped.Shutdown = refl
-depth_is s p xs c' (Stepped.Sent m) = refl
+-- the bodies stay
+pub acted_bodies : (n p q : ℕ) (st : Stepped) (s : System) → bodies_on (acted n s p st).0 q ≡ bodies_on s q
+acted_bodies n p q (Stepped.Delivered e None) s = refl
+acted_bodies n p q (Stepped.Delivered e (Some a)) s = refl
+acted_bodies n p q Stepped.Ran s = refl
+acted_bodies n p q Stepped.Shutdown s = refl
+acted_bodies n p q (Stepped.Sent m) s = ap (λ x. bodies_on x q) (posted_keeps s m.key (targets n p m.target))

@@ -1,18 +1,7 @@
--- Runs of edges: one more, and their end; and that they write no frame.
-use Rattle.std.proofs.Common.{◌≡◌, ℕ, zero, suc, ◌<◌, ◌≤◌, Bool, true, false, List, [], ◌∷◌, ◌++◌, length, append_assoc, Some, None, ap, refl, sym, ◌∙◌, subst, arith}
-use Rattle.ev_isa.specs.Word.{NatMap}
-use Rattle.ev_isa.specs.declared.mode.Mode.{Mode}
+-- Runs of edges: one more, and their end.
+use Rattle.std.proofs.Common.{◌≡◌, ℕ, zero, suc, ◌<◌, ◌≤◌, Bool, true, false, List, [], ◌∷◌, ◌++◌, append_assoc, ap, refl, sym, ◌∙◌, subst, arith}
 use Rattle.ev_event.specs.declared.frame_note.FrameNote.{FrameNote}
-use Rattle.ev_body.specs.declared.image.Image.{Image}
-use Rattle.ev_abstract.specs.Machine.{Machine, processor}
-use Rattle.ev_state.specs.Processor.{Processor}
-use Rattle.ev_proc.specs.ProcessorStep.{After, step}
-use Rattle.ev_proc.specs.declared.stepped.Stepped.{Stepped}
-use Rattle.ev_concrete.specs.ConcreteRun.{System, Marks, marks_of, is_visible, acted, after_step, activations_by, concrete_step, edges, with_frames}
-use Rattle.ev_refine.specs.Relation.{Stands}
-use Rattle.ev_refine.proofs.Refine.{all_settle}
-use Rattle.ev_core.specs.Run.{CanRun}
-use Rattle.ev_core.proofs.Acts.{put_same, interrupted_length}
+use Rattle.ev_concrete.specs.ConcreteRun.{System, Marks, is_visible, concrete_step, edges, with_frames}
 
 append_nil : {X : Type 0} (xs : List X) → xs ++ [] ≡ xs
 append_nil [] = refl
@@ -81,45 +70,3 @@ module _ (marks : Marks) (n p : ℕ) where
           let here : edges (suc i) marks n s p ≡ with_frames (concrete_step n s p).1 (edges i marks n (concrete_step n s p).0 p) =
           unrolled i s ∙ ap (on i s) e in
           unrolled k s ∙ ap (on k s) e ∙ ap (with_frames (concrete_step n s p).1) (next (subst (λ (r : Ran). is_visible marks r.0 p ≡ true) here h)) ∙ sym here
-
--- ---- an edge writes no frame
-
--- a step that leaves as many activations as there were delivers nothing
-quiet_act : (n p d : ℕ) (st : Stepped) (s t : System) (c' : Processor) → length (t.activations p) ≡ d
-    → s.activations p ≡ activations_by t p (t.activations p) c' st
-    → length ((acted n s p st).0.activations p) ≡ d → (acted n s p st).1 ≡ []
-quiet_act n p d Stepped.Ran s t c' a e b = refl
-quiet_act n p d Stepped.Shutdown s t c' a e b = refl
-quiet_act n p d (Stepped.Sent m) s t c' a e b = refl
-quiet_act n p d (Stepped.Delivered x None) s t c' a e b = refl
-quiet_act n p d (Stepped.Delivered x (Some f)) s t c' a e b = absurd (let k = ap length e in let l = interrupted_length (t.cpus p) (t.activations p) in
-    omega arith)
-
-pub quiet_step : (n p d : ℕ) (s : System) → length (s.activations p) ≡ d → length ((concrete_step n s p).0.activations p) ≡ d → (concrete_step n s p).1 ≡ []
-unfolding concrete_step
-quiet_step n p d s a b =
-    let r : After = step (s.cpus p) (s.apics p) s.memory (s.latches p) in
-    quiet_act n p d r.step (after_step s p r) s r.cpu a (put_same s.activations p _) b
-
-module _ (mode : Mode) (image : Image) (can : CanRun mode image) (left : NatMap ℕ) (s : System) (m : Machine) (stands : Stands mode image left s m) (p : ℕ)
-    (lt : p < image.processors) where
-  abbrev marks : Marks
-  marks = marks_of mode image
-
-  depth_after_edges : (k : ℕ) → length ((edges k marks image.processors s p).0.activations p) ≡ length (processor m p).bodies
-  depth_after_edges k = (((all_settle mode image can.built can.mode_built can.image_is left s m stands p lt).after k).1.each p lt).depth
-
-  -- the edges of a machine that stands for an abstract one write no frame
-  pub quiet : (k : ℕ) → (edges k marks image.processors s p).1 ≡ []
-  quiet zero = ap (λ (r : System × List FrameNote). r.1) (no_edges marks image.processors p s)
-  quiet (suc k) = pick (is_visible marks (edges k marks image.processors s p).0 p) refl (quiet k)
-    where
-      pick : (b : Bool) → is_visible marks (edges k marks image.processors s p).0 p ≡ b → (edges k marks image.processors s p).1 ≡ []
-          → (edges (suc k) marks image.processors s p).1 ≡ []
-      pick true e q = ap (λ (r : System × List FrameNote). r.1) (edges_end marks image.processors p k (suc k) s (omega arith) e) ∙ q
-      pick false e q =
-          let more = edges_more marks image.processors p k s e in
-          ap (λ (r : System × List FrameNote). r.1) more
-          ∙ ap (λ fs. fs ++ (concrete_step image.processors (edges k marks image.processors s p).0 p).1) q
-          ∙ quiet_step image.processors p (length (processor m p).bodies) (edges k marks image.processors s p).0 (depth_after_edges k)
-          (subst (λ (r : System × List FrameNote). length (r.0.activations p) ≡ length (processor m p).bodies) more (depth_after_edges (suc k)))

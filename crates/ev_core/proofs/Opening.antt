@@ -52,10 +52,12 @@ module _ (mode : Mode) (image : Image) where
   open_stands v can marks shows = record {
     mode = mode;
     image = image;
-    can = can;
     system = opening_system mode image;
-    at = record { marks = marks; shows = shows };
-    left = λ p. 0;
     machine = abstract.opening image;
-    stands = opens mode image can.built can.mode_built can.image_is;
+    so = record {
+      can = can;
+      at = record { marks = marks; shows = shows };
+      left = λ p. 0;
+      stands = opens mode image can.built can.mode_built can.image_is;
+    };
   }

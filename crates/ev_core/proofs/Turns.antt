@@ -1,66 +1,76 @@
--- A turn of the machine as a line of its script.
-use Rattle.std.proofs.Common.{◌≡◌, ℕ, ◌<◌, ◌⊎◌, inl, inr, Bool, true, false, ◌&&◌, List, [], ◌∷◌, ◌++◌, length, ap, refl, sym, ◌∙◌, subst, arith}
+-- A turn of the machine and settling, from any standing state, and a turn as a line of its script.
+use Rattle.std.proofs.Common.{◌≡◌, ℕ, ◌<◌, ◌≤◌, Bool, true, false, ◌&&◌, List, [], ◌∷◌, ◌++◌, length, ap, refl, sym, ◌∙◌, subst, arith}
 use Rattle.std.specs.List.{list_all}
 use Rattle.std.proofs.lemmas.Bool.{lt-ltb, eq-eqb}
-use Rattle.ev_isa.specs.Word.{NatMap}
 use Rattle.ev_isa.specs.declared.mode.Mode.{Mode}
+use Rattle.ev_event.specs.declared.frame_note.FrameNote.{FrameNote}
 use Rattle.ev_body.specs.declared.image.Image.{Image}
+use Rattle.ev_abstract.specs.declared.entry.Entry.{Entry}
 use Rattle.ev_abstract.specs.Machine.{Machine}
 use Rattle.ev_abstract.specs.Run.{turn, run, line_step, entries_of}
 use Rattle.ev_abstract.specs.Script.{is_line}
 use Rattle.ev_abstract.specs.declared.script_line.Line.{Line}
 use Rattle.ev_abstract.specs.declared.script_line.Line.TheVariants.{Turn}
-use Rattle.ev_concrete.specs.ConcreteRun.{System, Marks, marks_of, is_visible, edges, concrete_turn, concrete_line, concrete_lines, concrete_run, settled}
-use Rattle.ev_concrete.specs.LiveWords.{IsSafeStep}
+use Rattle.ev_concrete.specs.ConcreteRun.{System, Marks, marks_of, concrete_turn, concrete_line, concrete_lines, concrete_run, settled}
 use Rattle.ev_built.specs.Built.{line_is_built}
-use Rattle.ev_refine.specs.Relation.{Stands}
 use Rattle.ev_concrete.specs.Shown.{shown}
-use Rattle.ev_refine.specs.Claims.{Settles, Simulated, MakesEdge, MakesTurn}
-use Rattle.ev_refine.proofs.Refine.{refines, all_settle, turns_follow, runs_follow}
-use Rattle.ev_core.specs.State.{Parts, Shows}
-use Rattle.ev_core.specs.Run.{MachineView, CanRun, IsRun, IsStanding}
-use Rattle.ev_core.proofs.Standing.{seen_marks, processors, visible_after}
+use Rattle.ev_refine.specs.Claims.{Settles, Turns}
+use Rattle.ev_refine.proofs.Refine.{turns_follow, runs_follow}
+use Rattle.ev_core.specs.Local.{optional}
+use Rattle.ev_layout.specs.Marks.{marks_in}
+use Rattle.ev_core.specs.State.{Parts, Shows, TellsBodies}
+use Rattle.ev_core.specs.Run.{MachineView, IsRun, IsStandingAs}
+use Rattle.ev_core.specs.Turns.{IsTurn, IsSettling}
+use Rattle.ev_core.specs.declared.machine.Turned.{Turned}
+use Rattle.ev_core.proofs.Standing.{settling, tell}
 
--- ---- the machine stands for an abstract state again
+-- ---- from any standing state
 
-module _ (v : MachineView) (h : IsStanding v) (p : ℕ) (within : p < length v.parts.cpus) where
-  lt : p < processors v h p within
-  lt = subst (λ k. p < k) h.at.shows.processors within
+module _ (mode : Mode) (image : Image) (s : System) (m : Machine) (v : MachineView) (so : IsStandingAs mode image s m v) (p : ℕ)
+    (lt : p < image.processors) where
+  abbrev there : System
+  there = (settled (marks_of mode image) image.processors s p).0
 
-  pub settled_stands : (w : Parts) → Shows h.image.processors w (settled (seen_marks v h p within) h.image.processors h.system p).0
-      → IsStanding (record { parts = w; places = v.places })
-  settled_stands w shows =
-      let settles : Settles h.mode h.image h.left h.system h.machine p =
-      all_settle h.mode h.image h.can.built h.can.mode_built h.can.image_is h.left h.system h.machine h.stands p lt in record {
-        mode = h.mode;
-        image = h.image;
-        can = h.can;
-        system = (settled (marks_of h.mode h.image) h.image.processors h.system p).0;
-        at = record {
-          marks = h.at.marks;
-          shows = subst (λ marks. Shows h.image.processors w (settled marks h.image.processors h.system p).0) h.at.marks
-              shows;
-        };
-        left = _;
-        machine = h.machine;
-        stands = (settles.after 1024).1;
-      }
+  settles : Settles mode image so.left s m p
+  settles = settling mode image s m v so p lt
 
-  pub turned_stands : (w : Parts) → Shows h.image.processors w (concrete_turn (seen_marks v h p within) h.image.processors h.system p).0
-      → IsStanding (record { parts = w; places = v.places })
-  turned_stands w shows = record {
-    mode = h.mode;
-    image = h.image;
-    can = h.can;
-    system = (concrete_turn (marks_of h.mode h.image) h.image.processors h.system p).0;
-    at = record {
-      marks = h.at.marks;
-      shows = subst (λ marks. Shows h.image.processors w (concrete_turn marks h.image.processors h.system p).0) h.at.marks
-          shows;
+  turning : Turns mode image s m p
+  turning = turns_follow mode image so.can.built so.can.mode_built so.can.image_is so.left s m so.stands p lt
+
+  -- the edges of p, as the machine makes them
+  pub settled_made : (t : Turned) (w : Parts) → Shows image.processors w (settled (marks_in v.places) image.processors s p).0
+      → t.frames.items ≡ (settled (marks_in v.places) image.processors s p).1 → IsSettling mode image s m p t (record { parts = w; places = v.places })
+  settled_made t w shows frames = record {
+    so = record {
+      can = so.can;
+      at = record { marks = so.at.marks; shows = subst (λ k. Shows image.processors w (settled k image.processors s p).0) so.at.marks shows };
+      left = (settles.after 1024).0;
+      stands = (settles.after 1024).1;
     };
-    left = _;
-    machine = (turn h.image h.machine p).0;
-    stands = (turns_follow h.mode h.image h.can.built h.can.mode_built h.can.image_is h.left h.system h.machine h.stands p lt).1;
+    frames = subst (λ k. t.frames.items ≡ (settled k image.processors s p).1) so.at.marks frames;
+    seen = settles.seen 1024 (let few = settles.bounded in omega arith);
+    others = settles.others 1024;
+    safe = settles.safe;
+  }
+
+  -- the last step of a turn can be made, and tells how many bodies stand
+  pub last_tells : TellsBodies image.processors (settled (marks_in v.places) image.processors s p).0 p
+  last_tells = tell mode image s m v so p lt 1024
+
+  -- a turn of p, as the machine makes it
+  pub turn_made : (t : Turned) (w : Parts) → Shows image.processors w (concrete_turn (marks_in v.places) image.processors s p).0
+      → optional t.entry ≡ shown (marks_in v.places) (settled (marks_in v.places) image.processors s p).0 p
+      → t.frames.items ≡ (concrete_turn (marks_in v.places) image.processors s p).1 → IsTurn mode image s m p t (record { parts = w; places = v.places })
+  turn_made t w shows entry frames = record {
+    so = record {
+      can = so.can;
+      at = record { marks = so.at.marks; shows = subst (λ k. Shows image.processors w (concrete_turn k image.processors s p).0) so.at.marks shows };
+      left = turning.now;
+      stands = turning.stands;
+    };
+    entry = subst (λ k. optional t.entry ≡ shown k (settled k image.processors s p).0 p) so.at.marks entry ∙ turning.entries;
+    frames = subst (λ k. t.frames.items ≡ (concrete_turn k image.processors s p).1) so.at.marks frames;
+    safe = settles.safe;
   }
 
 -- ---- the machine is the run of one line more
@@ -113,43 +123,19 @@ module _ (mode : Mode) (image : Image) (script : List Line) (v : MachineView) (r
     };
   }
 
-  -- the step after the edges
-  settled_simulates : (left : NatMap ℕ) × Simulated mode image left (settled marks image.processors reached p).0 (run image script) p
-  settled_simulates =
+  -- what the lines lead to stands for the abstract run
+  pub as_run : IsStandingAs mode image reached (run image script) v
+  as_run =
       let follows = runs_follow mode image r.can.built r.can.mode_built r.can.image_is script r.script_is r.lines_built in
-      let settles : Settles mode image follows.0 reached (run image script) p =
-      all_settle mode image r.can.built r.can.mode_built r.can.image_is follows.0 reached (run image script) follows.1 p in_image in
-      (_, refines mode image r.can.built r.can.mode_built r.can.image_is _ _ _ (settles.after 1024).1 p in_image)
-
-  pub turn_safe : (k : ℕ) → IsSafeStep mode image (edges k marks image.processors reached p).0 p
-  turn_safe k =
-      let follows = runs_follow mode image r.can.built r.can.mode_built r.can.image_is script r.script_is r.lines_built in
-      let settles : Settles mode image follows.0 reached (run image script) p =
-      all_settle mode image r.can.built r.can.mode_built r.can.image_is follows.0 reached (run image script) follows.1 p in_image in
-      (refines mode image r.can.built r.can.mode_built r.can.image_is _ _ _ (settles.after k).1 p in_image).safe
+      record { can = r.can; at = r.at; left = follows.0; stands = follows.1 }
 
   abstract_turn : (turn image (run image script) p).1 ≡ entries_of image script (Turn p)
   unfolding line_step
   abstract_turn = refl
 
-  pub turn_entry : shown marks (settled marks image.processors reached p).0 p ≡ entries_of image script (Turn p)
-  turn_entry = by_kind settled_simulates.1.how ∙ abstract_turn
-    where
-      seen : is_visible marks (settled marks image.processors reached p).0 p ≡ true
-      seen = let follows = runs_follow mode image r.can.built r.can.mode_built r.can.image_is script r.script_is r.lines_built in
-          visible_after mode image r.can follows.0 reached (run image script) follows.1 p in_image 1024 (omega arith)
+  pub turn_entry : (es : List Entry) → es ≡ (turn image (run image script) p).1 → es ≡ entries_of image script (Turn p)
+  turn_entry es e = e ∙ abstract_turn
 
-      by_kind : MakesEdge mode image settled_simulates.0 (settled marks image.processors reached p).0 (run image script) p
-          ⊎ MakesTurn mode image settled_simulates.0 (settled marks image.processors reached p).0 (run image script) p
-          → shown marks (settled marks image.processors reached p).0 p ≡ (turn image (run image script) p).1
-      by_kind (inl e) = absurd (let a = e.hidden in let b = seen in cc)
-      by_kind (inr t) = t.entries
-
-  pub turn_frames : concrete_turn marks image.processors reached p ≡ concrete_line marks image.processors reached (Turn p)
-  turn_frames = sym line_is_turn
-
-pub edges_safe : (mode : Mode) (image : Image) (can : CanRun mode image) (left : NatMap ℕ) (s : System) (m : Machine) → Stands mode image left s m
-    → (p : ℕ) → p < image.processors → (k : ℕ) → IsSafeStep mode image (edges k (marks_of mode image) image.processors s p).0 p
-edges_safe mode image can left s m stands p lt k =
-    let settles : Settles mode image left s m p = all_settle mode image can.built can.mode_built can.image_is left s m stands p lt in
-    (refines mode image can.built can.mode_built can.image_is _ _ _ (settles.after k).1 p lt).safe
+  pub turn_frames : (fs : List FrameNote) → fs ≡ (concrete_turn marks image.processors reached p).1
+      → fs ≡ (concrete_line marks image.processors reached (Turn p)).1
+  turn_frames fs e = e ∙ ap (λ (x : System × List FrameNote). x.1) (sym line_is_turn)

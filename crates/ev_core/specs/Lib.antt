@@ -3,4 +3,4 @@ pub mod Step
 pub mod State
 pub mod Run
 pub mod Task
-pub mod Frames
+pub mod Turns

@@ -1,10 +1,9 @@
 -- What a step does to what belongs to its processor. Own.
-use Rattle.std.specs.Prelude.{ℕ, suc, ◌-◌, Bool, true, false, not, ◌&&◌, ◌==◌, if◌then◌else◌, List, [], ◌∷◌, map, replicate, Option, Some, None}
+use Rattle.std.specs.Prelude.{ℕ, suc, Bool, true, false, not, ◌==◌, if◌then◌else◌, List, [], ◌∷◌, map, Option, Some, None}
 use Rattle.ev_isa.specs.Word.{NatMap}
-use Rattle.ev_isa.specs.declared.instruction.Ins.{Ins}
 use Rattle.ev_event.specs.declared.frame_note.FrameNote.{FrameNote}
 use Rattle.ev_effect.specs.Frame.{addresses}
-use Rattle.ev_state.specs.Processor.{Processor, is_user}
+use Rattle.ev_state.specs.Processor.{Processor}
 use Rattle.ev_apic.specs.declared.send.Send.{Send}
 use Rattle.ev_apic.specs.declared.send.Target.{Target}
 use Rattle.ev_apic.specs.declared.send.Target.TheVariants.{One, Myself, All, Others}
@@ -13,7 +12,7 @@ use Rattle.ev_mem.specs.Memory.{Memory}
 use Rattle.ev_trace.specs.FrameText.{Totals}
 use Rattle.ev_proc.specs.declared.stepped.Stepped.{Stepped}
 use Rattle.ev_concrete.specs.Opening.{opening_apic}
-use Rattle.ev_concrete.specs.ConcreteRun.{System, Activation, is_return, is_repeated, lower, frame_size}
+use Rattle.ev_concrete.specs.ConcreteRun.{System, lower, frame_size}
 use Rattle.ev_core.specs.declared.local.Local.{Local}
 
 -- the values of an option as a list
@@ -21,14 +20,11 @@ abbrev pub optional : {A : Type 0} → Option A → List A
 optional None = []
 optional (Some a) = a ∷ []
 
-abbrev pub standing_at : Activation
-standing_at = record { rsp = 0; rip = 0; inner = false }
-
 -- what belongs to a processor at the opening
 abbrev pub start : Local
 start = record { apic = opening_apic; latch = false; inbox = no_mail; depth = 0 }
 
--- a system in which every processor is as this one
+-- a system in which every processor is as this one, with no activation
 abbrev pub still : Processor → Local → Memory → System
 still c l m = record {
   cpus = λ p. c;
@@ -37,7 +33,7 @@ still c l m = record {
   inboxes = λ p. l.inbox;
   memory = m;
   totals = record { steps = 0; frames = 0; low = None };
-  activations = λ p. replicate l.depth standing_at;
+  activations = λ p. [];
 }
 
 -- the totals after a step
@@ -47,16 +43,6 @@ counted t (Stepped.Delivered e None) = record t { steps = suc t.steps }
 counted t Stepped.Ran = record t { steps = suc t.steps }
 counted t Stepped.Shutdown = record t { steps = suc t.steps }
 counted t (Stepped.Sent m) = record t { steps = suc t.steps }
-
--- whether an instruction of c that led to c' ends its activation
-abbrev pub ends : Processor → Processor → Option Ins → Bool
-ends c c' i = is_return i && not (is_user c) && not (is_repeated c c')
-
--- how many activations stand after a step
-abbrev pub depth_after : ℕ → Bool → Stepped → ℕ
-depth_after n ended (Stepped.Delivered e frame) = suc n
-depth_after n ended Stepped.Ran = elim ended [ true ↦ n - 1 | false ↦ n ]
-depth_after n ended _ = n
 
 -- the frame that a step wrote, whose processor and words are these after it
 abbrev pub frame_by : Processor → NatMap ℕ → Stepped → List FrameNote

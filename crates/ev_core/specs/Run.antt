@@ -37,16 +37,20 @@ pub record IsRun (mode : Mode) (image : Image) (script : List Line) (v : Machine
   pub lines_built : list_all line_is_built script ≡ true
   pub at : IsAt mode image (concrete_run mode image script).0 v
 
--- some machine's state that stands for a state of the abstract machine
+-- the machine is in the state s, which stands for the state m of the abstract machine
+pub record IsStandingAs (mode : Mode) (image : Image) (s : System) (m : Machine) (v : MachineView) : Type 0 where
+  pub can : CanRun mode image
+  pub at : IsAt mode image s v
+  pub left : NatMap ℕ
+  pub stands : Stands mode image left s m
+
+-- it is in some such state
 pub record IsStanding (v : MachineView) : Type 0 where
   pub mode : Mode
   pub image : Image
-  pub can : CanRun mode image
   pub system : System
-  pub at : IsAt mode image system v
-  pub left : NatMap ℕ
   pub machine : Machine
-  pub stands : Stands mode image left system machine
+  pub so : IsStandingAs mode image system machine v
 
 -- so many steps were counted and made
 pub record Costs (most before now : ℕ) (v w : MachineView) : Type 0 where

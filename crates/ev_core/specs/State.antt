@@ -4,7 +4,8 @@ use Rattle.ev_state.specs.Processor.{Processor}
 use Rattle.ev_mem.specs.Mapped.{MappedWords, memory}
 use Rattle.ev_trace.specs.FrameText.{Totals}
 use Rattle.ev_proc.specs.Conditions.{HasEntries, IsInCode}
-use Rattle.ev_concrete.specs.ConcreteRun.{System}
+use Rattle.ev_concrete.specs.ConcreteRun.{System, Marks, concrete_step, edges}
+use Rattle.ev_concrete.specs.Depth.{bodies_on, told_bodies}
 use Rattle.ev_core.specs.declared.local.Local.{Local}
 
 pub record Parts : Type 0 where
@@ -21,7 +22,7 @@ pub record AreParts (cpus : List Processor) (locals : List Local) (totals : Tota
 
 -- what belongs to processor p of a system besides its registers
 abbrev pub local_of : System → ℕ → Local
-local_of s p = record { apic = s.apics p; latch = s.latches p; inbox = s.inboxes p; depth = length (s.activations p) }
+local_of s p = record { apic = s.apics p; latch = s.latches p; inbox = s.inboxes p; depth = bodies_on s p }
 
 -- the parts show the first n processors of a system, its memory and its totals
 pub record Shows (n : ℕ) (v : Parts) (s : System) : Type 0 where
@@ -30,6 +31,14 @@ pub record Shows (n : ℕ) (v : Parts) (s : System) : Type 0 where
   pub own : (p : ℕ) → p < n → slice_get v.locals p ≡ Some (local_of s p)
   pub memory : memory v.mem ≡ s.memory
   pub totals : v.totals ≡ s.totals
+
+-- a step of processor p tells how many bodies stand behind it
+abbrev pub TellsBodies : ℕ → System → ℕ → Type 0
+TellsBodies n s p = bodies_on (concrete_step n s p).0 p ≡ told_bodies s p
+
+-- and so does each step behind edges of p
+abbrev pub EdgesTell : Marks → ℕ → System → ℕ → Type 0
+EdgesTell marks n s p = (k : ℕ) → TellsBodies n (edges k marks n s p).0 p
 
 -- what a step of processor p asks of the parts
 pub record CanStep (v : Parts) (p : ℕ) : Type 0 where

@@ -12,7 +12,7 @@ use ev_mem::Mem;
 use ev_proc::Stepped;
 use ev_state::Cpu;
 
-/// What a step's entry needs of the processor before it: how many activations stood on it, whether
+/// What a step's entry needs of the processor before it: how many bodies stood on it, whether
 /// user code ran and events were delivered by FRED, and what its instruction shows.
 #[derive(Debug, Drop)]
 pub(crate) struct Before {

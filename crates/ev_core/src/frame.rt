@@ -1,12 +1,12 @@
 // The frame that a step wrote.
 
-ghost use Rattle.std.specs.Prelude.{◌≡◌, ◌<◌, ◌≤◌, ◌++◌, map, length};
+ghost use Rattle.std.specs.Prelude.{◌≡◌, ◌<◌, ◌≤◌, ◌++◌, map};
 ghost use Rattle.ev_effect.specs.Frame.{addresses};
 ghost use Rattle.ev_mem.specs.Mapped.{memory};
 ghost use Rattle.ev_concrete.specs.ConcreteRun.{frame_size};
+ghost use Rattle.arrayvec.specs.ArrayVec.{array_vec_len};
 ghost use Rattle.ev_core.specs.Local.{frame_by, optional};
 
-use crate::frames::Frames;
 use arrayvec::ArrayVec;
 use ev_event::{Event, FrameNote};
 use ev_mem::Mem;
@@ -58,9 +58,9 @@ pub(crate) fn frame_of(cpu: &Cpu, mem: &Mem, stepped: &Stepped) -> Option<FrameN
 }
 
 /// The frame goes behind the others, for which there is room.
-pub(crate) fn keep(frames: &mut Frames, frame: Option<FrameNote>)
-    requires { length frames.old < 2 }
-    ensures { frames.new ≡ frames.old ++ optional frame }
+pub(crate) fn keep(frames: &mut ArrayVec<FrameNote, 2>, frame: Option<FrameNote>)
+    requires { array_vec_len frames.old < 2 }
+    ensures { frames.new.items ≡ frames.old.items ++ optional frame }
 {
     if let Some(frame) = frame {
         frames.push(frame);

@@ -4,7 +4,6 @@
 
 mod entry;
 mod frame;
-mod frames;
 mod local;
 mod machine;
 mod mail;
@@ -16,7 +15,6 @@ mod told;
 mod totals;
 mod visible;
 
-pub use frames::Frames;
 pub use machine::{Machine, Turned};
 pub use steps::Steps;
 pub use task_view::TaskView;

@@ -1,19 +1,18 @@
 // What belongs to one processor besides its registers, and what a step does to it.
 
-ghost use Rattle.std.specs.Prelude.{◌≡◌, ◌<◌, ◌+◌, ◌&&◌, ◌==◌, not, replicate, Option, IfOk};
+ghost use Rattle.std.specs.Prelude.{◌≡◌, ◌<◌, replicate, Option, IfOk};
 ghost use Rattle.ev_isa.specs.declared.instruction.Ins.{Ins};
 ghost use Rattle.ev_mem.specs.Mapped.{memory};
-ghost use Rattle.ev_listing.specs.AddressMap.{nlast_entry, repeat_entry};
 ghost use Rattle.ev_proc.specs.Conditions.{HasEntries, IsDecoded, IsInCode};
-ghost use Rattle.ev_state.specs.Processor.{is_user};
 ghost use Rattle.ev_concrete.specs.ConcreteRun.{is_return};
 ghost use Rattle.ev_layout.specs.Marks.{mark_of};
-ghost use Rattle.ev_core.specs.Local.{depth_after, start};
+ghost use Rattle.ev_concrete.specs.Depth.{begins_body, bodies_after, ends_body, is_jump};
+ghost use Rattle.ev_core.specs.Local.{start};
 ghost use Rattle.ev_core.specs.Step.{LocalStep};
 
 use crate::entry::{Before, entry_of};
 use crate::told::told_of;
-use crate::visible::{LAST_RETURN, REPEAT};
+use crate::visible::{NMI, REPEAT, is_in_repeat, starts_inner};
 use ev_abstract::Entry;
 use ev_apic::{Apic, Inbox};
 use ev_isa::Ins;
@@ -23,8 +22,7 @@ use ev_proc::{Stepped, has_fred, instruction_at, step_decoded};
 use ev_state::Cpu;
 use std::alloc::{AllocError, Global};
 
-/// A processor's local APIC, its NMI latch, its mail, and how many activations of handlers stand on
-/// it. Own.
+/// A processor's local APIC, its NMI latch, its mail, and how many bodies stand on it. Own.
 #[derive(Clone, Copy, Debug, Drop)]
 pub(crate) struct Local {
     pub apic: Apic,
@@ -34,7 +32,7 @@ pub(crate) struct Local {
 }
 
 impl Local {
-    /// At the opening: no vector, no mail, no activation.
+    /// At the opening: no vector, no mail, no body.
     fn at_start() -> Local
         ensures { result ≡ start }
     {
@@ -83,27 +81,49 @@ fn is_return(instruction: &Option<Ins>) -> bool
     )
 }
 
-/// How many activations stand after a step, of which the flag says whether it ended one.
-fn depth_after(depth: u8, ended: bool, stepped: &Stepped) -> u8
-    requires { depth < 255 }
-    ensures { result ≡ depth_after depth ended stepped.now }
+/// Whether the instruction is a direct jump.
+#[tactic(auto, unfolding(ev_concrete::specs::Depth::is_jump))]
+fn is_jump(instruction: &Option<Ins>) -> bool
+    ensures { result ≡ is_jump instruction.now }
 {
-    match *stepped {
-        Stepped::Delivered { .. } => depth + 1,
-        Stepped::Ran if ended => depth.saturating_sub(1),
-        _ => depth,
-    }
+    matches!(instruction, Some(Ins::Jmp(_)))
 }
 
-/// Whether an instruction that the kernel or user code ran ended its activation: a return of the
-/// kernel does, but for the NMI's that begins anew. User code may stand at REPEAT's address too.
-fn ends(user: bool, instruction: &Option<Ins>, from: u64, after: &Cpu) -> bool
-    ensures { result ≡ (is_return instruction.now && not user
-        && not ((from == nlast_entry + 12) && (after.now.rip == repeat_entry) && not (is_user after.now))) }
+/// Whether the instruction ends a body: a return of the kernel does, but for that of an inner NMI.
+fn ends_body(cpu: &Cpu, instruction: &Option<Ins>) -> bool
+    ensures { result ≡ ends_body cpu.now instruction.now }
 {
-    is_return(instruction)
-        && !user
-        && !(from == LAST_RETURN && after.rip == REPEAT && !after.is_user())
+    is_return(instruction) && !cpu.is_user() && !(NMI <= cpu.rip && cpu.rip < REPEAT)
+}
+
+/// Whether the instruction begins the body of an NMI that was held.
+fn begins_body(cpu: &Cpu, instruction: &Option<Ins>) -> bool
+    ensures { result ≡ begins_body cpu.now instruction.now }
+{
+    is_jump(instruction) && !cpu.is_user() && is_in_repeat(cpu.rip)
+}
+
+/// What a step makes of the number of bodies.
+#[derive(Clone, Copy, Debug, Drop)]
+struct Bodies {
+    inner: bool,
+    ends: bool,
+    begins: bool,
+}
+
+/// How many bodies stand after a step.
+fn bodies_after(depth: u8, bodies: Bodies, stepped: &Stepped) -> u8
+    requires { depth < 255 }
+    ensures { result
+        ≡ bodies_after depth bodies.inner bodies.ends bodies.begins stepped.now }
+{
+    match *stepped {
+        Stepped::Delivered { .. } if bodies.inner => depth,
+        Stepped::Delivered { .. } => depth + 1,
+        Stepped::Ran if bodies.ends => depth.saturating_sub(1),
+        Stepped::Ran if bodies.begins => depth + 1,
+        _ => depth,
+    }
 }
 
 /// What was decoded, without its length.
@@ -131,9 +151,13 @@ pub(crate) fn local_step(
     ensures { LocalStep (mark_of mark) p cpu.old local.old (memory mem.old) cpu.new local.new
         (memory mem.new) result }
 {
-    let rip = cpu.rip;
     let decoded = instruction_at(cpu, mem);
     let instruction = without_length(&decoded);
+    let bodies = Bodies {
+        inner: starts_inner(p, cpu, local, mem),
+        ends: ends_body(cpu, &instruction),
+        begins: begins_body(cpu, &instruction),
+    };
     let before = Before {
         depth: local.depth,
         user: cpu.is_user(),
@@ -141,8 +165,7 @@ pub(crate) fn local_step(
         told: told_of(p, local.depth, cpu, mem, mark, &instruction),
     };
     let stepped = step_decoded(cpu, &mut local.apic, mem, &mut local.latch, &decoded);
-    let ended = ends(before.user, &instruction, rip, cpu);
-    local.depth = depth_after(before.depth, ended, &stepped);
+    local.depth = bodies_after(before.depth, bodies, &stepped);
     let entry = entry_of(p, &before, cpu, mem, &stepped);
     Made { stepped, entry }
 }

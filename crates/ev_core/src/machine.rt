@@ -1,7 +1,6 @@
 // The machine.
 
-ghost use Rattle.std.specs.Prelude.{◌≡◌, ◌<◌, ◌^◌, ℕ, true, List, [], ◌∷◌, ◌++◌, length, IfOk};
-ghost use Rattle.ev_isa.specs.Word.{NatMap};
+ghost use Rattle.std.specs.Prelude.{◌≡◌, ◌<◌, ◌^◌, ℕ, true, List, [], ◌∷◌, ◌++◌, length, None, IfOk};
 ghost use Rattle.ev_isa.specs.declared.mode.Mode.{Mode};
 ghost use Rattle.ev_body.specs.declared.image.Image.{Image};
 ghost use Rattle.ev_abstract.specs.declared.script_line.Line.{Line};
@@ -9,24 +8,24 @@ ghost use Rattle.ev_abstract.specs.declared.script_line.Line.TheVariants.{Turn};
 ghost use Rattle.ev_abstract.specs.Machine as abstract;
 ghost use Rattle.ev_abstract.specs.Run.{entries_of};
 ghost use Rattle.ev_body.specs.WellFormed.{IsImage};
-ghost use Rattle.ev_concrete.specs.ConcreteRun.{System, concrete_line, concrete_run, edges, marks_of, settled};
-ghost use Rattle.ev_concrete.specs.LiveWords.{IsSafeStep};
+ghost use Rattle.ev_concrete.specs.ConcreteRun.{System, concrete_line, concrete_run, is_visible, marks_of};
 ghost use Rattle.ev_built.specs.Built.{IsBuilt, mode_is_built};
-ghost use Rattle.ev_refine.specs.Relation.{Stands};
 ghost use Rattle.ev_core.specs.Local.{optional};
-ghost use Rattle.ev_core.specs.Run.{CanRun, Costs, IsAt, IsRun};
+ghost use Rattle.ev_core.specs.Run.{Costs, IsAt, IsRun, IsStandingAs};
+ghost use Rattle.ev_core.specs.Turns.{IsSettling, IsTurn};
 ghost use Rattle.ev_core.specs.Task.{IsTaskView};
 
 use crate::frame::keep;
-use crate::frames::Frames;
 use crate::local::all_at_start;
 use crate::settle::settle;
 use crate::state::State;
 use crate::steps::Steps;
 use crate::task_view::TaskView;
 use crate::totals::Totals;
+use arrayvec::ArrayVec;
 use ev_abstract::Entry;
 use ev_body::Image;
+use ev_event::FrameNote;
 use ev_isa::{Mode, NoMemory};
 use ev_layout::{Places, build};
 use std::alloc::Global;
@@ -55,7 +54,7 @@ impl Model for Machine {
 #[derive(Debug, Drop)]
 pub struct Turned {
     pub entry: Option<Entry>,
-    pub frames: Frames,
+    pub frames: ArrayVec<FrameNote, 2>,
 }
 
 impl Machine {
@@ -84,12 +83,16 @@ impl Machine {
         })
     }
 
-    /// Processor p makes edges and then one visible step: at most 1,024 steps, each counted. The
-    /// machine becomes the run of one line more, the entry is the abstract run's, and no frame holds
-    /// a word that was live.
+    /// Processor p makes edges and then one visible step: at most 1,024 steps, each counted. From
+    /// any state that stands for one of the abstract machine, that machine makes the turn too, with
+    /// the same entry, and no step writes over a live word. A run of a script becomes that of one
+    /// line more.
     pub fn turn<L: Ledger>(&mut self, p: usize, steps: &mut Steps<L>) -> Turned
         requires place { p < length self.old.parts.cpus }
         requires count { self.old.parts.totals.steps < 2 ^ 62 }
+        ensures turns { (mode : Mode) (image : Image) (s : System) (m : abstract.Machine)
+            → IsStandingAs mode image s m self.old
+            → IsTurn mode image s m p result self.new }
         ensures run { (mode : Mode) (image : Image) (script : List Line)
             → IsRun mode image script self.old → IsRun mode image (script ++ Turn p ∷ []) self.new }
         ensures entry { (mode : Mode) (image : Image) (script : List Line)
@@ -97,17 +100,13 @@ impl Machine {
             → optional result.entry ≡ entries_of image script (Turn p) }
         ensures frames { (mode : Mode) (image : Image) (script : List Line)
             → IsRun mode image script self.old
-            → result.frames ≡ (concrete_line (marks_of mode image) image.processors
+            → result.frames.items ≡ (concrete_line (marks_of mode image) image.processors
             (concrete_run mode image script).0 (Turn p)).1 }
-        ensures safe { (mode : Mode) (image : Image) (script : List Line)
-            → IsRun mode image script self.old → (k : ℕ)
-            → IsSafeStep mode image (edges k (marks_of mode image) image.processors
-            (concrete_run mode image script).0 p).0 p }
         ensures cost { Costs 1024 steps.old steps.new self.old self.new }
         ensures least { steps.old < steps.new }
         ensures same { length self.new.parts.cpus ≡ length self.old.parts.cpus }
     {
-        let mut frames = Frames::new();
+        let mut frames = ArrayVec::new();
         settle(&mut self.state, &self.places, p, &mut frames, steps);
         let shown = self.state.step(&self.places, p, steps);
         keep(&mut frames, shown.frame);
@@ -117,25 +116,27 @@ impl Machine {
         }
     }
 
-    /// Processor p makes edges, until its next step is visible, and the frames that they wrote are
-    /// answered. The abstract state stays.
-    pub fn settle<L: Ledger>(&mut self, p: usize, steps: &mut Steps<L>) -> Frames
+    /// Processor p makes edges, at most 1,023, until its next step is visible: there is no entry, the
+    /// abstract state stays, other processors stay settled or not, and no step writes over a live
+    /// word.
+    pub fn settle<L: Ledger>(&mut self, p: usize, steps: &mut Steps<L>) -> Turned
         requires place { p < length self.old.parts.cpus }
         requires count { self.old.parts.totals.steps < 2 ^ 62 }
-        ensures state { (mode : Mode) (image : Image) (s : System) → IsAt mode image s self.old
-            → IsAt mode image (settled (marks_of mode image) image.processors s p).0 self.new }
-        ensures frames { (mode : Mode) (image : Image) (s : System) → IsAt mode image s self.old
-            → result ≡ (settled (marks_of mode image) image.processors s p).1 }
-        ensures safe { (mode : Mode) (image : Image) (s : System) (can : CanRun mode image)
-            (left : NatMap ℕ) (m : abstract.Machine)
-            → IsAt mode image s self.old → Stands mode image left s m → (k : ℕ)
-            → IsSafeStep mode image (edges k (marks_of mode image) image.processors s p).0 p }
+        ensures settles { (mode : Mode) (image : Image) (s : System) (m : abstract.Machine)
+            → IsStandingAs mode image s m self.old
+            → IsSettling mode image s m p result self.new }
+        ensures seen { (mode : Mode) (image : Image) (s : System) → IsAt mode image s self.new
+            → is_visible (marks_of mode image) s p ≡ true }
+        ensures entry { result.entry ≡ None }
         ensures cost { Costs 1023 steps.old steps.new self.old self.new }
         ensures same { length self.new.parts.cpus ≡ length self.old.parts.cpus }
     {
-        let mut frames = Frames::new();
+        let mut frames = ArrayVec::new();
         settle(&mut self.state, &self.places, p, &mut frames, steps);
-        frames
+        Turned {
+            entry: None,
+            frames,
+        }
     }
 
     /// How many processors there are.
@@ -145,12 +146,12 @@ impl Machine {
         self.state.cpus.len()
     }
 
-    /// How many activations of handlers stand on processor p: as many as bodies.
+    /// How many bodies stand on processor p.
     pub fn depth(&self, p: usize) -> u8
         requires { p < length self.now.parts.cpus }
-        ensures { (mode : Mode) (image : Image) (s : System) (can : CanRun mode image)
-            (left : NatMap ℕ) (m : abstract.Machine) → IsAt mode image s self.now
-            → Stands mode image left s m → result ≡ length (abstract.processor m p).bodies }
+        ensures { (mode : Mode) (image : Image) (s : System) (m : abstract.Machine)
+            → IsStandingAs mode image s m self.now
+            → result ≡ length (abstract.processor m p).bodies }
     {
         self.state.locals[p].depth
     }
@@ -159,9 +160,8 @@ impl Machine {
     pub fn task(&self, p: usize, i: usize) -> TaskView
         requires place { p < length self.now.parts.cpus }
         requires task { i ≡ 0 }
-        ensures { (mode : Mode) (image : Image) (s : System) (can : CanRun mode image)
-            (left : NatMap ℕ) (m : abstract.Machine) → IsAt mode image s self.now
-            → Stands mode image left s m → (abstract.processor m p).bodies ≡ []
+        ensures { (mode : Mode) (image : Image) (s : System) (m : abstract.Machine)
+            → IsStandingAs mode image s m self.now → (abstract.processor m p).bodies ≡ []
             → IsTaskView result ((abstract.processor m p).tasks i) }
     {
         let cpu = &self.state.cpus[p];

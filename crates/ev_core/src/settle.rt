@@ -1,15 +1,16 @@
 // Edges up to a visible step.
 
-ghost use Rattle.std.specs.Prelude.{◌≡◌, ◌<◌, ◌≤◌, ◌+◌, ◌^◌, ℕ, [], length};
-ghost use Rattle.ev_concrete.specs.ConcreteRun.{System, settled};
+ghost use Rattle.std.specs.Prelude.{◌≡◌, ◌<◌, ◌≤◌, ◌+◌, ◌^◌, ℕ, true, [], length};
+ghost use Rattle.ev_concrete.specs.ConcreteRun.{System, is_visible, settled};
 ghost use Rattle.ev_layout.specs.Marks.{marks_in};
-ghost use Rattle.ev_core.specs.State.{Shows};
+ghost use Rattle.ev_core.specs.State.{EdgesTell, Shows};
 ghost use Rattle.ev_core.specs.Run.{Costs, IsStanding};
 
 use crate::frame::keep;
-use crate::frames::Frames;
 use crate::state::State;
 use crate::steps::Steps;
+use arrayvec::ArrayVec;
+use ev_event::FrameNote;
 use ev_layout::Places;
 use std::sync::ledger::Ledger;
 
@@ -21,17 +22,21 @@ pub(crate) fn settle<L: Ledger>(
     state: &mut State,
     places: &Places,
     p: usize,
-    frames: &mut Frames,
+    frames: &mut ArrayVec<FrameNote, 2>,
     steps: &mut Steps<L>,
 )
     requires place { p < length state.old.cpus }
     requires stands { IsStanding (record { parts = state.old; places = places.now }) }
     requires count { state.old.totals.steps < 2 ^ 62 }
-    requires empty { frames.old ≡ [] }
+    requires empty { frames.old.items ≡ [] }
     ensures settled { (n : ℕ) (s : System) → Shows n state.old s
+        → EdgesTell (marks_in places.now) n s p
         → Shows n state.new (settled (marks_in places.now) n s p).0 }
     ensures frames { (n : ℕ) (s : System) → Shows n state.old s
-        → frames.new ≡ (settled (marks_in places.now) n s p).1 }
+        → EdgesTell (marks_in places.now) n s p
+        → frames.new.items ≡ (settled (marks_in places.now) n s p).1 }
+    ensures seen { (n : ℕ) (s : System) → Shows n state.new s
+        → is_visible (marks_in places.now) s p ≡ true }
     ensures cost { Costs 1023 steps.old steps.new
         (record { parts = state.old; places = places.now })
         (record { parts = state.new; places = places.now }) }

@@ -7,7 +7,7 @@ ghost use Rattle.ev_concrete.specs.ConcreteRun.{System, concrete_step, is_visibl
 ghost use Rattle.ev_concrete.specs.Shown.{shown};
 ghost use Rattle.ev_layout.specs.Marks.{marks_in};
 ghost use Rattle.ev_core.specs.Local.{optional};
-ghost use Rattle.ev_core.specs.State.{AreParts, CanStep, Shows};
+ghost use Rattle.ev_core.specs.State.{AreParts, CanStep, Shows, TellsBodies};
 
 use crate::frame::frame_of;
 use crate::local::{Local, local_step};
@@ -66,7 +66,7 @@ impl State {
         requires place { p < length self.old.cpus }
         requires can { CanStep self.old p }
         requires count { self.old.totals.steps < 2 ^ 63 }
-        ensures shows { (n : ℕ) (s : System) → Shows n self.old s
+        ensures shows { (n : ℕ) (s : System) → Shows n self.old s → TellsBodies n s p
             → Shows n self.new (concrete_step n s p).0 }
         ensures frame { (n : ℕ) (s : System) → Shows n self.old s
             → optional result.frame ≡ (concrete_step n s p).1 }

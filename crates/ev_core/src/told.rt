@@ -8,7 +8,7 @@ ghost use Rattle.ev_concrete.specs.Shown.{queue_owner, record_site, record_word,
 ghost use Rattle.ev_core.specs.Local.{optional};
 
 use crate::entry::event_entry;
-use crate::visible::{NBODY, REPEAT};
+use crate::visible::is_in_repeat;
 use ev_abstract::Entry;
 use ev_event::{Event, EventType};
 use ev_isa::{Ins, Reg};
@@ -83,7 +83,8 @@ fn ran_of(p: u32, cpu: &Cpu, mem: &Mem) -> Entry
 
 /// The entry of a held NMI, which interrupts what the outermost copy of the frame says.
 fn again_of(p: u32, depth: u8, mem: &Mem) -> Entry
-    requires { p < 256 }
+    requires place { p < 256 }
+    requires room { depth < 255 }
     ensures { result ≡ shown_again p depth (memory mem.now).words }
 {
     let area = 0x10_0000 * u64::from(p);
@@ -96,13 +97,14 @@ fn again_of(p: u32, depth: u8, mem: &Mem) -> Entry
         info: 0,
         length: 0,
     };
-    event_entry(p, depth, user, &nmi, rip)
+    event_entry(p, depth + 1, user, &nmi, rip)
 }
 
 /// The entry of an instruction that always is seen.
 #[tactic(auto, unfolding(ev_concrete::specs::Shown::shown_always))]
 fn always_of(p: u32, depth: u8, cpu: &Cpu, mem: &Mem, instruction: &Option<Ins>) -> Option<Entry>
-    requires { p < 256 }
+    requires place { p < 256 }
+    requires room { depth < 255 }
     ensures { optional result ≡ shown_always p depth cpu.now
         (memory mem.now).words instruction.now }
 {
@@ -113,9 +115,7 @@ fn always_of(p: u32, depth: u8, cpu: &Cpu, mem: &Mem, instruction: &Option<Ins>)
         }),
         Some(Ins::Load(_, base, _)) if base.number() == 3 => wait_of(p, cpu, mem),
         Some(Ins::Store(base, _, _)) if base.number() == 3 => Some(ran_of(p, cpu, mem)),
-        Some(Ins::Jmp(_)) if REPEAT <= cpu.rip && cpu.rip < NBODY => {
-            Some(again_of(p, depth, mem))
-        }
+        Some(Ins::Jmp(_)) if is_in_repeat(cpu.rip) => Some(again_of(p, depth, mem)),
         _ => None,
     }
 }
@@ -129,7 +129,8 @@ pub(crate) fn told_of(
     mark: Mark,
     instruction: &Option<Ins>,
 ) -> Option<Entry>
-    requires { p < 256 }
+    requires place { p < 256 }
+    requires room { depth < 255 }
     ensures { optional result ≡ shown_instruction p depth cpu.now (memory mem.now).words
         (mark_of mark) instruction.now }
 {

@@ -3,7 +3,9 @@
 ghost use Rattle.std.specs.Prelude.{◌≡◌, ◌<◌, ◌-◌};
 ghost use Rattle.ev_mem.specs.Mapped.{memory};
 ghost use Rattle.ev_listing.specs.AddressMap.{stack_top};
-ghost use Rattle.ev_concrete.specs.ConcreteRun.{is_inner_nmi, is_seen, is_visible};
+ghost use Rattle.ev_concrete.specs.ConcreteRun.{is_inner_nmi, is_seen, is_visible, starts_inner};
+ghost use Rattle.ev_concrete.specs.Depth.{is_in_repeat};
+ghost use Rattle.ev_proc.specs.ProcessorStep.{next_of};
 ghost use Rattle.ev_layout.specs.Marks.{mark_of, marks_in};
 ghost use Rattle.ev_core.specs.Local.{still};
 
@@ -15,12 +17,22 @@ use ev_mem::Mem;
 use ev_proc::{has_fred, next};
 use ev_state::Cpu;
 
-// Where the NMI code goes on, and where the IDT handlers of NMIs end (own).
+// Under IDT: where NMIs are delivered, where their code goes on for one that was held, where it goes
+// to the body, and the last return (own).
+pub(crate) const NMI: u64 = 0xffff_ffff_8100_4000;
+
 pub(crate) const REPEAT: u64 = 0xffff_ffff_8100_4800;
 
-pub(crate) const NBODY: u64 = 0xffff_ffff_8100_4a00;
+const NBODY: u64 = 0xffff_ffff_8100_4a00;
 
-pub(crate) const LAST_RETURN: u64 = 0xffff_ffff_8100_5000;
+const LAST_RETURN: u64 = 0xffff_ffff_8100_5000;
+
+/// Whether an address lies in the code between the end of one NMI's body and the next (own).
+pub(crate) fn is_in_repeat(rip: u64) -> bool
+    ensures { result ≡ is_in_repeat rip }
+{
+    REPEAT <= rip && rip < NBODY
+}
 
 /// The word under the frame of the NMI stack, which is 1 while an NMI's first activation runs.
 fn nmi_running(p: u32, mem: &Mem) -> u64
@@ -37,9 +49,19 @@ fn is_inner_nmi(p: u32, cpu: &Cpu, local: &Local, mem: &Mem) -> bool
 {
     !has_fred(cpu)
         && !cpu.is_user()
-        && ((REPEAT <= cpu.rip && cpu.rip < NBODY)
-            || cpu.rip == LAST_RETURN
-            || nmi_running(p, mem) == 1)
+        && (is_in_repeat(cpu.rip) || cpu.rip == LAST_RETURN || nmi_running(p, mem) == 1)
+}
+
+/// Whether the next step is the delivery of an inner NMI.
+pub(crate) fn starts_inner(p: u32, cpu: &Cpu, local: &Local, mem: &Mem) -> bool
+    requires { p < 256 }
+    ensures { result ≡ starts_inner (still cpu.now local.now (memory mem.now)) p
+        (next_of cpu.now local.now.apic local.now.latch) }
+{
+    match next(cpu, &local.apic, local.latch) {
+        Next::Nmi => is_inner_nmi(p, cpu, local, mem),
+        _ => false,
+    }
 }
 
 /// Whether the abstract machine makes a step with a marked instruction.

@@ -1,5 +1,4 @@
 pub mod Writes
-pub mod Frames
 pub mod Settled
 pub mod Ends
 pub mod Shown
@@ -7,3 +6,4 @@ pub mod Rest
 pub mod Opened
 pub mod Parts
 pub mod Built
+pub mod Safe

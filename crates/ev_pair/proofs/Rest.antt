@@ -78,7 +78,7 @@ both_ends frames a b image script = ap (λ t. shown_end frames a image script ++
 
 -- ---- the lines before and from a place
 
-pub from_place : (ls : List Line) (i j : ℕ) (d : Line) → j ≡ suc i → i < length ls → drop i ls ≡ get_or ls i d ∷ drop j ls
+pub from_place : {X : Type 0} (ls : List X) (i j : ℕ) (d : X) → j ≡ suc i → i < length ls → drop i ls ≡ get_or ls i d ∷ drop j ls
 from_place ls i j d e lt = drop-cons ls i d lt ∙ ap (λ k. get_or ls i d ∷ drop k ls) (sym e)
 
 pub up_to_place : (ls : List Line) (i j : ℕ) (d : Line) → j ≡ suc i → i < length ls → take j ls ≡ take i ls ++ get_or ls i d ∷ []

@@ -1,34 +1,18 @@
 -- The machine of a run while its processors are settled in turn.
-use Rattle.std.proofs.Common.{◌≡◌, ℕ, suc, zero, ◌+◌, ◌<◌, ◌≤◌, List, [], ◌∷◌, ◌++◌, length, append_assoc, Some, None, ap, refl, sym, ◌∙◌, subst, arith}
-use Rattle.ev_isa.specs.Word.{NatMap, put_at, numbers_from}
+use Rattle.std.proofs.Common.{◌≡◌, ℕ, suc, zero, ◌+◌, ◌-◌, ◌<◌, ◌≤◌, Bool, true, false, List, [], ◌∷◌, ◌++◌, append_assoc, ap, refl, sym, ◌∙◌, arith}
+use Rattle.std.specs.Prelude.{flat_map}
+use Rattle.ev_isa.specs.Word.{numbers_from}
 use Rattle.ev_isa.specs.declared.mode.Mode.{Mode}
-use Rattle.ev_event.specs.declared.frame_note.FrameNote.{FrameNote}
 use Rattle.ev_body.specs.declared.image.Image.{Image}
 use Rattle.ev_abstract.specs.Run.{run}
+use Rattle.ev_abstract.specs.EntryText.{Text}
 use Rattle.ev_abstract.specs.declared.script_line.Line.{Line}
-use Rattle.ev_abstract.specs.declared.script_line.Line.TheVariants.{Turn}
-use Rattle.ev_trace.specs.FrameText.{Noted}
-use Rattle.ev_proc.specs.ProcessorStep.{After, step}
-use Rattle.ev_proc.specs.declared.stepped.Stepped.{Stepped}
-use Rattle.ev_concrete.specs.ConcreteRun.{System, Marks, marks_of, settled, noted, behind, all_settled, concrete_run, concrete_line, concrete_step, acted, after_step}
-use Rattle.ev_refine.specs.Relation.{Stands}
-use Rattle.ev_refine.specs.Claims.{Settles}
-use Rattle.ev_refine.proofs.Refine.{all_settle, runs_follow}
-use Rattle.ev_core.specs.Run.{MachineView, IsRun}
-use Rattle.ev_core.proofs.Edges.{quiet}
-
--- ---- frames of a step
-
-act_few : (n : ℕ) (s : System) (p : ℕ) (st : Stepped) → length (acted n s p st).1 ≤ 1
-act_few n s p Stepped.Ran = omega arith
-act_few n s p Stepped.Shutdown = omega arith
-act_few n s p (Stepped.Sent m) = omega arith
-act_few n s p (Stepped.Delivered x None) = omega arith
-act_few n s p (Stepped.Delivered x (Some a)) = omega arith
-
-step_few : (n : ℕ) (s : System) (p : ℕ) → length (concrete_step n s p).1 ≤ 1
-unfolding concrete_step
-step_few n s p = let r : After = step (s.cpus p) (s.apics p) s.memory (s.latches p) in act_few n (after_step s p r) p r.step
+use Rattle.ev_trace.specs.FrameText.{Noted, mode_text, frame_text}
+use Rattle.ev_concrete.specs.ConcreteRun.{System, Marks, marks_of, settled, noted, behind, all_settled, concrete_run}
+use Rattle.ev_concrete.specs.RunText.{shown_frames, settling}
+use Rattle.ev_refine.proofs.Refine.{runs_follow}
+use Rattle.ev_core.specs.Run.{MachineView, IsRun, IsStandingAs}
+use Rattle.ev_pair.specs.SideText.{side_at}
 
 -- ---- settling one processor more
 
@@ -61,9 +45,13 @@ module _ (marks : Marks) (n : ℕ) where
       → (all_settled marks n s (numbers_from 0 (suc k))).0 ≡ (settled marks n (all_settled marks n s (numbers_from 0 k)).0 k).0
   state_more s k = ap (λ (r : System × List Noted). r.0) (one_more s k)
 
-  pub frames_more : (s : System) (k : ℕ) → (all_settled marks n s (numbers_from 0 (suc k))).1
-      ≡ (all_settled marks n s (numbers_from 0 k)).1 ++ (noted k (settled marks n (all_settled marks n s (numbers_from 0 k)).0 k).1 ++ [])
-  frames_more s k = ap (λ (r : System × List Noted). r.1) (one_more s k)
+  -- the first of more processors is settled before the others
+  pub next_settled : (s : System) (k j n' : ℕ) → j ≡ suc k → k < n' → all_settled marks n s (numbers_from k (n' - k)) ≡ behind
+      (noted k (settled marks n s k).1) (all_settled marks n (settled marks n s k).0 (numbers_from j (n' - j)))
+  next_settled s k j n' e lt =
+      let d : n' - k ≡ suc (n' - suc k) = omega arith in
+      ap (λ i. all_settled marks n s (numbers_from k i)) d
+      ∙ ap (λ i. behind (noted k (settled marks n s k).1) (all_settled marks n (settled marks n s k).0 (numbers_from i (n' - i)))) (sym e)
 
 -- the run of a script, and then its first k processors are settled
 abbrev pub settled_first : Mode → Image → List Line → ℕ → System × List Noted
@@ -74,42 +62,55 @@ pub settled_next : (mode : Mode) (image : Image) (script : List Line) (k j : ℕ
 settled_next mode image script k j e = ap (λ i. (settled_first mode image script i).0) e ∙ state_more (marks_of mode image) image.processors
     (concrete_run mode image script).0 k
 
-module _ (mode : Mode) (image : Image) (script : List Line) (v : MachineView) (r : IsRun mode image script v) where
-  pub stands : (k : ℕ) → k ≤ image.processors → (left : NatMap ℕ) × Stands mode image left (settled_first mode image script k).0 (run image script)
-  stands zero lt = runs_follow mode image r.can.built r.can.mode_built r.can.image_is script r.script_is r.lines_built
-  stands (suc k) lt =
-      let before : (left : NatMap ℕ) × Stands mode image left (settled_first mode image script k).0 (run image script) = stands k (omega arith) in
-      let settles : Settles mode image before.0 (settled_first mode image script k).0 (run image script) k =
-      all_settle mode image r.can.built r.can.mode_built r.can.image_is before.0 (settled_first mode image script k).0 (run image script) before.1 k
-      (omega arith) in
-      let after = settles.after 1024 in (
-        put_at before.0 k after.0,
-        subst (λ s. Stands mode image (put_at before.0 k after.0) s (run image script))
-            (sym (state_more (marks_of mode image) image.processors (concrete_run mode image script).0 k)) after.1,
-      )
+-- ---- the frames of settling
 
-  -- settling writes no frame
-  pub quiet_next : (k : ℕ) → k < image.processors → (settled (marks_of mode image) image.processors (settled_first mode image script k).0 k).1 ≡ []
-  quiet_next k lt =
-      let here : (left : NatMap ℕ) × Stands mode image left (settled_first mode image script k).0 (run image script) = stands k (omega arith) in
-      quiet mode image r.can here.0 (settled_first mode image script k).0 (run image script) here.1 k lt 1024
+-- those of the processors from k on
+abbrev pub later_frames : Mode → Image → List Line → ℕ → List Noted
+later_frames mode image script k =
+    (all_settled (marks_of mode image) image.processors (settled_first mode image script k).0 (numbers_from k (image.processors - k))).1
 
-  pub quiet_so_far : (k : ℕ) → k ≤ image.processors → (settled_first mode image script k).1 ≡ []
-  quiet_so_far zero lt = refl
-  quiet_so_far (suc k) lt =
-      let before : (settled_first mode image script k).1 ≡ [] = quiet_so_far k (omega arith) in
-      let next : (settled (marks_of mode image) image.processors (settled_first mode image script k).0 k).1 ≡ [] = quiet_next k (omega arith) in
-      frames_more (marks_of mode image) image.processors (concrete_run mode image script).0 k ∙ (λ i. before i ++ (noted k (next i) ++ []))
+flat_map_both : {X Y : Type 0} (f : X → List Y) (xs ys : List X) → flat_map f (xs ++ ys) ≡ flat_map f xs ++ flat_map f ys
+flat_map_both f [] ys = refl
+flat_map_both f (x ∷ xs) ys = ap (λ zs. f x ++ zs) (flat_map_both f xs ys) ∙ sym (append_assoc (f x) (flat_map f xs) (flat_map f ys))
 
-  -- a turn writes at most two frames
-  pub few_frames : (p : ℕ) → p < image.processors
-      → length (concrete_line (marks_of mode image) image.processors (concrete_run mode image script).0 (Turn p)).1 ≤ 2
-  unfolding concrete_line
-  few_frames p lt =
-      let marks : Marks = marks_of mode image in
-      let s : System = (concrete_run mode image script).0 in
-      let here : (left : NatMap ℕ) × Stands mode image left s (run image script) = stands 0 (omega arith) in
-      let none : (settled marks image.processors s p).1 ≡ [] = quiet mode image r.can here.0 s (run image script) here.1 p lt 1024 in
-      let one : length (concrete_step image.processors (settled marks image.processors s p).0 p).1 ≤ 1 =
-      step_few image.processors (settled marks image.processors s p).0 p in
-      subst (λ (fs : List FrameNote). length (fs ++ (concrete_step image.processors (settled marks image.processors s p).0 p).1) ≤ 2) (sym none) (omega arith)
+shown_both : (frames : Bool) (mode : Mode) (xs ys : List Noted)
+    → shown_frames frames mode (xs ++ ys) ≡ shown_frames frames mode xs ++ shown_frames frames mode ys
+shown_both true mode xs ys = flat_map_both (frame_text (mode_text mode)) xs ys
+shown_both false mode xs ys = refl
+
+module _ (frames : Bool) (mode : Mode) (image : Image) (script : List Line) where
+  abbrev pub later_text : ℕ → Text
+  later_text k = shown_frames frames mode (later_frames mode image script k)
+
+  pub all_later : later_text 0 ≡ shown_frames frames mode (settling image (side_at mode image script)).1
+  all_later =
+      let e : image.processors - 0 ≡ image.processors = omega arith in
+      ap (λ n. shown_frames frames mode (all_settled (marks_of mode image) image.processors (concrete_run mode image script).0 (numbers_from 0 n)).1) e
+
+  -- those of processor k before those of the later ones
+  pub next_later : (k j : ℕ) → j ≡ suc k → k < image.processors → later_text k
+      ≡ shown_frames frames mode (noted k (settled (marks_of mode image) image.processors (settled_first mode image script k).0 k).1) ++ later_text j
+  next_later k j e lt =
+      ap (λ (r : System × List Noted). shown_frames frames mode r.1)
+      (next_settled (marks_of mode image) image.processors (settled_first mode image script k).0 k j image.processors e lt)
+      ∙ shown_both frames mode _ _
+      ∙ ap (λ s. shown_frames frames mode (noted k (settled (marks_of mode image) image.processors (settled_first mode image script k).0 k).1)
+      ++ shown_frames frames mode (all_settled (marks_of mode image) image.processors s (numbers_from j (image.processors - j))).1)
+      (sym (settled_next mode image script k j e))
+
+  pub none_later : (k : ℕ) → image.processors ≤ k → later_text k ≡ []
+  none_later k h =
+      let e : image.processors - k ≡ 0 = omega arith in
+      ap (λ n. shown_frames frames mode (all_settled (marks_of mode image) image.processors (settled_first mode image script k).0 (numbers_from k n)).1) e
+      ∙ nothing frames
+    where
+      nothing : (b : Bool) → shown_frames b mode [] ≡ []
+      nothing true = refl
+      nothing false = refl
+
+-- before settling, the machine stands for the abstract run
+pub run_stands : (mode : Mode) (image : Image) (script : List Line) (v : MachineView) → IsRun mode image script v
+    → IsStandingAs mode image (settled_first mode image script 0).0 (run image script) v
+run_stands mode image script v r =
+    let follows = runs_follow mode image r.can.built r.can.mode_built r.can.image_is script r.script_is r.lines_built in
+    record { can = r.can; at = r.at; left = follows.0; stands = follows.1 }

@@ -49,29 +49,3 @@ module _ (frames : Bool) (mode : Mode) (image : Image) where
   end_shown script t e =
       ap (λ x. shown_frames frames mode (settling image (side_at mode image script)).1 ++ all_end_lines (mode_text mode)
       (run image script) 0 image.processors ++ totals_text (mode_text mode) x) e
-
--- ---- no frame is shown
-
-no_text : (frames : Bool) (mode : Mode) (p : ℕ) → shown_frames frames mode (noted p []) ≡ []
-no_text true mode p = refl
-no_text false mode p = refl
-
-pub none_noted : (frames : Bool) (mode : Mode) (fs : List Noted) → fs ≡ [] → shown_frames frames mode fs ≡ []
-none_noted true mode fs e = ap (λ xs. shown_frames true mode xs) e
-none_noted false mode fs e = refl
-
-pub none_shown : (frames : Bool) (mode : Mode) (p : ℕ) (fs : List FrameNote) → fs ≡ [] → shown_frames frames mode (noted p fs) ≡ []
-none_shown frames mode p fs e = ap (λ xs. shown_frames frames mode (noted p xs)) e ∙ no_text frames mode p
-
-pub wrote_none : (old new : Option (List ℕ)) (t : Text) → t ≡ [] → new ≡ append_known old t → new ≡ old
-wrote_none old new t e h = h ∙ ap (append_known old) e ∙ nothing_written old
-
-take_none : (n : ℕ) → take n (let none : Text = [] in none) ≡ []
-take_none zero = refl
-take_none (suc n) = refl
-
-pub took_none : (old new : Option (List ℕ)) (t : Text) → t ≡ [] → TookPrefix old new t → new ≡ old
-took_none old new t e h = h.2 ∙ ap (λ x. append_known old (take h.0 x)) e ∙ ap (append_known old) (take_none h.0) ∙ nothing_written old
-
-pub prefix_none : (old new : Option (List ℕ)) (t : Text) → new ≡ old → TookPrefix old new t
-prefix_none old new t e = (0, omega arith, e ∙ sym (nothing_written old))

@@ -2,3 +2,4 @@ pub mod Outcome
 pub mod SideText
 pub mod Modes
 pub mod Agreement
+pub mod Safety

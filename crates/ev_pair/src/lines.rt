@@ -1,6 +1,6 @@
 // Lines of a run's text, each written as it is made.
 
-ghost use Rattle.std.specs.Prelude.{◌≡◌, ◌≤◌, length, OnOk, OnErr};
+ghost use Rattle.std.specs.Prelude.{◌≡◌, ◌≤◌, OnOk, OnErr};
 ghost use Rattle.std.specs.Io.KnownBytes.{append_known};
 ghost use Rattle.ev_io.specs.Transfer.{Rose, TookPrefix};
 ghost use Rattle.ev_abstract.specs.EntryText.{line_text, busy_words, state_words, trace_text};
@@ -11,7 +11,7 @@ ghost use Rattle.ev_core.specs.Local.{optional};
 
 use arrayvec::ArrayString;
 use ev_abstract::Entry;
-use ev_core::{Frames, TaskView, Totals};
+use ev_core::{TaskView, Totals};
 use ev_event::FrameNote;
 use ev_io::{Failed, Sink, put_all};
 use ev_isa::Mode;
@@ -32,25 +32,20 @@ fn put_frame<K: Sink>(sink: &mut K, mode: Mode, p: u32, frame: &FrameNote) -> Re
     put_all(sink, line.as_bytes())
 }
 
-/// The lines of frames, of which a turn writes at most two.
-fn put_frames<K: Sink>(sink: &mut K, mode: Mode, p: u32, frames: &Frames) -> Result<(), Failed>
-    ensures ok { length frames.now ≤ 2
-        → OnOk result (K.taken sink.new ≡ append_known (K.taken sink.old)
+/// The lines of frames.
+fn put_frames<K: Sink>(sink: &mut K, mode: Mode, p: u32, frames: &[FrameNote]) -> Result<(), Failed>
+    ensures ok { OnOk result (K.taken sink.new ≡ append_known (K.taken sink.old)
         (frames_text (mode_text mode) (noted p frames.now))) }
-    ensures failed { length frames.now ≤ 2
-        → OnErr result (TookPrefix (K.taken sink.old) (K.taken sink.new)
+    ensures failed { OnErr result
+        (TookPrefix (K.taken sink.old) (K.taken sink.new)
         (frames_text (mode_text mode) (noted p frames.now))) }
     ensures later { K.faults sink.old ≤ K.faults sink.new }
     ensures cause { OnErr result (Rose (K.faults sink.old) (K.faults sink.new)) }
 {
-    let Some(first) = frames.get(0) else {
-        return Ok(());
-    };
-    put_frame(sink, mode, p, first)?;
-    let Some(second) = frames.get(1) else {
-        return Ok(());
-    };
-    put_frame(sink, mode, p, second)
+    for frame in frames {
+        put_frame(sink, mode, p, frame)?;
+    }
+    Ok(())
 }
 
 /// The lines of frames, where they are asked for.
@@ -59,13 +54,12 @@ pub fn put_shown_frames<K: Sink>(
     shown: bool,
     mode: Mode,
     p: u32,
-    frames: &Frames,
+    frames: &[FrameNote],
 ) -> Result<(), Failed>
-    ensures ok { length frames.now ≤ 2
-        → OnOk result (K.taken sink.new ≡ append_known (K.taken sink.old)
+    ensures ok { OnOk result (K.taken sink.new ≡ append_known (K.taken sink.old)
         (shown_frames shown mode (noted p frames.now))) }
-    ensures failed { length frames.now ≤ 2
-        → OnErr result (TookPrefix (K.taken sink.old) (K.taken sink.new)
+    ensures failed { OnErr result
+        (TookPrefix (K.taken sink.old) (K.taken sink.new)
         (shown_frames shown mode (noted p frames.now))) }
     ensures later { K.faults sink.old ≤ K.faults sink.new }
     ensures cause { OnErr result (Rose (K.faults sink.old) (K.faults sink.new)) }

@@ -3,6 +3,7 @@
 ghost use Rattle.std.specs.Prelude.{◌≡◌, ◌<◌, ◌≤◌, ◌^◌, true, [], ◌∷◌, length, OnOk, OnErr};
 ghost use Rattle.std.specs.List.{list_all};
 ghost use Rattle.std.specs.Io.KnownBytes.{append_known};
+ghost use Rattle.ev_isa.specs.declared.mode.Mode.{Mode};
 ghost use Rattle.ev_isa.specs.declared.mode.Mode.TheVariants.{Idt, Fred};
 ghost use Rattle.ev_body.specs.declared.image.Image.{Image};
 ghost use Rattle.ev_io.specs.Transfer.{Rose, TookPrefix};
@@ -12,6 +13,7 @@ ghost use Rattle.ev_concrete.specs.RunText.{run_text};
 ghost use Rattle.ev_core.specs.Run.{IsRun};
 ghost use Rattle.ev_pair.specs.Modes.{all_built, modes_of};
 ghost use Rattle.ev_pair.specs.Outcome.{OnWriteFault};
+ghost use Rattle.ev_pair.specs.Safety.{RunIsSafe};
 
 use crate::fault::RunFault;
 use crate::modes::Modes;
@@ -185,6 +187,7 @@ fn run_counted<L: Ledger, K: Sink>(
 /// Runs a script on an image in the modes that are asked for, and writes the run's text, with its
 /// frames where they are asked for. Each line goes into the sink as it is made: a fault leaves a
 /// prefix of the text there. WriteFault means that the sink failed, NoMemory that memory was refused.
+/// In either mode no frame of the run holds a word that was live just before its step.
 pub fn run_modes<K: Sink>(
     alloc: Global,
     image: &Image,
@@ -202,8 +205,10 @@ pub fn run_modes<K: Sink>(
     ensures failed { OnErr result
         (TookPrefix (K.taken sink.old) (K.taken sink.new)
         (run_text image.now script.now (modes_of modes) frames)) }
+    ensures safe { (mode : Mode) → RunIsSafe mode image.now script.now }
     ensures later { K.faults sink.old ≤ K.faults sink.new }
     ensures cause { OnWriteFault result (Rose (K.faults sink.old) (K.faults sink.new)) }
 {
+    let _ = &image.processors;
     run_counted::<Brand, K>(alloc, image, script, modes, frames, sink, Blank::new(1))
 }

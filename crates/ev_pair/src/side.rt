@@ -1,19 +1,18 @@
 // One mode's side of a run.
 
-ghost use Rattle.std.specs.Prelude.{◌≡◌, ◌<◌, ◌≤◌, ◌+◌, ◌^◌, ℕ, true, List, [], ◌∷◌, ◌++◌, length, OnOk, OnErr};
+ghost use Rattle.std.specs.Prelude.{◌≡◌, ◌<◌, ◌≤◌, ◌+◌, ◌^◌, true, List, [], ◌∷◌, ◌++◌, length, OnOk, OnErr};
 ghost use Rattle.std.specs.Io.KnownBytes.{append_known};
-ghost use Rattle.ev_isa.specs.Word.{NatMap};
 ghost use Rattle.ev_body.specs.declared.image.Image.{Image};
 ghost use Rattle.ev_io.specs.Transfer.{Rose, TookPrefix};
 ghost use Rattle.ev_abstract.specs.declared.script_line.Line.{Line};
 ghost use Rattle.ev_abstract.specs.EntryText.{all_end_lines, end_lines};
 ghost use Rattle.ev_abstract.specs.Machine as abstract;
+ghost use Rattle.ev_abstract.specs.Run.{run};
 ghost use Rattle.ev_built.specs.Built.{line_is_built};
 ghost use Rattle.ev_trace.specs.FrameText.{mode_text};
 ghost use Rattle.ev_concrete.specs.ConcreteRun.{System};
 ghost use Rattle.ev_concrete.specs.RunText.{settling, shown_frames};
-ghost use Rattle.ev_refine.specs.Relation.{Stands};
-ghost use Rattle.ev_core.specs.Run.{CanRun, IsAt, IsRun};
+ghost use Rattle.ev_core.specs.Run.{IsRun, IsStandingAs};
 ghost use Rattle.ev_pair.specs.SideText.{shown_end, shown_line, side_at};
 
 use crate::lines::{put_busy, put_entry, put_shown_frames, put_task, put_totals};
@@ -53,7 +52,7 @@ pub fn put_line<L: Ledger, K: Sink>(
         return Ok(());
     };
     let turned = machine.turn(p as usize, steps);
-    put_shown_frames(sink, frames, mode, p, &turned.frames)?;
+    put_shown_frames(sink, frames, mode, p, turned.frames.as_slice())?;
     put_entry(sink, mode, &turned.entry)
 }
 
@@ -68,8 +67,9 @@ fn put_settling<L: Ledger, K: Sink>(
 ) -> Result<(), Failed>
     requires few { length machine.old.parts.cpus < 256 }
     requires count { machine.old.parts.totals.steps < 2 ^ 61 }
-    ensures at { (image : Image) (script : List Line) → IsRun mode image script machine.old
-        → OnOk result (IsAt mode image (settling image (side_at mode image script)).0 machine.new) }
+    ensures so { (image : Image) (script : List Line) → IsRun mode image script machine.old
+        → OnOk result (IsStandingAs mode image (settling image (side_at mode image script)).0
+        (run image script) machine.new) }
     ensures ok { (image : Image) (script : List Line) → IsRun mode image script machine.old
         → OnOk result (K.taken sink.new ≡ append_known (K.taken sink.old)
         (shown_frames frames mode (settling image (side_at mode image script)).1)) }
@@ -83,7 +83,7 @@ fn put_settling<L: Ledger, K: Sink>(
     let processors = machine.processors();
     for p in 0..processors {
         let settled = machine.settle(p, steps);
-        put_shown_frames(sink, frames, mode, p as u32, &settled)?;
+        put_shown_frames(sink, frames, mode, p as u32, settled.frames.as_slice())?;
     }
     Ok(())
 }
@@ -92,13 +92,13 @@ fn put_settling<L: Ledger, K: Sink>(
 fn put_state<K: Sink>(machine: &Machine, mode: Mode, p: usize, sink: &mut K) -> Result<(), Failed>
     requires place { p < length machine.now.parts.cpus }
     requires few { length machine.now.parts.cpus < 256 }
-    ensures ok { (image : Image) (s : System) (can : CanRun mode image) (left : NatMap ℕ)
-        (m : abstract.Machine) → IsAt mode image s machine.now → Stands mode image left s m
+    ensures ok { (image : Image) (s : System) (m : abstract.Machine)
+        → IsStandingAs mode image s m machine.now
         → OnOk result (K.taken sink.new ≡ append_known (K.taken sink.old)
         (end_lines (mode_text mode) p (abstract.processor m p)
         (length (abstract.processor m p).bodies))) }
-    ensures failed { (image : Image) (s : System) (can : CanRun mode image) (left : NatMap ℕ)
-        (m : abstract.Machine) → IsAt mode image s machine.now → Stands mode image left s m
+    ensures failed { (image : Image) (s : System) (m : abstract.Machine)
+        → IsStandingAs mode image s m machine.now
         → OnErr result (TookPrefix (K.taken sink.old) (K.taken sink.new)
         (end_lines (mode_text mode) p (abstract.processor m p)
         (length (abstract.processor m p).bodies))) }
@@ -115,12 +115,12 @@ fn put_state<K: Sink>(machine: &Machine, mode: Mode, p: usize, sink: &mut K) -> 
 /// The states of all processors.
 fn put_states<K: Sink>(machine: &Machine, mode: Mode, sink: &mut K) -> Result<(), Failed>
     requires few { length machine.now.parts.cpus < 256 }
-    ensures ok { (image : Image) (s : System) (can : CanRun mode image) (left : NatMap ℕ)
-        (m : abstract.Machine) → IsAt mode image s machine.now → Stands mode image left s m
+    ensures ok { (image : Image) (s : System) (m : abstract.Machine)
+        → IsStandingAs mode image s m machine.now
         → OnOk result (K.taken sink.new ≡ append_known (K.taken sink.old)
         (all_end_lines (mode_text mode) m 0 image.processors)) }
-    ensures failed { (image : Image) (s : System) (can : CanRun mode image) (left : NatMap ℕ)
-        (m : abstract.Machine) → IsAt mode image s machine.now → Stands mode image left s m
+    ensures failed { (image : Image) (s : System) (m : abstract.Machine)
+        → IsStandingAs mode image s m machine.now
         → OnErr result (TookPrefix (K.taken sink.old) (K.taken sink.new)
         (all_end_lines (mode_text mode) m 0 image.processors)) }
     ensures later { K.faults sink.old ≤ K.faults sink.new }

@@ -1,6 +1,6 @@
 -- A step of a processor on which a body stands: an instruction of the kernel's code, an item, or the return.
 use Rattle.std.proofs.Common.{◌≡◌, ◌⊎◌, inl, inr, ℕ, suc, ◌+◌, ◌-◌, ◌%◌, ◌^◌, ◌<◌, ◌≤◌, Bool, true, false, not, ◌&&◌, List, [], ◌∷◌, get_or, map, length, Option, Some, None, refl, sym, ap, ◌∙◌, subst, arith}
-use Rattle.std.specs.Prelude.{pos, if◌then◌else◌, slice_get, nat_le}
+use Rattle.std.specs.Prelude.{pos, if◌then◌else◌, slice_get, nat_le, nat_lt}
 use Rattle.std.specs.List.{list_any}
 use Rattle.std.proofs.lemmas.Bool.{leb-true, leb-false}
 use Rattle.ev_isa.specs.Word.{NatMap, put_at, bit, is_canonical, displaced, greatest_below}
@@ -14,7 +14,7 @@ use Rattle.ev_body.specs.declared.item.Item.TheVariants.{Log, Ret}
 use Rattle.ev_body.specs.declared.body.Body.{Body}
 use Rattle.ev_body.specs.declared.image.Image.{Image}
 use Rattle.ev_body.specs.WellFormed.{IsImage}
-use Rattle.ev_listing.specs.AddressMap.{stack_top, body_code}
+use Rattle.ev_listing.specs.AddressMap.{stack_top, nmi_entry, repeat_entry, body_code}
 use Rattle.ev_listing.specs.Expansion.{item_address}
 use Rattle.ev_state.specs.Processor.{Processor, is_user}
 use Rattle.ev_apic.specs.declared.apic.Apic.{Apic}
@@ -31,7 +31,7 @@ use Rattle.ev_abstract.specs.Machine.{Machine, processor, with_processor, task}
 use Rattle.ev_abstract.specs.Machine as abstract
 use Rattle.ev_abstract.specs.Run.{item_at, item_or_nothing, next_step, chosen_step, turn}
 use Rattle.ev_concrete.specs.ConcreteRun.{System, Activation, marks_of, is_return, without_last, activations_by}
-use Rattle.ev_concrete.specs.LiveWords.{IsSafeStep}
+use Rattle.ev_concrete.specs.Depth.{is_in_repeat, bodies_on, is_jump, ends_body, begins_body}
 use Rattle.ev_built.specs.Built.{IsBuilt}
 use Rattle.ev_symbolic.specs.Value.{M}
 use Rattle.ev_symbolic.specs.State.{SS, Block, absolute}
@@ -44,17 +44,18 @@ use Rattle.ev_symbolic.proofs.Sound.{executes, reg_ok, step_ok}
 use Rattle.ev_symbolic.proofs.Blocks.{earlier, goes_on, at_end, cell_step, joined}
 use Rattle.ev_activation.specs.Activation.{Kind, SystemCall, Spot, AtEntry, AtItem, AtExit}
 use Rattle.ev_table.specs.Table.{code_table, other_exit, body_jump, task_return, task_return_cell, RetCell}
-use Rattle.ev_refine.specs.Relation.{block_of, edges_of, item_place, address_of_item, RunsTask, here, top_of, rest_in, InItem, Leaving, Means, Active, IsContext, StandsOver, Beneath, keeps_cr2, Chain, most_edges, StandsOn, Stands}
-use Rattle.ev_refine.specs.Claims.{MakesEdge, MakesTurn}
+use Rattle.ev_refine.specs.Relation.{block_of, edges_of, item_place, address_of_item, RunsTask, here, top_of, rest_in, InItem, Leaving, Means, Active, IsContext, StandsOver, Beneath, keeps_cr2, Chain, Acts, most_edges, StandsOn, Stands}
+use Rattle.ev_refine.specs.Claims.{MakesEdge, MakesTurn, Simulated}
 use Rattle.ev_concrete.specs.Shown.{shown_always}
 use Rattle.ev_refine.proofs.Facts.{Facts}
 use Rattle.ev_refine.proofs.Maps.{at_same}
 use Rattle.ev_refine.proofs.ModeFacts.{is_fred}
-use Rattle.ev_refine.proofs.Spots.{ground_of, ground_is, end_of, runs_to_end, no_steps, entry_ends, exit_ends, jumps_to_body, values_of, opens_item, OpensItem, item_opening, SaysSame, any_item, exit_opening, exit_at, exit_canonical, log_moves, begins_body, means_item, controls, IsReturn, task_returns, not_repeated, one_less, less_in_item, less_in_exit, few_in_item}
+use Rattle.ev_refine.proofs.Spots.{ground_of, ground_is, end_of, runs_to_end, no_steps, entry_ends, exit_ends, jumps_to_body, values_of, opens_item, OpensItem, item_opening, SaysSame, any_item, exit_opening, exit_at, exit_canonical, log_moves, enters_body, means_item, controls, IsReturn, task_returns, not_repeated, one_less, less_in_item, less_in_exit, few_in_item}
 use Rattle.ev_refine.proofs.Fits.{fits_at, opens_at, leaves_fixed, leaves_mark, leaves_top, leaves_task}
 use Rattle.ev_refine.proofs.Instructions.{stays_inside, jumped, jump_by_register, jump}
-use Rattle.ev_refine.proofs.Standing.{instruction_first, hidden, seen, after_ran, Runs, ran_step, ran_safe, ran_shown, ran_stays, ran_returns, with_cr2, stands_on_after, stands_after}
+use Rattle.ev_refine.proofs.Standing.{instruction_first, hidden, seen, after_ran, Runs, ran_step, ran_writes, ran_safe, ran_shown, ran_stays, ran_returns, with_cr2, stands_on_after, stands_after}
 use Rattle.ev_refine.proofs.Return.{returns}
+use Rattle.ev_refine.proofs.Depth.{body_at, stands_depth, chain_outside, goes_on_inside, ends_a_body, ran_counts}
 use Rattle.ev_refine.proofs.Items.{Today, IsLog, IsRet, which, behind_log, local_is}
 
 -- ---- numbers
@@ -64,15 +65,6 @@ plus_zero n h = omega arith
 
 zero_plus : (n : ℕ) → n + 16 < 2 ^ 64 → n ≡ (0 + n) % M
 zero_plus n h = omega arith
-
-none_left : (xs : List Activation) → length xs ≡ 1 → length (without_last xs) ≡ 0
-none_left [] h = absurd (omega arith)
-none_left (a ∷ as') h = let e : suc (length as') ≡ 1 = h in omega arith
-
--- the body of a context
-body_at : (o : Option Body) (n : ℕ) (i : Item) → item_at o n ≡ Some i → (body : Body) × (o ≡ Some body) × (item_at (Some body) n ≡ Some i)
-body_at None n i h = absurd (cc)
-body_at (Some b) n i h = (b, refl, h)
 
 module _ (mode : Mode) (image : Image) (built : IsBuilt image) (good : IsImage image) (facts : Facts mode image)
     (left : NatMap ℕ) (s : System) (m : Machine) (h : Stands mode image left s m) (p : ℕ) (hp : p < image.processors) where
@@ -86,10 +78,13 @@ module _ (mode : Mode) (image : Image) (built : IsBuilt image) (good : IsImage i
   x = processor m p
 
   abbrev Result : Type 0
-  Result = (MakesEdge mode image left s m p ⊎ MakesTurn mode image left s m p) × IsSafeStep mode image s p
+  Result = Simulated mode image left s m p
 
   on : StandsOn mode image p (left p) s x
   on = h.each p hp
+
+  depth : bodies_on s p ≡ length x.bodies
+  depth = stands_depth mode image facts p (left p) s x on
 
   small : p < 32
   small = let n = good.count.1 in omega arith
@@ -150,48 +145,58 @@ module _ (mode : Mode) (image : Image) (built : IsBuilt image) (good : IsImage i
         (omega arith) (leaves_mark mode image facts p small hp w b v f top s.memory.words words wrote)
         (leaves_top mode image facts p small hp w b v f top s.memory.words words wrote)
         (leaves_task mode image facts p small hp w b v f top s.memory.words words wrote)
-        (ap length (ran_stays s p cpu cell.ins (fetches c.rip cell hc).1 hr) ∙ on.depth) hb chain in (
-          inl (record {
+        (subst (Acts mode image x.bodies) (sym (ran_stays s p cpu cell.ins (fetches c.rip cell hc).1 hr)) on.acts) hb chain in
+        record {
+          safe = ran_safe mode image s p cpu words run;
+          counts = ran_counts image.processors s p cpu words cell.ins run (fetches c.rip cell hc).1 (length x.bodies) (length x.bodies) depth
+              (stands_depth mode image facts p now (after_ran s p cpu words) x there) (goes_on_inside (is_return (Some cell.ins)) (not (is_user c))
+              (not (nat_le nmi_entry c.rip && nat_lt c.rip repeat_entry)) (is_jump (Some cell.ins)) (is_in_repeat c.rip) (length x.bodies)
+              hr (chain_outside mode image facts p (left p) x.running (task x) x.bodies c s.memory on.chain bodies));
+          how = inl (record {
             hidden = hidden (marks_of mode image) s p first hu (facts.unmarked c.rip cell hc hm);
-            now_left = now;
-            fewer = fewer;
+            now = put_at left p now;
+            fewer = subst (λ n. n < left p) (sym (at_same left p p now refl)) fewer;
             stands = subst (λ z. Stands mode image (put_at left p now) z.0 m) (sym (ran_step image.processors s p cpu words run))
                 (stands_after mode image built left s m m p now cpu words h hp
                 (leaves_fixed mode image facts p small hp w b v f top s.memory.words words wrote) refl refl there);
-          }),
-          ran_safe mode image s p cpu words run,
-        )
+            writes = ran_writes image.processors s p cpu words run;
+          });
+        }
 
     visible : (v : ℕ → ℕ) (f : Flags) (cell : Cell) → code c.rip ≡ Some cell → cell.mark ≡ true → is_user c ≡ false
         → (cpu : Processor) (words : NatMap ℕ) → Executes cell.ins cpu words → cpu.nmi_blocked ≡ false
         → Within (env b v f) (ground_of mode).own (ground_of mode).shared s.memory.words words
-        → (bs : List BodyContext) → length (activations_by s p (s.activations p) cpu Stepped.Ran) ≡ length bs
+        → (bs : List BodyContext) → Acts mode image bs (activations_by s p (s.activations p) cpu Stepped.Ran)
+        → (if ends_body c (Some cell.ins) then length x.bodies - 1
+        else (if begins_body c (Some cell.ins) then suc (length x.bodies) else length x.bodies)) ≡ length bs
         → (now : ℕ) → now ≤ most_edges mode image → Chain mode image p now x.running (task x) bs cpu (with_words s.memory words)
-        → (es : List Entry) → shown_always p (length (s.activations p)) c s.memory.words (Some cell.ins) ≡ es
+        → (es : List Entry) → shown_always p (bodies_on s p) c s.memory.words (Some cell.ins) ≡ es
         → turn image m p ≡ (with_processor m p (record x { bodies = bs }), es) → Result
-    visible v f cell hc hm hu cpu words he hb wrote bs depth now few chain es hes ht =
+    visible v f cell hc hm hu cpu words he hb wrote bs acts told now few chain es hes ht =
         let run : Runs s p cpu words = runs cell hc hu cpu words he in
         let there : StandsOn mode image p now (after_ran s p cpu words) (record x { bodies = bs }) =
         stands_on_after mode image built p (left p) now s x cpu words bs on few
         (leaves_mark mode image facts p small hp w b v f top s.memory.words words wrote)
         (leaves_top mode image facts p small hp w b v f top s.memory.words words wrote)
-        (leaves_task mode image facts p small hp w b v f top s.memory.words words wrote) depth hb chain in
+        (leaves_task mode image facts p small hp w b v f top s.memory.words words wrote) acts hb chain in
         let placed : StandsOn mode image p now (after_ran s p cpu words) (put_at m.processors p (record x { bodies = bs }) p) =
         subst (StandsOn mode image p now (after_ran s p cpu words)) (sym (at_same m.processors p p (record x { bodies = bs }) refl)) there in
         let all : Stands mode image (put_at left p now) (after_ran s p cpu words) (with_processor m p (record x { bodies = bs })) =
         stands_after mode image built left s m (with_processor m p (record x { bodies = bs })) p now cpu words h hp
         (leaves_fixed mode image facts p small hp w b v f top s.memory.words words wrote) refl refl placed in
         let turned : Stands mode image (put_at left p now) (after_ran s p cpu words) (turn image m p).0 =
-        subst (λ z. Stands mode image (put_at left p now) (after_ran s p cpu words) z.0) (sym ht) all in (
-          inr (record {
+        subst (λ z. Stands mode image (put_at left p now) (after_ran s p cpu words) z.0) (sym ht) all in record {
+          safe = ran_safe mode image s p cpu words run;
+          counts = ran_counts image.processors s p cpu words cell.ins run (fetches c.rip cell hc).1 (length x.bodies) (length bs) depth
+              (stands_depth mode image facts p now (after_ran s p cpu words) (record x { bodies = bs }) there) told;
+          how = inr (record {
             seen = seen (marks_of mode image) s p first hu (facts.marked c.rip cell hc hm);
-            now_left = now;
+            now = put_at left p now;
             stands = subst (λ z. Stands mode image (put_at left p now) z.0 (turn image m p).0) (sym (ran_step image.processors s p cpu words run)) turned;
             entries = ran_shown (marks_of mode image) s p cpu words cell.ins run hu (facts.marked c.rip cell hc hm) (fetches c.rip cell hc).1
                 ∙ hes ∙ sym (ap (λ (y : Step). y.1) ht);
-          }),
-          ran_safe mode image s p cpu words run,
-        )
+          });
+        }
 
     -- ---- the abstract machine's step
 
@@ -214,6 +219,11 @@ module _ (mode : Mode) (image : Image) (built : IsBuilt image) (good : IsImage i
         turns Ret hi ∙ ap (λ bs. (with_processor m p (dropped image b x (below_last bs)), [])) bodies
         ∙ ap (λ z. (with_processor m p (if z && not (is_nmi_body image b) then rescheduled (record x { bodies = [] }) else record x { bodies = [] }), []))
         on.resched
+
+    -- the activation that stands alone is gone
+    none_left : (a : BodyContext) (xs : List Activation) → Acts mode image (a ∷ []) xs → without_last xs ≡ []
+    none_left a [] h = absurd h
+    none_left a (y ∷ ys) h = h.1
 
     -- ---- inside a block
 
@@ -246,7 +256,7 @@ module _ (mode : Mode) (image : Image) (built : IsBuilt image) (good : IsImage i
         let io : OpensItem (block AtItem).opening = item_opening mode in
         let cell : Cell = edge_cell (JmpReg 0) (body_jump mode + 2) in
         let hc : code c.rip ≡ Some cell = ap code (a.rip ∙ entry_ends mode e refl) ∙ facts.body_jump_cell in
-        let begun = begins_body image mode v w b means in
+        let begun = enters_body image mode v w b means in
         let rax : get_or c.regs 0 0 ≡ v 24 = reg_ok e (block AtEntry).ground at.fits.ground (end_of mode AtEntry) c s.memory
         (at_end code (block AtEntry) (block AtEntry).steps (end_of mode AtEntry) (runs_to_end mode AtEntry) e c s.memory at) 0
         ∙ ap (eval e) (jumps_to_body mode) in
@@ -290,7 +300,7 @@ module _ (mode : Mode) (image : Image) (built : IsBuilt image) (good : IsImage i
 
     at_log : (v : ℕ → ℕ) (f : Flags) → At code (block AtItem) 0 (env b v f) c s.memory → InItem mode image v w b → length c.regs ≡ 16
         → (body : Body) → slice_get image.bodies b.body ≡ Some body → (q : ℕ) → item_at (Some body) b.place ≡ Some (Log q) → 6 ≤ q → q < 14 → Result
-    unfolding is_return shown_always
+    unfolding is_return is_jump shown_always
     at_log v f at means long body is q hi lo hq =
         let e : Env = env b v f in
         let o : SS = (block AtItem).opening in
@@ -343,7 +353,8 @@ module _ (mode : Mode) (image : Image) (built : IsBuilt image) (good : IsImage i
           long = st.long ∙ long;
         } in
         visible v f cell hc refl hu st.cpu st.words st.runs (st.blocking ∙ on.blocking) st.within (onward b ∷ [])
-        (ap length (ran_stays s p st.cpu cell.ins (fetches c.rip cell hc).1 refl) ∙ on.depth ∙ ap length bodies) (edges_of mode AtItem 0)
+        (subst (Acts mode image (b ∷ [])) (sym (ran_stays s p st.cpu cell.ins (fetches c.rip cell hc).1 refl)) (subst (λ bs. Acts mode image bs (s.activations p))
+        bodies on.acts)) (ap length bodies) (edges_of mode AtItem 0)
         (few_in_item mode image)
         (w, SystemCall, refl, on_next, λ a. with_cr2 mode image p x.running (task x) w a r, act)
         (Entry.Log p (local b q) ∷ [])
@@ -412,9 +423,11 @@ module _ (mode : Mode) (image : Image) (built : IsBuilt image) (good : IsImage i
         returns image mode p small x.running (task x) on.running w r b v f c s.memory a means.saved cell.next (sym (facts.spaced c.rip cell hc))
         on.blocking in
         visible v f cell hc is.marked hu back s.memory.words does (ap (λ (y : Processor). y.nmi_blocked) r.is) (λ y far far'. refl) []
-        (ap length (ran_returns s p back cell.ins (fetches c.rip cell hc).1 is.returns hu (not_repeated mode c back rip))
-        ∙ none_left (s.activations p) (on.depth ∙ ap length bodies)) 0 (omega arith)
-        (with_cr2 mode image p x.running (task x) w c.cr2 r) [] (is.silent p (length (s.activations p)) c s.memory.words) (ret_turn means.ret)
+        (ran_returns s p back cell.ins (fetches c.rip cell hc).1 is.returns hu (not_repeated mode c back rip)
+        ∙ none_left b (s.activations p) (subst (λ bs. Acts mode image bs (s.activations p)) bodies on.acts))
+        (ap (λ e. if e then length x.bodies - 1 else (if begins_body c (Some cell.ins) then suc (length x.bodies) else length x.bodies))
+        (ends_a_body mode (Some cell.ins) c rip hu is.returns) ∙ ap (λ (bs : List BodyContext). length bs - 1) bodies) 0 (omega arith)
+        (with_cr2 mode image p x.running (task x) w c.cr2 r) [] (is.silent p (bodies_on s p) c s.memory.words) (ret_turn means.ret)
 
     -- ---- every step
 

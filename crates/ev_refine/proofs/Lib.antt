@@ -7,6 +7,7 @@ pub mod ModeFacts
 pub mod Spots
 pub mod Fits
 pub mod Standing
+pub mod Depth
 pub mod Return
 pub mod Items
 pub mod Instructions

@@ -77,7 +77,7 @@ module _ (mode : Mode) (image : Image) (built : IsBuilt image) where
         mark = subst (λ q. first_word mode image (pcpu q + 0x20) ≡ 0) (sym h) (mark_zero _ mode image built.one_processor);
         top_is = subst (λ q. first_word mode image (pcpu q + 0x10) ≡ stack_top q 0) (sym h) (first_top _ mode image built.one_processor);
         task_is = subst (λ q. first_word mode image (pcpu q + 0x18) ≡ task_words q 0) (sym h) (first_task _ mode image built.one_processor);
-        depth = refl;
+        acts = refl;
         chain = record {
           is = refl;
           gs = ap (λ (t : TaskSpec). t.gs) spec ∙ built.no_base;

@@ -10,7 +10,7 @@ use Rattle.ev_concrete.specs.ConcreteRun.{System}
 use Rattle.ev_built.specs.Built.{IsBuilt}
 use Rattle.ev_activation.specs.Activation.{SystemCall, AtEntry}
 use Rattle.ev_refine.specs.Relation.{Stands, here}
-use Rattle.ev_refine.specs.Claims.{Simulated, Refines, Opens, AllSettle, TurnsFollow, RunsFollow, StandsTells}
+use Rattle.ev_refine.specs.Claims.{Simulated, Refines, Opens, AllSettle, KeepsSettled, TurnsFollow, RunsFollow, EndsFollow, RunsAreSafe, StandsTells}
 use Rattle.ev_refine.proofs.Facts.{Facts}
 use Rattle.ev_refine.proofs.CodeFacts.{facts}
 use Rattle.ev_symbolic.specs.State.{Ground}
@@ -45,11 +45,9 @@ module _ (mode : Mode) (image : Image) (built : IsBuilt image) (given : IsImage 
 
       by_bodies : (bs : List BodyContext) → (processor m p).bodies ≡ bs → Simulated mode image left s m p
       by_bodies [] q =
-          let r = user_turn mode image given built code left s m h p lt q (fits_at mode image code p small lt AtEntry) opened in
-          record { safe = r.1; how = inr r.0 }
+          user_turn mode image given built code left s m h p lt q (fits_at mode image code p small lt AtEntry) opened
       by_bodies (b ∷ below) q =
-          let r = kernel_step mode image built given code left s m h p lt b below q in
-          record { safe = r.1; how = r.0 }
+          kernel_step mode image built given code left s m h p lt b below q
 
 pub refines : Refines
 refines mode image built h given left s m r p lt = simulates mode image built given left s m r p lt
@@ -57,15 +55,28 @@ refines mode image built h given left s m r p lt = simulates mode image built gi
 pub opens : Opens
 opens mode image built h given = opening.opens mode image built given
 
+-- there is one processor
+pub keeps_settled : KeepsSettled
+keeps_settled mode image built h given left s m r p q lt lt' differ hidden = let one = built.one_processor in absurd (differ (omega arith))
+
 pub all_settle : AllSettle
-all_settle mode image built h given left s m r p lt = runs.settles mode image (refines mode image built h given) left s m r p lt
+all_settle mode image built h given left s m r p lt = runs.settles mode image (refines mode image built h given) (keeps_settled mode image built h given) left s m r p lt
 
 pub turns_follow : TurnsFollow
-turns_follow mode image built h given left s m r p lt = runs.turn_follows mode image (refines mode image built h given) left s m r p lt
+turns_follow mode image built h given left s m r p lt = runs.turn_follows mode image (refines mode image built h given) (keeps_settled mode image built h given) left s m r p lt
 
 pub runs_follow : RunsFollow
-runs_follow mode image built h given script i b = runs.lines_follow mode image (refines mode image built h given) script (λ p. 0) _ _
-    (opens mode image built h given) i b
+runs_follow mode image built h given script i b = runs.lines_follow mode image (refines mode image built h given) (keeps_settled mode image built h given) script
+    (λ p. 0) _ _ (opens mode image built h given) i b
+
+pub ends_follow : EndsFollow
+ends_follow mode image built h given script i b q lt =
+    let r = runs_follow mode image built h given script i b in
+    runs.settled_first mode image (refines mode image built h given) (keeps_settled mode image built h given) q r.0 _ _ r.1 lt
+
+pub runs_are_safe : RunsAreSafe
+runs_are_safe mode image built h given script i b q lt p lt' k =
+    let r = ends_follow mode image built h given script i b q lt in (all_settle mode image built h given r.left _ _ r.stands p lt').safe k
 
 pub tells : StandsTells
 tells mode image built h given left s m r p lt = telling.stands_tells mode image given (facts mode image given built) left s m r p lt

@@ -1,36 +1,26 @@
 -- From single steps to edges, turns and scripts: inductions over the step theorem.
-use Rattle.std.proofs.Common.{◌≡◌, ℕ, zero, suc, ◌<◌, ◌≤◌, ◌⊎◌, inl, inr, ⊎_elim, Bool, true, false, ◌&&◌, List, [], ◌∷◌, refl, sym, ap, ◌∙◌, subst, arith}
-use Rattle.std.specs.Prelude.{◌==◌}
+use Rattle.std.proofs.Common.{◌≡◌, ◌≢◌, ℕ, zero, suc, ◌+◌, ◌<◌, ◌≤◌, ◌⊎◌, inl, inr, ⊎_elim, Bool, true, false, ◌&&◌, List, [], ◌∷◌, ◌++◌, length, Some, None, refl, sym, ap, ◌∙◌, subst, arith}
+use Rattle.std.specs.Prelude.{if◌then◌else◌}
 use Rattle.std.specs.List.{list_all}
-use Rattle.std.proofs.lemmas.Bool.{eqb-true, ltb-true}
-use Rattle.ev_isa.specs.Word.{NatMap, put_at}
+use Rattle.std.proofs.lemmas.Bool.{ltb-true}
+use Rattle.std.proofs.lemmas.Bool.Decides.{eqb_tells, leb_tells}
+use Rattle.std.proofs.lemmas.List.{length-append}
+use Rattle.ev_isa.specs.Word.{NatMap, numbers_from}
 use Rattle.ev_isa.specs.declared.mode.Mode.{Mode}
+use Rattle.ev_event.specs.declared.frame_note.FrameNote.{FrameNote}
 use Rattle.ev_body.specs.declared.image.Image.{Image}
-use Rattle.ev_abstract.specs.Machine.{Machine, processor}
+use Rattle.ev_abstract.specs.Machine.{Machine}
 use Rattle.ev_abstract.specs.Run.{turn, line_step, after}
 use Rattle.ev_abstract.specs.Script.{IsScript, is_line}
 use Rattle.ev_abstract.specs.declared.script_line.Line.{Line}
 use Rattle.ev_abstract.specs.declared.script_line.Line.TheVariants.{Turn, Edge, Arrive, Accept}
-use Rattle.ev_concrete.specs.ConcreteRun.{System, marks_of, is_visible, concrete_step, edges, with_frames, concrete_turn, concrete_line, concrete_lines}
+use Rattle.ev_proc.specs.ProcessorStep.{After, step}
+use Rattle.ev_proc.specs.declared.stepped.Stepped.{Stepped}
+use Rattle.ev_concrete.specs.ConcreteRun.{System, Marks, marks_of, is_visible, acted, after_step, concrete_step, edges, with_frames, settled, all_settled, concrete_line, concrete_lines}
+use Rattle.ev_concrete.specs.LiveWords.{IsSafeStep}
 use Rattle.ev_built.specs.Built.{line_is_built}
-use Rattle.ev_event.specs.declared.frame_note.FrameNote.{FrameNote}
-use Rattle.ev_refine.specs.Relation.{Stands, StandsOn}
-use Rattle.ev_refine.proofs.Maps.{at_same, at_other}
-use Rattle.ev_refine.specs.Claims.{MakesEdge, MakesTurn, Simulated, Settles}
-
-put_own : (left : NatMap ℕ) (p q : ℕ) → left q ≡ put_at left p (left p) q
-put_own left p q = pick (q == p) refl
-  where
-    pick : (b : Bool) → (q == p) ≡ b → left q ≡ put_at left p (left p) q
-    pick true h = ap left (eqb-true q p h) ∙ sym (at_same left p q (left p) (eqb-true q p h))
-    pick false h = sym (at_other left p q (left p) h)
-
-put_twice : (left : NatMap ℕ) (p a b q : ℕ) → put_at (put_at left p a) p b q ≡ put_at left p b q
-put_twice left p a b q = pick (q == p) refl
-  where
-    pick : (t : Bool) → (q == p) ≡ t → put_at (put_at left p a) p b q ≡ put_at left p b q
-    pick true h = at_same (put_at left p a) p q b (eqb-true q p h) ∙ sym (at_same left p q b (eqb-true q p h))
-    pick false h = at_other (put_at left p a) p q b h ∙ at_other left p q a h ∙ sym (at_other left p q b h)
+use Rattle.ev_refine.specs.Relation.{Stands}
+use Rattle.ev_refine.specs.Claims.{EdgeWrites, MakesEdge, MakesTurn, Simulated, Settles, Turns, SettledFirst}
 
 one : (b : Bool) (c : Bool) → (b && c) ≡ true → b ≡ true
 one true c h = refl
@@ -40,109 +30,144 @@ two : (b : Bool) (c : Bool) → (b && c) ≡ true → c ≡ true
 two true c h = h
 two false c h = absurd (cc)
 
+-- ---- frames
+
+-- a step writes at most one frame
+act_few : (n : ℕ) (s : System) (p : ℕ) (st : Stepped) → length (acted n s p st).1 ≤ 1
+act_few n s p Stepped.Ran = omega arith
+act_few n s p Stepped.Shutdown = omega arith
+act_few n s p (Stepped.Sent m) = omega arith
+act_few n s p (Stepped.Delivered x None) = omega arith
+act_few n s p (Stepped.Delivered x (Some a)) = omega arith
+
+step_few : (n : ℕ) (s : System) (p : ℕ) → length (concrete_step n s p).1 ≤ 1
+unfolding concrete_step
+step_few n s p = let r : After = step (s.cpus p) (s.apics p) s.memory (s.latches p) in act_few n (after_step s p r) p r.step
+
+-- the edges of a processor may still write so many frames, by its NMI latch
+abbrev frames_left : Bool → ℕ
+frames_left latch = if latch then 1 else 0
+
+one_edge : (latch now : Bool) (fs gs : List FrameNote) → EdgeWrites latch now fs → length gs ≤ frames_left now → length (fs ++ gs) ≤ frames_left latch
+one_edge latch now fs gs (inl e) h =
+    subst (λ (xs : List FrameNote). length (xs ++ gs) ≤ frames_left latch) (sym e.0) (subst (λ b. length gs ≤ frames_left b) e.1 h)
+one_edge latch now fs gs (inr e) h =
+    let none : length gs ≤ 0 = subst (λ b. length gs ≤ frames_left b) e.2 h in
+    subst (λ b. length (fs ++ gs) ≤ frames_left b) (sym e.1) (let same = length-append fs gs in let w = e.0 in omega arith)
+
+at_most_one : (latch : Bool) (n : ℕ) → n ≤ frames_left latch → n ≤ 1
+at_most_one true n h = h
+at_most_one false n h = omega arith
+
 module _ (mode : Mode) (image : Image) where
   abbrev Follows : NatMap ℕ → System → Machine → Type 0
   Follows left s m = Stands mode image left s m
 
-  -- the bounds as another map tells them
-  pub with_left : (l l' : NatMap ℕ) → ((q : ℕ) → l q ≡ l' q) → (s : System) (m : Machine) → Follows l s m → Follows l' s m
-  with_left l l' h s m r = record {
-    regions_are = r.regions_are;
-    fixed = r.fixed;
-    text = r.text;
-    present = r.present;
-    each = λ q lt. subst (λ n. StandsOn mode image q n s (processor m q)) (h q) (r.each q lt);
-  }
+  abbrev marks : Marks
+  marks = marks_of mode image
+
+  abbrev edges_of : ℕ → System → ℕ → System × List FrameNote
+  edges_of k s p = edges k marks image.processors s p
+
+  abbrev step_of : System → ℕ → System × List FrameNote
+  step_of s p = concrete_step image.processors s p
 
   -- ---- edges
 
-  first_edge : (k : ℕ) (s : System) (p : ℕ) → is_visible (marks_of mode image) s p ≡ false
-      → (edges (suc k) (marks_of mode image) image.processors s p).0
-      ≡ (edges k (marks_of mode image) image.processors (concrete_step image.processors s p).0 p).0
-  unfolding edges
-  first_edge k s p h = ap (λ (b : Bool). (let r : System × List FrameNote =
-      elim b [
-        | true ↦ (s, [])
-        | false ↦ with_frames (concrete_step image.processors s p).1
-            (edges k (marks_of mode image) image.processors (concrete_step image.processors s p).0 p)
-      ] in r).0) h
+  abbrev choose : ℕ → System → ℕ → Bool → System × List FrameNote
+  choose k s p b = elim b [ true ↦ (s, []) | false ↦ with_frames (step_of s p).1 (edges_of k (step_of s p).0 p) ]
 
-  no_edge : (k : ℕ) (s : System) (p : ℕ) → is_visible (marks_of mode image) s p ≡ true → (edges (suc k) (marks_of mode image) image.processors s p).0 ≡ s
+  unrolled : (k : ℕ) (s : System) (p : ℕ) → edges_of (suc k) s p ≡ choose k s p (is_visible marks s p)
   unfolding edges
-  no_edge k s p h = ap (λ (b : Bool). (let r : System × List FrameNote =
-      elim b [
-        | true ↦ (s, [])
-        | false ↦ with_frames (concrete_step image.processors s p).1
-            (edges k (marks_of mode image) image.processors (concrete_step image.processors s p).0 p)
-      ] in r).0) h
+  unrolled k s p = refl
+
+  no_edges : (s : System) (p : ℕ) → edges_of 0 s p ≡ (s, [])
+  unfolding edges
+  no_edges s p = refl
+
+  -- so many edges, counted at most
+  record Edges (k : ℕ) (left : NatMap ℕ) (s : System) (m : Machine) (p : ℕ) : Type 0 where
+    pub now : NatMap ℕ
+    pub stands : Follows now (edges_of k s p).0 m
+    pub few : length (edges_of k s p).1 ≤ frames_left (s.latches p)
+    pub seen : left p ≤ k → is_visible marks (edges_of k s p).0 p ≡ true
+    pub others : (q : ℕ) → q < image.processors → p ≢ q → is_visible marks (edges_of k s p).0 q ≡ is_visible marks s q
 
   module _ (step : (left : NatMap ℕ) (s : System) (m : Machine) → Stands mode image left s m → (p : ℕ) → p < image.processors
-      → Simulated mode image left s m p) where
-    pub edges_follow : (k : ℕ) (left : NatMap ℕ) (s : System) (m : Machine) → Follows left s m → (p : ℕ) → p < image.processors
-        → (now_left : ℕ) × Follows (put_at left p now_left) (edges k (marks_of mode image) image.processors s p).0 m
-    unfolding edges
-    edges_follow zero left s m r p lt = (left p, with_left left (put_at left p (left p)) (put_own left p) s m r)
-    edges_follow (suc k) left s m r p lt = go (step left s m r p lt).how (edges_follow k)
+      → Simulated mode image left s m p) (keeps : (left : NatMap ℕ) (s : System) (m : Machine) → Stands mode image left s m → (p q : ℕ)
+      → p < image.processors → q < image.processors → p ≢ q
+      → is_visible (marks_of mode image) s p ≡ false
+      → is_visible (marks_of mode image) (concrete_step image.processors s p).0 q ≡ is_visible (marks_of mode image) s q) where
+    make_edges : (k : ℕ) (left : NatMap ℕ) (s : System) (m : Machine) → Follows left s m → (p : ℕ) → p < image.processors → Edges k left s m p
+    make_edges zero left s m r p lt = record {
+      now = left;
+      stands = subst (λ (x : System × List FrameNote). Follows left x.0 m) (sym (no_edges s p)) r;
+      few = subst (λ (x : System × List FrameNote). length x.1 ≤ frames_left (s.latches p)) (sym (no_edges s p)) (omega arith);
+      seen = λ h. subst (λ (x : System × List FrameNote). is_visible marks x.0 p ≡ true) (sym (no_edges s p))
+          (⊎_elim (λ e. absurd (let z : e.now p < left p = e.fewer in omega arith)) (λ t. t.seen) (step left s m r p lt).how);
+      others = λ q lt' d. ap (λ (x : System × List FrameNote). is_visible marks x.0 q) (no_edges s p);
+    }
+    make_edges (suc k) left s m r p lt = go (step left s m r p lt).how (make_edges k)
       where
         go : MakesEdge mode image left s m p ⊎ MakesTurn mode image left s m p
-            → ((left : NatMap ℕ) (s : System) (m : Machine) → Follows left s m → (p : ℕ) → p < image.processors
-            → (now_left : ℕ) × Follows (put_at left p now_left) (edges k (marks_of mode image) image.processors s p).0 m)
-            → (now_left : ℕ) × Follows (put_at left p now_left) (edges (suc k) (marks_of mode image) image.processors s p).0 m
+            → ((left : NatMap ℕ) (s : System) (m : Machine) → Follows left s m → (p : ℕ) → p < image.processors → Edges k left s m p)
+            → Edges (suc k) left s m p
         go (inl e) next =
-            let x = next (put_at left p e.now_left) (concrete_step image.processors s p).0 m e.stands p lt in (
-              x.0,
-              subst (λ t. Follows (put_at left p x.0) t m) (sym (first_edge k s p e.hidden))
-                  (with_left (put_at (put_at left p e.now_left) p x.0) (put_at left p x.0) (put_twice left p e.now_left x.0) _ m x.1),
-            )
-        go (inr t) next = (
-          left p,
-          subst (λ u. Follows (put_at left p (left p)) u m) (sym (no_edge k s p t.seen))
-              (with_left left (put_at left p (left p)) (put_own left p) s m r),
-        )
-
-    pub edges_end : (k : ℕ) (left : NatMap ℕ) (s : System) (m : Machine) → Follows left s m → (p : ℕ) → p < image.processors → left p ≤ k
-        → is_visible (marks_of mode image) (edges k (marks_of mode image) image.processors s p).0 p ≡ true
-    unfolding edges
-    edges_end zero left s m r p lt h = ⊎_elim (λ e. absurd (let z : e.now_left < left p = e.fewer in omega arith)) (λ t. t.seen) (step left s m r p lt).how
-    edges_end (suc k) left s m r p lt h = go (step left s m r p lt).how (edges_end k)
-      where
-        go : MakesEdge mode image left s m p ⊎ MakesTurn mode image left s m p
-            → ((left : NatMap ℕ) (s : System) (m : Machine) → Follows left s m → (p : ℕ) → p < image.processors → left p ≤ k
-            → is_visible (marks_of mode image) (edges k (marks_of mode image) image.processors s p).0 p ≡ true)
-            → is_visible (marks_of mode image) (edges (suc k) (marks_of mode image) image.processors s p).0 p ≡ true
-        go (inl e) next =
-            let fits : put_at left p e.now_left p ≤ k = subst (λ n. n ≤ k) (sym (at_same left p p e.now_left refl)) (let z : e.now_left < left p =
-            e.fewer in omega arith) in
-            ap (λ t. is_visible (marks_of mode image) t p) (first_edge k s p e.hidden)
-            ∙ next (put_at left p e.now_left) (concrete_step image.processors s p).0 m e.stands p lt fits
-        go (inr t) next = ap (λ u. is_visible (marks_of mode image) u p) (no_edge k s p t.seen) ∙ t.seen
+            let x = next e.now (step_of s p).0 m e.stands p lt in
+            let is : edges_of (suc k) s p ≡ with_frames (step_of s p).1 (edges_of k (step_of s p).0 p) = unrolled k s p ∙ ap (choose k s p) e.hidden in record {
+              now = x.now;
+              stands = subst (λ (y : System × List FrameNote). Follows x.now y.0 m) (sym is) x.stands;
+              few = subst (λ (y : System × List FrameNote). length y.1 ≤ frames_left (s.latches p)) (sym is)
+                  (one_edge (s.latches p) ((step_of s p).0.latches p) (step_of s p).1 (edges_of k (step_of s p).0 p).1 e.writes x.few);
+              seen = λ h. subst (λ (y : System × List FrameNote). is_visible marks y.0 p ≡ true) (sym is)
+                  (x.seen (let z : e.now p < left p = e.fewer in omega arith));
+              others = λ q lt' d. ap (λ (y : System × List FrameNote). is_visible marks y.0 q) is ∙ x.others q lt' d
+                  ∙ keeps left s m r p q lt lt' d e.hidden;
+            }
+        go (inr t) next =
+            let is : edges_of (suc k) s p ≡ (s, []) = unrolled k s p ∙ ap (choose k s p) t.seen in record {
+              now = left;
+              stands = subst (λ (y : System × List FrameNote). Follows left y.0 m) (sym is) r;
+              few = subst (λ (y : System × List FrameNote). length y.1 ≤ frames_left (s.latches p)) (sym is) (omega arith);
+              seen = λ h. subst (λ (y : System × List FrameNote). is_visible marks y.0 p ≡ true) (sym is) t.seen;
+              others = λ q lt' d. ap (λ (y : System × List FrameNote). is_visible marks y.0 q) is;
+            }
 
     pub settles : (left : NatMap ℕ) (s : System) (m : Machine) → Follows left s m → (p : ℕ) → p < image.processors → Settles mode image left s m p
     settles left s m r p lt = record {
-      after = λ k. edges_follow k left s m r p lt;
-      seen = λ k h. edges_end k left s m r p lt h;
+      after = λ k. let e = make_edges k left s m r p lt in (e.now, e.stands);
+      few = λ k. at_most_one (s.latches p) _ (make_edges k left s m r p lt).few;
+      safe = λ k. let e = make_edges k left s m r p lt in (step e.now (edges_of k s p).0 m e.stands p lt).safe;
+      counts = λ k. let e = make_edges k left s m r p lt in (step e.now (edges_of k s p).0 m e.stands p lt).counts;
+      seen = λ k. (make_edges k left s m r p lt).seen;
+      others = λ k. (make_edges k left s m r p lt).others;
+      bounded = let few : left p ≤ 75 = (r.each p lt).few in omega arith;
     }
 
     -- ---- turns and scripts
 
-    turn_from : (k : ℕ) (left : NatMap ℕ) (s : System) (m : Machine) → Follows left s m → (p : ℕ) → p < image.processors → left p ≤ k
-        → (now_left : ℕ) × Follows (put_at left p now_left) (concrete_step image.processors (edges k (marks_of mode image) image.processors s p).0 p).0
-        (turn image m p).0
-    turn_from k left s m r p lt h =
-        let e = edges_follow k left s m r p lt in
-        let seen = edges_end k left s m r p lt h in
-        ⊎_elim
-        (λ x. absurd (let clash : true ≡ false = sym seen ∙ x.hidden in cc))
-        (λ x. (x.now_left, with_left (put_at (put_at left p e.0) p x.now_left) (put_at left p x.now_left) (put_twice left p e.0 x.now_left) _ _ x.stands))
-        (step (put_at left p e.0) (edges k (marks_of mode image) image.processors s p).0 m e.1 p lt).how
+    pub turn_follows : (left : NatMap ℕ) (s : System) (m : Machine) → Follows left s m → (p : ℕ) → p < image.processors → Turns mode image s m p
+    turn_follows left s m r p lt = go (step e.now there m e.stands p lt).how
+      where
+        there : System
+        there = (settled marks image.processors s p).0
 
-    pub turn_follows : (left : NatMap ℕ) (s : System) (m : Machine) → Follows left s m → (p : ℕ) → p < image.processors
-        → (now_left : ℕ) × Follows (put_at left p now_left) (concrete_turn (marks_of mode image) image.processors s p).0 (turn image m p).0
-    turn_follows left s m r p lt = turn_from 1024 left s m r p lt (let few : left p ≤ 75 = (r.each p lt).few in omega arith)
+        e : Edges 1024 left s m p
+        e = make_edges 1024 left s m r p lt
+
+        go : MakesEdge mode image e.now there m p ⊎ MakesTurn mode image e.now there m p → Turns mode image s m p
+        go (inl x) = absurd (let few : left p ≤ 75 = (r.each p lt).few in let clash : true ≡ false = sym (e.seen (omega arith)) ∙ x.hidden in cc)
+        go (inr x) = record {
+          now = x.now;
+          stands = x.stands;
+          entries = x.entries;
+          few = let a = at_most_one (s.latches p) _ e.few in let b = step_few image.processors there p in
+              let same = length-append (settled marks image.processors s p).1 (step_of there p).1 in omega arith;
+        }
 
     pub lines_follow : (script : List Line) (left : NatMap ℕ) (s : System) (m : Machine) → Follows left s m → IsScript image script
         → list_all line_is_built script ≡ true
-        → (now_left : NatMap ℕ) × Follows now_left (concrete_lines (marks_of mode image) image.processors s script).0 (after image m script)
+        → (now : NatMap ℕ) × Follows now (concrete_lines marks image.processors s script).0 (after image m script)
     unfolding concrete_line line_step is_line line_is_built
     lines_follow [] left s m r i b = (left, r)
     lines_follow (l ∷ ls) left s m r i b = line l (one (is_line image l) _ i) (one (line_is_built l) _ b) (two (is_line image l) _ i)
@@ -150,13 +175,46 @@ module _ (mode : Mode) (image : Image) where
       where
         Rest : Type 0
         Rest = (left : NatMap ℕ) (s : System) (m : Machine) → Follows left s m → IsScript image ls → list_all line_is_built ls ≡ true
-            → (now_left : NatMap ℕ) × Follows now_left (concrete_lines (marks_of mode image) image.processors s ls).0 (after image m ls)
+            → (now : NatMap ℕ) × Follows now (concrete_lines marks image.processors s ls).0 (after image m ls)
 
         line : (l : Line) → is_line image l ≡ true → line_is_built l ≡ true → IsScript image ls → list_all line_is_built ls ≡ true → Rest
-            → (now_left : NatMap ℕ) × Follows now_left (concrete_lines (marks_of mode image) image.processors s (l ∷ ls)).0 (after image m (l ∷ ls))
+            → (now : NatMap ℕ) × Follows now (concrete_lines marks image.processors s (l ∷ ls)).0 (after image m (l ∷ ls))
         line (Turn p) h g i b next =
-            let x = turn_follows left s m r p (ltb-true p image.processors h) in
-            next (put_at left p x.0) (concrete_turn (marks_of mode image) image.processors s p).0 (turn image m p).0 x.1 i b
+            let x = turn_follows left s m r p (ltb-true p image.processors h) in next x.now _ (turn image m p).0 x.stands i b
         line (Edge p n) h g i b next = absurd (cc)
         line (Arrive p key) h g i b next = absurd (cc)
         line (Accept p) h g i b next = absurd (cc)
+
+    -- ---- settling
+
+    -- so many processors from number a on
+    record SettledFrom (a k : ℕ) (s : System) (m : Machine) : Type 0 where
+      pub left : NatMap ℕ
+      pub stands : Follows left (all_settled marks image.processors s (numbers_from a k)).0 m
+      pub others : (p : ℕ) → p < image.processors → p < a
+          → is_visible marks (all_settled marks image.processors s (numbers_from a k)).0 p ≡ is_visible marks s p
+      pub seen : (p : ℕ) → a ≤ p → p < a + k → is_visible marks (all_settled marks image.processors s (numbers_from a k)).0 p ≡ true
+
+    settled_from : (k a : ℕ) (left : NatMap ℕ) (s : System) (m : Machine) → Follows left s m → a + k ≤ image.processors → SettledFrom a k s m
+    settled_from zero a left s m r h = record { left = left; stands = r; others = λ p lt b. refl; seen = λ p b lt. absurd (omega arith) }
+    settled_from (suc k) a left s m r h =
+        let lt : a < image.processors = omega arith in
+        let e : Edges 1024 left s m a = make_edges 1024 left s m r a lt in
+        let there : System = (settled marks image.processors s a).0 in
+        let rest : SettledFrom (suc a) k there m = settled_from k (suc a) e.now there m e.stands (omega arith) in record {
+          left = rest.left;
+          stands = rest.stands;
+          others = λ p lt' b. rest.others p lt' (omega arith) ∙ e.others p lt' (λ q. omega arith);
+          seen = λ p b b'. ⊎_elim
+              (λ x. ap (is_visible marks (all_settled marks image.processors there (numbers_from (suc a) k)).0) x.1
+              ∙ rest.others a lt (omega arith) ∙ e.seen (let few : left a ≤ 75 = (r.each a lt).few in omega arith))
+              (λ x. rest.seen p (let d = x.1 in le_next a p b d) (omega arith)) (eqb_tells p a);
+        }
+      where
+        le_next : (a p : ℕ) → a ≤ p → (p ≡ a → ⊥) → suc a ≤ p
+        le_next a p b d = ⊎_elim (λ x. absurd (d (let y = x.1 in omega arith))) (λ x. let y = x.1 in omega arith) (leb_tells p a)
+
+    pub settled_first : (q : ℕ) (left : NatMap ℕ) (s : System) (m : Machine) → Follows left s m → q ≤ image.processors → SettledFirst mode image s m q
+    settled_first q left s m r h =
+        let e : SettledFrom 0 q s m = settled_from q 0 left s m r (omega arith) in
+        record { left = e.left; stands = e.stands; seen = λ p lt. e.seen p (omega arith) (omega arith) }

@@ -167,10 +167,10 @@ log_moves Idt q next = refl
 -- ---- what an activation's variables mean, from the entry to the item
 
 module _ (image : Image) where
-  pub begins_body : (mode : Mode) (v : ℕ → ℕ) (w : Processor) (b : BodyContext) → Means mode image SystemCall AtEntry v w b
+  pub enters_body : (mode : Mode) (v : ℕ → ℕ) (w : Processor) (b : BodyContext) → Means mode image SystemCall AtEntry v w b
       → (v 24 ≡ body_code b.body) × (b.place ≡ 0)
-  begins_body Fred v w b means = (means.code, means.place)
-  begins_body Idt v w b means = (means.code, means.place)
+  enters_body Fred v w b means = (means.code, means.place)
+  enters_body Idt v w b means = (means.code, means.place)
 
   pub means_item : (mode : Mode) (e : Env) (w : Processor) (b : BodyContext) (f : Flags) → Means mode image SystemCall AtEntry e.var w b
       → InItem mode image (env_after e (values_of mode) f).var w b

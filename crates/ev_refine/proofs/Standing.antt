@@ -1,5 +1,5 @@
 -- Steps of a processor as steps of the whole machine: the choice at the boundary, what a step leaves of the system, and the relation after it.
-use Rattle.std.proofs.Common.{◌≡◌, ℕ, ◌+◌, ◌<◌, ◌≤◌, Bool, true, false, not, ◌&&◌, ◌||◌, List, [], length, Some, None, refl, sym, ap, ◌∙◌, subst, arith}
+use Rattle.std.proofs.Common.{◌≡◌, ℕ, ◌+◌, ◌<◌, ◌≤◌, Bool, true, false, not, ◌&&◌, ◌||◌, List, [], length, Some, None, refl, sym, ap, ◌∙◌, subst, arith, inl}
 use Rattle.std.specs.Prelude.{if◌then◌else◌}
 use Rattle.std.specs.List.{list_any}
 use Rattle.ev_isa.specs.Word.{NatMap, put_at}
@@ -21,12 +21,14 @@ use Rattle.ev_abstract.specs.Machine.{Machine, processor, task}
 use Rattle.ev_abstract.specs.Machine as abstract
 use Rattle.ev_concrete.specs.Opening.{opening_apic}
 use Rattle.ev_concrete.specs.ConcreteRun.{System, Marks, mark_at, is_seen, is_visible, is_visible_by, is_return, is_repeated, without_last, acted, activations_by, after_step, concrete_step}
+use Rattle.ev_concrete.specs.Depth.{bodies_on}
 use Rattle.ev_concrete.specs.LiveWords.{IsSafeStep, overwrites}
 use Rattle.ev_event.specs.declared.frame_note.FrameNote.{FrameNote}
 use Rattle.ev_built.specs.Built.{IsBuilt}
 use Rattle.ev_symbolic.specs.Agrees.{with_words}
-use Rattle.ev_refine.specs.Relation.{IsFixed, RunsTask, Chain, most_edges, StandsOn, Stands}
+use Rattle.ev_refine.specs.Relation.{IsFixed, RunsTask, Chain, Acts, most_edges, StandsOn, Stands}
 use Rattle.ev_concrete.specs.Shown.{shown, shown_always, shown_by, told_at}
+use Rattle.ev_refine.specs.Claims.{EdgeWrites}
 use Rattle.ev_refine.proofs.Maps.{at_same}
 
 -- ---- the boundary
@@ -80,19 +82,24 @@ pub ran_step : (n : ℕ) (s : System) (p : ℕ) (cpu : Processor) (words : NatMa
 unfolding concrete_step
 ran_step n s p cpu words h = ap (λ r. acted n (after_step s p r) p r.step) h
 
--- writes no frame
+-- writes no frame, and leaves the NMI latch
+pub ran_writes : (n : ℕ) (s : System) (p : ℕ) (cpu : Processor) (words : NatMap ℕ) → Runs s p cpu words
+    → EdgeWrites (s.latches p) ((concrete_step n s p).0.latches p) (concrete_step n s p).1
+ran_writes n s p cpu words h = subst (λ (r : System × List FrameNote). EdgeWrites (s.latches p) (r.0.latches p) r.1) (sym (ran_step n s p cpu words h))
+    (inl (refl, at_same s.latches p p (s.latches p) refl))
+
 pub ran_safe : (mode : Mode) (image : Image) (s : System) (p : ℕ) (cpu : Processor) (words : NatMap ℕ) → Runs s p cpu words → IsSafeStep mode image s p
 ran_safe mode image s p cpu words h = ap (λ (r : System × List FrameNote). list_any (overwrites mode image s) r.1) (ran_step image.processors s p cpu words h)
 
 pub ran_shown : (marks : Marks) (s : System) (p : ℕ) (cpu : Processor) (words : NatMap ℕ) (i : Ins) → Runs s p cpu words → is_user (s.cpus p) ≡ false
     → mark_at marks (s.cpus p).rip ≡ Always → instruction_at s.memory.words (s.cpus p).rip ≡ Some i
-    → shown marks s p ≡ shown_always p (length (s.activations p)) (s.cpus p) s.memory.words (Some i)
+    → shown marks s p ≡ shown_always p (bodies_on s p) (s.cpus p) s.memory.words (Some i)
 unfolding shown
 ran_shown marks s p cpu words i h hu hm hi =
-    ap (λ r. shown_by p (length (s.activations p)) (is_user (s.cpus p)) (has_fred (s.cpus p)) (told_at (mark_at marks (s.cpus p).rip) s p)
+    ap (λ r. shown_by p (bodies_on s p) (is_user (s.cpus p)) (has_fred (s.cpus p)) (told_at (mark_at marks (s.cpus p).rip) s p)
     r.cpu r.words r.step) h
     ∙ ap (λ b. if b then [] else told_at (mark_at marks (s.cpus p).rip) s p) hu ∙ ap (λ k. told_at k s p) hm
-    ∙ ap (shown_always p (length (s.activations p)) (s.cpus p) s.memory.words) hi
+    ∙ ap (shown_always p (bodies_on s p) (s.cpus p) s.memory.words) hi
 
 -- ---- its activations
 
@@ -130,10 +137,10 @@ module _ (mode : Mode) (image : Image) (built : IsBuilt image) where
       → StandsOn mode image p left s x → now ≤ most_edges mode image
       → words (pcpu p + 0x20) ≡ s.memory.words (pcpu p + 0x20) → words (pcpu p + 0x10) ≡ s.memory.words (pcpu p + 0x10)
       → words (pcpu p + 0x18) ≡ s.memory.words (pcpu p + 0x18)
-      → length (activations_by s p (s.activations p) cpu Stepped.Ran) ≡ length bs → cpu.nmi_blocked ≡ false
+      → Acts mode image bs (activations_by s p (s.activations p) cpu Stepped.Ran) → cpu.nmi_blocked ≡ false
       → Chain mode image p now x.running (task x) bs cpu (with_words s.memory words)
       → StandsOn mode image p now (after_ran s p cpu words) (record x { bodies = bs })
-  stands_on_after p left now s x cpu words bs o few mark top current depth blocking chain = record {
+  stands_on_after p left now s x cpu words bs o few mark top current acts blocking chain = record {
     few = few;
     running = o.running;
     waiting = o.waiting;
@@ -146,7 +153,7 @@ module _ (mode : Mode) (image : Image) (built : IsBuilt image) where
     mark = mark ∙ o.mark;
     top_is = top ∙ o.top_is;
     task_is = current ∙ o.task_is;
-    depth = ap length (at_same s.activations p p (activations_by s p (s.activations p) cpu Stepped.Ran) refl) ∙ depth;
+    acts = subst (Acts mode image bs) (sym (at_same s.activations p p (activations_by s p (s.activations p) cpu Stepped.Ran) refl)) acts;
     chain = subst (λ c. Chain mode image p now x.running (task x) bs c (with_words s.memory words)) (sym (at_same s.cpus p p cpu refl)) chain;
   }
 

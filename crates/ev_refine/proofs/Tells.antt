@@ -1,5 +1,5 @@
 -- What the relation says to those who make the steps.
-use Rattle.std.proofs.Common.{◌≡◌, ℕ, ◌+◌, ◌<◌, arith, Bool, true, false, List, [], ◌∷◌, refl, sym, ap, ◌∙◌, subst}
+use Rattle.std.proofs.Common.{◌≡◌, ℕ, ◌+◌, ◌<◌, ◌≤◌, arith, Bool, true, false, List, [], ◌∷◌, length, refl, sym, ap, ◌∙◌, subst}
 use Rattle.ev_isa.specs.Word.{NatMap}
 use Rattle.ev_isa.specs.declared.mode.Mode.{Mode}
 use Rattle.ev_isa.specs.declared.mode.Mode.TheVariants.{Idt, Fred}
@@ -12,7 +12,8 @@ use Rattle.ev_abstract.specs.Machine.{Machine, processor, task}
 use Rattle.ev_concrete.specs.ConcreteRun.{System}
 use Rattle.ev_proc.specs.ProcessorStep.{has_fred}
 use Rattle.ev_activation.specs.Activation.{Kind, SystemCall}
-use Rattle.ev_refine.specs.Relation.{Stands, Beneath, keeps_cr2, Chain, rest_in, InTables}
+use Rattle.ev_refine.proofs.Depth.{stands_depth}
+use Rattle.ev_refine.specs.Relation.{Stands, StandsOver, Beneath, keeps_cr2, Chain, rest_in, InTables}
 use Rattle.ev_refine.specs.Claims.{Tells}
 use Rattle.ev_refine.proofs.Facts.{Facts, HasFixed}
 use Rattle.ev_refine.proofs.ModeFacts.{is_fred}
@@ -55,6 +56,14 @@ module _ (mode : Mode) (image : Image) where
       let same : untracked c ≡ rest_in mode image h.1 h.0 = h.5.at.agrees.rest in
       record { fred = ap has_fred same ∙ k.fred; idt = ap (λ (c : Processor). c.idt) same ∙ k.idt; tss = ap (λ (c : Processor). c.tss) same ∙ k.tss }
 
+  -- few contexts stand on each other
+  chain_few : (p left r : ℕ) (t : Task) (bs : List BodyContext) (c : Processor) (m : Memory) → Chain mode image p left r t bs c m → length bs ≤ 32
+  chain_few p left r t [] c m h = omega arith
+  chain_few p left r t (b ∷ below) c m h = by_kind h.1 h.2
+    where
+      by_kind : (κ : Kind) → StandsOver mode image κ below → length (b ∷ below) ≤ 32
+      by_kind SystemCall e = let l = ap length e in omega arith
+
   -- without FRED the tables of a delivery stand
   tables : (mode' : Mode) → mode' ≡ mode → IsImage image → (p : ℕ) → p < image.processors → (c : Processor) (m : Memory) → Kept p c
       → m.regions ≡ regions image → HasFixed mode' image m → has_fred c ≡ false → HasTables c m
@@ -71,7 +80,8 @@ module _ (mode : Mode) (image : Image) where
       record {
         entries = record { tables = tables mode refl given p lt (s.cpus p) s.memory kept r.regions_are r.fixed };
         in_code = facts.in_code s.memory r.regions_are (s.cpus p);
-        depth = on.depth;
+        depth = stands_depth mode image facts p (left p) s (processor m p) on;
+        few = chain_few p (left p) _ _ (processor m p).bodies (s.cpus p) s.memory on.chain;
         running = on.running;
         regs = λ h. ap (λ c. c.regs) (task h).is;
         rip = λ h. ap (λ c. c.rip) (task h).is;

@@ -31,18 +31,20 @@ use Rattle.ev_abstract.specs.UserCode.{user_view}
 use Rattle.ev_abstract.specs.UserCode as user
 use Rattle.ev_abstract.specs.Run.{task_step}
 use Rattle.ev_concrete.specs.Opening.{opening_apic}
-use Rattle.ev_concrete.specs.ConcreteRun.{System, Activation, after_step, activations_by, interrupted}
-use Rattle.ev_concrete.specs.LiveWords.{IsSafeStep}
+use Rattle.ev_concrete.specs.ConcreteRun.{System, Activation, acted, after_step, activations_by, interrupted, starts_inner}
+use Rattle.ev_concrete.specs.Depth.{bodies_on}
 use Rattle.ev_built.specs.Built.{IsBuilt}
 use Rattle.ev_built.specs.Program.{begins, leads_to}
 use Rattle.ev_symbolic.specs.Agrees.{with_words}
 use Rattle.ev_activation.specs.Activation.{SystemCall}
-use Rattle.ev_refine.specs.Relation.{IsFixed, InText, InTables, InTasks, InCode, task_processor, RunsTask, IsContext, Chain, most_edges, StandsOn, Stands}
+use Rattle.ev_refine.specs.Relation.{IsFixed, InText, InTables, InTasks, InCode, task_processor, RunsTask, IsContext, Chain, Acts, most_edges, StandsOn, Stands}
 use Rattle.ev_concrete.specs.Shown.{shown_by, saved_rip, key_of}
-use Rattle.ev_refine.specs.Claims.{MakesTurn}
+use Rattle.ev_refine.specs.Claims.{Simulated}
 use Rattle.ev_refine.proofs.Standing.{with_cr2}
+use Rattle.ev_event.specs.declared.event.Event.{Event}
+use Rattle.ev_refine.proofs.Depth.{stands_depth}
 use Rattle.ev_refine.proofs.Facts.{Facts}
-use Rattle.ev_refine.proofs.UserState.{put_same, TurnsTo, makes_turn, is_safe, stands_again, stands_acted}
+use Rattle.ev_refine.proofs.UserState.{put_same, TurnsTo, makes_turn, is_safe, tells_bodies, stands_again, stands_acted}
 use Rattle.ev_refine.proofs.UserStep.{Makes, makes}
 use Rattle.ev_refine.proofs.UserPlain.{AtUser, at_user, plain_turn}
 use Rattle.ev_refine.proofs.UserBody.{IsSystemCall, is_system_call, table_word_is}
@@ -51,9 +53,9 @@ use Rattle.ev_refine.proofs.SystemCall.{call_event, returning, FitsAt, OpensAt, 
 use Rattle.ev_refine.proofs.SystemCallFred as fred
 use Rattle.ev_refine.proofs.SystemCallIdt as idt
 
-is_empty : {X : Type 0} (xs : List X) → length xs ≡ 0 → xs ≡ []
-is_empty [] h = refl
-is_empty (x ∷ xs) h = absurd (omega arith)
+-- nothing is interrupted
+nothing_under : (c : Processor) (as' : List Activation) → as' ≡ [] → interrupted c as' ≡ []
+nothing_under c as' h = ap (interrupted c) h
 
 the_some : {X : Type 0} (o : Option X) → is_some o ≡ true → (x : X) × (o ≡ Some x)
 the_some None h = absurd (cc)
@@ -115,6 +117,11 @@ not_there a (InTables h k) = inl (omega arith)
 not_there a (InTasks h k) = inl (omega arith)
 not_there a (InCode h) = inr h
 
+-- what is counted leaves the bodies
+acted_bodies : (n p : ℕ) (e : Event) (frame : Option ℕ) (s : System) → bodies_on (acted n s p (Stepped.Delivered e frame)).0 p ≡ bodies_on s p
+acted_bodies n p e None s = refl
+acted_bodies n p e (Some a) s = refl
+
 module _ (mode : Mode) (image : Image) (formed : IsImage image) (built : IsBuilt image) (facts : Facts mode image) where
   -- a system call
   pub call_turn : (left : NatMap ℕ) (s : System) (m : Machine) → Stands mode image left s m → (p : ℕ) → p < image.processors → (processor m p).bodies ≡ []
@@ -158,7 +165,7 @@ module _ (mode : Mode) (image : Image) (formed : IsImage image) (built : IsBuilt
       let s' : System = after_step s p r in
       let m' : Machine = with_processor m p y in
       let task_is : task z ≡ back = put_same x.tasks n back in
-      let empty : s.activations p ≡ [] = is_empty (s.activations p) u.shallow in
+      let empty : s.activations p ≡ [] = u.none in
       let runs : RunsTask mode image p y.running (task y) w = record {
         is = ap (λ (q : Task). task_processor mode image p n q c.cr2) (sym task_is);
         gs = ap (λ (q : Task). q.gs) task_is ∙ u.runs.gs;
@@ -182,8 +189,8 @@ module _ (mode : Mode) (image : Image) (formed : IsImage image) (built : IsBuilt
         mark = begun.stays (pcpu p + 0x20) (inl (omega arith)) ∙ u.on.mark;
         top_is = begun.stays (pcpu p + 0x10) (inl (omega arith)) ∙ u.on.top_is;
         task_is = begun.stays (pcpu p + 0x18) (inl (omega arith)) ∙ u.on.task_is;
-        depth = ap length (put_same s.activations p (activations_by s p (s.activations p) d r.step))
-            ∙ ap (λ (as' : List Activation). suc (length (interrupted c as'))) empty;
+        acts = subst (Acts mode image (b ∷ [])) (sym (put_same s.activations p (activations_by s p (s.activations p) d r.step)))
+            (ap (starts_inner s p) u.next, nothing_under c (s.activations p) empty);
         chain = subst (λ q. Chain mode image p most y.running (task y) (b ∷ []) q (with_words s.memory words')) (sym (put_same s.cpus p d)) chain;
       } in
       let only : OnlyTask s = record {
@@ -192,6 +199,10 @@ module _ (mode : Mode) (image : Image) (formed : IsImage image) (built : IsBuilt
         task_is = subst (λ q. words (pcpu q + 0x18) ≡ task_words q 0) zero_is (u.on.task_is ∙ ap (task_words p) u.on.running);
       } in
       let entries : List Entry = Enter p Sys Other User 1 0 0 (Some next) ∷ [] in
+      let shallow : bodies_on s p ≡ 0 = stands_depth mode image facts p (left p) s x u.on ∙ ap length hb in
+      let acted_on = stands_acted mode image built _ s' m' image.processors p call_event begun.frame
+      (stands_again mode image built left s m h p lt most s' m' refl (λ q i. begun.stays q (not_there q i)) refl refl
+      (subst (λ q. StandsOn mode image p most s' q) (sym (put_same m.processors p y)) stands_on)) in
       record {
         after = r;
         steps = u.steps ∙ ap (λ i. executed (caller mode image p n t c.cr2 next body) opening_apic s.memory false (Some i)) hi ∙ begun.runs opening_apic false;
@@ -201,21 +212,21 @@ module _ (mode : Mode) (image : Image) (formed : IsImage image) (built : IsBuilt
             ∙ call_steps image m p next body call hb found.1;
         seen = u.seen;
         now_left = most;
-        stands = stands_acted mode image built _ s' m' image.processors p call_event begun.frame
-            (stands_again mode image built left s m h p lt most s' m' refl (λ q i. begun.stays q (not_there q i)) refl refl
-            (subst (λ q. StandsOn mode image p most s' q) (sym (put_same m.processors p y)) stands_on));
-        shows = λ told. shown_is p (length (s.activations p)) (is_user c) (has_fred c) told begun.cpu begun.words begun.frame next u.at_cpl3 u.shallow
+        stands = acted_on;
+        counts = acted_bodies image.processors p call_event begun.frame s' ∙ stands_depth mode image facts p most s' y stands_on
+            ∙ ap suc (sym shallow) ∙ sym (ap (λ i. if i then bodies_on s p else suc (bodies_on s p)) (ap (starts_inner s p) u.next));
+        shows = λ told. shown_is p (bodies_on s p) (is_user c) (has_fred c) told begun.cpu begun.words begun.frame next u.at_cpl3 shallow
             (ap (λ q. saved_rip (has_fred q) begun.cpu begun.words call_event begun.frame) u.runs.is ∙ begun.saved);
         safe = begun.safe s only image.processors s';
       }
 
   -- a turn of the task is visible, and the abstract machine makes the same; it writes over no live word
   pub user_turn : (left : NatMap ℕ) (s : System) (m : Machine) → Stands mode image left s m → (p : ℕ) → p < image.processors → (processor m p).bodies ≡ [] → FitsAt mode image p → OpensAt mode image p
-      → MakesTurn mode image left s m p × IsSafeStep mode image s p
+      → Simulated mode image left s m p
   user_turn left s m h p lt hb fits opens =
       let u : AtUser mode image formed built facts left s m p = at_user mode image formed built facts left s m h p lt hb in
       let t : TurnsTo mode image built left s m p
       = ⊎_elim (λ (hi : u.ins ≡ Syscall). call_turn left s m h p lt hb fits opens u hi)
       (λ (k : Makes (task (processor m p)) u.ins). plain_turn mode image formed built facts left s m h p lt hb u k)
       (makes (task (processor m p)) u.ins u.is_built u.canonical) in
-      (makes_turn mode image built left s m p t, is_safe mode image built left s m p t)
+      record { safe = is_safe mode image built left s m p t; counts = tells_bodies mode image built left s m p t; how = inr (makes_turn mode image built left s m p t) }

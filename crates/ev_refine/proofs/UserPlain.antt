@@ -1,6 +1,6 @@
 -- A turn of the task: what both machines make of it, and the turns that raise no event.
-use Rattle.std.proofs.Common.{◌≡◌, ℕ, ◌+◌, ◌<◌, Bool, true, false, ◌&&◌, not, List, [], length, Some, refl, sym, ap, ◌∙◌, subst, arith}
-use Rattle.std.specs.Prelude.{◌||◌, if◌then◌else◌}
+use Rattle.std.proofs.Common.{◌≡◌, ℕ, suc, ◌+◌, ◌-◌, ◌<◌, Bool, true, false, ◌&&◌, not, List, [], length, Some, refl, sym, ap, ◌∙◌, subst, arith}
+use Rattle.std.specs.Prelude.{◌||◌, if◌then◌else◌, nat_le, nat_lt}
 use Rattle.ev_isa.specs.Word.{NatMap, is_canonical}
 use Rattle.ev_isa.specs.Spelling.{spelling}
 use Rattle.ev_isa.specs.declared.instruction.Ins.{Ins}
@@ -22,7 +22,10 @@ use Rattle.ev_concrete.specs.Opening.{opening_apic}
 use Rattle.ev_concrete.specs.ConcreteRun.{System, marks_of, mark_at, is_visible, is_visible_by, is_seen, after_step, activations_by, is_return, is_repeated, without_last, Activation}
 use Rattle.ev_built.specs.Built.{IsBuilt}
 use Rattle.ev_built.specs.Program.{begins, leads_to, is_built_instruction, IsProgram}
-use Rattle.ev_refine.specs.Relation.{task_processor, first_start, IsInProgram, RunsTask, Chain, StandsOn, Stands}
+use Rattle.ev_refine.specs.Relation.{task_processor, first_start, IsInProgram, RunsTask, Chain, Acts, StandsOn, Stands}
+use Rattle.ev_concrete.specs.Depth.{is_in_repeat, bodies_on, is_jump}
+use Rattle.ev_listing.specs.AddressMap.{nmi_entry, repeat_entry}
+use Rattle.ev_refine.proofs.Depth.{stands_depth}
 use Rattle.ev_refine.proofs.Facts.{Facts}
 use Rattle.ev_refine.proofs.UserText.{Reads, reads, task_canonical, first_program, leads_again}
 use Rattle.ev_refine.proofs.UserState.{put_same, TurnsTo, stands_again}
@@ -34,7 +37,8 @@ module _ (mode : Mode) (image : Image) (formed : IsImage image) (built : IsBuilt
     pub on : StandsOn mode image p (left p) s (processor m p)
     pub runs : RunsTask mode image p (processor m p).running (task (processor m p)) (s.cpus p)
     pub at_cpl3 : is_user (s.cpus p) ≡ true
-    pub shallow : length (s.activations p) ≡ 0
+    pub none : s.activations p ≡ []
+    pub next : next_of (s.cpus p) (s.apics p) (s.latches p) ≡ Instruction
     pub ins : Ins
     pub is_built : is_built_instruction ins ≡ true
     pub leads : IsInProgram image (leads_to (task (processor m p)).rip ins)
@@ -65,7 +69,8 @@ module _ (mode : Mode) (image : Image) (formed : IsImage image) (built : IsBuilt
         on = on;
         runs = runs;
         at_cpl3 = is_it;
-        shallow = on.depth ∙ ap length hb;
+        none = subst (λ bs. Acts mode image bs (s.activations p)) hb on.acts;
+        next = next;
         ins = reads_it.ins;
         is_built = reads_it.built;
         leads = λ program is. leads_again image t.rip reads_it.ins program is reads_it.is (runs.at program is);
@@ -91,6 +96,17 @@ module _ (mode : Mode) (image : Image) (formed : IsImage image) (built : IsBuilt
       pick : (a b : Bool) → (if a && false && b then without_last as' else as') ≡ as'
       pick true b = refl
       pick false b = refl
+
+  -- and the number of bodies
+  user_leaves : (a b d e user : Bool) (n : ℕ) → user ≡ true
+      → (if a && not user && not b then n - 1 else (if d && not user && e then suc n else n)) ≡ n
+  user_leaves a b d e user n h = ap (λ u. if a && not u && not b then n - 1 else (if d && not u && e then suc n else n)) h ∙ pick a d
+    where
+      pick : (a d : Bool) → (if a && false && not b then n - 1 else (if d && false && e then suc n else n)) ≡ n
+      pick true true = refl
+      pick true false = refl
+      pick false true = refl
+      pick false false = refl
 
   -- a turn that raises no event
   pub plain_turn : (left : NatMap ℕ) (s : System) (m : Machine) → Stands mode image left s m → (p : ℕ) → p < image.processors → (processor m p).bodies ≡ []
@@ -127,8 +143,8 @@ module _ (mode : Mode) (image : Image) (formed : IsImage image) (built : IsBuilt
         mark = u.on.mark;
         top_is = u.on.top_is;
         task_is = u.on.task_is;
-        depth = ap length (put_same s.activations p (activations_by s p (s.activations p) d Stepped.Ran))
-            ∙ ap length (same_activations s p (s.activations p) d u.at_cpl3) ∙ u.on.depth;
+        acts = subst (Acts mode image y.bodies) (sym (put_same s.activations p (activations_by s p (s.activations p) d Stepped.Ran)
+            ∙ same_activations s p (s.activations p) d u.at_cpl3)) u.on.acts;
         chain = subst (λ z. Chain mode image p 0 y.running (task y) y.bodies z s.memory) (sym (put_same s.cpus p d)) chain;
       } in
       record {
@@ -142,5 +158,8 @@ module _ (mode : Mode) (image : Image) (formed : IsImage image) (built : IsBuilt
         stands = stands_again mode image built left s m h p lt 0 s' m' refl (λ a i. refl) refl refl
             (subst (λ z. StandsOn mode image p 0 s' z) (sym (put_same m.processors p y)) stands_on);
         shows = λ told. ap (λ b. if b then [] else told) u.at_cpl3;
+        counts = stands_depth mode image facts p 0 s' y stands_on ∙ sym (stands_depth mode image facts p (left p) s x u.on)
+            ∙ sym (user_leaves (is_return (instruction_at s.memory.words c.rip)) (nat_le nmi_entry c.rip && nat_lt c.rip repeat_entry)
+            (is_jump (instruction_at s.memory.words c.rip)) (is_in_repeat c.rip) (is_user c) (bodies_on s p) u.at_cpl3);
         safe = refl;
       }

@@ -10,9 +10,10 @@ use Rattle.ev_abstract.specs.declared.entry.Entry.{Entry}
 use Rattle.ev_abstract.specs.Machine.{Machine, processor}
 use Rattle.ev_abstract.specs.Run.{turn}
 use Rattle.ev_state.specs.Processor.{is_user}
-use Rattle.ev_proc.specs.ProcessorStep.{After, has_fred, step}
+use Rattle.ev_proc.specs.ProcessorStep.{After, has_fred, next_of, step, instruction_at}
 use Rattle.ev_proc.specs.declared.stepped.Stepped.{Stepped}
-use Rattle.ev_concrete.specs.ConcreteRun.{System, marks_of, mark_at, is_visible, acted, after_step, concrete_step}
+use Rattle.ev_concrete.specs.ConcreteRun.{System, marks_of, mark_at, is_visible, starts_inner, acted, after_step, concrete_step}
+use Rattle.ev_concrete.specs.Depth.{bodies_on, ends_body, begins_body, bodies_after, told_bodies}
 use Rattle.ev_concrete.specs.LiveWords.{overwrites, IsSafeStep}
 use Rattle.ev_built.specs.Built.{IsBuilt}
 use Rattle.ev_refine.specs.Relation.{IsFixed, StandsOn, Stands}
@@ -35,7 +36,10 @@ module _ (mode : Mode) (image : Image) (built : IsBuilt image) where
     pub now_left : ℕ
     pub stands : Stands mode image (put_at left p now_left) (acted image.processors (after_step s p after) p after.step).0 machine
     pub shows : (told : List Entry)
-        → shown_by p (length (s.activations p)) (is_user (s.cpus p)) (has_fred (s.cpus p)) told after.cpu after.words after.step ≡ entries
+        → shown_by p (bodies_on s p) (is_user (s.cpus p)) (has_fred (s.cpus p)) told after.cpu after.words after.step ≡ entries
+    pub counts : bodies_on (acted image.processors (after_step s p after) p after.step).0 p
+        ≡ bodies_after (bodies_on s p) (starts_inner s p (next_of (s.cpus p) (s.apics p) (s.latches p)))
+        (ends_body (s.cpus p) (instruction_at s.memory.words (s.cpus p).rip)) (begins_body (s.cpus p) (instruction_at s.memory.words (s.cpus p).rip)) after.step
     pub safe : list_any (overwrites mode image s) (acted image.processors (after_step s p after) p after.step).1 ≡ false
 
   concrete_is : (left : NatMap ℕ) (s : System) (m : Machine) (p : ℕ) (t : TurnsTo left s m p)
@@ -47,17 +51,26 @@ module _ (mode : Mode) (image : Image) (built : IsBuilt image) where
   unfolding shown
   makes_turn left s m p t = record {
     seen = t.seen;
-    now_left = t.now_left;
+    now = put_at left p t.now_left;
     stands = subst (λ z. Stands mode image (put_at left p t.now_left) z.0 (turn image m p).0) (sym (concrete_is left s m p t))
         (subst (λ z. Stands mode image (put_at left p t.now_left) (acted image.processors (after_step s p t.after) p t.after.step).0 z.0)
         (sym t.turns) t.stands);
     entries = let told : List Entry = told_at (mark_at (marks_of mode image) (s.cpus p).rip) s p in
-        ap (λ r. shown_by p (length (s.activations p)) (is_user (s.cpus p)) (has_fred (s.cpus p)) told r.cpu r.words r.step) t.steps
+        ap (λ r. shown_by p (bodies_on s p) (is_user (s.cpus p)) (has_fred (s.cpus p)) told r.cpu r.words r.step) t.steps
         ∙ t.shows told ∙ sym (ap (λ z. z.1) t.turns);
   }
 
   pub is_safe : (left : NatMap ℕ) (s : System) (m : Machine) (p : ℕ) → TurnsTo left s m p → IsSafeStep mode image s p
   is_safe left s m p t = ap (λ z. list_any (overwrites mode image s) z.1) (concrete_is left s m p t) ∙ t.safe
+
+  pub tells_bodies : (left : NatMap ℕ) (s : System) (m : Machine) (p : ℕ) → TurnsTo left s m p
+      → bodies_on (concrete_step image.processors s p).0 p ≡ told_bodies s p
+  unfolding told_bodies
+  tells_bodies left s m p t =
+      ap (λ z. bodies_on z.0 p) (concrete_is left s m p t) ∙ t.counts
+      ∙ ap (λ r. bodies_after (bodies_on s p) (starts_inner s p (next_of (s.cpus p) (s.apics p) (s.latches p)))
+      (ends_body (s.cpus p) (instruction_at s.memory.words (s.cpus p).rip)) (begins_body (s.cpus p) (instruction_at s.memory.words (s.cpus p).rip)) r.step)
+      (sym t.steps)
 
   -- what else stands, where the step leaves the words that nothing writes
   pub stands_again : (left : NatMap ℕ) (s : System) (m : Machine) → Stands mode image left s m → (p : ℕ) → p < image.processors
@@ -96,7 +109,7 @@ module _ (mode : Mode) (image : Image) (built : IsBuilt image) where
       mark = o.mark;
       top_is = o.top_is;
       task_is = o.task_is;
-      depth = o.depth;
+      acts = o.acts;
       chain = o.chain;
     };
   }

@@ -21,7 +21,7 @@ use Rattle.ev_abstract.specs.Machine.{Machine, processor, task, no_task}
 use Rattle.ev_abstract.specs.Machine as abstract
 use Rattle.ev_abstract.specs.Run.{item_at}
 use Rattle.ev_concrete.specs.Opening.{listings, code_of, opening_word, opening_apic, opening_cpu, regions}
-use Rattle.ev_concrete.specs.ConcreteRun.{System}
+use Rattle.ev_concrete.specs.ConcreteRun.{System, Activation}
 use Rattle.ev_built.specs.Program.{begins, IsProgram}
 use Rattle.ev_symbolic.specs.Agrees.{Env, untracked, At}
 use Rattle.ev_table.specs.Table.{code_table}
@@ -197,6 +197,12 @@ module _ (mode : Mode) (image : Image) where
   Chain p left r t (b ∷ below) c m =
       (w : Processor) × (κ : Kind) × StandsOver κ below × IsContext b × Beneath (keeps_cr2 κ) (λ v. Chain p left r t below v m) w × Active p left κ w b c m
 
+  -- the activations of the contexts, the last one first: none is that of an inner NMI
+  abbrev pub Acts : List BodyContext → List Activation → Type 0
+  Acts [] as' = as' ≡ []
+  Acts (b ∷ below) [] = ⊥
+  Acts (b ∷ below) (a ∷ as') = (a.inner ≡ false) × Acts below as'
+
   -- ---- the machines
 
   -- at most so many edges come before a visible step
@@ -217,7 +223,7 @@ module _ (mode : Mode) (image : Image) where
     pub mark : s.memory.words (pcpu p + 0x20) ≡ 0
     pub top_is : s.memory.words (pcpu p + 0x10) ≡ stack_top p x.running
     pub task_is : s.memory.words (pcpu p + 0x18) ≡ task_words p x.running
-    pub depth : length (s.activations p) ≡ length x.bodies
+    pub acts : Acts x.bodies (s.activations p)
     pub chain : Chain p left x.running (task x) x.bodies (s.cpus p) s.memory
 
   -- The state s of the concrete machine stands for m; of each processor, at most `left` edges come before a visible step.

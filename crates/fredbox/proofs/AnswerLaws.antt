@@ -8,11 +8,14 @@ use Rattle.ev_io.specs.Transfer.{TookPrefix}
 use Rattle.ev_abstract.specs.Script.{IsScript}
 use Rattle.ev_built.specs.Built.{IsBuilt, line_is_built}
 use Rattle.ev_concrete.specs.RunText.{run_text}
+use Rattle.ev_isa.specs.declared.mode.Mode.{Mode}
 use Rattle.ev_pair.specs.Modes.{modes_of}
+use Rattle.ev_pair.specs.Safety.{RunIsSafe}
+use Rattle.ev_pair.proofs.Safe.{run_is_safe}
 use Rattle.ev_form.specs.FirstForm.{FirstForm, text_of}
-use Rattle.ev_form.specs.FormImage.{IsForm}
+use Rattle.ev_form.specs.FormImage.{IsForm, image_of, script_of}
 use Rattle.ev_form.specs.declared.document.Document.{Document}
-use Rattle.ev_form.proofs.FormLaws.{one_document, gives_script}
+use Rattle.ev_form.proofs.FormLaws.{one_document, gives_image, gives_script}
 use Rattle.ev_form.proofs.BuiltLaws.{is_built}
 use Rattle.fredbox.specs.declared.command.Command.{Command}
 use Rattle.fredbox.specs.declared.status.Status.{Status}
@@ -29,6 +32,10 @@ script_of_image x p = rw (p.1.1, p.1.2) (gives_script p.0 p.1.0).0
 
 pub script_built : (x : Document) → (f : FirstForm) × IsDocumentOf x f → list_all line_is_built x.script ≡ true
 script_built x p = rw p.1.2 (gives_script p.0 p.1.0).1
+
+-- and its frames are safe
+pub form_is_safe : (f : FirstForm) → IsForm f → (mode : Mode) → RunIsSafe mode (image_of f) (script_of f)
+form_is_safe f p mode = let s = gives_script f p in run_is_safe mode (image_of f) (script_of f) (gives_image f p) (is_built f p) s.0 s.1
 
 -- ---- prefixes
 

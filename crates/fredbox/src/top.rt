@@ -2,10 +2,12 @@
 
 ghost use Rattle.std.specs.Prelude.{◌≡◌, ◌≢◌, ℕ, List, Some, None, Err, map};
 ghost use Rattle.std.specs.Io.KnownBytes.{append_known};
+ghost use Rattle.ev_isa.specs.declared.mode.Mode.{Mode};
 ghost use Rattle.ev_io.specs.Transfer.{Rose, TookPrefix};
 ghost use Rattle.ev_io.specs.Input.{DrawsWithin};
 ghost use Rattle.ev_concrete.specs.RunText.{run_text};
 ghost use Rattle.ev_pair.specs.Modes.{modes_of};
+ghost use Rattle.ev_pair.specs.Safety.{RunIsSafe};
 ghost use Rattle.ev_form.specs.FirstForm.{FirstForm, text_of};
 ghost use Rattle.ev_form.specs.FormImage.{IsForm, image_of, script_of};
 ghost use Rattle.fredbox.specs.declared.command.Command.{Command};
@@ -99,6 +101,9 @@ pub fn top<S: Source, K: Sink>(alloc: Global, words: &[&str], src: &mut S, sink:
         → S.left src.old ≡ Some (text_of f)
         → TookPrefix (K.taken sink.old) (K.taken sink.new)
         (run_text (image_of f) (script_of f) (modes_of c.modes) c.frames) }
+    // and no frame of the run holds a word that was live just before its step
+    ensures safe { (f : FirstForm) → IsForm f → (mode : Mode)
+        → RunIsSafe mode (image_of f) (script_of f) }
     // nothing is taken before the document is read
     ensures kept { result ≡ Status.ReadFault → K.taken sink.new ≡ K.taken sink.old }
     // NotBuilt says that the bytes are of no form, with nothing taken

@@ -1,53 +1,42 @@
-use Rattle.std.proofs.Common.{ap, sym, ◌∙◌, subst, drop}
-use Rattle.std.specs.Io.KnownBytes.{append_known}
-use Rattle.ev_io.specs.Transfer.{TookPrefix}
-use Rattle.ev_trace.specs.FrameText.{mode_text, frame_text, frames_text}
+use Rattle.std.proofs.Common.{◌≡◌, suc, ◌+◌, ◌<◌, ◌≤◌, List, ◌∷◌, drop, length, ap, sym, ◌∙◌, subst, arith}
+use Rattle.ev_event.specs.declared.frame_note.FrameNote.{FrameNote}
+use Rattle.ev_abstract.specs.EntryText.{Text}
+use Rattle.ev_trace.specs.FrameText.{mode_text, frames_text}
 use Rattle.ev_concrete.specs.ConcreteRun.{noted}
-use Rattle.ev_pair.proofs.Writes.{nothing_written, then_ok, first_failed, second_failed, ok_then, err_then, err_now}
-use Rattle.ev_pair.proofs.Frames.{no_frame, first_frame, one_frame, two_frames}
+use Rattle.ev_pair.proofs.Writes.{Wrote, none_yet, more_written, failed_within, none_left, err_now}
+use Rattle.ev_pair.proofs.Rest.{from_place, none_there}
 use Rattle.ev_pair.proofs.lines.put_frames.Goals as goal
 
-pub returns-in_default-clause-ok : goal.returns-in_default-clause-ok
-returns-in_default-clause-ok g c few =
-    let old = g.K.Sink.taken c.args.sink.now in
-    sym (nothing_written old) ∙ ap (append_known old) (no_frame (mode_text c.args.mode) c.args.p c.args.frames.now c.in_default.ensures)
+pub loop-frame-init : goal.loop-frame-init
+loop-frame-init g c = record { wrote = none_yet (g.K.Sink.taken c.args.sink.now) _; count = omega arith }
+
+pub loop-frame-preserved : goal.loop-frame-preserved
+loop-frame-preserved g c =
+    let i = c.loop-frame.frame-index in
+    let e : i + 1 ≡ suc i = omega arith in
+    let lt : i < length c.args.frames.now = omega arith in
+    let rest = from_place c.args.frames.now i (i + 1) c.frame-item.result e lt
+    ∙ ap (λ f. f ∷ drop (i + 1) c.args.frames.now) (sym c.frame-item.is) in record {
+      wrote = more_written _ _ _ _ _ _ _ c.loop-frame.invariant.wrote
+          (ap (λ fs. frames_text (mode_text c.args.mode) (noted c.args.p fs)) rest) c.in_ok-put_frame.ensures.ok;
+      count = omega arith;
+    }
 
 pub returns-in_err-put_frame-clause-failed : goal.returns-in_err-put_frame-clause-failed
-returns-in_err-put_frame-clause-failed g c few =
-    let old = g.K.Sink.taken c.args.sink.now in
-    let new = g.K.Sink.taken c.put_frame.new.sink in
-    let m = mode_text c.args.mode in
-    let first = frame_text m (c.args.p, c.in-Some.first.now) in
-    let rest = frames_text m (noted c.args.p (drop 1 c.args.frames.now)) in
-    err_now _ _ (subst (TookPrefix old new) (first_frame m c.args.p c.args.frames.now c.in-Some.first.now c.in-Some.ensures)
-    (first_failed old new first rest c.in_err-put_frame.ensures.failed))
-
-pub returns-in_default-get-clause-ok : goal.returns-in_default-get-clause-ok
-returns-in_default-get-clause-ok g c few =
-    c.in_ok-put_frame.ensures.ok
-    ∙ ap (append_known (g.K.Sink.taken c.args.sink.now))
-    (one_frame (mode_text c.args.mode) c.args.p c.args.frames.now c.in-Some.first.now c.in-Some.ensures c.in_default-get.ensures)
+returns-in_err-put_frame-clause-failed g c =
+    let i = c.loop-frame.frame-index in
+    let e : i + 1 ≡ suc i = omega arith in
+    let lt : i < length c.args.frames.now = omega arith in
+    let rest = from_place c.args.frames.now i (i + 1) c.frame-item.result e lt
+    ∙ ap (λ f. f ∷ drop (i + 1) c.args.frames.now) (sym c.frame-item.is) in
+    err_now _ _ (failed_within _ _ _ _ _ _ _ c.loop-frame.invariant.wrote
+    (ap (λ fs. frames_text (mode_text c.args.mode) (noted c.args.p fs)) rest) c.in_err-put_frame.ensures.failed)
 
 pub returns-clause-ok : goal.returns-clause-ok
-returns-clause-ok g c few =
+returns-clause-ok g c =
     let old = g.K.Sink.taken c.args.sink.now in
-    let mid = g.K.Sink.taken c.put_frame.new.sink in
-    let new = g.K.Sink.taken c.put_frame-2.new.sink in
-    let m = mode_text c.args.mode in
-    let first = frame_text m (c.args.p, c.in-Some.first.now) in
-    let second = frame_text m (c.args.p, c.in-Some-get.second.now) in
-    let both = two_frames m c.args.p c.args.frames.now c.in-Some.first.now c.in-Some-get.second.now c.in-Some.ensures c.in-Some-get.ensures few in
-    ok_then c.put_frame-2.result _ _ (λ h. then_ok old mid new first second c.in_ok-put_frame.ensures.ok h ∙ ap (append_known old) both)
-    c.put_frame-2.ensures.ok
-
-pub returns-clause-failed : goal.returns-clause-failed
-returns-clause-failed g c few =
-    let old = g.K.Sink.taken c.args.sink.now in
-    let mid = g.K.Sink.taken c.put_frame.new.sink in
-    let new = g.K.Sink.taken c.put_frame-2.new.sink in
-    let m = mode_text c.args.mode in
-    let first = frame_text m (c.args.p, c.in-Some.first.now) in
-    let second = frame_text m (c.args.p, c.in-Some-get.second.now) in
-    let both = two_frames m c.args.p c.args.frames.now c.in-Some.first.now c.in-Some-get.second.now c.in-Some.ensures c.in-Some-get.ensures few in
-    err_then c.put_frame-2.result _ _ (λ h. subst (TookPrefix old new) both (second_failed old mid new first second c.in_ok-put_frame.ensures.ok h))
-    c.put_frame-2.ensures.failed
+    let now = g.K.Sink.taken c.loop-frame.sink in
+    let text : List FrameNote → Text = λ fs. frames_text (mode_text c.args.mode) (noted c.args.p fs) in
+    let past : length c.args.frames.now ≤ c.loop-frame.frame-index = omega arith in
+    none_left old now _ (subst (λ fs. Wrote old now (text fs) (text c.args.frames.now)) (none_there c.args.frames.now c.loop-frame.frame-index past)
+    c.loop-frame.invariant.wrote)

@@ -8,7 +8,7 @@ use Rattle.ev_concrete.specs.RunText.{shown_frames, settling}
 use Rattle.ev_pair.specs.SideText.{side_at}
 use Rattle.ev_pair.proofs.Writes.{then_ok, first_failed, second_failed, ok_then, err_then, err_now}
 use Rattle.ev_pair.proofs.Shown.{end_shown}
-use Rattle.ev_pair.proofs.Settled.{settled_first, stands}
+use Rattle.ev_pair.proofs.Settled.{settled_first}
 use Rattle.ev_pair.proofs.side.put_end.Goals as goal
 
 pub returns-in_err-put_settling-clause-failed : goal.returns-in_err-put_settling-clause-failed
@@ -31,11 +31,10 @@ returns-in_err-put_states-clause-failed g c image script r =
     let first = shown_frames c.args.frames c.args.mode (settling image side).1 in
     let second = all_end_lines (mode_text c.args.mode) (run image script) 0 image.processors in
     let third = totals_text (mode_text c.args.mode) (settling image side).0.totals in
-    let at = c.in_ok-put_settling.ensures.at image script r in
-    let here = stands c.args.mode image script _ r image.processors (omega arith) in
+    let so = c.in_ok-put_settling.ensures.so image script r in
     err_now _ _ (subst (TookPrefix old new) (end_shown c.args.frames c.args.mode image script (settling image side).0.totals refl)
     (first_failed old new (first ++ second) third (second_failed old mid new first second (c.in_ok-put_settling.ensures.ok image script r)
-    (c.in_err-put_states.ensures.failed image (settled_first c.args.mode image script image.processors).0 r.can here.0 (run image script) at here.1))))
+    (c.in_err-put_states.ensures.failed image (settled_first c.args.mode image script image.processors).0 (run image script) so))))
 
 pub returns-clause-ok : goal.returns-clause-ok
 returns-clause-ok g c image script r =
@@ -47,13 +46,12 @@ returns-clause-ok g c image script r =
     let first = shown_frames c.args.frames c.args.mode (settling image side).1 in
     let second = all_end_lines (mode_text c.args.mode) (run image script) 0 image.processors in
     let third = totals_text (mode_text c.args.mode) c.totals.result in
-    let at = c.in_ok-put_settling.ensures.at image script r in
-    let here = stands c.args.mode image script _ r image.processors (omega arith) in
+    let so = c.in_ok-put_settling.ensures.so image script r in
     let before = then_ok old mid late first second (c.in_ok-put_settling.ensures.ok image script r)
-    (c.in_ok-put_states.ensures.ok image (settled_first c.args.mode image script image.processors).0 r.can here.0 (run image script) at here.1) in
+    (c.in_ok-put_states.ensures.ok image (settled_first c.args.mode image script image.processors).0 (run image script) so) in
     ok_then c.put_totals.result _ _
     (λ h. then_ok old late new (first ++ second) third before h
-    ∙ ap (append_known old) (end_shown c.args.frames c.args.mode image script c.totals.result (c.totals.ensures ∙ at.shows.totals)))
+    ∙ ap (append_known old) (end_shown c.args.frames c.args.mode image script c.totals.result (c.totals.ensures ∙ so.at.shows.totals)))
     c.put_totals.ensures.ok
 
 pub returns-clause-failed : goal.returns-clause-failed
@@ -66,10 +64,9 @@ returns-clause-failed g c image script r =
     let first = shown_frames c.args.frames c.args.mode (settling image side).1 in
     let second = all_end_lines (mode_text c.args.mode) (run image script) 0 image.processors in
     let third = totals_text (mode_text c.args.mode) c.totals.result in
-    let at = c.in_ok-put_settling.ensures.at image script r in
-    let here = stands c.args.mode image script _ r image.processors (omega arith) in
+    let so = c.in_ok-put_settling.ensures.so image script r in
     let before = then_ok old mid late first second (c.in_ok-put_settling.ensures.ok image script r)
-    (c.in_ok-put_states.ensures.ok image (settled_first c.args.mode image script image.processors).0 r.can here.0 (run image script) at here.1) in
+    (c.in_ok-put_states.ensures.ok image (settled_first c.args.mode image script image.processors).0 (run image script) so) in
     err_then c.put_totals.result _ _
-    (λ h. subst (TookPrefix old new) (end_shown c.args.frames c.args.mode image script c.totals.result (c.totals.ensures ∙ at.shows.totals))
+    (λ h. subst (TookPrefix old new) (end_shown c.args.frames c.args.mode image script c.totals.result (c.totals.ensures ∙ so.at.shows.totals))
     (second_failed old late new (first ++ second) third before h)) c.put_totals.ensures.failed

@@ -1,4 +1,4 @@
-use Rattle.std.proofs.Common.{◌≡◌, ◌≤◌, length, ap, sym, ◌∙◌, subst, arith}
+use Rattle.std.proofs.Common.{◌≡◌, ap, ◌∙◌, subst, arith}
 use Rattle.std.specs.Io.KnownBytes.{append_known}
 use Rattle.ev_io.specs.Transfer.{TookPrefix}
 use Rattle.ev_trace.specs.FrameText.{mode_text}
@@ -8,7 +8,6 @@ use Rattle.ev_concrete.specs.RunText.{shown_frames}
 use Rattle.ev_core.specs.Local.{optional}
 use Rattle.ev_pair.proofs.Writes.{then_ok, first_failed, second_failed, ok_then, err_then, err_now}
 use Rattle.ev_pair.proofs.Shown.{only_turns, first_only, turn_shown}
-use Rattle.ev_pair.proofs.Settled.{few_frames}
 use Rattle.ev_pair.proofs.side.put_line.Goals as goal
 
 pub returns-in_default : goal.returns-in_default
@@ -19,52 +18,45 @@ turn-turned-requires-clause-place g c = let e : c.in-Turn.p ≡ 0 = first_only c
 
 pub returns-in_err-put_shown_frames-clause-failed : goal.returns-in_err-put_shown_frames-clause-failed
 returns-in_err-put_shown_frames-clause-failed g c image done r =
-    let e : c.in-Turn.p ≡ 0 = first_only c.args.line.now c.in-Turn.p c.in-Turn.is c.requires.built in
-    let one = r.can.built.one_processor in
     let shown = c.turn-turned.ensures.frames c.args.mode image done r in
-    let few : length c.turn-turned.result.frames ≤ 2 =
-    subst (λ fs. length fs ≤ 2) (sym shown) (few_frames c.args.mode image done _ r c.in-Turn.p (omega arith)) in
     let old = g.K.Sink.taken c.args.sink.now in
     let new = g.K.Sink.taken c.put_shown_frames.new.sink in
-    let first = shown_frames c.args.frames c.args.mode (noted c.in-Turn.p c.turn-turned.result.frames) in
+    let first = shown_frames c.args.frames c.args.mode (noted c.in-Turn.p c.turn-turned.result.frames.items) in
     let second = trace_text (mode_text c.args.mode) (optional c.turn-turned.result.entry) in
     err_now _ _ (subst (TookPrefix old new)
-    (turn_shown c.args.frames c.args.mode image done c.args.line.now c.in-Turn.p c.turn-turned.result.frames (optional c.turn-turned.result.entry)
+    (turn_shown c.args.frames c.args.mode image done c.args.line.now c.in-Turn.p c.turn-turned.result.frames.items (optional c.turn-turned.result.entry)
     c.in-Turn.is shown
-    (c.turn-turned.ensures.entry c.args.mode image done r)) (first_failed old new first second (c.in_err-put_shown_frames.ensures.failed few)))
+    (c.turn-turned.ensures.entry c.args.mode image done r)) (first_failed old new first second
+    (subst (λ fs. TookPrefix old new (shown_frames c.args.frames c.args.mode (noted c.in-Turn.p fs))) c.as_slice.ensures.value
+    c.in_err-put_shown_frames.ensures.failed)))
 
 pub returns-clause-ok : goal.returns-clause-ok
 returns-clause-ok g c image done r =
-    let e : c.in-Turn.p ≡ 0 = first_only c.args.line.now c.in-Turn.p c.in-Turn.is c.requires.built in
-    let one = r.can.built.one_processor in
     let shown = c.turn-turned.ensures.frames c.args.mode image done r in
-    let few : length c.turn-turned.result.frames ≤ 2 =
-    subst (λ fs. length fs ≤ 2) (sym shown) (few_frames c.args.mode image done _ r c.in-Turn.p (omega arith)) in
     let old = g.K.Sink.taken c.args.sink.now in
     let mid = g.K.Sink.taken c.put_shown_frames.new.sink in
     let new = g.K.Sink.taken c.put_entry.new.sink in
-    let first = shown_frames c.args.frames c.args.mode (noted c.in-Turn.p c.turn-turned.result.frames) in
+    let first = shown_frames c.args.frames c.args.mode (noted c.in-Turn.p c.turn-turned.result.frames.items) in
     let second = trace_text (mode_text c.args.mode) (optional c.turn-turned.result.entry) in
     ok_then c.put_entry.result _ _
-    (λ h. then_ok old mid new first second (c.in_ok-put_shown_frames.ensures.ok few) h
-    ∙ ap (append_known old) (turn_shown c.args.frames c.args.mode image done c.args.line.now c.in-Turn.p c.turn-turned.result.frames
+    (λ h. then_ok old mid new first second (subst (λ fs. mid ≡ append_known old (shown_frames c.args.frames c.args.mode (noted c.in-Turn.p fs)))
+    c.as_slice.ensures.value c.in_ok-put_shown_frames.ensures.ok) h
+    ∙ ap (append_known old) (turn_shown c.args.frames c.args.mode image done c.args.line.now c.in-Turn.p c.turn-turned.result.frames.items
     (optional c.turn-turned.result.entry) c.in-Turn.is shown
     (c.turn-turned.ensures.entry c.args.mode image done r))) c.put_entry.ensures.ok
 
 pub returns-clause-failed : goal.returns-clause-failed
 returns-clause-failed g c image done r =
-    let e : c.in-Turn.p ≡ 0 = first_only c.args.line.now c.in-Turn.p c.in-Turn.is c.requires.built in
-    let one = r.can.built.one_processor in
     let shown = c.turn-turned.ensures.frames c.args.mode image done r in
-    let few : length c.turn-turned.result.frames ≤ 2 =
-    subst (λ fs. length fs ≤ 2) (sym shown) (few_frames c.args.mode image done _ r c.in-Turn.p (omega arith)) in
     let old = g.K.Sink.taken c.args.sink.now in
     let mid = g.K.Sink.taken c.put_shown_frames.new.sink in
     let new = g.K.Sink.taken c.put_entry.new.sink in
-    let first = shown_frames c.args.frames c.args.mode (noted c.in-Turn.p c.turn-turned.result.frames) in
+    let first = shown_frames c.args.frames c.args.mode (noted c.in-Turn.p c.turn-turned.result.frames.items) in
     let second = trace_text (mode_text c.args.mode) (optional c.turn-turned.result.entry) in
     err_then c.put_entry.result _ _
-    (λ h. subst (TookPrefix old new) (turn_shown c.args.frames c.args.mode image done c.args.line.now c.in-Turn.p c.turn-turned.result.frames
+    (λ h. subst (TookPrefix old new) (turn_shown c.args.frames c.args.mode image done c.args.line.now c.in-Turn.p c.turn-turned.result.frames.items
     (optional c.turn-turned.result.entry) c.in-Turn.is shown
-    (c.turn-turned.ensures.entry c.args.mode image done r)) (second_failed old mid new first second (c.in_ok-put_shown_frames.ensures.ok few) h))
+    (c.turn-turned.ensures.entry c.args.mode image done r)) (second_failed old mid new first second
+    (subst (λ fs. mid ≡ append_known old (shown_frames c.args.frames c.args.mode (noted c.in-Turn.p fs)))
+    c.as_slice.ensures.value c.in_ok-put_shown_frames.ensures.ok) h))
     c.put_entry.ensures.failed

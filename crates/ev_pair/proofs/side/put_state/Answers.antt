@@ -9,45 +9,45 @@ use Rattle.ev_pair.proofs.Ends.{busy_line, task_line, no_bodies}
 use Rattle.ev_pair.proofs.side.put_state.Goals as goal
 
 pub returns-then-depth-gt0-clause-ok : goal.returns-then-depth-gt0-clause-ok
-returns-then-depth-gt0-clause-ok g c image s can left m at stands =
+returns-then-depth-gt0-clause-ok g c image s m so =
     let x = abstract.processor m c.args.p in
-    let depth = c.depth-depth.ensures c.args.mode image s can left m at stands in
+    let depth = c.depth-depth.ensures c.args.mode image s m so in
     let text = busy_line (mode_text c.args.mode) c.args.p c.depth-depth.result x c.if-depth-gt0.true
     ∙ ap (end_lines (mode_text c.args.mode) c.args.p x) depth in
     ok_then c.put_busy.result _ _ (λ h. h ∙ ap (append_known (g.K.Sink.taken c.args.sink.now)) text) c.put_busy.ensures.ok
 
 pub returns-then-depth-gt0-clause-failed : goal.returns-then-depth-gt0-clause-failed
-returns-then-depth-gt0-clause-failed g c image s can left m at stands =
+returns-then-depth-gt0-clause-failed g c image s m so =
     let x = abstract.processor m c.args.p in
-    let depth = c.depth-depth.ensures c.args.mode image s can left m at stands in
+    let depth = c.depth-depth.ensures c.args.mode image s m so in
     let text = busy_line (mode_text c.args.mode) c.args.p c.depth-depth.result x c.if-depth-gt0.true
     ∙ ap (end_lines (mode_text c.args.mode) c.args.p x) depth in
     err_then c.put_busy.result _ _ (λ h. subst (TookPrefix (g.K.Sink.taken c.args.sink.now) (g.K.Sink.taken c.put_busy.new.sink)) text h)
     c.put_busy.ensures.failed
 
 pub returns-clause-ok : goal.returns-clause-ok
-returns-clause-ok g c image s can left m at stands =
+returns-clause-ok g c image s m so =
     let x = abstract.processor m c.args.p in
-    let depth = c.depth-depth.ensures c.args.mode image s can left m at stands in
+    let depth = c.depth-depth.ensures c.args.mode image s m so in
     let none : c.depth-depth.result ≡ 0 = let f = c.if-depth-gt0.false in omega arith in
-    let processors = at.shows.processors in
+    let processors = so.at.shows.processors in
     let lt : c.args.p < image.processors = omega arith in
     let text =
-    task_line (mode_text c.args.mode) c.args.p c.depth-depth.result x c.task.result none (stands.each c.args.p lt).waiting
-    (c.task.ensures c.args.mode image s can left m at stands (no_bodies x.bodies (sym depth ∙ none)))
+    task_line (mode_text c.args.mode) c.args.p c.depth-depth.result x c.task.result none (so.stands.each c.args.p lt).waiting
+    (c.task.ensures c.args.mode image s m so (no_bodies x.bodies (sym depth ∙ none)))
     ∙ ap (end_lines (mode_text c.args.mode) c.args.p x) depth in
     ok_then c.put_task.result _ _ (λ h. h ∙ ap (append_known (g.K.Sink.taken c.args.sink.now)) text) c.put_task.ensures.ok
 
 pub returns-clause-failed : goal.returns-clause-failed
-returns-clause-failed g c image s can left m at stands =
+returns-clause-failed g c image s m so =
     let x = abstract.processor m c.args.p in
-    let depth = c.depth-depth.ensures c.args.mode image s can left m at stands in
+    let depth = c.depth-depth.ensures c.args.mode image s m so in
     let none : c.depth-depth.result ≡ 0 = let f = c.if-depth-gt0.false in omega arith in
-    let processors = at.shows.processors in
+    let processors = so.at.shows.processors in
     let lt : c.args.p < image.processors = omega arith in
     let text =
-    task_line (mode_text c.args.mode) c.args.p c.depth-depth.result x c.task.result none (stands.each c.args.p lt).waiting
-    (c.task.ensures c.args.mode image s can left m at stands (no_bodies x.bodies (sym depth ∙ none)))
+    task_line (mode_text c.args.mode) c.args.p c.depth-depth.result x c.task.result none (so.stands.each c.args.p lt).waiting
+    (c.task.ensures c.args.mode image s m so (no_bodies x.bodies (sym depth ∙ none)))
     ∙ ap (end_lines (mode_text c.args.mode) c.args.p x) depth in
     err_then c.put_task.result _ _ (λ h. subst (TookPrefix (g.K.Sink.taken c.args.sink.now) (g.K.Sink.taken c.put_task.new.sink)) text h)
     c.put_task.ensures.failed

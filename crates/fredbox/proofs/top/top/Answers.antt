@@ -3,7 +3,7 @@ use Rattle.std.specs.Io.KnownBytes.{append_known}
 use Rattle.ev_io.specs.Transfer.{TookPrefix}
 use Rattle.fredbox.specs.declared.command.Command.{Command}
 use Rattle.fredbox.specs.Answer.{Answers, run_of}
-use Rattle.fredbox.proofs.AnswerLaws.{answers_done, answers_prefix}
+use Rattle.fredbox.proofs.AnswerLaws.{answers_done, answers_prefix, form_is_safe}
 use Rattle.fredbox.proofs.top.top.Goals as goal
 
 same_command : (c d : Command) → Some c ≡ Some d → c ≡ d
@@ -27,3 +27,9 @@ returns-in-Some-clause-answers g c = λ x e.
     let k = same_command c.in-Some.command x (c.in-Some.ensures.is ∙ e) in
     subst (λ (y : Command). Answers (g.S.Source.left c.args.src.now) (g.K.Sink.taken c.args.sink.now) (g.K.Sink.taken c.answer.new.sink) y c.answer.result) k
     c.answer.ensures.answers
+
+pub returns-in-Some-clause-safe : goal.returns-in-Some-clause-safe
+returns-in-Some-clause-safe g c = form_is_safe
+
+pub returns-in-None-clause-safe : goal.returns-in-None-clause-safe
+returns-in-None-clause-safe g c = form_is_safe

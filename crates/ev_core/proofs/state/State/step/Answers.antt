@@ -19,12 +19,12 @@ local_step-made-requires-clause-depth g c =
     can_deepen _ _ c.args.p _ c.self.view_is c.self.invariant.same c.requires.place c.requires.can c.index_mut-local.ensures.value
 
 pub returns-clause-shows : goal.returns-clause-shows
-returns-clause-shows g c n s h =
+returns-clause-shows g c n s h tells =
     let hv : Shows n (the_view c.self.inside) s = subst (λ v. Shows n v s) (sym c.self.view_is) h in
     let lc : c.args.p < length c.self.inside.cpus.items = subst (λ (v : Parts). c.args.p < length v.cpus) (sym c.self.view_is) c.requires.place in
     stepped_shows n c.args.p s _ (the_view c.self.inside) _ c.local_step-made.new.cpu c.local_step-made.new.local (memory c.local_step-made.new.mem)
     c.local_step-made.result
-    hv (subst (λ k. c.args.p < k) hv.processors lc) (c.self.invariant.same ∙ hv.processors)
+    hv tells (subst (λ k. c.args.p < k) hv.processors lc) (c.self.invariant.same ∙ hv.processors)
     (moved_step _ _ _ n c.args.p s _ _ _ _ _ _ c.self.view_is h c.self.invariant.same c.requires.place c.index_mut-cpu.ensures.value
     c.index_mut-local.ensures.value c.local_step-made.ensures)
     refl c.act.ensures.sent (length-set c.self.inside.cpus.items c.args.p _ ∙ hv.processors) refl c.count.ensures

@@ -1,0 +1,200 @@
+-- How many bodies stand: as many as contexts, and as a step tells it.
+use Rattle.std.proofs.Common.{◌≡◌, ℕ, zero, suc, ◌+◌, ◌-◌, ◌%◌, ◌<◌, ◌≤◌, Bool, true, false, not, ◌&&◌, List, [], ◌∷◌, length, Option, Some, None, refl, sym, ap, ◌∙◌, subst, arith}
+use Rattle.std.specs.Prelude.{if◌then◌else◌, ◌==◌, nat_lt, nat_le, filter, slice_get}
+use Rattle.std.proofs.lemmas.Bool.{eqb-true, ltb-true, le-leb}
+use Rattle.ev_isa.specs.Word.{NatMap}
+use Rattle.ev_isa.specs.Spelling.{spelling, four_bytes}
+use Rattle.ev_isa.specs.declared.instruction.Ins.{Ins}
+use Rattle.ev_isa.specs.declared.mode.Mode.{Mode}
+use Rattle.ev_isa.specs.declared.mode.Mode.TheVariants.{Idt, Fred}
+use Rattle.ev_body.specs.declared.item.Item.{Item}
+use Rattle.ev_body.specs.declared.body.Body.{Body}
+use Rattle.ev_body.specs.declared.image.Image.{Image}
+use Rattle.ev_asm.specs.Assembly.{size, places, distance}
+use Rattle.ev_effect.specs.Task.{Task}
+use Rattle.ev_listing.specs.AddressMap.{nmi_entry, repeat_entry, nbody_entry, body_code}
+use Rattle.ev_listing.specs.Expansion.{item_address}
+use Rattle.ev_listing.specs.FredCode.{fred_listings}
+use Rattle.ev_listing.specs.IdtCode.{idt_listings}
+use Rattle.ev_state.specs.Processor.{Processor, is_user}
+use Rattle.ev_mem.specs.Memory.{Memory}
+use Rattle.ev_proc.specs.ProcessorStep.{After, next_of, instruction_at}
+use Rattle.ev_abstract.specs.Context.{BodyContext}
+use Rattle.ev_abstract.specs.Machine.{task}
+use Rattle.ev_abstract.specs.Machine as abstract
+use Rattle.ev_abstract.specs.Run.{item_at}
+use Rattle.ev_concrete.specs.ConcreteRun.{System, Activation, interrupted, is_return, starts_inner, concrete_step}
+use Rattle.ev_concrete.specs.Depth.{is_in_repeat, has_body, bodies_on, ends_body, begins_body, bodies_after, told_bodies}
+use Rattle.ev_symbolic.specs.Value.{M}
+use Rattle.ev_symbolic.specs.State.{SS, Block}
+use Rattle.ev_symbolic.specs.Run.{brun, every}
+use Rattle.ev_symbolic.specs.Agrees.{Env, addr, At}
+use Rattle.ev_symbolic.specs.Openings.{at_base}
+use Rattle.ev_symbolic.proofs.Values.{and_left, and_right}
+use Rattle.ev_symbolic.proofs.Blocks.{unsome, every_ok}
+use Rattle.ev_activation.specs.Activation.{Kind, SystemCall, Spot, AtEntry, AtItem, AtExit}
+use Rattle.ev_blocks_fred.specs.Blocks.{fred_lines}
+use Rattle.ev_blocks_idt.specs.Blocks.{idt_lines}
+use Rattle.ev_table.specs.Table.{code_table, task_return}
+use Rattle.ev_refine.specs.Relation.{block_of, address_of_item, here, Active, IsContext, Beneath, keeps_cr2, Chain, Acts, StandsOver, StandsOn}
+use Rattle.ev_refine.proofs.Facts.{Facts}
+use Rattle.ev_refine.proofs.Standing.{after_ran, Runs, ran_step}
+
+-- the body of a context
+pub body_at : (o : Option Body) (n : ℕ) (i : Item) → item_at o n ≡ Some i → (body : Body) × (o ≡ Some body) × (item_at (Some body) n ≡ Some i)
+body_at None n i h = absurd (cc)
+body_at (Some b) n i h = (b, refl, h)
+
+-- ---- no instruction of the blocks, and no item, lies in REPEAT
+
+not_true : (b : Bool) → not b ≡ true → b ≡ false
+not_true true h = absurd (cc)
+not_true false h = refl
+
+and_false : (a : Bool) → (a && false) ≡ false
+and_false true = refl
+and_false false = refl
+
+-- code of bodies stands behind it
+behind_repeat : (a : ℕ) → 0xffffffff82000000 ≤ a → is_in_repeat a ≡ false
+behind_repeat a h = pick (nat_lt a nbody_entry) refl
+  where
+    pick : (b : Bool) → nat_lt a nbody_entry ≡ b → (nat_le repeat_entry a && b) ≡ false
+    pick true q = let z = ltb-true a nbody_entry q in absurd (omega arith)
+    pick false q = and_false (nat_le repeat_entry a)
+
+-- a state at an absolute address that isn't in REPEAT
+abbrev is_elsewhere : SS → Bool
+is_elsewhere s = (s.rip.tag == 1000) && (nat_lt s.rip.off M && not (is_in_repeat s.rip.off))
+
+elsewhere : (e : Env) → e.base 1000 ≡ 0 → (s : SS) → is_elsewhere s ≡ true → is_in_repeat (addr e s.rip) ≡ false
+elsewhere e z s h =
+    let tag : s.rip.tag ≡ 1000 = eqb-true s.rip.tag 1000 (and_left _ _ h) in
+    let rest = and_right (s.rip.tag == 1000) _ h in
+    let small : s.rip.off < M = ltb-true s.rip.off M (and_left _ _ rest) in
+    let is : addr e s.rip ≡ s.rip.off = ap (λ t. (e.base t + s.rip.off) % M) tag
+    ∙ (let q : (e.base 1000 + s.rip.off) % M ≡ s.rip.off = omega arith in q) in
+    ap is_in_repeat is ∙ not_true (is_in_repeat s.rip.off) (and_right (nat_lt s.rip.off M) _ rest)
+
+entry_elsewhere : (mode : Mode) → every is_elsewhere (block_of mode SystemCall AtEntry) ≡ true
+unfolding fred_lines idt_lines fred_listings idt_listings spelling four_bytes size places distance
+entry_elsewhere Fred = refl
+entry_elsewhere Idt = refl
+
+exit_elsewhere : (mode : Mode) → every is_elsewhere (block_of mode SystemCall AtExit) ≡ true
+unfolding fred_lines idt_lines fred_listings idt_listings spelling four_bytes size places distance
+exit_elsewhere Fred = refl
+exit_elsewhere Idt = refl
+
+no_steps : (mode : Mode) → (block_of mode SystemCall AtItem).steps ≡ 0
+no_steps Fred = refl
+no_steps Idt = refl
+
+item_rip : (mode : Mode) → (block_of mode SystemCall AtItem).opening.rip ≡ at_base 20 0
+item_rip Fred = refl
+item_rip Idt = refl
+
+module _ (mode : Mode) (image : Image) (facts : Facts mode image) where
+  at_elsewhere : (b : Block) (k : ℕ) (e : Env) (c : Processor) (m : Memory) → At (code_table mode image) b k e c m → e.base 1000 ≡ 0 → k ≤ b.steps
+      → every is_elsewhere b ≡ true → is_in_repeat c.rip ≡ false
+  at_elsewhere b k e c m at z l h = ap is_in_repeat at.agrees.rip ∙ elsewhere e z at.state (every_ok is_elsewhere b h k l at.state at.is)
+
+  item_outside : (p : ℕ) (w : Processor) (b : BodyContext) (c : Processor) (m : Memory) (left : ℕ) (act : Active mode image p left SystemCall w b c m)
+      → IsContext mode image b → act.spot ≡ AtItem → is_in_repeat c.rip ≡ false
+  item_outside p w b c m left act ctx q =
+      let e : Env = here mode image p SystemCall w b act.var act.flags in
+      let found = body_at (slice_get image.bodies b.body) b.place ctx.item ctx.is in
+      let start : act.k ≡ 0 = let l = act.within in let n = ap (λ s. (block_of mode SystemCall s).steps) q ∙ no_steps mode in omega arith in
+      let there : act.at.state ≡ (block_of mode SystemCall act.spot).opening = unsome _ _ (sym act.at.is ∙ ap (brun (block_of mode SystemCall act.spot)) start) in
+      let rip : act.at.state.rip ≡ at_base 20 0 = ap (λ (s : SS). s.rip) there ∙ ap (λ s. (block_of mode SystemCall s).opening.rip) q ∙ item_rip mode in
+      let place : c.rip ≡ (address_of_item mode b.body b.place (slice_get image.bodies b.body) + 0) % M = act.at.agrees.rip ∙ ap (addr e) rip in
+      let is : c.rip ≡ (item_address mode b.body found.0 b.place + 0) % M = place
+      ∙ ap (λ o. (address_of_item mode b.body b.place o + 0) % M) found.1 in
+      let small = (facts.item_small b.body b.place found.0 found.1).1 in
+      behind_repeat c.rip (omega arith)
+
+  active_outside : (p left : ℕ) (w : Processor) (b : BodyContext) (c : Processor) (m : Memory) (act : Active mode image p left SystemCall w b c m)
+      → IsContext mode image b → is_in_repeat c.rip ≡ false
+  active_outside p left w b c m act ctx = by_spot act.spot refl
+    where
+      by_spot : (spot : Spot) → act.spot ≡ spot → is_in_repeat c.rip ≡ false
+      by_spot AtEntry q = at_elsewhere (block_of mode SystemCall act.spot) act.k _ c m act.at refl act.within
+          (ap (λ s. every is_elsewhere (block_of mode SystemCall s)) q ∙ entry_elsewhere mode)
+      by_spot AtItem q = item_outside p w b c m left act ctx q
+      by_spot AtExit q = at_elsewhere (block_of mode SystemCall act.spot) act.k _ c m act.at refl act.within
+          (ap (λ s. every is_elsewhere (block_of mode SystemCall s)) q ∙ exit_elsewhere mode)
+
+  top_outside : (p left r : ℕ) (t : Task) (b : BodyContext) (below : List BodyContext) (c : Processor) (m : Memory)
+      → Chain mode image p left r t (b ∷ below) c m → is_in_repeat c.rip ≡ false
+  top_outside p left r t b below c m h = go h.1 h.5
+    where
+      go : (κ : Kind) → Active mode image p left κ h.0 b c m → is_in_repeat c.rip ≡ false
+      go SystemCall act = active_outside p left h.0 b c m act h.3
+
+  pub chain_outside : (p left r : ℕ) (t : Task) (bs : List BodyContext) (c : Processor) (m : Memory) → Chain mode image p left r t bs c m
+      → {b : BodyContext} {below : List BodyContext} → bs ≡ b ∷ below → is_in_repeat c.rip ≡ false
+  chain_outside p left r t bs c m h {b} {below} q = top_outside p left r t b below c m (subst (λ xs. Chain mode image p left r t xs c m) q h)
+
+  -- as many bodies as contexts
+  counted : (p left r : ℕ) (t : Task) (bs : List BodyContext) (c : Processor) (m : Memory) (as' : List Activation) → Chain mode image p left r t bs c m
+      → Acts mode image bs as' → length (filter has_body (interrupted c as')) ≡ length bs
+  counted p left r t [] c m as' h acts = ap (λ xs. length (filter has_body (interrupted c xs))) acts
+  counted p left r t (b ∷ below) c m [] h acts = absurd acts
+  counted p left r t (b ∷ below) c m (a ∷ as') h acts =
+      let alone : below ≡ [] = only h.1 h.2 in
+      let none : as' ≡ [] = subst (λ xs. Acts mode image xs as') alone acts.1 in
+      let seen : (not a.inner && not (is_in_repeat c.rip)) ≡ true
+      = ap (λ i. not i && not (is_in_repeat c.rip)) acts.0 ∙ ap not (top_outside p left r t b below c m h) in
+      let top : Activation = record a { rsp = _; rip = c.rip } in
+      ap (λ b. length (if b then top ∷ filter has_body as' else filter has_body as')) seen ∙ ap (λ xs. suc (length (filter has_body xs))) none
+      ∙ ap (λ (xs : List BodyContext). suc (length xs)) (sym alone)
+    where
+      only : (κ : Kind) → StandsOver mode image κ below → below ≡ []
+      only SystemCall q = q
+
+  pub stands_depth : (p left : ℕ) (s : System) (x : abstract.Processor) → StandsOn mode image p left s x → bodies_on s p ≡ length x.bodies
+  stands_depth p left s x o = counted p left x.running (task x) x.bodies (s.cpus p) s.memory (s.activations p) o.chain o.acts
+
+-- ---- as steps tell it
+
+-- an instruction that neither returns nor stands in REPEAT leaves the number
+pub goes_on_inside : (returns user early : Bool) (jumps repeats : Bool) (n : ℕ) → returns ≡ false → repeats ≡ false
+    → (if returns && user && early then n - 1 else (if jumps && user && repeats then suc n else n)) ≡ n
+goes_on_inside returns user early jumps repeats n hr ho =
+    ap (λ r. if r && user && early then n - 1 else (if jumps && user && repeats then suc n else n)) hr
+    ∙ ap (λ o. if jumps && user && o then suc n else n) ho ∙ pick jumps user
+  where
+    pick : (a b : Bool) → (if a && b && false then suc n else n) ≡ n
+    pick true true = refl
+    pick true false = refl
+    pick false b = refl
+
+-- the return to the task ends the body
+pub ends_a_body : (mode : Mode) (i : Option Ins) (c : Processor) → c.rip ≡ task_return mode → is_user c ≡ false → is_return i ≡ true → ends_body c i ≡ true
+ends_a_body Fred i c rip hu hr =
+    ap (λ r. r && not (is_user c) && not (nat_le nmi_entry c.rip && nat_lt c.rip repeat_entry)) hr
+    ∙ ap (λ u. not u && not (nat_le nmi_entry c.rip && nat_lt c.rip repeat_entry)) hu
+    ∙ ap (λ a. not (nat_le nmi_entry a && nat_lt a repeat_entry)) rip
+ends_a_body Idt i c rip hu hr =
+    ap (λ r. r && not (is_user c) && not (nat_le nmi_entry c.rip && nat_lt c.rip repeat_entry)) hr
+    ∙ ap (λ u. not u && not (nat_le nmi_entry c.rip && nat_lt c.rip repeat_entry)) hu
+    ∙ ap (λ a. not (nat_le nmi_entry a && nat_lt a repeat_entry)) rip
+
+-- a step that ran an instruction
+told_ran : (s : System) (p : ℕ) (cpu : Processor) (words : NatMap ℕ) (i : Ins) → Runs s p cpu words → instruction_at s.memory.words (s.cpus p).rip ≡ Some i
+    → told_bodies s p ≡ (if ends_body (s.cpus p) (Some i) then bodies_on s p - 1 else (if begins_body (s.cpus p) (Some i) then suc (bodies_on s p) else bodies_on s p))
+unfolding told_bodies
+told_ran s p cpu words i h hi =
+    ap (λ r. bodies_after (bodies_on s p) (starts_inner s p (next_of (s.cpus p) (s.apics p) (s.latches p)))
+    (ends_body (s.cpus p) (instruction_at s.memory.words (s.cpus p).rip)) (begins_body (s.cpus p) (instruction_at s.memory.words (s.cpus p).rip)) r.step) h
+    ∙ ap (λ o. if ends_body (s.cpus p) o then bodies_on s p - 1 else (if begins_body (s.cpus p) o then suc (bodies_on s p) else bodies_on s p)) hi
+
+pub ran_counts : (n : ℕ) (s : System) (p : ℕ) (cpu : Processor) (words : NatMap ℕ) (i : Ins) → Runs s p cpu words
+    → instruction_at s.memory.words (s.cpus p).rip ≡ Some i
+    → (before after : ℕ) → bodies_on s p ≡ before → bodies_on (after_ran s p cpu words) p ≡ after
+    → (if ends_body (s.cpus p) (Some i) then before - 1 else (if begins_body (s.cpus p) (Some i) then suc before else before)) ≡ after
+    → bodies_on (concrete_step n s p).0 p ≡ told_bodies s p
+ran_counts n s p cpu words i h hi before after hb ha ht =
+    ap (λ z. bodies_on z.0 p) (ran_step n s p cpu words h) ∙ ha
+    ∙ sym (told_ran s p cpu words i h hi
+    ∙ ap (λ k. if ends_body (s.cpus p) (Some i) then k - 1 else (if begins_body (s.cpus p) (Some i) then suc k else k)) hb ∙ ht)
