@@ -6,4 +6,7 @@ pub mod Listed
 pub mod Join
 pub mod Machine
 pub mod Openings
+pub mod Names
+pub mod Single
+pub mod Placed
 pub mod Claims

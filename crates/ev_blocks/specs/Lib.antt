@@ -1,0 +1,6 @@
+pub mod Shapes
+pub mod Fred
+pub mod Idt
+pub mod Nmi
+pub mod Items
+pub mod Blocks

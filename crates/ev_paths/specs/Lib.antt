@@ -1,0 +1,8 @@
+pub mod Ends
+pub mod FredEnds
+pub mod IdtEnds
+pub mod NmiEnds
+pub mod BodyEnds
+pub mod Lines
+pub mod Grounds
+pub mod Cells
