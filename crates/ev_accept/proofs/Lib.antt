@@ -1,0 +1,15 @@
+pub mod Members
+pub mod Upper
+pub mod Lower
+pub mod Numbers
+pub mod Facts
+pub mod BoundLaws
+pub mod Searches
+pub mod Loops
+pub mod Flags
+pub mod Counts
+pub mod Small
+pub mod MissingSides
+pub mod RuleNames
+pub mod Acceptance
+pub mod Samples

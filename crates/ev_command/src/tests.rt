@@ -1,0 +1,72 @@
+// Lists of words that say a command, lists that say none, and numbers as words.
+
+use crate::number::{count_of, number_of};
+use crate::{Command, command_of};
+use ev_isa::Mode;
+
+#[test]
+fn commands(rt: HostRuntime) {
+    let both = Command::Run {
+        mode: None,
+        frames: false,
+    };
+    let one_with_frames = Command::Run {
+        mode: Some(Mode::Fred),
+        frames: true,
+    };
+    let lists: [(&[&str], Command); 6] = [
+        (&["run"], both),
+        (&["run", "--mode", "fred", "--frames"], one_with_frames),
+        (&["run", "--frames", "--mode", "fred"], one_with_frames),
+        (&["run", "--frames", "--mode=fred"], one_with_frames),
+        (&["asm"], Command::Asm),
+        (&["check"], Command::Check),
+    ];
+    for (words, command) in lists {
+        assert_eq!(rt; command_of(rt.alloc(), words), Ok(Some(command)));
+    }
+}
+
+#[test]
+fn no_commands(rt: HostRuntime) {
+    let lists: [&[&str]; 21] = [
+        &[],
+        &["--frames"],
+        &["--", "run"],
+        &["run", "--"],
+        &["run", "-h"],
+        &["run", "--fast"],
+        &["run", "idt"],
+        &["run", "--mode"],
+        &["run", "--mode="],
+        &["run", "--mode=", "idt"],
+        &["run", "--mode", "vmx"],
+        &["run", "--frames=yes"],
+        &["run", "--frames", "--frames"],
+        &["run", "--mode", "idt", "--mode=fred"],
+        &["asm", "--frames"],
+        &["check", "--help"],
+        &["help"],
+        &["--version"],
+        // commands that aren't built yet
+        &["probe"],
+        &["gen", "--seed", "7", "--count", "3"],
+        &["threads", "--mode=idt", "--turns", "5"],
+    ];
+    for words in lists {
+        assert_eq!(rt; command_of(rt.alloc(), words), Ok(None));
+    }
+}
+
+#[test]
+fn numbers(rt: HostRuntime) {
+    let most = "18446744073709551615";
+    assert_eq!(rt; number_of(Some(most)), Some(18446744073709551615));
+    assert_eq!(rt; count_of(Some("200000"), 200_000), Some(200_000));
+    for word in ["18446744073709551616", "05", "+5", "-5", "0x5", "5 ", ""] {
+        assert_eq!(rt; number_of(Some(word)), None, "{word}");
+    }
+    for word in ["0", "200001", "03"] {
+        assert_eq!(rt; count_of(Some(word), 200_000), None, "{word}");
+    }
+}
