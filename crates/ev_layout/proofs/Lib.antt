@@ -7,4 +7,5 @@ pub mod Apart
 pub mod Final
 pub mod Linkable
 pub mod Results
+pub mod Index
 pub mod Marked

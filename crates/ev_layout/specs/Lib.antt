@@ -1,3 +1,4 @@
+pub mod Index
 pub mod Marks
 pub mod Placed
 pub mod Filled

@@ -6,6 +6,7 @@ ghost use Rattle.ev_layout.specs.Marks.{mark_of, marks_in};
 
 use crate::mark::Mark;
 use std::alloc::{AllocError, Global};
+use std::collections::HashMap;
 use std::marker::Model;
 
 /// The addresses of the kernel's visible instructions, each with its mark. Contracts see the list.
@@ -13,15 +14,19 @@ use std::marker::Model;
 #[derive(Debug, Drop)]
 pub struct Places {
     marks: Vec<(u64, Mark)>,
+    index: HashMap<u64, Mark>,
 }
 
 impl Model for Places {
     ghost use Rattle.std.specs.Prelude.{ℕ, List};
     ghost use Rattle.ev_layout.specs.declared.mark.Mark.{Mark};
+    ghost use Rattle.ev_layout.specs.Index.{IsIndex};
 
     ghost Value = { List (ℕ × Mark) };
 
     ghost view = { λ p. p.marks.items };
+
+    ghost invariant = { λ p. IsIndex p.marks.items p.index };
 }
 
 impl Places {
@@ -31,6 +36,7 @@ impl Places {
     {
         Places {
             marks: Vec::new(alloc),
+            index: HashMap::new(alloc),
         }
     }
 
@@ -40,18 +46,25 @@ impl Places {
         ensures err { OnErr result (self.new ≡ self.old) }
     {
         self.marks.push((address, mark))?;
-        Ok(())
+        if self.index.contains_key(&address) {
+            return Ok(());
+        }
+        match self.index.insert(address, mark) {
+            Ok(_) => Ok(()),
+            Err(_) => {
+                self.marks.pop();
+                Err(AllocError)
+            }
+        }
     }
 
     /// The mark of the instruction at an address.
     pub fn mark_at(&self, rip: u64) -> Mark
         ensures { mark_of result ≡ mark_at (marks_in self.now) rip }
     {
-        for (address, mark) in &self.marks {
-            if *address == rip {
-                return *mark;
-            }
+        match self.index.get(&rip) {
+            Some(mark) => *mark,
+            None => Mark::Never,
         }
-        Mark::Never
     }
 }
