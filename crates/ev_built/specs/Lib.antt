@@ -1,2 +1,4 @@
 pub mod Program
 pub mod Built
+pub mod RunTakes
+pub mod Laws

@@ -31,7 +31,7 @@ use Rattle.ev_law.proofs.Lists.{all_at}
 use Rattle.ev_law.proofs.Ruled.{IsRuled}
 use Rattle.ev_law.proofs.Places.{onward_at, jump_at, function_at, behind_take_at, flags_are_known}
 use Rattle.ev_law.proofs.Delivery.{CanCome, delivered_legal, delivered_records, breakpoint_can_come, page_fault_can_come, any_whole}
-use Rattle.ev_law.proofs.Machines.{put_legal, legal_grown, calls_grown, Alike, alike_self, alike_then, put_alike, alike_cell, alike_words, alike_page, alike_record, alike_queue, alike_queued, alike_taken, alike_mail, alike_kick, moved, moved_bodies}
+use Rattle.ev_law.proofs.Machines.{put_legal, legal_grown, calls_grown, Alike, alike_self, alike_then, put_alike, alike_cell, alike_words, alike_page, alike_record, alike_queue, alike_queued, alike_taken, alike_mail, alike_kick, used_by_item, send_sends, kick_sends, moved, moved_bodies}
 
 -- ---- tests of items
 
@@ -281,7 +281,8 @@ module _ (image : Image) (ruled : (n : ℕ) (b : Body) → slice_get image.bodie
         goes_on m (onward (record c { interrupts = false })) Cli (alike_self image m) e refl refl refl refl refl refl (λ h. absurd (cc)) refl
     item_legal Eoi e = goes_on m (onward (record c { service = None })) Eoi (alike_self image m) e refl refl refl refl refl refl (λ h. absurd (cc)) refl
     item_legal (Send to key) e = goes_on (with_mail m to key) (onward c) (Send to key)
-        (alike_mail image m to key (is_ruled.sends c.place to key e)) e refl refl refl refl refl refl (λ h. absurd (cc)) refl
+        (alike_mail image m to key (is_ruled.sends c.place to key e) (used_by_item image key c.body c.place top.0.body (Send to key) top.0.is_body e
+        (send_sends image to key))) e refl refl refl refl refl refl (λ h. absurd (cc)) refl
     item_legal Item.Bp e = let n : Machine = with_context m p (onward c) in
         let l : Legal image n = goes_on m (onward c) Item.Bp (alike_self image m) e refl refl refl refl refl refl (λ h. absurd (cc)) refl in
         let q : (processor n p).bodies ≡ onward c ∷ below = moved_bodies image m p c (onward c) below here in
@@ -294,7 +295,8 @@ module _ (image : Image) (ruled : (n : ℕ) (b : Body) → slice_get image.bodie
         raised_legal n p (software Int3 3 1) l (subst (λ bs. CanCome image bs (software Int3 3 1)) (sym q) can)
     item_legal (Call site to func s) e = let k : CallId = record { from = p; site = site } in called_legal k (record_of m k).state site to func s e
     item_legal (Kick to s) e = goes_on (if local c s == 2 then with_mail m to (Key.Irq 0xfb) else m) (onward (unknown_flags c)) (Kick to s)
-        (alike_kick image m to (local c s == 2)) e refl refl refl refl refl refl (λ h. absurd (cc)) refl
+        (alike_kick image m to (local c s == 2) (used_by_item image (Key.Irq 0xfb) c.body c.place top.0.body (Kick to s) top.0.is_body e
+        (kick_sends image to s))) e refl refl refl refl refl refl (λ h. absurd (cc)) refl
     item_legal (Wait site) e = let k : CallId = record { from = p; site = site } in waited_legal k (record_of m k).state site e
     item_legal Take e = take_legal e
     item_legal Finish e = finish_legal c.calls top.0.calls e

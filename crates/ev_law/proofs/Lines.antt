@@ -25,7 +25,7 @@ use Rattle.ev_law.specs.Legal.{AreLegal, IsLegalProcessor, Legal, knows}
 use Rattle.ev_law.specs.Laws.{LinesKeepLegal}
 use Rattle.ev_law.proofs.Ruled.{IsRuled, body_ruled}
 use Rattle.ev_law.proofs.Delivery.{CanCome, delivered_legal, delivered_records, nmi_can_come, interrupt_can_come, fault_can_come}
-use Rattle.ev_law.proofs.Machines.{put_legal, alike_words, put_vector, sendable_from}
+use Rattle.ev_law.proofs.Machines.{put_legal, alike_words, put_vector, sendable_interrupt, used_by_body}
 use Rattle.ev_law.proofs.Items.{item_legal}
 use Rattle.ev_law.proofs.UserFaults.{RaisesFaults, user_step_faults}
 
@@ -93,7 +93,7 @@ module _ (image : Image) (ruled : (n : ℕ) (b : Body) → slice_get image.bodie
         mail = (h.each p).mail;
         queue = (h.each p).queue;
       })
-      (interrupt_can_come image (knows image m) ruled v (processor m p).bodies ((h.each p).bodies) ((h.each p).pending.above v q.0) hi on q.1))
+      (interrupt_can_come image (knows image m) ruled v (processor m p).bodies ((h.each p).bodies) ((h.each p).pending.each v q.0).from hi on q.1))
 
   turn_legal : (m : Machine) (p : ℕ) → Legal image m → Legal image (turn image m p).0
   unfolding turn choice
@@ -122,23 +122,23 @@ module _ (image : Image) (ruled : (n : ℕ) (b : Body) → slice_get image.bodie
   arrived_records x Nmi = refl
   arrived_records x _ = refl
 
-  arrived_legal : (known : CallId → Bool) (x : Processor) (key : Key) → is_sendable key ≡ true → IsLegalProcessor image known x
-      → IsLegalProcessor image known (arrived x key)
+  arrived_legal : (known : CallId → Bool) (x : Processor) (key : Key) → is_sendable key ≡ true → has_body_of image key ≡ true
+      → IsLegalProcessor image known x → IsLegalProcessor image known (arrived x key)
   unfolding key_number
-  arrived_legal known x Nmi h k = record { bodies = k.bodies; pending = k.pending; mail = k.mail; queue = k.queue }
-  arrived_legal known x (Irq v) h k = record {
+  arrived_legal known x Nmi h b k = record { bodies = k.bodies; pending = k.pending; mail = k.mail; queue = k.queue }
+  arrived_legal known x (Irq v) h b k = record {
     bodies = k.bodies;
-    pending = put_vector image x.pending v true (λ e. sendable_from image v h) k.pending;
+    pending = put_vector image x.pending v true (λ e. sendable_interrupt image v h (used_by_body image (Irq v) b)) k.pending;
     mail = k.mail;
     queue = k.queue;
   }
-  arrived_legal known x _ h k = absurd (cc)
+  arrived_legal known x _ h b k = absurd (cc)
 
   accepted_legal : (known : CallId → Bool) (x : Processor) → IsLegalProcessor image known x → IsLegalProcessor image known (accepted x)
   accepted_legal known x k = record {
     bodies = k.bodies;
-    pending = record { above = λ v e. elim (or_cases (x.pending v) (x.mail v) e) [ inl a ↦ k.pending.above v a | inr a ↦ k.mail.above v a ] };
-    mail = record { above = λ v e. absurd (cc) };
+    pending = record { each = λ v e. elim (or_cases (x.pending v) (x.mail v) e) [ inl a ↦ k.pending.each v a | inr a ↦ k.mail.each v a ] };
+    mail = record { each = λ v e. absurd (cc) };
     queue = k.queue;
   }
 
@@ -149,7 +149,7 @@ module _ (image : Image) (ruled : (n : ℕ) (b : Body) → slice_get image.bodie
   line_legal m (Arrive p key) k h =
       let s = and_parts _ (has_body_of image key) k in
       put_legal image m p (arrived (processor m p) key) (arrived_records (processor m p) key) h
-      (arrived_legal (knows image m) (processor m p) key (and_parts _ (is_sendable key) s.0).1 (h.each p))
+      (arrived_legal (knows image m) (processor m p) key (and_parts _ (is_sendable key) s.0).1 s.1 (h.each p))
   line_legal m (Accept p) k h = put_legal image m p (accepted (processor m p)) refl h (accepted_legal (knows image m) (processor m p) (h.each p))
 
 pub lines_keep_legal : LinesKeepLegal

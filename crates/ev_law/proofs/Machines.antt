@@ -1,20 +1,27 @@
 -- Machines that differ in what no law reads, and the machine with another last context.
-use Rattle.std.specs.Prelude.{◌≡◌, refl, ℕ, ◌≤◌, Bool, true, false, ◌==◌, if◌then◌else◌, List, [], ◌∷◌, ◌++◌}
+use Rattle.std.specs.Prelude.{◌≡◌, refl, ℕ, Bool, true, false, ◌==◌, ◌||◌, nat_le, nat_lt, if◌then◌else◌, List, [], ◌∷◌, ◌++◌, Some, slice_get}
 use Rattle.std.specs.List.{list_all}
 use Rattle.std.proofs.Common.{arith, ap, sym, ◌∙◌, subst}
-use Rattle.std.proofs.lemmas.Bool.{and_parts, and_from, eqb-true, eq-eqb, leb-true}
+use Rattle.std.proofs.lemmas.Bool.{and_parts, and_from, eqb-true, eq-eqb, leb-true, ltb-true, or_left, or_right}
 use Rattle.ev_isa.specs.Word.{NatSet, NatMap, put_at}
 use Rattle.ev_isa.specs.Pages.{Place, Page}
 use Rattle.ev_body.specs.declared.key.Key.{Key}
 use Rattle.ev_body.specs.declared.key.Key.TheVariants.{Nmi, Irq}
 use Rattle.ev_body.specs.declared.image.Image.{Image}
-use Rattle.ev_body.specs.Bodies.{key_number}
+use Rattle.ev_body.specs.declared.body.Body.{Body}
+use Rattle.ev_body.specs.declared.item.Item.{Item}
+use Rattle.ev_body.specs.declared.item.Item.TheVariants.{Send, Kick}
+use Rattle.ev_body.specs.Bodies.{key_number, body_items}
+use Rattle.ev_abstract.specs.Chain.{has_item}
+use Rattle.ev_abstract.specs.Rules.{is_used, sends}
+use Rattle.ev_abstract.specs.Script.{has_body_of}
+use Rattle.ev_law.proofs.Lists.{any_at, any_weaker}
 use Rattle.ev_body.specs.WellFormed.{is_sendable}
 use Rattle.ev_abstract.specs.Context.{BodyContext, CallId}
 use Rattle.ev_abstract.specs.Machine.{Processor, Machine, CallRecord, Taken, processor, with_processor}
 use Rattle.ev_abstract.specs.CrossCall.{record_of, with_record, in_state, with_queue, queued, all_taken}
 use Rattle.ev_abstract.specs.ItemMeaning.{replace_last, with_context, with_cell, with_page, mailed, with_mail}
-use Rattle.ev_law.specs.Legal.{AreLegal, AreVectors, IsLegalProcessor, Legal, declares, knows}
+use Rattle.ev_law.specs.Legal.{AreLegal, AreVectors, IsInterrupt, IsLegalProcessor, Legal, declares, knows}
 
 all_grown : (f g : CallId → Bool) → ((k : CallId) → f k ≡ true → g k ≡ true) → (ks : List CallId) → list_all f ks ≡ true → list_all g ks ≡ true
 all_grown f g h [] l = refl
@@ -94,7 +101,7 @@ module _ (image : Image) where
 
   pub put_alike : (m : Machine) (p : ℕ) (x : Processor) → x.bodies ≡ (processor m p).bodies → x.pending ≡ (processor m p).pending
       → x.records ≡ (processor m p).records
-      → (AreVectors (processor m p).mail → AreVectors x.mail) → (Legal image m → list_all (knows image m) x.queue ≡ true)
+      → (AreVectors image (processor m p).mail → AreVectors image x.mail) → (Legal image m → list_all (knows image m) x.queue ≡ true)
       → Alike m (with_processor m p x)
   put_alike m p x e f r g q = record {
     legal = λ h. put_legal m p x r h (record {
@@ -183,35 +190,58 @@ module _ (image : Image) where
 
   -- ---- vectors
 
-  pub put_vector : (s : NatSet) (v : ℕ) (t : Bool) → (t ≡ true → 32 ≤ v) → AreVectors s → AreVectors (put_at s v t)
-  put_vector s v t h k = record { above = λ w. pick w (w == v) refl }
+  pub put_vector : (s : NatSet) (v : ℕ) (t : Bool) → (t ≡ true → IsInterrupt image v) → AreVectors image s → AreVectors image (put_at s v t)
+  put_vector s v t h k = record { each = λ w. pick w (w == v) refl }
     where
-      pick : (w : ℕ) (b : Bool) → w == v ≡ b → (elim b as (λ y. Bool) [ true ↦ t | false ↦ s w ]) ≡ true → 32 ≤ w
-      pick w true q e = let same : w ≡ v = eqb-true w v q in let l : 32 ≤ v = h e in omega (arith, same, l)
-      pick w false q e = k.above w e
+      pick : (w : ℕ) (b : Bool) → w == v ≡ b → (elim b as (λ y. Bool) [ true ↦ t | false ↦ s w ]) ≡ true → IsInterrupt image w
+      pick w true q e = let same : w ≡ v = eqb-true w v q in subst (IsInterrupt image) (sym same) (h e)
+      pick w false q e = k.each w e
 
-  pub sendable_from : (v : ℕ) → is_sendable (Irq v) ≡ true → 32 ≤ v
-  sendable_from v h = leb-true 0x20 v (and_parts _ _ h).0
+  pub sendable_interrupt : (v : ℕ) → is_sendable (Irq v) ≡ true → is_used image (Irq v) ≡ true → IsInterrupt image v
+  sendable_interrupt v h u =
+      let p = and_parts (nat_le 0x20 v) (nat_lt v 0x100) h in record { from = leb-true 0x20 v p.0; to = ltb-true v 0x100 p.1; used = u }
 
-  mailed_vectors : (x : Processor) (key : Key) → is_sendable key ≡ true → AreVectors x.mail → AreVectors (mailed x key).mail
+  mailed_vectors : (x : Processor) (key : Key) → is_sendable key ≡ true → is_used image key ≡ true → AreVectors image x.mail
+      → AreVectors image (mailed x key).mail
   unfolding key_number
-  mailed_vectors x Nmi h k = k
-  mailed_vectors x (Irq v) h k = put_vector x.mail v true (λ e. sendable_from v h) k
-  mailed_vectors x _ h k = absurd (cc)
+  mailed_vectors x Nmi h u k = k
+  mailed_vectors x (Irq v) h u k = put_vector x.mail v true (λ e. sendable_interrupt v h u) k
+  mailed_vectors x _ h u k = absurd (cc)
 
   mailed_same : (x : Processor) (key : Key)
       → ((mailed x key).bodies ≡ x.bodies) × ((mailed x key).pending ≡ x.pending) × ((mailed x key).records ≡ x.records) × ((mailed x key).queue ≡ x.queue)
   mailed_same x Nmi = (refl, refl, refl, refl)
   mailed_same x _ = (refl, refl, refl, refl)
 
-  pub alike_mail : (m : Machine) (to : ℕ) (key : Key) → is_sendable key ≡ true → Alike m (with_mail m to key)
-  alike_mail m to key h =
-      let s = mailed_same (processor m to) key in put_alike m to (mailed (processor m to) key) s.0 s.1 s.2 (mailed_vectors (processor m to) key h)
+  pub alike_mail : (m : Machine) (to : ℕ) (key : Key) → is_sendable key ≡ true → is_used image key ≡ true → Alike m (with_mail m to key)
+  alike_mail m to key h u =
+      let s = mailed_same (processor m to) key in put_alike m to (mailed (processor m to) key) s.0 s.1 s.2 (mailed_vectors (processor m to) key h u)
       (λ l. subst (λ ks. list_all (knows image m) ks ≡ true) (sym s.3) (l.each to).queue)
 
-  pub alike_kick : (m : Machine) (to : ℕ) (b : Bool) → Alike m (if b then with_mail m to (Irq 0xfb) else m)
-  alike_kick m to true = alike_mail m to (Irq 0xfb) refl
-  alike_kick m to false = alike_self m
+  pub alike_kick : (m : Machine) (to : ℕ) (b : Bool) → is_used image (Irq 0xfb) ≡ true → Alike m (if b then with_mail m to (Irq 0xfb) else m)
+  alike_kick m to true u = alike_mail m to (Irq 0xfb) refl u
+  alike_kick m to false u = alike_self m
+
+  -- what a body has or sends is used
+  pub used_by_body : (key : Key) → has_body_of image key ≡ true → is_used image key ≡ true
+  used_by_body key h =
+      any_weaker (λ (b : Body). key_number b.key == key_number key) (λ (b : Body). (key_number b.key == key_number key) || has_item (sends key) b)
+      image.bodies
+      (λ b e. or_left (key_number b.key == key_number key) (has_item (sends key) b) e) h
+
+  pub used_by_item : (key : Key) (n i : ℕ) (b : Body) (item : Item) → slice_get image.bodies n ≡ Some b → slice_get (body_items b) i ≡ Some item
+      → sends key item ≡ true → is_used image key ≡ true
+  used_by_item key n i b item f e s =
+      any_at (λ (c : Body). (key_number c.key == key_number key) || has_item (sends key) c) image.bodies n b f
+      (or_right (key_number b.key == key_number key) (has_item (sends key) b) (any_at (sends key) (body_items b) i item e s))
+
+  pub send_sends : (to : ℕ) (key : Key) → sends key (Send to key) ≡ true
+  unfolding sends
+  send_sends to key = eq-eqb (key_number key) (key_number key) refl
+
+  pub kick_sends : (to s : ℕ) → sends (Irq 0xfb) (Kick to s) ≡ true
+  unfolding sends key_number
+  kick_sends to s = refl
 
   -- ---- another last context
 

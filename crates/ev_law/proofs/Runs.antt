@@ -25,8 +25,8 @@ unfolding opening
 opening_is_legal image = record {
   each = λ p. record {
     bodies = tt;
-    pending = record { above = λ v e. absurd (cc) };
-    mail = record { above = λ v e. absurd (cc) };
+    pending = record { each = λ v e. absurd (cc) };
+    mail = record { each = λ v e. absurd (cc) };
     queue = refl;
   };
 }

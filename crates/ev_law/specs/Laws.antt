@@ -1,12 +1,13 @@
 -- The laws of the runs of accepted images. Own.
-use Rattle.std.specs.Prelude.{◌≡◌, ◌⊎◌, ℕ, ◌/◌, ◌≤◌, ◌<◌, Bool, true, false, nat_lt, List, ◌∷◌, ◌++◌, length, Option, Some, None, is_some, slice_get}
+use Rattle.std.specs.Prelude.{◌≡◌, ◌⊎◌, ℕ, ◌/◌, ◌≤◌, ◌<◌, Bool, true, false, ◌||◌, nat_lt, List, ◌∷◌, ◌++◌, length, Option, Some, None, is_some, slice_get}
 use Rattle.std.specs.List.{list_any, list_all}
 use Rattle.ev_isa.specs.declared.instruction.Cond.{Cond}
 use Rattle.ev_body.specs.declared.key.Key.TheVariants.{Irq, Bp, Pf}
 use Rattle.ev_body.specs.declared.item.Item.TheVariants.{Jcc}
 use Rattle.ev_body.specs.declared.body.Body.{Body}
 use Rattle.ev_body.specs.declared.image.Image.{Image}
-use Rattle.ev_body.specs.Bodies.{body_items}
+use Rattle.ev_body.specs.declared.key.Side.TheVariants.{User, Kernel}
+use Rattle.ev_body.specs.Bodies.{body_items, first_body}
 use Rattle.ev_body.specs.WellFormed.{IsImage}
 use Rattle.ev_abstract.specs.Context.{BodyContext}
 use Rattle.ev_abstract.specs.Machine.{Machine, processor, opening}
@@ -40,6 +41,16 @@ RunsAreLegal = (image : Image) (script : List Line) → IsImage image → IsAcce
 abbrev pub NestIsEnough : Type 0
 NestIsEnough = (image : Image) (script : List Line) (p : ℕ) → IsImage image → IsAccepted image
     → IsScript image script → length (standing_bodies (processor (run image script) p)) ≤ image.nest
+
+-- ---- what follows of each vector
+
+-- one that is pending or in the mail has a body of either side, so that its delivery enters one
+abbrev pub VectorsHaveBodies : Type 0
+VectorsHaveBodies = (image : Image) (script : List Line) (p v : ℕ) → IsImage image → IsAccepted image
+    → IsScript image script
+    → ((processor (run image script) p).pending v || (processor (run image script) p).mail v) ≡ true
+    → (is_some (first_body 0 image.bodies v User) ≡ true)
+    × (is_some (first_body 0 image.bodies v Kernel) ≡ true)
 
 -- ---- what follows of each context
 

@@ -16,7 +16,7 @@ use Rattle.ev_abstract.specs.Context.{CallId, BodyContext}
 use Rattle.ev_abstract.specs.Machine.{Processor, Machine, processor}
 use Rattle.ev_abstract.specs.CrossCall.{take_place, record_of}
 use Rattle.ev_abstract.specs.Chain.{is_legal, bodies_of}
-use Rattle.ev_abstract.specs.Rules.{if_at, in_function, is_inner, is_eoi, is_call_handler}
+use Rattle.ev_abstract.specs.Rules.{if_at, in_function, is_inner, is_eoi, is_call_handler, is_used}
 
 -- ---- a context at its place
 
@@ -93,15 +93,21 @@ AreLegal image known (c ∷ below) = IsLegalOn image known c below × AreLegal i
 
 -- ---- a processor and the machine
 
--- the vectors of a set are those of interrupts, and none is an exception's
-pub record AreVectors (s : NatSet) : Type 0 where
-  pub above : (v : ℕ) → s v ≡ true → 32 ≤ v
+-- the vector is an interrupt's and no exception's, and some body has its key or sends it
+pub record IsInterrupt (image : Image) (v : ℕ) : Type 0 where
+  pub from : 32 ≤ v
+  pub to : v < 256
+  pub used : is_used image (Irq v) ≡ true
+
+-- the vectors of a set are such
+pub record AreVectors (image : Image) (s : NatSet) : Type 0 where
+  pub each : (v : ℕ) → s v ≡ true → IsInterrupt image v
 
 -- a processor's bodies are legal, its vectors interrupts', and its queued calls known
 pub record IsLegalProcessor (image : Image) (known : CallId → Bool) (x : Processor) : Type 0 where
   pub bodies : AreLegal image known x.bodies
-  pub pending : AreVectors x.pending
-  pub mail : AreVectors x.mail
+  pub pending : AreVectors image x.pending
+  pub mail : AreVectors image x.mail
   pub queue : list_all known x.queue ≡ true
 
 -- whether the body has the function

@@ -1,0 +1,7 @@
+use Rattle.std.proofs.Common.{◌≡◌, drop}
+use Rattle.std.specs.List.{list_all}
+use Rattle.ev_built.specs.Built.{is_built_item}
+use Rattle.ev_built.proofs.image.all_built.Given as goal
+
+abbrev pub invariant-loop-item : goal.invariant-loop-item
+invariant-loop-item l = list_all is_built_item (drop l.item-index l.items) ≡ list_all is_built_item l.items
