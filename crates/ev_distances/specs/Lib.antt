@@ -1,3 +1,4 @@
 pub mod Span
 pub mod Regions
+pub mod Form
 pub mod Claims

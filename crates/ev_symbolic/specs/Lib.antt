@@ -6,4 +6,5 @@ pub mod Listed
 pub mod Join
 pub mod Machine
 pub mod Openings
+pub mod Names
 pub mod Claims

@@ -1,0 +1,139 @@
+-- What the blocks of IDT's code come to: closed facts, each by computation; the vector of an entry is any number.
+use Rattle.std.proofs.Common.{◌≡◌, ℕ, Bool, true, false, Some, refl}
+use Rattle.ev_isa.specs.Spelling.{spelling, four_bytes}
+use Rattle.ev_asm.specs.Assembly.{size, places, distance}
+use Rattle.ev_symbolic.specs.Run.{brun}
+use Rattle.ev_blocks.specs.Shapes.{Origin, UserCode, KernelCode, IdtFrame}
+use Rattle.ev_blocks.specs.Ends.{TellsNoCr2, Enters}
+use Rattle.ev_blocks.specs.Idt.{IdtReturn, BySysret, ByOtherRip, ByOtherFlags, IdtToKernel, IdtToTask, IdtToNext, Stub, Sys, Common, Leaves, idt_places, sys_lines, common_lines, exit_lines, sys_values, common_values, idt_block}
+use Rattle.ev_blocks.specs.Items.{AtTable, body_block}
+use Rattle.ev_blocks.specs.IdtEnds.{idt_end, EntersCommon, IdtEnters, IretToKernel, IretToTask, IretToNext, SysretToTask, SysretToNext, IdtReturns, IdtTellsNoCr2}
+
+-- ---- entries
+
+stub_enters : (o : Origin) (has_error : Bool) (v : ℕ) (page_fault : Bool) → EntersCommon o has_error v page_fault
+unfolding idt_end idt_places sys_lines common_lines exit_lines spelling four_bytes size places distance
+stub_enters UserCode true v true = record {
+  runs = refl;
+  joins = record { regs = refl; gs = refl; kernel_gs = refl; selector = refl; cr2 = refl; rsp0 = refl; words = refl; inside = refl };
+}
+stub_enters UserCode true v false = record {
+  runs = refl;
+  joins = record { regs = refl; gs = refl; kernel_gs = refl; selector = refl; cr2 = tt; rsp0 = refl; words = refl; inside = refl };
+}
+stub_enters UserCode false v true = record {
+  runs = refl;
+  joins = record { regs = refl; gs = refl; kernel_gs = refl; selector = refl; cr2 = refl; rsp0 = refl; words = refl; inside = refl };
+}
+stub_enters UserCode false v false = record {
+  runs = refl;
+  joins = record { regs = refl; gs = refl; kernel_gs = refl; selector = refl; cr2 = tt; rsp0 = refl; words = refl; inside = refl };
+}
+stub_enters KernelCode true v true = record {
+  runs = refl;
+  joins = record { regs = refl; gs = refl; kernel_gs = refl; selector = refl; cr2 = refl; rsp0 = refl; words = refl; inside = refl };
+}
+stub_enters KernelCode true v false = record {
+  runs = refl;
+  joins = record { regs = refl; gs = refl; kernel_gs = refl; selector = refl; cr2 = tt; rsp0 = refl; words = refl; inside = refl };
+}
+stub_enters KernelCode false v true = record {
+  runs = refl;
+  joins = record { regs = refl; gs = refl; kernel_gs = refl; selector = refl; cr2 = refl; rsp0 = refl; words = refl; inside = refl };
+}
+stub_enters KernelCode false v false = record {
+  runs = refl;
+  joins = record { regs = refl; gs = refl; kernel_gs = refl; selector = refl; cr2 = tt; rsp0 = refl; words = refl; inside = refl };
+}
+
+call_enters : Enters (idt_block Sys) (idt_end Sys) sys_values (body_block false IdtFrame AtTable)
+unfolding idt_end idt_places sys_lines common_lines exit_lines spelling four_bytes size places distance
+call_enters = record {
+  runs = refl;
+  continues = record { joins = record { regs = refl; gs = refl; kernel_gs = refl; selector = refl; cr2 = tt; rsp0 = refl; words = refl; inside = refl }; rip = refl; blocked = refl };
+}
+
+common_enters : (o : Origin) (page_fault : Bool)
+    → Enters (idt_block (Common o page_fault)) (idt_end (Common o page_fault)) (common_values o page_fault) (body_block false IdtFrame AtTable)
+unfolding idt_end idt_places sys_lines common_lines exit_lines spelling four_bytes size places distance
+common_enters UserCode true = record {
+  runs = refl;
+  continues = record { joins = record { regs = refl; gs = refl; kernel_gs = refl; selector = refl; cr2 = tt; rsp0 = refl; words = refl; inside = refl }; rip = refl; blocked = refl };
+}
+common_enters UserCode false = record {
+  runs = refl;
+  continues = record { joins = record { regs = refl; gs = refl; kernel_gs = refl; selector = refl; cr2 = tt; rsp0 = refl; words = refl; inside = refl }; rip = refl; blocked = refl };
+}
+common_enters KernelCode true = record {
+  runs = refl;
+  continues = record { joins = record { regs = refl; gs = refl; kernel_gs = refl; selector = refl; cr2 = tt; rsp0 = refl; words = refl; inside = refl }; rip = refl; blocked = refl };
+}
+common_enters KernelCode false = record {
+  runs = refl;
+  continues = record { joins = record { regs = refl; gs = refl; kernel_gs = refl; selector = refl; cr2 = tt; rsp0 = refl; words = refl; inside = refl }; rip = refl; blocked = refl };
+}
+
+pub idt_enters : IdtEnters
+idt_enters = record { stub = stub_enters; call = call_enters; common = common_enters }
+
+-- ---- exits
+
+to_kernel : IretToKernel
+unfolding idt_end idt_places sys_lines common_lines exit_lines spelling four_bytes size places distance
+to_kernel = record { runs = refl; rip = refl; regs = refl; gs = refl; kernel_gs = refl; selector = refl; rsp0 = refl; blocked = refl; words = refl }
+
+to_task : SysretToTask
+unfolding idt_end idt_places sys_lines common_lines exit_lines spelling four_bytes size places distance
+to_task = record { runs = refl; rip = refl; regs = refl; gs = refl; kernel_gs = refl; selector = refl; rsp0 = refl; blocked = refl; words = refl }
+
+to_task_by_rip : IretToTask ByOtherRip
+unfolding idt_end idt_places sys_lines common_lines exit_lines spelling four_bytes size places distance
+to_task_by_rip = record { runs = refl; rip = refl; regs = refl; gs = refl; kernel_gs = refl; selector = refl; rsp0 = refl; blocked = refl; words = refl }
+
+to_task_by_flags : IretToTask ByOtherFlags
+unfolding idt_end idt_places sys_lines common_lines exit_lines spelling four_bytes size places distance
+to_task_by_flags = record { runs = refl; rip = refl; regs = refl; gs = refl; kernel_gs = refl; selector = refl; rsp0 = refl; blocked = refl; words = refl }
+
+to_next : SysretToNext
+unfolding idt_end idt_places sys_lines common_lines exit_lines spelling four_bytes size places distance
+to_next = record { runs = refl; rip = refl; regs = refl; gs = refl; kernel_gs = refl; selector = refl; rsp0 = refl; blocked = refl; words = refl }
+
+to_next_by_rip : IretToNext ByOtherRip
+unfolding idt_end idt_places sys_lines common_lines exit_lines spelling four_bytes size places distance
+to_next_by_rip = record { runs = refl; rip = refl; regs = refl; gs = refl; kernel_gs = refl; selector = refl; rsp0 = refl; blocked = refl; words = refl }
+
+to_next_by_flags : IretToNext ByOtherFlags
+unfolding idt_end idt_places sys_lines common_lines exit_lines spelling four_bytes size places distance
+to_next_by_flags = record { runs = refl; rip = refl; regs = refl; gs = refl; kernel_gs = refl; selector = refl; rsp0 = refl; blocked = refl; words = refl }
+
+pub idt_returns : IdtReturns
+idt_returns = record {
+  to_kernel = to_kernel;
+  to_task = to_task;
+  to_task_by_rip = to_task_by_rip;
+  to_task_by_flags = to_task_by_flags;
+  to_next = to_next;
+  to_next_by_rip = to_next_by_rip;
+  to_next_by_flags = to_next_by_flags;
+}
+
+-- ---- CR2
+
+stub_untold : (o : Origin) (has_error : Bool) (v : ℕ) → TellsNoCr2 (idt_block (Stub o has_error v))
+unfolding spelling four_bytes
+stub_untold UserCode true v = refl
+stub_untold UserCode false v = refl
+stub_untold KernelCode true v = refl
+stub_untold KernelCode false v = refl
+
+call_untold : TellsNoCr2 (idt_block Sys)
+unfolding idt_end idt_places sys_lines common_lines exit_lines spelling four_bytes size places distance
+call_untold = refl
+
+common_untold : (o : Origin) → TellsNoCr2 (idt_block (Common o false))
+unfolding idt_end idt_places sys_lines common_lines exit_lines spelling four_bytes size places distance
+common_untold UserCode = refl
+common_untold KernelCode = refl
+
+pub idt_untold : IdtTellsNoCr2
+idt_untold = (stub_untold, call_untold, common_untold)

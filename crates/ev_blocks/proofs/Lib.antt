@@ -1,0 +1,4 @@
+mod FredEnds
+mod IdtEnds
+mod NmiEnds
+mod BodyEnds

@@ -1,0 +1,107 @@
+-- Windows by form: what a block's window is, told without the processor, the stack or the task, and the interval that it is for an activation. Own.
+use Rattle.std.specs.Prelude.{◌≡◌, ℕ, ◌+◌, ◌-◌, ◌*◌, ◌%◌, ◌<◌, ◌≤◌, Bool, true, false, not, ◌&&◌, ◌||◌, ◌==◌, nat_le, List, [], ◌∷◌, map}
+use Rattle.ev_listing.specs.AddressMap.{pcpu, record_address, task_words, stack_top}
+use Rattle.ev_symbolic.specs.Value.{M}
+use Rattle.ev_symbolic.specs.State.{Win, top_tag}
+use Rattle.ev_symbolic.specs.Agrees.{Env}
+use Rattle.ev_symbolic.specs.Openings.{gs_tag, win_below, win_at}
+use Rattle.ev_symbolic.specs.Names.{task_tag, next_task_tag, next_top_tag, record_tag}
+use Rattle.ev_distances.specs.Span.{Span, Areas, Tasks, Stacks, Codes}
+
+-- The n bytes below the top of the frame; n bytes from so far below it; n bytes from an offset of the processor's area; the words of the current task and of
+-- the next one; the n bytes below the top of the next task's stack; and a call record of the processor.
+pub data Form : Type 0 where
+  OnStack : (bytes : ℕ) → Form
+  Stretch : (depth bytes : ℕ) → Form
+  InArea : (lo bytes : ℕ) → Form
+  OnTask : (bytes : ℕ) → Form
+  OnNextTask : (bytes : ℕ) → Form
+  OnNextStack : (bytes : ℕ) → Form
+  InRecord : Form
+
+abbrev pub record_bytes : ℕ
+record_bytes = 0x40
+
+-- the window of a form
+abbrev pub win_of : Form → Win
+win_of (OnStack n) = win_below top_tag n
+win_of (Stretch d n) = win_at top_tag (M - d) n
+win_of (InArea lo n) = win_at gs_tag lo n
+win_of (OnTask n) = win_at task_tag 0 n
+win_of (OnNextTask n) = win_at next_task_tag 0 n
+win_of (OnNextStack n) = win_below next_top_tag n
+win_of InRecord = win_at record_tag 0 record_bytes
+
+-- where an activation stands: its processor and stack, how many bytes of that are in use above its top, the current task and the next one, and a record's site
+pub record Where : Type 0 where
+  pub p : ℕ
+  pub stack : ℕ
+  pub used : ℕ
+  pub task : ℕ
+  pub next : ℕ
+  pub site : ℕ
+
+-- the interval that it is there
+abbrev pub span_of : Where → Form → Span
+span_of x (OnStack n) = record { part = Stacks; p = x.p; n = x.stack; lo = 0x4000 - x.used - n; len = n }
+span_of x (Stretch d n) = record { part = Stacks; p = x.p; n = x.stack; lo = 0x4000 - x.used - d; len = n }
+span_of x (InArea lo n) = record { part = Areas; p = x.p; n = 0; lo = lo; len = n }
+span_of x (OnTask n) = record { part = Tasks; p = x.p; n = x.task; lo = 0; len = n }
+span_of x (OnNextTask n) = record { part = Tasks; p = x.p; n = x.next; lo = 0; len = n }
+span_of x (OnNextStack n) = record { part = Stacks; p = x.p; n = x.next; lo = 0x4000 - n; len = n }
+span_of x InRecord = record { part = Areas; p = x.p; n = 0; lo = 0x800 + record_bytes * x.site; len = record_bytes }
+
+abbrev pub wins_of : List Form → List Win
+wins_of fs = map win_of fs
+
+abbrev pub spans_of : Where → List Form → List Span
+spans_of x fs = map (span_of x) fs
+
+-- ---- what a form asks of an environment
+
+-- the base of its windows, which is an address that is known
+abbrev pub HasBase : Env → Where → Form → Type 0
+HasBase e x (OnStack n) = e.base top_tag + x.used ≡ stack_top x.p x.stack
+HasBase e x (Stretch d n) = e.base top_tag + x.used ≡ stack_top x.p x.stack
+HasBase e x (InArea lo n) = e.base gs_tag ≡ pcpu x.p
+HasBase e x (OnTask n) = e.base task_tag ≡ task_words x.p x.task
+HasBase e x (OnNextTask n) = e.base next_task_tag ≡ task_words x.p x.next
+HasBase e x (OnNextStack n) = e.base next_top_tag ≡ stack_top x.p x.next
+HasBase e x InRecord = e.base record_tag ≡ record_address x.p x.site
+
+abbrev pub HasBases : Env → Where → List Form → Type 0
+HasBases e x [] = Unit {0}
+HasBases e x (f ∷ fs) = HasBase e x f × HasBases e x fs
+
+-- the numbers of an activation of so many processors
+pub record IsWhere (processors : ℕ) (x : Where) : Type 0 where
+  pub processor : x.p < processors
+  pub few : processors ≤ 8
+  pub stack : x.stack < 7
+  pub task : x.task < 4
+  pub next : x.next < 4
+  pub site : x.site < 8
+
+-- closed: how far below its top a form on the activation's own stack reaches, and the size and alignment of each
+abbrev pub depth_of : Form → ℕ
+depth_of (OnStack n) = n
+depth_of (Stretch d n) = d
+depth_of f = 0
+
+abbrev pub is_form : Form → Bool
+is_form (OnStack n) = not (n == 0) && (nat_le n 0x2000 && (n % 8 == 0))
+is_form (Stretch d n) = not (n == 0) && (nat_le n d && (nat_le d 0x2000 && ((n % 8 == 0) && (d % 8 == 0))))
+is_form (InArea lo n) = nat_le (lo + n) 0x10000 && (lo % 8 == 0)
+is_form (OnTask n) = nat_le n 0x40
+is_form (OnNextTask n) = nat_le n 0x40
+is_form (OnNextStack n) = not (n == 0) && (nat_le n 0x2000 && (n % 8 == 0))
+is_form InRecord = true
+
+abbrev pub are_forms : List Form → Bool
+are_forms [] = true
+are_forms (f ∷ fs) = is_form f && are_forms fs
+
+-- the stack has room for the deepest
+abbrev pub HasRoom : Where → List Form → Type 0
+HasRoom x [] = Unit {0}
+HasRoom x (f ∷ fs) = (x.used + depth_of f ≤ 0x2000) × HasRoom x fs
