@@ -1,4 +1,1 @@
-mod FredEnds
-mod IdtEnds
-mod NmiEnds
-mod BodyEnds
+pub mod Falls

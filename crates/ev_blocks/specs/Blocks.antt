@@ -1,15 +1,16 @@
 -- Every place of kernel code where an activation stands, its block, its windows, and how many edges are left there until a visible step. Own.
-use Rattle.std.specs.Prelude.{ℕ, ◌+◌, ◌-◌, true, false}
+use Rattle.std.specs.Prelude.{◌≡◌, ℕ, ◌+◌, ◌-◌, ◌<◌, ◌≤◌, Bool, true, false}
 use Rattle.ev_isa.specs.declared.mode.Mode.{Mode}
 use Rattle.ev_isa.specs.declared.mode.Mode.TheVariants.{Idt, Fred}
 use Rattle.ev_symbolic.specs.State.{Block}
-use Rattle.ev_blocks.specs.Shapes.{Layout, Forms}
-use Rattle.ev_blocks.specs.Fred.{FredSpot, fred_block, fred_forms}
+use Rattle.ev_blocks.specs.Shapes.{Origin, Layout, FredFrame, IdtFrame, NmiFrame, Forms}
+use Rattle.ev_blocks.specs.Fred.{FredWay, FredExit, FredSpot, FromUser, FromKernel, LeavesNmi, fred_block, fred_forms}
 use Rattle.ev_blocks.specs.Fred as fred
-use Rattle.ev_blocks.specs.Idt.{IdtSpot, Stub, Sys, Common, idt_block, idt_forms}
-use Rattle.ev_blocks.specs.Nmi.{NmiSpot, Choosing, Repeats, Begins, nmi_block, nmi_forms, is_first}
+use Rattle.ev_blocks.specs.Idt.{IdtExit, IdtSpot, Stub, Sys, Common, idt_block, idt_forms}
+use Rattle.ev_blocks.specs.Idt as idt
+use Rattle.ev_blocks.specs.Nmi.{Choice, GsBase, BodyBegin, NmiExit, NmiSpot, Choosing, Repeats, Begins, nmi_block, nmi_forms, is_first}
 use Rattle.ev_blocks.specs.Nmi as nmi
-use Rattle.ev_blocks.specs.Items.{BodySpot, AtTable, AtJump, body_block, forms_of}
+use Rattle.ev_blocks.specs.Items.{BodySpot, AtTable, AtJump, AtItem, BehindSti, BehindKick, body_block, forms_of}
 
 -- in the code of FRED, in that of IDT, in the NMI code of IDT, and in a body
 pub data Spot : Type 0 where
@@ -33,32 +34,39 @@ forms (InBody layout s) = forms_of layout
 
 -- ---- edges
 
--- From an item: at most 20 of its own before and behind the visible instruction; or `ret`, its jump and the longest exit.
+-- From an item: its own before the visible instruction, or `ret`: its jump and the longest exit.
 abbrev pub item_edges : ℕ
 item_edges = 47
 
--- how many edges may come behind the end of a block, until a visible step
+-- How many edges may come behind the end of a block, until a visible step: none where the visible instruction is next.
 abbrev pub behind_body : BodySpot → ℕ
 behind_body AtTable = item_edges + 2
 behind_body AtJump = item_edges + 1
-behind_body s = item_edges
+behind_body AtItem = item_edges
+behind_body BehindSti = item_edges
+behind_body BehindKick = item_edges
+behind_body s = 0
 
 -- at the end of a vector's entry come its jump and the code in common
 abbrev pub behind_idt : IdtSpot → ℕ
-behind_idt (Stub o has v) = item_edges + 39
-behind_idt (Common o pf) = item_edges + 2
+behind_idt (Stub o has_error v) = item_edges + 39
+behind_idt (Common o page_fault) = item_edges + 2
 behind_idt Sys = item_edges + 2
 behind_idt s = 0
 
--- behind FIRST comes NBODY; behind the return of an inner NMI what it interrupted, which is counted there
+-- behind FIRST comes NBODY; behind an inner NMI its return, and then what it interrupted, which is counted there
+abbrev pub behind_choice : Bool → ℕ
+behind_choice true = item_edges + 23
+behind_choice false = 1
+
 abbrev pub behind_nmi : NmiSpot → ℕ
-behind_nmi (Choosing c g) = item_edges + 23
+behind_nmi (Choosing c g) = behind_choice (is_first c)
 behind_nmi (Begins b) = item_edges + 2
 behind_nmi s = 0
 
 abbrev pub behind_fred : FredSpot → ℕ
-behind_fred (fred.FromUser w) = item_edges + 2
-behind_fred fred.FromKernel = item_edges + 2
+behind_fred (FromUser w) = item_edges + 2
+behind_fred FromKernel = item_edges + 2
 behind_fred s = 0
 
 abbrev pub behind : Spot → ℕ
@@ -70,3 +78,34 @@ behind (InBody layout s) = behind_body s
 -- At most so many edges come before a visible step, at instruction k of a spot's block.
 abbrev pub edges : Mode → Spot → ℕ → ℕ
 edges mode spot k = ((block mode spot).steps - k) + behind spot
+
+-- at the end of a spot's block, and at the beginning of one
+abbrev pub edges_behind : Mode → Spot → ℕ
+edges_behind mode spot = edges mode spot (block mode spot).steps
+
+abbrev pub edges_from : Mode → Spot → ℕ
+edges_from mode spot = edges mode spot 0
+
+-- Where one block goes on in the next, no more edges are left; and where an instruction leads there, fewer.
+pub record EdgesFall (mode : Mode) : Type 0 where
+  pub from_user : (w : FredWay) → edges_from mode (InBody FredFrame AtTable) ≤ edges_behind mode (InFred (FromUser w))
+  pub from_kernel : edges_from mode (InBody FredFrame AtTable) ≤ edges_behind mode (InFred FromKernel)
+  pub stub : (o : Origin) (has_error : Bool) (v : ℕ) (page_fault : Bool)
+      → edges_from mode (InIdt (Common o page_fault)) < edges_behind mode (InIdt (Stub o has_error v))
+  pub call : edges_from mode (InBody IdtFrame AtTable) ≤ edges_behind mode (InIdt Sys)
+  pub common : (o : Origin) (page_fault : Bool) → edges_from mode (InBody IdtFrame AtTable) ≤ edges_behind mode (InIdt (Common o page_fault))
+  pub first_nmi : (c : Choice) (g : GsBase) (b : BodyBegin) → is_first c ≡ true
+      → edges_from mode (InNmi (Begins b)) ≤ edges_behind mode (InNmi (Choosing c g))
+  pub nmi_body : (b : BodyBegin) → edges_from mode (InBody NmiFrame AtTable) ≤ edges_behind mode (InNmi (Begins b))
+  pub table : (layout : Layout) → edges_from mode (InBody layout AtJump) < edges_behind mode (InBody layout AtTable)
+  pub jump : (layout : Layout) → edges_from mode (InBody layout AtItem) < edges_behind mode (InBody layout AtJump)
+  pub item : (layout : Layout) (s : BodySpot) → behind_body s ≡ 0 → edges_from mode (InBody layout s) < edges_from mode (InBody layout AtItem)
+  pub sti : (layout : Layout) → edges_from mode (InBody layout AtItem) ≤ edges_behind mode (InBody layout BehindSti)
+  pub kick : (layout : Layout) → edges_from mode (InBody layout AtItem) ≤ edges_behind mode (InBody layout BehindKick)
+  pub fred_exit : (layout : Layout) (x : FredExit) → edges_from mode (InFred (fred.Leaves x)) < edges_from mode (InBody layout AtItem)
+  pub fred_nmi_exit : (layout : Layout) (o : Origin) → edges_from mode (InFred (LeavesNmi o)) < edges_from mode (InBody layout AtItem)
+  pub idt_exit : (layout : Layout) (x : IdtExit) → edges_from mode (InIdt (idt.Leaves x)) < edges_from mode (InBody layout AtItem)
+  pub nmi_exit : (layout : Layout) (x : NmiExit) → edges_from mode (InNmi (nmi.Leaves x)) < edges_from mode (InBody layout AtItem)
+
+abbrev pub AllEdgesFall : Type 0
+AllEdgesFall = (mode : Mode) → EdgesFall mode

@@ -1,11 +1,6 @@
 pub mod Shapes
-pub mod Ends
 pub mod Fred
 pub mod Idt
 pub mod Nmi
 pub mod Items
 pub mod Blocks
-pub mod FredEnds
-pub mod IdtEnds
-pub mod NmiEnds
-pub mod BodyEnds

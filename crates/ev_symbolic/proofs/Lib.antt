@@ -4,3 +4,5 @@ pub mod Words
 pub mod Sound
 pub mod Blocks
 pub mod Listed
+pub mod Single
+pub mod Parts

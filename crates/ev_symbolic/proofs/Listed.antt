@@ -41,6 +41,15 @@ pub found_behind : (front xs ys : Cells) → Elsewhere front ys → AllFound (ce
 found_behind [] xs ys h f = f
 found_behind (x ∷ front) xs ys h f = skipped x (front ++ xs) ys h.0 (found_behind front xs ys h.1 f)
 
+-- the first and the last of cells that are found
+pub first_found : (code : Code) (xs ys : Cells) → AllFound code (xs ++ ys) → AllFound code xs
+first_found code [] ys f = tt
+first_found code (x ∷ xs) ys f = (f.0, first_found code xs ys f.1)
+
+pub rest_found : (code : Code) (xs ys : Cells) → AllFound code (xs ++ ys) → AllFound code ys
+rest_found code [] ys f = f
+rest_found code (x ∷ xs) ys f = rest_found code xs ys f.1
+
 -- ---- lines stand
 
 abbrev Low : Cell → ℕ → Type 0
@@ -91,14 +100,6 @@ module _ (code : Code) (e : Env) (zero_base : e.base 1000 ≡ 0) where
   stands_append [] ys h k = k
   stands_append (x ∷ xs) ys h k = (h.0, stands_append xs ys h.1 k)
 
-  first_found : (xs ys : Cells) → AllFound code (xs ++ ys) → AllFound code xs
-  first_found [] ys f = tt
-  first_found (x ∷ xs) ys f = (f.0, first_found xs ys f.1)
-
-  rest_found : (xs ys : Cells) → AllFound code (xs ++ ys) → AllFound code ys
-  rest_found [] ys f = f
-  rest_found (x ∷ xs) ys f = rest_found xs ys f.1
-
   first_low : (xs ys : Cells) → are_low (xs ++ ys) ≡ true → are_low xs ≡ true
   first_low [] ys h = refl
   first_low (x ∷ xs) ys h = ap (λ b. if b then are_low xs else false) (below_all x (xs ++ ys) h) ∙ first_low xs ys (rest_low x (xs ++ ys) h)
@@ -113,8 +114,8 @@ module _ (code : Code) (e : Env) (zero_base : e.base 1000 ≡ 0) where
   stands_in env (b ∷ bs) f h =
       let xs = cells_from env b.address b.lines in
       let ys = cells_in env bs in
-      stands_append (lines_from env b.address b.lines) (lines_in env bs) (stands_from env b.address b.lines (first_found xs ys f) (first_low xs ys h))
-      (stands_in env bs (rest_found xs ys f) (last_low xs ys h))
+      stands_append (lines_from env b.address b.lines) (lines_in env bs) (stands_from env b.address b.lines (first_found code xs ys f) (first_low xs ys h))
+      (stands_in env bs (rest_found code xs ys f) (last_low xs ys h))
 
 -- ---- bytes
 

@@ -42,16 +42,16 @@ abbrev after : SS → List V → Loc → F → List Word → SS
 after s regs l f ws = record (moved s regs l) { flags = f; words = ws }
 
 -- What effects come to, by the answer of memory or of a test.
-abbrev loaded : Processor → ℕ → NatMap ℕ → List ℕ → ℕ → ℕ → Option Event → Executed
+abbrev pub loaded : Processor → ℕ → NatMap ℕ → List ℕ → ℕ → ℕ → Option Event → Executed
 loaded c next words regs d a o = changed c ((unless o (words a)) >>= (λ v. Ok (record (task c next) { regs = set regs d v }, words)))
 
 abbrev stored : Processor → ℕ → NatMap ℕ → List ℕ → ℕ → ℕ → Option Event → Executed
 stored c next words regs a x o = changed c ((unless o (put_at words a x)) >>= (λ ws. Ok (record (task c next) { regs = regs }, ws)))
 
-abbrev jumped_if : Processor → ℕ → NatMap ℕ → ℕ → Bool → Executed
+abbrev pub jumped_if : Processor → ℕ → NatMap ℕ → ℕ → Bool → Executed
 jumped_if c next words a b = changed c ((if b then Ok (record (task c next) { rip = a }) else Err (gp 0)) >>= (λ t. Ok (t, words)))
 
-abbrev branched : Processor → ℕ → NatMap ℕ → ℕ → Bool → Executed
+abbrev pub branched : Processor → ℕ → NatMap ℕ → ℕ → Bool → Executed
 branched c next words a b =
     changed c ((if b then (if is_canonical a then Ok (record (task c next) { rip = a }) else Err (gp 0)) else Ok (task c next)) >>= (λ t. Ok (t, words)))
 

@@ -1,5 +1,5 @@
 -- What is proved of the executor, as the contracts of this crate state it.
-use Rattle.std.specs.Prelude.{◌≡◌, ℕ, suc, ◌+◌, Bool, length, Some}
+use Rattle.std.specs.Prelude.{◌≡◌, ℕ, suc, ◌+◌, Bool, true, List, length, Some}
 use Rattle.ev_isa.specs.Spelling.{spelling}
 use Rattle.ev_isa.specs.declared.instruction.Ins.{Ins}
 use Rattle.ev_event.specs.declared.boundary.Next.{Next}
@@ -7,9 +7,12 @@ use Rattle.ev_apic.specs.declared.apic.Apic.{Apic}
 use Rattle.ev_state.specs.Processor.{Processor}
 use Rattle.ev_mem.specs.Memory.{Memory}
 use Rattle.ev_proc.specs.ProcessorStep.{ran, next_of, step}
+use Rattle.ev_asm.specs.Assembly.{Places}
+use Rattle.ev_listing.specs.Marks.{Listing}
 use Rattle.ev_symbolic.specs.State.{Loc, SS, Ground, Block}
 use Rattle.ev_symbolic.specs.Run.{sstep, brun}
-use Rattle.ev_symbolic.specs.Agrees.{Env, addr, Code, Grounded, Agrees, Foreign, StepsIf, At}
+use Rattle.ev_symbolic.specs.Agrees.{Env, addr, Code, Stands, Grounded, Agrees, Foreign, StepsIf, At}
+use Rattle.ev_symbolic.specs.Listed.{lines_in, cells_in, AllFound, AreIn, are_low}
 use Rattle.ev_symbolic.specs.Machine.{Fetches, Inside}
 
 -- a symbolic step that gives an answer is what the processor does with the instruction
@@ -30,3 +33,8 @@ StepsInside = (code : Code) (b : Block) (k : ℕ) (e : Env) (c : Processor) (m :
 abbrev pub LeavesOthers : Type 0
 LeavesOthers = (code : Code) (b : Block) (k : ℕ) (e : Env) (c : Processor) (m n : Memory) → At code b k e c m
     → n.regions ≡ m.regions → Foreign e b.ground.known m.words n.words → At code b k e c n
+
+-- the lines of some of the listings stand in code that has the cells of all: so a block has the lines of the sections that it runs through
+abbrev pub PartsStand : Type 0
+PartsStand = (code : Code) (e : Env) → e.base 1000 ≡ 0 → (env : Places) (parts whole : List Listing) → AreIn parts whole
+    → AllFound code (cells_in env whole) → are_low (cells_in env parts) ≡ true → Stands code e (lines_in env parts)

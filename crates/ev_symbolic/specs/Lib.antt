@@ -7,4 +7,5 @@ pub mod Join
 pub mod Machine
 pub mod Openings
 pub mod Names
+pub mod Single
 pub mod Claims

@@ -1,6 +1,6 @@
 -- The lines and the code table of the kernel's listings: each statement's instruction at its address, where a jump's displacement is the assembler's.
 -- So blocks have no listing of their own.
-use Rattle.std.specs.Prelude.{◌≡◌, ℕ, ◌+◌, Bool, true, false, ◌&&◌, ◌==◌, nat_lt, List, [], ◌∷◌, ◌++◌, length, Option, Some, None, if◌then◌else◌}
+use Rattle.std.specs.Prelude.{◌≡◌, ◌⊎◌, ℕ, ◌+◌, Bool, true, false, ◌&&◌, ◌==◌, nat_lt, List, [], ◌∷◌, ◌++◌, length, Option, Some, None, if◌then◌else◌}
 use Rattle.ev_isa.specs.declared.instruction.Ins.{Ins}
 use Rattle.ev_isa.specs.Spelling.{spelling}
 use Rattle.ev_asm.specs.declared.statement.Stmt.{Stmt}
@@ -108,3 +108,14 @@ SameTarget env env' s = Unit {0}
 abbrev pub SameTargets : Places → Places → List Marked → Type 0
 SameTargets env env' [] = Unit {0}
 SameTargets env env' (l ∷ ls) = SameTarget env env' l.stmt × SameTargets env env' ls
+
+-- ---- parts of listings
+
+-- a listing is one of these
+abbrev pub IsIn : Listing → List Listing → Type 0
+IsIn b [] = ⊥
+IsIn b (x ∷ xs) = (b ≡ x) ⊎ IsIn b xs
+
+abbrev pub AreIn : List Listing → List Listing → Type 0
+AreIn [] bs = Unit {0}
+AreIn (x ∷ xs) bs = IsIn x bs × AreIn xs bs

@@ -6,11 +6,11 @@ use Rattle.ev_symbolic.specs.Names.{other_gs}
 use Rattle.ev_symbolic.specs.Openings.{gs_tag}
 use Rattle.ev_symbolic.specs.Value.{P}
 use Rattle.ev_blocks.specs.Shapes.{NmiFrame}
-use Rattle.ev_blocks.specs.Ends.{Enters}
+use Rattle.ev_paths.specs.Ends.{Enters}
 use Rattle.ev_blocks.specs.Idt.{idt_places}
 use Rattle.ev_blocks.specs.Nmi.{FirstFromTask, FirstLow, FirstHigh, InnerLow, InnerHigh, InnerAtLast, InnerInRepeat, GsBase, TaskGs, KernelGs, BodyBegin, FromTask, FromKernel, FromKernelInTaskGs, Exchanging, Staying, Begins, begin_of, begin_values, nmi_lines, repeat_lines, nbody_lines, exitn_lines, nmi_block}
 use Rattle.ev_blocks.specs.Items.{AtTable, body_block}
-use Rattle.ev_blocks.specs.NmiEnds.{nmi_end, GoesOn, GoesBack, Redirects, Repeating, ReturnsLast, NmiEnds}
+use Rattle.ev_paths.specs.NmiEnds.{nmi_end, GoesOn, GoesBack, Redirects, Repeating, ReturnsLast, NmiEnds}
 
 -- ---- a first NMI
 

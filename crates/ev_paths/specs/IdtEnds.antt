@@ -7,7 +7,7 @@ use Rattle.ev_symbolic.specs.Join.{Joins}
 use Rattle.ev_symbolic.specs.Openings.{gs_tag, words_from}
 use Rattle.ev_symbolic.specs.Names.{next_top_tag, saved, frame_rsp, next_rsp, next_saved, other_gs, gs_selector, level_rsp, next_selector, next_gs, top_less}
 use Rattle.ev_blocks.specs.Shapes.{Origin, IdtFrame, registers_of, interrupted_words}
-use Rattle.ev_blocks.specs.Ends.{end_of, TellsNoCr2, Enters, Returns}
+use Rattle.ev_paths.specs.Ends.{end_of, TellsNoCr2, Enters, Returns}
 use Rattle.ev_blocks.specs.Idt.{IdtReturn, BySysret, ByOtherRip, ByOtherFlags, IdtToKernel, IdtToTask, IdtToNext, IdtSpot, Stub, Sys, Common, Leaves, stub_values, sys_values, common_values, next_interrupted, sysretq_place, iretq_place, idt_block}
 use Rattle.ev_blocks.specs.Items.{AtTable, body_block}
 

@@ -4,10 +4,10 @@ use Rattle.ev_isa.specs.Spelling.{spelling, four_bytes}
 use Rattle.ev_asm.specs.Assembly.{size, places, distance}
 use Rattle.ev_symbolic.specs.Run.{brun}
 use Rattle.ev_blocks.specs.Shapes.{Origin, UserCode, KernelCode, IdtFrame}
-use Rattle.ev_blocks.specs.Ends.{TellsNoCr2, Enters}
+use Rattle.ev_paths.specs.Ends.{TellsNoCr2, Enters}
 use Rattle.ev_blocks.specs.Idt.{IdtReturn, BySysret, ByOtherRip, ByOtherFlags, IdtToKernel, IdtToTask, IdtToNext, Stub, Sys, Common, Leaves, idt_places, sys_lines, common_lines, exit_lines, sys_values, common_values, idt_block}
 use Rattle.ev_blocks.specs.Items.{AtTable, body_block}
-use Rattle.ev_blocks.specs.IdtEnds.{idt_end, EntersCommon, IdtEnters, IretToKernel, IretToTask, IretToNext, SysretToTask, SysretToNext, IdtReturns, IdtTellsNoCr2}
+use Rattle.ev_paths.specs.IdtEnds.{idt_end, EntersCommon, IdtEnters, IretToKernel, IretToTask, IretToNext, SysretToTask, SysretToNext, IdtReturns, IdtTellsNoCr2}
 
 -- ---- entries
 

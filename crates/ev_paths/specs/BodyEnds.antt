@@ -7,7 +7,7 @@ use Rattle.ev_symbolic.specs.Openings.{at_base}
 use Rattle.ev_symbolic.specs.Names.{item_tag, top_less}
 use Rattle.ev_mem.specs.Memory.{page_map}
 use Rattle.ev_blocks.specs.Shapes.{Layout, body_bytes, as_found}
-use Rattle.ev_blocks.specs.Ends.{TellsNoCr2}
+use Rattle.ev_paths.specs.Ends.{TellsNoCr2}
 use Rattle.ev_blocks.specs.Items.{BodySpot, AtNumber, AtNumbers, AtKick, AtUserWord, AtPageWord, BehindSti, BehindKick, masked, page_word, body_block, behind_move, behind_sti, behind_branch, behind_kick}
 
 -- The block comes to so many bytes behind the item's beginning, with these values in RAX, RCX and RDX, and else as it opened, flags aside.
@@ -28,6 +28,9 @@ pub record BodyEnds (fred : Bool) (layout : Layout) : Type 0 where
   pub page_word : (is_page : Bool) → Comes fred layout (AtPageWord is_page) (behind_move + 57) (page_word is_page) (K page_map) (X 2)
   pub behind_sti : Comes fred layout BehindSti (behind_sti + 1) (X 0) (X 1) (X 2)
   pub behind_kick : Comes fred layout BehindKick (behind_kick + 6) (X 0) (X 1) (X 2)
+
+abbrev pub AllBodyEnds : Type 0
+AllBodyEnds = (fred : Bool) (layout : Layout) → BodyEnds fred layout
 
 -- no block of a body is told of CR2
 abbrev pub BodyTellsNoCr2 : Type 0

@@ -8,7 +8,7 @@ use Rattle.ev_symbolic.specs.Join.{Joins}
 use Rattle.ev_symbolic.specs.Openings.{gs_tag}
 use Rattle.ev_symbolic.specs.Names.{saved, other_gs, gs_selector, level_rsp, top_less}
 use Rattle.ev_blocks.specs.Shapes.{NmiFrame, registers_of, from_top, interrupted, body_words}
-use Rattle.ev_blocks.specs.Ends.{end_of, HasWords, Enters, Returns}
+use Rattle.ev_paths.specs.Ends.{end_of, HasWords, Enters, Returns}
 use Rattle.ev_blocks.specs.Nmi.{Choice, FirstFromTask, FirstLow, FirstHigh, InnerLow, InnerHigh, InnerAtLast, InnerInRepeat, GsBase, TaskGs, KernelGs, BodyBegin, NmiExit, Exchanging, Staying, NmiSpot, Choosing, Repeats, Begins, Leaves, begin_of, to_nbody, begin_values, nmi_block}
 use Rattle.ev_blocks.specs.Items.{AtTable, body_block}
 

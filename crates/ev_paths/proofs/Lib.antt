@@ -1,0 +1,5 @@
+pub mod FredEnds
+pub mod IdtEnds
+pub mod NmiEnds
+pub mod BodyEnds
+pub mod Lines

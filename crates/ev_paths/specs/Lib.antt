@@ -1,0 +1,6 @@
+pub mod Ends
+pub mod FredEnds
+pub mod IdtEnds
+pub mod NmiEnds
+pub mod BodyEnds
+pub mod Lines
