@@ -2,3 +2,4 @@ pub mod Places
 pub mod Spans
 pub mod Windows
 pub mod Regions
+pub mod ByForm

@@ -1,12 +1,12 @@
 -- Windows by form: what a block's window is, told without the processor, the stack or the task, and the interval that it is for an activation. Own.
-use Rattle.std.specs.Prelude.{◌≡◌, ℕ, ◌+◌, ◌-◌, ◌*◌, ◌%◌, ◌<◌, ◌≤◌, Bool, true, false, not, ◌&&◌, ◌||◌, ◌==◌, nat_le, List, [], ◌∷◌, map}
+use Rattle.std.specs.Prelude.{◌≡◌, ℕ, ◌+◌, ◌-◌, ◌*◌, ◌%◌, ◌<◌, ◌≤◌, Bool, true, false, not, ◌&&◌, ◌||◌, ◌==◌, nat_le, if◌then◌else◌, List, [], ◌∷◌, map}
 use Rattle.ev_listing.specs.AddressMap.{pcpu, record_address, task_words, stack_top}
 use Rattle.ev_symbolic.specs.Value.{M}
 use Rattle.ev_symbolic.specs.State.{Win, top_tag}
 use Rattle.ev_symbolic.specs.Agrees.{Env}
 use Rattle.ev_symbolic.specs.Openings.{gs_tag, win_below, win_at}
 use Rattle.ev_symbolic.specs.Names.{task_tag, next_task_tag, next_top_tag, record_tag}
-use Rattle.ev_distances.specs.Span.{Span, Areas, Tasks, Stacks, Codes}
+use Rattle.ev_distances.specs.Span.{Part, Areas, Tasks, Stacks, Span, part_eq}
 
 -- The n bytes below the top of the frame; n bytes from so far below it; n bytes from an offset of the processor's area; the words of the current task and of
 -- the next one; the n bytes below the top of the next task's stack; and a call record of the processor.
@@ -69,10 +69,6 @@ HasBase e x (OnNextTask n) = e.base next_task_tag ≡ task_words x.p x.next
 HasBase e x (OnNextStack n) = e.base next_top_tag ≡ stack_top x.p x.next
 HasBase e x InRecord = e.base record_tag ≡ record_address x.p x.site
 
-abbrev pub HasBases : Env → Where → List Form → Type 0
-HasBases e x [] = Unit {0}
-HasBases e x (f ∷ fs) = HasBase e x f × HasBases e x fs
-
 -- the numbers of an activation of so many processors
 pub record IsWhere (processors : ℕ) (x : Where) : Type 0 where
   pub processor : x.p < processors
@@ -81,6 +77,7 @@ pub record IsWhere (processors : ℕ) (x : Where) : Type 0 where
   pub task : x.task < 4
   pub next : x.next < 4
   pub site : x.site < 8
+  pub aligned : x.used % 8 ≡ 0
 
 -- closed: how far below its top a form on the activation's own stack reaches, and the size and alignment of each
 abbrev pub depth_of : Form → ℕ
@@ -101,7 +98,75 @@ abbrev pub are_forms : List Form → Bool
 are_forms [] = true
 are_forms (f ∷ fs) = is_form f && are_forms fs
 
--- the stack has room for the deepest
-abbrev pub HasRoom : Where → List Form → Type 0
-HasRoom x [] = Unit {0}
-HasRoom x (f ∷ fs) = (x.used + depth_of f ≤ 0x2000) × HasRoom x fs
+-- what holds of each form of a list
+abbrev pub Each : (Form → Type 0) → List Form → Type 0
+Each Q [] = Unit {0}
+Each Q (f ∷ fs) = Q f × Each Q fs
+
+-- the stack has room for it, below what is in use
+abbrev pub HasRoom : Where → Form → Type 0
+HasRoom x f = x.used + depth_of f ≤ 0x2000
+
+-- all that is asked of the forms of an activation's windows
+pub record Fitting (processors : ℕ) (e : Env) (x : Where) (fs : List Form) : Type 0 where
+  pub at : IsWhere processors x
+  pub forms : are_forms fs ≡ true
+  pub bases : Each (HasBase e x) fs
+  pub room : Each (HasRoom x) fs
+
+-- ---- closed tests of two forms
+
+abbrev pub bytes_of : Form → ℕ
+bytes_of (OnStack n) = n
+bytes_of (Stretch d n) = n
+bytes_of (InArea lo n) = n
+bytes_of (OnTask n) = n
+bytes_of (OnNextTask n) = n
+bytes_of (OnNextStack n) = n
+bytes_of InRecord = record_bytes
+
+abbrev pub part_of : Form → Part
+part_of (InArea lo n) = Areas
+part_of InRecord = Areas
+part_of (OnTask n) = Tasks
+part_of (OnNextTask n) = Tasks
+part_of f = Stacks
+
+-- on the activation's own stack
+abbrev pub is_own : Form → Bool
+is_own (OnStack n) = true
+is_own (Stretch d n) = true
+is_own f = false
+
+-- Two forms that aren't both on a stack are apart: by their parts, or by numbers in the processor's area, where the records stand from 800H to A00H.
+abbrev pub apart_off_stack : Form → Form → Bool
+apart_off_stack (InArea lo n) (InArea lo' n') = nat_le (lo + n) lo' || nat_le (lo' + n') lo
+apart_off_stack (InArea lo n) InRecord = nat_le (lo + n) 0x800 || nat_le 0xa00 lo
+apart_off_stack InRecord (InArea lo n) = nat_le (lo + n) 0x800 || nat_le 0xa00 lo
+apart_off_stack f g = not (part_eq (part_of f) (part_of g))
+
+-- two windows of one activation: those of one base need no test
+abbrev pub apart_in_one : Form → Form → Bool
+apart_in_one f g = if (win_of f).tag == (win_of g).tag then true else apart_off_stack f g
+
+-- windows of two activations on two stacks, where the first may also know the next task's
+abbrev pub apart_on_two_stacks : Form → Form → Bool
+apart_on_two_stacks f g = if is_own g && part_eq (part_of f) Stacks then true else apart_off_stack f g
+
+-- windows of two activations on one stack, of which the second is the deeper
+abbrev pub apart_by_depth : Form → Form → Bool
+apart_by_depth f g = if is_own g && is_own f then true else apart_off_stack f g
+
+-- windows of two activations at one place of a stack, as an inner NMI's and that of what it interrupted
+abbrev pub apart_at_one_top : Form → Form → Bool
+apart_at_one_top f g =
+    if is_own g && is_own f then (nat_le (depth_of g + bytes_of f) (depth_of f) || nat_le (depth_of f + bytes_of g) (depth_of g))
+    else apart_off_stack f g
+
+abbrev pub apart_from_all : (Form → Form → Bool) → Form → List Form → Bool
+apart_from_all t f [] = true
+apart_from_all t f (g ∷ gs) = t f g && apart_from_all t f gs
+
+abbrev pub all_apart : (Form → Form → Bool) → List Form → List Form → Bool
+all_apart t [] gs = true
+all_apart t (f ∷ fs) gs = apart_from_all t f gs && all_apart t fs gs
