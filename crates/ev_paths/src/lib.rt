@@ -4,6 +4,7 @@
 
 ghost use Rattle.ev_paths.specs.BodyEnds.{AllBodyEnds, BodyTellsNoCr2};
 ghost use Rattle.ev_paths.specs.FredEnds.{FredEnters, FredReturns, FredTellsNoCr2};
+ghost use Rattle.ev_paths.specs.Grounds.{WindowsFit, InnerIsApart, OthersAreApart, DeeperAreApart, AllGrounded};
 ghost use Rattle.ev_paths.specs.IdtEnds.{IdtEnters, IdtReturns, IdtTellsNoCr2};
 ghost use Rattle.ev_paths.specs.Lines.{FredLinesStand, IdtLinesStand, NmiLinesStand, StubsJump};
 ghost use Rattle.ev_paths.specs.NmiEnds.{NmiEnds};
@@ -42,4 +43,16 @@ pub fn nmi_blocks()
 pub fn body_blocks()
     ensures ends { AllBodyEnds }
     ensures cr2 { BodyTellsNoCr2 }
+{}
+
+/// The windows of every block are forms, of which closed tests hold: what a block writes lies apart
+/// from what it knows, an inner NMI apart from what it interrupted, and whatever writes its own stack
+/// alone apart from activations on other stacks and above it. An activation that is where a spot says
+/// is grounded in its block. Own.
+pub fn windows()
+    ensures fit { WindowsFit }
+    ensures inner { InnerIsApart }
+    ensures others { OthersAreApart }
+    ensures deeper { DeeperAreApart }
+    ensures grounded { AllGrounded }
 {}
