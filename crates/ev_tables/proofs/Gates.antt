@@ -123,7 +123,7 @@ high_is v =
     let odd : (2 * v + 1) % 2 ≡ 1 = omega arith in
     rw (half, odd) refl
 
-gate_is : (v : ℕ) → v < 256 → gate_in (idt_word (2 * v)) (idt_word (2 * v + 1)) ≡ gate v
+pub gate_is : (v : ℕ) → v < 256 → gate_in (idt_word (2 * v)) (idt_word (2 * v + 1)) ≡ gate v
 gate_is v h = ap (λ (x : ℕ). gate_in x (idt_word (2 * v + 1))) (low_is v) ∙ ap (gate_in (from_le_bytes w64 (gate_bytes (gate v)))) (high_is v)
     ∙ in_words (gate v) (fields_fit v h)
 

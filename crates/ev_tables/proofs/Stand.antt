@@ -5,18 +5,14 @@ use Rattle.ev_isa.specs.Word.{NatMap, is_aligned}
 use Rattle.ev_isa.specs.declared.mode.Mode.{Mode}
 use Rattle.ev_isa.specs.declared.mode.Mode.TheVariants.{Idt}
 use Rattle.ev_body.specs.declared.image.Image.{Image}
+use Rattle.ev_gate.specs.Gate.{gate_in}
 use Rattle.ev_idt.specs.Tables.{IsHandler, IsReadable}
 use Rattle.ev_listing.specs.AddressMap.{pcpu, idt_base}
 use Rattle.ev_concrete.specs.Opening.{code_of, listings, idt_word, opening_word}
-use Rattle.ev_tables.specs.Claims.{TablesStand}
-use Rattle.ev_tables.proofs.Gates.{handler}
+use Rattle.ev_tables.specs.Claims.{HoldsIdt, GatesStand, TablesStand}
+use Rattle.ev_tables.proofs.Gates.{gate_is, handler}
 use Rattle.ev_tables.proofs.Opened.{opened_idt}
 use Rattle.ev_tables.proofs.Mapped.{idt_readable, tss_readable}
-
--- words of memory that are the opening's from the IDT's base on
-abbrev HoldsIdt : Mode → Image → NatMap ℕ → Type 0
-HoldsIdt mode image words = (a : ℕ) → is_aligned a ≡ true → idt_base ≤ a → a < idt_base + 0x1000
-    → words a ≡ opening_word (code_of (listings mode image)) mode image a
 
 held_word : (mode : Mode) (image : Image) (words : NatMap ℕ) (n : ℕ) → image.processors ≤ 8 → HoldsIdt mode image words → n < 512
     → words (idt_base + 8 * n) ≡ idt_word n
@@ -35,6 +31,16 @@ held_handler mode image words v few holds h =
     let high : idt_word (2 * v + 1) ≡ words (idt_base + 16 * v + 8) = sym (held_word mode image words (2 * v + 1) few holds (omega arith))
     ∙ ap words high_place in
     subst (λ (y : ℕ). IsHandler (words (idt_base + 16 * v)) y) high (subst (λ (x : ℕ). IsHandler x (idt_word (2 * v + 1))) low (handler v h))
+
+pub gates_stand : GatesStand
+gates_stand mode image words is holds v h =
+    let few : image.processors ≤ 8 = is.count.1 in
+    let low_place : idt_base + 8 * (2 * v) ≡ idt_base + 16 * v = omega arith in
+    let high_place : idt_base + 8 * (2 * v + 1) ≡ idt_base + 16 * v + 8 = omega arith in
+    let low : words (idt_base + 16 * v) ≡ idt_word (2 * v) = ap words (sym low_place) ∙ held_word mode image words (2 * v) few holds (omega arith) in
+    let high : words (idt_base + 16 * v + 8) ≡ idt_word (2 * v + 1) =
+    ap words (sym high_place) ∙ held_word mode image words (2 * v + 1) few holds (omega arith) in
+    ap (λ (x : ℕ). gate_in x (words (idt_base + 16 * v + 8))) low ∙ ap (gate_in (idt_word (2 * v))) high ∙ gate_is v h
 
 pub stand : TablesStand
 stand image m c p is hp same holds idt tss =

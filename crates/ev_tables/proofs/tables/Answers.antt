@@ -2,4 +2,4 @@ use Rattle.ev_tables.proofs.Stand as proof
 use Rattle.ev_tables.proofs.tables.Goals as goal
 
 pub returns : goal.returns
-returns c = record { stand = proof.stand }
+returns c = record { stand = proof.stand; gates = proof.gates_stand }
