@@ -6,3 +6,4 @@ pub mod Blocks
 pub mod Listed
 pub mod Single
 pub mod Parts
+pub mod Placed

@@ -8,4 +8,5 @@ pub mod Machine
 pub mod Openings
 pub mod Names
 pub mod Single
+pub mod Placed
 pub mod Claims
