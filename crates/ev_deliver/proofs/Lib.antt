@@ -1,1 +1,2 @@
 pub mod FredDelivers
+pub mod IdtDelivers
