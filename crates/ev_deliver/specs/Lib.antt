@@ -1,2 +1,3 @@
 pub mod FredDelivers
 pub mod IdtDelivers
+pub mod Returns
