@@ -66,7 +66,7 @@ pub same_places : all_places idt_listings ≡ idt_places
 unfolding idt_listings idt_places places
 same_places = ap behind_labels (no_labels 0 256)
 
-in_places : (code : Code) → HasKernel Idt code → AllFound code (cells_in idt_places idt_listings)
+pub in_places : (code : Code) → HasKernel Idt code → AllFound code (cells_in idt_places idt_listings)
 in_places code f = subst (λ env. AllFound code (cells_in env idt_listings)) same_places f
 
 -- the sections that blocks run through
@@ -74,27 +74,27 @@ sys_in : AreIn (sys_listing ∷ common_listing ∷ []) idt_listings
 unfolding idt_listings
 sys_in = (inr (inl refl), (inr (inr (inl refl)), tt))
 
-common_in : AreIn (common_listing ∷ []) idt_listings
+pub common_in : AreIn (common_listing ∷ []) idt_listings
 unfolding idt_listings
 common_in = (inr (inr (inl refl)), tt)
 
-exit_in : AreIn (exit_listing ∷ []) idt_listings
+pub exit_in : AreIn (exit_listing ∷ []) idt_listings
 unfolding idt_listings
 exit_in = (inr (inr (inr (inl refl))), tt)
 
-nmi_in : AreIn (nmi_listing ∷ []) idt_listings
+pub nmi_in : AreIn (nmi_listing ∷ []) idt_listings
 unfolding idt_listings
 nmi_in = (inr (inr (inr (inr (inl refl)))), tt)
 
-repeat_in : AreIn (repeat_listing ∷ []) idt_listings
+pub repeat_in : AreIn (repeat_listing ∷ []) idt_listings
 unfolding idt_listings
 repeat_in = (inr (inr (inr (inr (inr (inl refl))))), tt)
 
-nbody_in : AreIn (nbody_listing ∷ []) idt_listings
+pub nbody_in : AreIn (nbody_listing ∷ []) idt_listings
 unfolding idt_listings
 nbody_in = (inr (inr (inr (inr (inr (inr (inl refl)))))), tt)
 
-exitn_in : AreIn (exitn_listing ∷ nlast_listing ∷ []) idt_listings
+pub exitn_in : AreIn (exitn_listing ∷ nlast_listing ∷ []) idt_listings
 unfolding idt_listings
 exitn_in = (inr (inr (inr (inr (inr (inr (inr (inl refl))))))), (inr (inr (inr (inr (inr (inr (inr (inr (inl refl)))))))), tt))
 

@@ -5,3 +5,4 @@ pub mod NmiEnds
 pub mod BodyEnds
 pub mod Lines
 pub mod Grounds
+pub mod Cells

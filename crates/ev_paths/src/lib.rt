@@ -3,6 +3,7 @@
 #![tactic(auto)]
 
 ghost use Rattle.ev_paths.specs.BodyEnds.{AllBodyEnds, BodyTellsNoCr2};
+ghost use Rattle.ev_paths.specs.Cells.{FredCellsStand, IdtCellsStand};
 ghost use Rattle.ev_paths.specs.FredEnds.{FredEnters, FredReturns, FredTellsNoCr2};
 ghost use Rattle.ev_paths.specs.Grounds.{WindowsFit, InnerIsApart, OthersAreApart, DeeperAreApart, AllGrounded};
 ghost use Rattle.ev_paths.specs.IdtEnds.{IdtEnters, IdtReturns, IdtTellsNoCr2};
@@ -17,6 +18,7 @@ pub fn fred_blocks()
     ensures returns { FredReturns }
     ensures cr2 { FredTellsNoCr2 }
     ensures lines { FredLinesStand }
+    ensures cells { FredCellsStand }
 {}
 
 /// Under IDT: each vector's entry, of any number, comes to its jump to the code in common; that and
@@ -28,6 +30,7 @@ pub fn idt_blocks()
     ensures cr2 { IdtTellsNoCr2 }
     ensures lines { IdtLinesStand }
     ensures jumps { StubsJump }
+    ensures cells { IdtCellsStand }
 {}
 
 /// The NMI code under IDT: a first NMI comes to NBODY with two copies of its frame, and NBODY to the
