@@ -1,3 +1,4 @@
 pub mod FredDelivers
 pub mod IdtDelivers
 pub mod Returns
+pub mod GoesOn

@@ -15,34 +15,50 @@ stub_enters : (o : Origin) (has_error : Bool) (v : ℕ) (page_fault : Bool) → 
 unfolding idt_end idt_places sys_lines common_lines exit_lines spelling four_bytes size places distance
 stub_enters UserCode true v true = record {
   runs = refl;
+  rip = refl;
+  blocked = refl;
   joins = record { regs = refl; gs = refl; kernel_gs = refl; selector = refl; cr2 = refl; rsp0 = refl; words = refl; inside = refl };
 }
 stub_enters UserCode true v false = record {
   runs = refl;
+  rip = refl;
+  blocked = refl;
   joins = record { regs = refl; gs = refl; kernel_gs = refl; selector = refl; cr2 = tt; rsp0 = refl; words = refl; inside = refl };
 }
 stub_enters UserCode false v true = record {
   runs = refl;
+  rip = refl;
+  blocked = refl;
   joins = record { regs = refl; gs = refl; kernel_gs = refl; selector = refl; cr2 = refl; rsp0 = refl; words = refl; inside = refl };
 }
 stub_enters UserCode false v false = record {
   runs = refl;
+  rip = refl;
+  blocked = refl;
   joins = record { regs = refl; gs = refl; kernel_gs = refl; selector = refl; cr2 = tt; rsp0 = refl; words = refl; inside = refl };
 }
 stub_enters KernelCode true v true = record {
   runs = refl;
+  rip = refl;
+  blocked = refl;
   joins = record { regs = refl; gs = refl; kernel_gs = refl; selector = refl; cr2 = refl; rsp0 = refl; words = refl; inside = refl };
 }
 stub_enters KernelCode true v false = record {
   runs = refl;
+  rip = refl;
+  blocked = refl;
   joins = record { regs = refl; gs = refl; kernel_gs = refl; selector = refl; cr2 = tt; rsp0 = refl; words = refl; inside = refl };
 }
 stub_enters KernelCode false v true = record {
   runs = refl;
+  rip = refl;
+  blocked = refl;
   joins = record { regs = refl; gs = refl; kernel_gs = refl; selector = refl; cr2 = refl; rsp0 = refl; words = refl; inside = refl };
 }
 stub_enters KernelCode false v false = record {
   runs = refl;
+  rip = refl;
+  blocked = refl;
   joins = record { regs = refl; gs = refl; kernel_gs = refl; selector = refl; cr2 = tt; rsp0 = refl; words = refl; inside = refl };
 }
 

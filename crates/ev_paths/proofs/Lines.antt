@@ -26,7 +26,7 @@ use Rattle.ev_blocks.specs.Idt as idt
 use Rattle.ev_blocks.specs.Idt.{IdtSpot, Stub, Sys, Common, no_listing, sys_listing, common_listing, exit_listing, nmi_listing, repeat_listing, nbody_listing, exitn_listing, nlast_listing, idt_places, sys_lines, common_lines, exit_lines, stub_code, idt_block}
 use Rattle.ev_blocks.specs.Nmi as nmi_spots
 use Rattle.ev_blocks.specs.Nmi.{NmiSpot, Choosing, Repeats, Begins, nmi_lines, repeat_lines, nbody_lines, exitn_lines, nmi_block}
-use Rattle.ev_paths.specs.Lines.{HasKernel, FredLinesStand, IsAtStub, IdtLinesStand, NmiLinesStand, stub_bytes, StubJump, StubsJump}
+use Rattle.ev_paths.specs.Lines.{HasKernel, FredLinesStand, IsAtStub, IdtLinesStand, NmiLinesStand, StubJump, StubsJump}
 
 -- ---- FRED: one listing
 

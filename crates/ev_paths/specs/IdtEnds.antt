@@ -4,8 +4,8 @@ use Rattle.ev_symbolic.specs.Value.{M, V, P}
 use Rattle.ev_symbolic.specs.State.{SS}
 use Rattle.ev_symbolic.specs.Run.{brun}
 use Rattle.ev_symbolic.specs.Join.{Joins}
-use Rattle.ev_symbolic.specs.Openings.{gs_tag, words_from}
-use Rattle.ev_symbolic.specs.Names.{next_top_tag, saved, frame_rsp, next_rsp, next_saved, other_gs, gs_selector, level_rsp, next_selector, next_gs, top_less}
+use Rattle.ev_symbolic.specs.Openings.{gs_tag, at_base, words_from}
+use Rattle.ev_symbolic.specs.Names.{stub_tag, next_top_tag, saved, frame_rsp, next_rsp, next_saved, other_gs, gs_selector, level_rsp, next_selector, next_gs, top_less}
 use Rattle.ev_blocks.specs.Shapes.{Origin, IdtFrame, registers_of, interrupted_words}
 use Rattle.ev_paths.specs.Ends.{end_of, TellsNoCr2, Enters, Returns}
 use Rattle.ev_blocks.specs.Idt.{IdtReturn, BySysret, ByOtherRip, ByOtherFlags, IdtToKernel, IdtToTask, IdtToNext, IdtSpot, Stub, Sys, Common, Leaves, stub_values, sys_values, common_values, next_interrupted, sysretq_place, iretq_place, idt_block}
@@ -14,9 +14,16 @@ use Rattle.ev_blocks.specs.Items.{AtTable, body_block}
 unfoldable pub idt_end : IdtSpot → SS
 idt_end s = end_of (idt_block s)
 
+-- the pushes of a vector's entry take so many bytes
+abbrev pub stub_bytes : Bool → ℕ
+stub_bytes true = 5
+stub_bytes false = 10
+
 -- the entry of a vector comes to its jump, which opens the code in common
 pub record EntersCommon (o : Origin) (has_error : Bool) (v : ℕ) (page_fault : Bool) : Type 0 where
   pub runs : brun (idt_block (Stub o has_error v)) (idt_block (Stub o has_error v)).steps ≡ Some (idt_end (Stub o has_error v))
+  pub rip : (idt_end (Stub o has_error v)).rip ≡ at_base stub_tag (stub_bytes has_error)
+  pub blocked : (idt_end (Stub o has_error v)).blocked ≡ false
   pub joins : Joins (record (idt_end (Stub o has_error v)) { cr2 = (idt_block (Common o page_fault)).opening.cr2 }) (stub_values has_error v)
       (idt_block (Common o page_fault)).ground.known (idt_block (Common o page_fault)).opening
 

@@ -14,6 +14,7 @@ use Rattle.ev_symbolic.specs.Names.{stub_tag}
 use Rattle.ev_blocks.specs.Fred.{FredSpot, fred_block}
 use Rattle.ev_blocks.specs.Idt.{IdtSpot, Stub, idt_block}
 use Rattle.ev_blocks.specs.Nmi.{NmiSpot, nmi_block}
+use Rattle.ev_paths.specs.IdtEnds.{stub_bytes}
 
 -- the code has each cell of the kernel's listings
 abbrev pub HasKernel : Mode → Code → Type 0
@@ -33,11 +34,7 @@ IdtLinesStand = (code : Code) (e : Env) → e.base 1000 ≡ 0 → HasKernel Idt 
 abbrev pub NmiLinesStand : Type 0
 NmiLinesStand = (code : Code) (e : Env) → e.base 1000 ≡ 0 → HasKernel Idt code → (s : NmiSpot) → Stands code e (nmi_block s).lines
 
--- the pushes of a vector's entry take so many bytes; behind them stands a jump to the code in common
-abbrev pub stub_bytes : Bool → ℕ
-stub_bytes true = 5
-stub_bytes false = 10
-
+-- behind the pushes of a vector's entry stands a jump to the code in common
 pub record StubJump (code : Code) (v : ℕ) (has_error : Bool) : Type 0 where
   pub distance : ℤ
   pub is : code (vector_stub v + stub_bytes has_error) ≡ Some (edge_cell (Jmp distance) (vector_stub v + stub_bytes has_error + 5))

@@ -54,48 +54,48 @@ module _ (c : Processor) (m : Memory) (next : ℕ) where
 
   -- ---- loads and stores
 
-  loads : Loads c m next
+  pub loads : Loads c m next
   unfolding exec effect
   loads d b n a h q o = finish (Load d b n) h (set c.regs d (m.words a)) next m.words (read d (displaced (register c b) n) a (bad_address b) h.kernel q o)
 
-  stores : Stores c m next
+  pub stores : Stores c m next
   unfolding exec effect
   stores b n s a h q o = finish (Store b n s) h c.regs next (put_at m.words a (register c s))
       (wrote (λ y. task c next) (λ y. register c s) (displaced (register c b) n) a (bad_address b) h.kernel q o)
 
-  stores_number : StoresNumber c m next
+  pub stores_number : StoresNumber c m next
   unfolding exec effect
   stores_number b n i a h q o = finish (StoreImm b n i) h c.regs next (put_at m.words a (sign_extend i))
       (wrote (λ y. task c next) (λ y. sign_extend i) (displaced (register c b) n) a (bad_address b) h.kernel q o)
 
-  loads_from_gs : LoadsFromGs c m next
+  pub loads_from_gs : LoadsFromGs c m next
   unfolding exec effect
   loads_from_gs d n a h q o =
       finish (GsLoad d n) h (set c.regs d (m.words a)) next m.words (read d (displaced c.msrs.gs_base n) a (gp 0) h.kernel q o)
 
-  stores_to_gs : StoresToGs c m next
+  pub stores_to_gs : StoresToGs c m next
   unfolding exec effect
   stores_to_gs n s a h q o = finish (GsStore n s) h c.regs next (put_at m.words a (register c s))
       (wrote (λ y. task c next) (λ y. register c s) (displaced c.msrs.gs_base n) a (gp 0) h.kernel q o)
 
-  pushes : Pushes c m next
+  pub pushes : Pushes c m next
   unfolding exec effect
   pushes s h o = finish (Push s) h (set c.regs 4 (pushed_at c)) next (put_at m.words (pushed_at c) (register c s))
       (wrote (λ y. with_reg (task c next) 4 y) (λ y. register c s) (pushed_at c) (pushed_at c) (ss 0) h.kernel refl o)
 
-  pushes_number : PushesNumber c m next
+  pub pushes_number : PushesNumber c m next
   unfolding exec effect
   pushes_number i h o = finish (PushImm i) h (set c.regs 4 (pushed_at c)) next (put_at m.words (pushed_at c) (sign_extend i))
       (wrote (λ y. with_reg (task c next) 4 y) (λ y. sign_extend i) (pushed_at c) (pushed_at c) (ss 0) h.kernel refl o)
 
   -- ---- exchanges
 
-  exchanges : Exchanges c m next
+  pub exchanges : Exchanges c m next
   unfolding exec effect
   exchanges b n s a h q o = finish (Xchg b n s) h (set c.regs s (m.words a)) next (put_at m.words a (register c s))
       (wrote (λ y. with_reg (task c next) s (m.words y)) (λ y. register c s) (displaced (register c b) n) a (bad_address b) h.kernel q o)
 
-  adds : Adds c m next
+  pub adds : Adds c m next
   unfolding exec effect
   adds b n s a h q o =
       finish_status (Xadd b n s) h (set c.regs s (m.words a)) (sum (m.words a) (register c s)).1 (put_at m.words a (sum (m.words a) (register c s)).0)
@@ -107,7 +107,7 @@ module _ (c : Processor) (m : Memory) (next : ℕ) where
   compared_as t w s =
       let t' : Task = in_flags (task c next) (difference (register c 0) w).1 in if t then (t', register c s) else (with_reg t' 0 w, w)
 
-  compares : Compares c m next
+  pub compares : Compares c m next
   unfolding exec effect
   compares b n s a h q o =
       finish_status (CmpXchg b n s) h _ (difference (register c 0) (m.words a)).1 _
@@ -126,35 +126,35 @@ module _ (c : Processor) (m : Memory) (next : ℕ) where
 
   -- ---- registers
 
-  moves : Moves c m next
+  pub moves : Moves c m next
   unfolding exec effect
   moves d s h = finish (MovReg d s) h (set c.regs d (register c s)) next m.words refl
 
-  moves_number : MovesNumber c m next
+  pub moves_number : MovesNumber c m next
   unfolding exec effect
   moves_number d n h = finish (MovImm d n) h (set c.regs d n) next m.words refl
 
-  computes : Computes c m next
+  pub computes : Computes c m next
   unfolding exec effect
   computes op d s h =
       finish_status (Alu op d s) h (set c.regs d (alu op (register c d) (register c s)).0) (alu op (register c d) (register c s)).1 m.words refl
 
-  computes_number : ComputesNumber c m next
+  pub computes_number : ComputesNumber c m next
   unfolding exec effect
   computes_number op d i h =
       finish_status (AluImm op d i) h (set c.regs d (alu op (register c d) (sign_extend i)).0) (alu op (register c d) (sign_extend i)).1 m.words refl
 
   -- ---- jumps
 
-  jumps : Jumps c m next
+  pub jumps : Jumps c m next
   unfolding exec effect
   jumps n h k = finish (Jmp n) h c.regs (displaced next n) m.words (ap (jumped_if c next m.words (displaced next n)) k)
 
-  jumps_to : JumpsTo c m next
+  pub jumps_to : JumpsTo c m next
   unfolding exec effect
   jumps_to s h k = finish (JmpReg s) h c.regs (register c s) m.words (ap (jumped_if c next m.words (register c s)) k)
 
-  branches : Branches c m next
+  pub branches : Branches c m next
   unfolding exec effect
   branches k n h q = by_test (holds k (flags_of c.flags).status) refl
     where
