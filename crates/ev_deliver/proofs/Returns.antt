@@ -229,7 +229,7 @@ iret_returns_by_words env G z c m w area r base other chosen level rip cs flags 
     iret_back env G z c m w area r base other chosen level regs gs kernel_gs select rsp0 g k rip cs flags sp ss reads words q i
 
 pub sysret_returns : SysretReturns
-sysret_returns env G b z place c m w area sp base other chosen level x g k fred q sti rest =
+sysret_returns env G b z place c m w area sp base other chosen level frame x g k fred q sti rest =
     sysret_back env G z c m w area sp base other chosen level x.regs x.gs x.kernel_gs x.selector x.rsp0 g k fred sp refl q sti rest
 
 pub eretu_returns : EretuReturns

@@ -2,3 +2,4 @@ pub mod FredDelivers
 pub mod IdtDelivers
 pub mod Returns
 pub mod GoesOn
+pub mod Tops
