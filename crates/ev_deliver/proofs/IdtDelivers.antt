@@ -72,7 +72,8 @@ module _ (c : Processor) (m : Memory) (e : Event) (env : Env) (site : IdtSite c 
 
       by_place : List ℕ → ℕ → ℕ → Outcome
       by_place f a n =
-          frame_written (faulted c e) (in_handler (faulted c e) (gate e.vector) e.kind a) m.words a f (first_event (view m false) true (reverse (addresses a n)))
+          frame_written (faulted c e) (in_handler (faulted c e) (gate e.vector) e.kind a) m.words a f
+          (first_event (view m false) true (reverse (addresses a n)))
 
       by_frame : List ℕ → ℕ → Outcome
       by_frame f t = by_place f (below t (length f)) (length f)

@@ -213,7 +213,8 @@ module _ (x : Where) (site : x.site < 8) where
   one_apart : (fs gs : List Form) → all_apart apart_in_one fs gs ≡ true → OthersApart (wins_of fs) (spans_of x fs) (wins_of gs) (spans_of x gs)
   one_apart [] [] h = tt
   one_apart [] (g ∷ gs) h = tt
-  one_apart (f ∷ fs) gs h = (one_from f gs (and_left (apart_from_all apart_in_one f gs) _ h), one_apart fs gs (and_right (apart_from_all apart_in_one f gs) _ h))
+  one_apart (f ∷ fs) gs h =
+      (one_from f gs (and_left (apart_from_all apart_in_one f gs) _ h), one_apart fs gs (and_right (apart_from_all apart_in_one f gs) _ h))
 
 pub forms_apart : FormsAreApart
 forms_apart n e x fs gs f g h =

@@ -66,7 +66,11 @@ call_enters : Enters (idt_block Sys) (idt_end Sys) sys_values (body_block false 
 unfolding idt_end idt_places sys_lines common_lines exit_lines spelling four_bytes size places distance
 call_enters = record {
   runs = refl;
-  continues = record { joins = record { regs = refl; gs = refl; kernel_gs = refl; selector = refl; cr2 = tt; rsp0 = refl; words = refl; inside = refl }; rip = refl; blocked = refl };
+  continues = record {
+    joins = record { regs = refl; gs = refl; kernel_gs = refl; selector = refl; cr2 = tt; rsp0 = refl; words = refl; inside = refl };
+    rip = refl;
+    blocked = refl;
+  };
 }
 
 common_enters : (o : Origin) (page_fault : Bool)
@@ -74,19 +78,35 @@ common_enters : (o : Origin) (page_fault : Bool)
 unfolding idt_end idt_places sys_lines common_lines exit_lines spelling four_bytes size places distance
 common_enters UserCode true = record {
   runs = refl;
-  continues = record { joins = record { regs = refl; gs = refl; kernel_gs = refl; selector = refl; cr2 = tt; rsp0 = refl; words = refl; inside = refl }; rip = refl; blocked = refl };
+  continues = record {
+    joins = record { regs = refl; gs = refl; kernel_gs = refl; selector = refl; cr2 = tt; rsp0 = refl; words = refl; inside = refl };
+    rip = refl;
+    blocked = refl;
+  };
 }
 common_enters UserCode false = record {
   runs = refl;
-  continues = record { joins = record { regs = refl; gs = refl; kernel_gs = refl; selector = refl; cr2 = tt; rsp0 = refl; words = refl; inside = refl }; rip = refl; blocked = refl };
+  continues = record {
+    joins = record { regs = refl; gs = refl; kernel_gs = refl; selector = refl; cr2 = tt; rsp0 = refl; words = refl; inside = refl };
+    rip = refl;
+    blocked = refl;
+  };
 }
 common_enters KernelCode true = record {
   runs = refl;
-  continues = record { joins = record { regs = refl; gs = refl; kernel_gs = refl; selector = refl; cr2 = tt; rsp0 = refl; words = refl; inside = refl }; rip = refl; blocked = refl };
+  continues = record {
+    joins = record { regs = refl; gs = refl; kernel_gs = refl; selector = refl; cr2 = tt; rsp0 = refl; words = refl; inside = refl };
+    rip = refl;
+    blocked = refl;
+  };
 }
 common_enters KernelCode false = record {
   runs = refl;
-  continues = record { joins = record { regs = refl; gs = refl; kernel_gs = refl; selector = refl; cr2 = tt; rsp0 = refl; words = refl; inside = refl }; rip = refl; blocked = refl };
+  continues = record {
+    joins = record { regs = refl; gs = refl; kernel_gs = refl; selector = refl; cr2 = tt; rsp0 = refl; words = refl; inside = refl };
+    rip = refl;
+    blocked = refl;
+  };
 }
 
 pub idt_enters : IdtEnters

@@ -1,5 +1,5 @@
-use Rattle.ev_deliver.proofs.Returns.{iret_returns, iret_returns_by_words, sysret_returns, eretu_returns, erets_returns}
-use Rattle.ev_deliver.proofs.return_instructions.Goals as goal
+use Rattle.ev_return.proofs.ByReturn.{iret_returns, iret_returns_by_words, sysret_returns, eretu_returns, erets_returns}
+use Rattle.ev_return.proofs.returns.Goals as goal
 
 pub returns : goal.returns
 returns c = record {

@@ -26,7 +26,7 @@ use Rattle.ev_symbolic.proofs.Sound.{executes}
 use Rattle.ev_symbolic.proofs.Blocks.{all_found}
 use Rattle.ev_blocks.specs.Shapes.{registers_of}
 use Rattle.ev_paths.specs.Ends.{Returns}
-use Rattle.ev_deliver.specs.Returns.{LeadsBack, Restores, IretWords, IretReturns, IretReturnsByWords, SysretReturns, EretuWords, EretsWords, blocked_after, EretuReturns, EretsReturns}
+use Rattle.ev_return.specs.Returns.{LeadsBack, Restores, IretWords, IretReturns, IretReturnsByWords, SysretReturns, EretuWords, EretsWords, blocked_after, EretuReturns, EretsReturns}
 
 -- ---- five words one behind the other
 
@@ -158,7 +158,8 @@ module _ (env : Env) (G : Ground) (z : SS) (c : Processor) (m : Memory) (w : Pro
       → LeadsBack c m Eretu w (blocked_after c (eval env ss))
   unfolding exec special eretu
   eretu_back fred rip cs flags sp ss reads words q i a nmi =
-      let d : Processor = record (gs_exchanged (fred_returned c (eval env rip) (eval env flags) (eval env sp) (eval env ss))) { cs = 0x33; ss = 0x2b; cpl = 3 } in
+      let d : Processor =
+      record (gs_exchanged (fred_returned c (eval env rip) (eval env flags) (eval env sp) (eval env ss))) { cs = 0x33; ss = 0x2b; cpl = 3 } in
       let taken : (c.level == 0) && is_canonical (eval env rip) && (selector (eval env cs) == 0x33) && (selector (eval env ss) == 0x2b) ≡ true =
       ap (λ (y : Processor). (y.level == 0) && is_canonical (eval env rip) && (selector (eval env cs) == 0x33) && (selector (eval env ss) == 0x2b)) g.rest
       ∙ ap (λ x. (x == 0) && is_canonical (eval env rip) && (selector (eval env cs) == 0x33) && (selector (eval env ss) == 0x2b)) i.level

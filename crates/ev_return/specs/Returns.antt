@@ -66,7 +66,8 @@ IretReturnsByWords =
 abbrev pub SysretReturns : Type 0
 SysretReturns =
     (env : Env) (G : Ground) (b : Block) (z : SS) (place : ℕ) (c : Processor) (m : Memory) (w : Processor) (area : ℕ → V) (sp base other chosen level : V)
-    (frame : List Word) → Returns b z place (registers_of area sp) base other chosen level frame → Agrees env G z c m → is_user env.rest ≡ false → has_fred env.rest ≡ false
+    (frame : List Word) → Returns b z place (registers_of area sp) base other chosen level frame → Agrees env G z c m → is_user env.rest ≡ false
+    → has_fred env.rest ≡ false
     → Restores env w (registers_of area sp) (area 1) (area 11) base other chosen level → w.sti_blocked ≡ false
     → record env.rest { cpl = 3; cs = 0x33; ss = 0x2b } ≡ untracked w → LeadsBack c m Sysretq w c.nmi_blocked
 

@@ -22,7 +22,7 @@ use Rattle.ev_blocks.specs.Nmi.{Choice, FirstFromTask, FirstLow, FirstHigh, Inne
 use Rattle.ev_blocks.specs.Nmi as nmi
 use Rattle.ev_blocks.specs.Items.{AtTable, AtJump, AtItem, AtNumber, AtNumbers, AtKick, AtUserWord, AtPageWord, BehindSti, BehindKick}
 use Rattle.ev_blocks.specs.Blocks.{Spot, InFred, InIdt, InNmi, InBody, block, forms}
-use Rattle.ev_paths.specs.Grounds.{HasForms, AreForms, WindowsFit, InnerIsApart, WritesItsStack, OthersAreApart, DeeperAreApart, HasItem, IsHere, AllGrounded}
+use Rattle.ev_grounds.specs.Grounds.{HasForms, AreForms, WindowsFit, InnerIsApart, WritesItsStack, OthersAreApart, DeeperAreApart, HasItem, IsHere, AllGrounded}
 
 both : (a b : Bool) → a ≡ true → b ≡ true → (a && b) ≡ true
 both true b h k = k
@@ -212,13 +212,17 @@ module _ (n : ℕ) (e : Env) (x : Where) where
   own_fitting (InIdt (Common o page_fault)) f = f
   own_fitting (InIdt (idt.Leaves IdtToKernel)) f = f
   own_fitting (InIdt (idt.Leaves (IdtToTask r))) f = record { at = f.at; forms = refl; bases = (f.bases.0, tt); room = (f.room.0, tt) }
-  own_fitting (InIdt (idt.Leaves (IdtToNext r))) f = record { at = f.at; forms = refl; bases = (f.bases.1.0, (f.bases.1.1.0, tt)); room = (f.room.1.0, (f.room.1.1.0, tt)) }
+  own_fitting (InIdt (idt.Leaves (IdtToNext r))) f =
+      record { at = f.at; forms = refl; bases = (f.bases.1.0, (f.bases.1.1.0, tt)); room = (f.room.1.0, (f.room.1.1.0, tt)) }
   own_fitting (InNmi (Choosing FirstFromTask g)) f = f
   own_fitting (InNmi (Choosing FirstLow g)) f = f
   own_fitting (InNmi (Choosing FirstHigh g)) f = f
-  own_fitting (InNmi (Choosing InnerLow g)) f = record { at = f.at; forms = refl; bases = (f.bases.0, (f.bases.1.0, tt)); room = (f.room.0, (f.room.1.0, tt)) }
-  own_fitting (InNmi (Choosing InnerHigh g)) f = record { at = f.at; forms = refl; bases = (f.bases.0, (f.bases.1.0, tt)); room = (f.room.0, (f.room.1.0, tt)) }
-  own_fitting (InNmi (Choosing InnerAtLast g)) f = record { at = f.at; forms = refl; bases = (f.bases.0, (f.bases.1.0, tt)); room = (f.room.0, (f.room.1.0, tt)) }
+  own_fitting (InNmi (Choosing InnerLow g)) f =
+      record { at = f.at; forms = refl; bases = (f.bases.0, (f.bases.1.0, tt)); room = (f.room.0, (f.room.1.0, tt)) }
+  own_fitting (InNmi (Choosing InnerHigh g)) f =
+      record { at = f.at; forms = refl; bases = (f.bases.0, (f.bases.1.0, tt)); room = (f.room.0, (f.room.1.0, tt)) }
+  own_fitting (InNmi (Choosing InnerAtLast g)) f =
+      record { at = f.at; forms = refl; bases = (f.bases.0, (f.bases.1.0, tt)); room = (f.room.0, (f.room.1.0, tt)) }
   own_fitting (InNmi (Choosing InnerInRepeat g)) f = f
   own_fitting (InNmi (Repeats g)) f = f
   own_fitting (InNmi (Begins b)) f = f
