@@ -1,13 +1,13 @@
 -- When the facts hold that say which way a path goes.
-use Rattle.std.proofs.Common.{◌≡◌, ◌≢◌, ℕ, ◌+◌, ◌-◌, ◌/◌, ◌%◌, ◌^◌, ◌<◌, ◌≤◌, Bool, true, false, refl, sym, ap, ◌∙◌, arith}
-use Rattle.std.specs.Prelude.{◌==◌, nat_lt, if◌then◌else◌, bit_and}
+use Rattle.std.proofs.Common.{◌≡◌, ◌≢◌, ℕ, ◌+◌, ◌-◌, ◌/◌, ◌%◌, ◌^◌, ◌<◌, ◌≤◌, Bool, true, false, refl, ap, ◌∙◌, arith}
+use Rattle.std.specs.Prelude.{◌==◌, if◌then◌else◌}
 use Rattle.std.proofs.lemmas.Bool.{eqb-true, eq-eqb, lt-ltb, le-ltb}
 use Rattle.std.proofs.lemmas.Nat.{and_mask}
 use Rattle.ev_symbolic.specs.Value.{M, V, K, B, OSub, OSame}
 use Rattle.ev_symbolic.specs.Agrees.{Env, eval}
 use Rattle.ev_symbolic.specs.Names.{frame_cs, says_same, says_below, says_ring}
 use Rattle.ev_blocks.specs.Nmi.{top_bit}
-use Rattle.ev_deliver.specs.Facts.{FactLaws, FactsTell}
+use Rattle.ev_deliver.specs.Facts.{FactsTell}
 
 -- whether a difference is 0
 same_difference : (a b : ℕ) → a ≡ b → ((a + M - b) % M == 0) ≡ true

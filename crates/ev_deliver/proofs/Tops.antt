@@ -1,5 +1,5 @@
 -- Where a delivery's frame ends.
-use Rattle.std.proofs.Common.{◌≡◌, ◌≢◌, ℕ, ◌+◌, ◌-◌, ◌*◌, ◌/◌, ◌%◌, ◌^◌, ◌<◌, ◌≤◌, Bool, true, false, not, ◌&&◌, ◌==◌, get_or, refl, sym, ap, ◌∙◌, arith}
+use Rattle.std.proofs.Common.{◌≡◌, ◌≢◌, ℕ, ◌+◌, ◌-◌, ◌%◌, ◌^◌, Bool, true, false, not, ◌&&◌, ◌==◌, get_or, refl, ap, ◌∙◌, arith}
 use Rattle.std.specs.Prelude.{◌||◌, nat_lt, if◌then◌else◌, max}
 use Rattle.std.proofs.lemmas.Bool.{eqb-true}
 use Rattle.ev_isa.specs.Word.{NatMap, wrap}
@@ -7,7 +7,6 @@ use Rattle.ev_event.specs.declared.event.Event.{Event}
 use Rattle.ev_event.specs.Event.{is_hardware}
 use Rattle.ev_state.specs.Processor.{Processor, is_user, rsp}
 use Rattle.ev_fred.specs.FredDelivery.{decrement, event_level, new_level, frame_top}
-use Rattle.ev_idt.specs.IdtDelivery.{new_rsp}
 use Rattle.ev_gate.specs.Tss.{rsp0_at, ist_at}
 use Rattle.ev_concrete.specs.Opening.{gate}
 use Rattle.ev_deliver.specs.Tops.{FredFromTask, FredFromBody, FredToLevel, IdtFromTask, IdtFromBody, IdtFromNmiBody, IdtOfNmi}

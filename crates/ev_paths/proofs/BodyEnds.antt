@@ -1,5 +1,5 @@
 -- What the blocks of bodies come to: closed facts, each by computation, with the numbers of items as variables.
-use Rattle.std.proofs.Common.{◌≡◌, ℕ, ◌+◌, Bool, true, false, refl}
+use Rattle.std.proofs.Common.{ℕ, ◌+◌, Bool, true, false, refl}
 use Rattle.ev_isa.specs.Spelling.{spelling, four_bytes}
 use Rattle.ev_mem.specs.Memory.{page_map}
 use Rattle.ev_symbolic.specs.Value.{K, X}

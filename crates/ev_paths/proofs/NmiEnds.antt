@@ -1,5 +1,5 @@
 -- What the blocks of the NMI code under IDT come to: closed facts, each by computation.
-use Rattle.std.proofs.Common.{◌≡◌, false, Some, refl}
+use Rattle.std.proofs.Common.{false, refl}
 use Rattle.ev_isa.specs.Spelling.{spelling, four_bytes}
 use Rattle.ev_asm.specs.Assembly.{size, places, distance}
 use Rattle.ev_symbolic.specs.Names.{other_gs}

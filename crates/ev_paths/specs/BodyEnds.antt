@@ -1,12 +1,12 @@
 -- What the blocks of bodies come to, in any layout and mode: the numbers of items are variables of the proof.
-use Rattle.std.specs.Prelude.{◌≡◌, ℕ, ◌+◌, Bool, List, [], ◌∷◌, Some}
+use Rattle.std.specs.Prelude.{◌≡◌, ℕ, ◌+◌, Bool, [], ◌∷◌, Some}
 use Rattle.ev_symbolic.specs.Value.{V, K, X}
-use Rattle.ev_symbolic.specs.State.{SS, Block}
+use Rattle.ev_symbolic.specs.State.{SS}
 use Rattle.ev_symbolic.specs.Run.{brun}
 use Rattle.ev_symbolic.specs.Openings.{at_base}
 use Rattle.ev_symbolic.specs.Names.{item_tag, top_less}
 use Rattle.ev_mem.specs.Memory.{page_map}
-use Rattle.ev_blocks.specs.Shapes.{Layout, body_bytes, as_found}
+use Rattle.ev_blocks.specs.Shapes.{Layout, body_bytes}
 use Rattle.ev_paths.specs.Ends.{TellsNoCr2}
 use Rattle.ev_blocks.specs.Items.{BodySpot, AtNumber, AtNumbers, AtKick, AtUserWord, AtPageWord, BehindSti, BehindKick, masked, page_word, body_block, behind_move, behind_sti, behind_branch, behind_kick}
 

@@ -1,25 +1,21 @@
 -- What the returns come to.
-use Rattle.std.proofs.Common.{◌≡◌, ℕ, ◌+◌, ◌/◌, ◌%◌, ◌^◌, Bool, true, false, not, ◌&&◌, List, [], ◌∷◌, get_or, set, map, Some, None, refl, sym, ap, ◌∙◌, subst, arith}
+use Rattle.std.proofs.Common.{◌≡◌, ℕ, ◌+◌, ◌/◌, ◌%◌, ◌^◌, true, false, ◌&&◌, List, [], ◌∷◌, get_or, set, map, None, refl, sym, ap, ◌∙◌, arith}
 use Rattle.std.specs.Prelude.{◌==◌, nat_le, if◌then◌else◌}
-use Rattle.std.proofs.lemmas.Bool.{eq-eqb}
-use Rattle.ev_isa.specs.Word.{NatMap, wrap, bit, is_canonical}
+use Rattle.ev_isa.specs.Word.{wrap, is_canonical}
 use Rattle.ev_isa.specs.Flags.{modelled}
-use Rattle.ev_isa.specs.Spelling.{spelling}
-use Rattle.ev_isa.specs.declared.instruction.Ins.{Ins}
 use Rattle.ev_isa.specs.declared.instruction.Ins.TheVariants.{Sysretq, Iretq, Eretu, Erets}
 use Rattle.ev_event.specs.Event.{ss as ss_event, gp, ud}
 use Rattle.ev_effect.specs.Frame.{addresses, or_else, first_event}
-use Rattle.ev_state.specs.Processor.{Processor, is_user, rsp, with_rsp, register, selector, gs_exchanged}
-use Rattle.ev_state.specs.Outcome.{Outcome, Went, Met}
+use Rattle.ev_state.specs.Processor.{Processor, is_user, rsp, register, selector, gs_exchanged}
+use Rattle.ev_state.specs.Outcome.{Went, Met}
 use Rattle.ev_mem.specs.Memory.{Memory, view}
-use Rattle.ev_apic.specs.declared.apic.Apic.{Apic}
 use Rattle.ev_exec.specs.Exec.{Special, exec}
 use Rattle.ev_idt.specs.IdtDelivery.{is_return, returned, iret_words, iret_after, iretq, sysretq}
 use Rattle.ev_fred.specs.FredDelivery.{fred_returned, eretu_words, erets_words, frame_read, return_addresses, eretu, erets}
-use Rattle.ev_proc.specs.ProcessorStep.{has_fred, executed, ran, fault, special, after_return}
+use Rattle.ev_proc.specs.ProcessorStep.{has_fred, ran, fault, special, after_return}
 use Rattle.ev_symbolic.specs.Value.{M, V, P}
 use Rattle.ev_symbolic.specs.State.{SS, Win, Ground, Block}
-use Rattle.ev_symbolic.specs.Agrees.{Env, eval, addr, untracked, Known, Open, Agrees}
+use Rattle.ev_symbolic.specs.Agrees.{Env, eval, untracked, Known, Open, Agrees}
 use Rattle.ev_symbolic.specs.Openings.{at_base, words_from}
 use Rattle.ev_symbolic.proofs.Words.{accessible}
 use Rattle.ev_symbolic.proofs.Sound.{executes}
