@@ -16,7 +16,7 @@ use Rattle.ev_proc.specs.ProcessorStep.{ran}
 use Rattle.ev_symbolic.specs.Agrees.{IsOpen}
 use Rattle.ev_symbolic.specs.Single.{IsAt, onward, in_status, Leads, Loads, Stores, StoresNumber, LoadsFromGs, StoresToGs, pushed_at, Pushes, PushesNumber, Exchanges, Adds, Compares, Moves, MovesNumber, Computes, ComputesNumber, Jumps, JumpsTo, Branches, SinglesAreSteps}
 use Rattle.ev_symbolic.proofs.Words.{accessible}
-use Rattle.ev_symbolic.proofs.Sound.{task, loaded, jumped_if, branched, executes}
+use Rattle.ev_symbolic.proofs.Effects.{task, loaded, jumped_if, branched, executes}
 
 -- what an effect comes to that writes a word and leaves this task
 abbrev written : Processor → Task → NatMap ℕ → ℕ → ℕ → Option Event → Executed
