@@ -67,13 +67,16 @@ module _ (e : Env) (G : Ground) (h : Grounded e G) where
       (told_flags e G h op _ _ (sreg s d) (sreg s r) (reg_ok e G h s c m g d) (reg_ok e G h s c m g r)) refl
   step_ok (AluImm op d i) next nl s c m g hn hl = alu_ok e G h (AluImm op d i) next nl d (alu op (get_or c.regs d 0) (sign_extend i))
       (left_by G.facts op (sreg s d) (K (sign_extend i))) (op_of op) (sreg s d) (K (sign_extend i)) s c m g hn hl
-      (told e G h op _ _ (sreg s d) (K (sign_extend i)) (reg_ok e G h s c m g d) refl) (told_flags e G h op _ _ (sreg s d) (K (sign_extend i)) (reg_ok e G h s c m g d) refl) refl
+      (told e G h op _ _ (sreg s d) (K (sign_extend i)) (reg_ok e G h s c m g d) refl)
+      (told_flags e G h op _ _ (sreg s d) (K (sign_extend i)) (reg_ok e G h s c m g d) refl) refl
   step_ok (Shl d n) next nl s c m g hn hl = alu_ok e G h (Shl d n) next nl d (shift_left (get_or c.regs d 0) n) (norm G.facts (sop OShl (sreg s d) (K n))) OShl
       (sreg s d) (K n) s c m g hn hl (left_shift_value (get_or c.regs d 0) n ∙ ap (λ x. number OShl x n) (reg_ok e G h s c m g d)
-      ∙ sym (nop_ok e G.facts h.facts OShl (sreg s d) (K n))) (left_shift_status (get_or c.regs d 0) n ∙ ap (λ x. status OShl x n) (reg_ok e G h s c m g d)) refl
+      ∙ sym (nop_ok e G.facts h.facts OShl (sreg s d) (K n)))
+      (left_shift_status (get_or c.regs d 0) n ∙ ap (λ x. status OShl x n) (reg_ok e G h s c m g d)) refl
   step_ok (Shr d n) next nl s c m g hn hl = alu_ok e G h (Shr d n) next nl d (shift_right (get_or c.regs d 0) n) (norm G.facts (sop OShr (sreg s d) (K n))) OShr
       (sreg s d) (K n) s c m g hn hl (right_shift_value (get_or c.regs d 0) n ∙ ap (λ x. number OShr x n) (reg_ok e G h s c m g d)
-      ∙ sym (nop_ok e G.facts h.facts OShr (sreg s d) (K n))) (right_shift_status (get_or c.regs d 0) n ∙ ap (λ x. status OShr x n) (reg_ok e G h s c m g d)) refl
+      ∙ sym (nop_ok e G.facts h.facts OShr (sreg s d) (K n)))
+      (right_shift_status (get_or c.regs d 0) n ∙ ap (λ x. status OShr x n) (reg_ok e G h s c m g d)) refl
   step_ok (Jmp n) next nl s c m g hn hl = jump_ok e G h (Jmp n) next (displaced next n) (shift nl (sign_extend n)) s c m g hn
       (λ x. shift_ok e nl next (sign_extend n) hl) refl
   step_ok (Jcc k n) next nl s c m g hn hl = branch_ok e G h (Jcc k n) next nl (sign_extend n) (holds k (flags_of c.flags).status) s c m g hn hl refl
@@ -82,7 +85,8 @@ module _ (e : Env) (G : Ground) (h : Grounded e G) where
   step_ok (JmpReg r) next nl s c m g hn hl = jump_to_ok e G h (JmpReg r) next (get_or c.regs r 0) (sreg s r) s c m g hn (reg_ok e G h s c m g r) refl
   step_ok (Push r) next nl s c m g hn hl = push_ok e G h (Push r) next nl (get_or c.regs r 0) (sreg s r) s c m g hn hl (reg_ok e G h s c m g r) refl
   step_ok (PushImm i) next nl s c m g hn hl = push_ok e G h (PushImm i) next nl (sign_extend i) (K (sign_extend i)) s c m g hn hl refl refl
-  step_ok (Pop d) next nl s c m g hn hl = load_ok e G h (Pop d) next nl d (get_or c.regs 4 0) (sreg s 4) (ss 0) s c m (set c.regs 4 ((get_or c.regs 4 0 + 8) % M))
+  step_ok (Pop d) next nl s c m g hn hl = load_ok e G h (Pop d) next nl d (get_or c.regs 4 0) (sreg s 4) (ss 0) s c m
+      (set c.regs 4 ((get_or c.regs 4 0 + 8) % M))
       (set s.regs 4 (sop OAdd (sreg s 4) (K 8))) (length-set c.regs 4 _) g hn hl
       (set_ok e c.regs s.regs 4 _ (sop OAdd (sreg s 4) (K 8)) g.regs (sat_ok e G h s (sreg s 4) _ 8 (reg_ok e G h s c m g 4))) (reg_ok e G h s c m g 4) refl
   step_ok (ReadCr2 d) next nl s c m g hn hl = read_cr2_ok e G h d next nl s c m g hn hl s.cr2 g.cr2

@@ -161,7 +161,8 @@ module _ (e : Env) (G : Ground) (h : Grounded e G) where
           let high : register c 2 ≡ n / 2 ^ 32 =
           reg_ok e G h s c m g 2 ∙ ap (eval e) (sym (v_same (norm G.facts (sop OShr (sreg s 0) (K 32))) (sreg s 2) is_high))
           ∙ nop_ok e G.facts h.facts OShr (sreg s 0) (K 32) in
-          let value_is : low32 (register c 0) + 2 ^ 32 * low32 (register c 2) ≡ n = ap (λ x. x % 2 ^ 32 + 2 ^ 32 * low32 (register c 2)) (reg_ok e G h s c m g 0)
+          let value_is : low32 (register c 0) + 2 ^ 32 * low32 (register c 2) ≡ n =
+          ap (λ x. x % 2 ^ 32 + 2 ^ 32 * low32 (register c 2)) (reg_ok e G h s c m g 0)
           ∙ ap (λ x. n % 2 ^ 32 + 2 ^ 32 * (x % 2 ^ 32)) high ∙ halves n fits in
           record {
             cpu = record c { rip = next; sti_blocked = false; msrs = record c.msrs { rsp = set c.msrs.rsp 0 n } };
