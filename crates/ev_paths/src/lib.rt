@@ -2,7 +2,7 @@
 //! stand in code that has the kernel's cells.
 #![tactic(auto)]
 
-ghost use Rattle.ev_paths.specs.BodyEnds.{AllBodyEnds, BodyTellsNoCr2};
+ghost use Rattle.ev_paths.specs.BodyEnds.{AllBodyEnds, BodyTellsNoCr2, ItemOffsets};
 ghost use Rattle.ev_paths.specs.Cells.{FredCellsStand, IdtCellsStand};
 ghost use Rattle.ev_paths.specs.FredEnds.{FredEnters, FredReturns, FredTellsNoCr2};
 ghost use Rattle.ev_paths.specs.IdtEnds.{IdtEnters, IdtReturns, IdtTellsNoCr2};
@@ -45,4 +45,5 @@ pub fn nmi_blocks()
 pub fn body_blocks()
     ensures ends { AllBodyEnds }
     ensures cr2 { BodyTellsNoCr2 }
+    ensures offsets { ItemOffsets }
 {}

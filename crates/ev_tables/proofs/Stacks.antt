@@ -42,8 +42,7 @@ pub stacks_stand : StacksStand
 stacks_stand mode image words p is hp nmi double =
     let few : image.processors ≤ 8 = is.count.1 in
     let first : (pcpu p + 0x404) + 28 + 8 * 1 ≡ pcpu p + 0x428 = omega arith in
-    let second : (pcpu p + 0x404) + 28 + 8 * 2 ≡ pcpu p + 0x430 = omega arith in
-    (
+    let second : (pcpu p + 0x404) + 28 + 8 * 2 ≡ pcpu p + 0x430 = omega arith in (
       ap words first ∙ nmi ∙ opened_area (code_of (listings mode image)) mode image p 0x428 few hp (omega arith) refl ∙ nmi_stack p,
       ap words second ∙ double ∙ opened_area (code_of (listings mode image)) mode image p 0x430 few hp (omega arith) refl ∙ double_fault_stack p,
     )
