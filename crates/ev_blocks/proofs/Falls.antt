@@ -10,7 +10,7 @@ use Rattle.ev_blocks.specs.Idt as idt
 use Rattle.ev_blocks.specs.Nmi.{Choice, FirstFromTask, FirstLow, FirstHigh, InnerLow, InnerHigh, InnerAtLast, InnerInRepeat, GsBase, BodyBegin, FromTask, FromKernel as Kernel, FromKernelInTaskGs, NmiExit, Exchanging, Staying, Choosing, Begins, is_first}
 use Rattle.ev_blocks.specs.Nmi as nmi
 use Rattle.ev_blocks.specs.Items.{BodySpot, AtTable, AtJump, AtItem, AtNumber, AtNumbers, AtKick, AtUserWord, AtPageWord, BehindSti, BehindKick}
-use Rattle.ev_blocks.specs.Blocks.{InFred, InIdt, InNmi, InBody, behind_body, edges_behind, edges_from, EdgesFall, AllEdgesFall}
+use Rattle.ev_blocks.specs.Blocks.{InFred, InIdt, InNmi, InBody, behind_body, edges_behind, edges_from, AllEdgesFall}
 
 from_user : (mode : Mode) → (w : FredWay) → edges_from mode (InBody FredFrame AtTable) ≤ edges_behind mode (InFred (FromUser w))
 from_user Idt ByCall = omega arith

@@ -4,9 +4,9 @@ use Rattle.ev_isa.specs.declared.mode.Mode.{Mode}
 use Rattle.ev_isa.specs.declared.mode.Mode.TheVariants.{Idt, Fred}
 use Rattle.ev_symbolic.specs.State.{Block}
 use Rattle.ev_blocks.specs.Shapes.{Origin, Layout, FredFrame, IdtFrame, NmiFrame, Forms}
-use Rattle.ev_blocks.specs.Fred.{FredWay, FredExit, FredSpot, FromUser, FromKernel, LeavesNmi, fred_block, fred_forms}
+use Rattle.ev_blocks.specs.Fred.{FredWay, FredExit, FredSpot, FredToNext, FromUser, FromKernel, LeavesNmi, fred_block, fred_forms}
 use Rattle.ev_blocks.specs.Fred as fred
-use Rattle.ev_blocks.specs.Idt.{IdtExit, IdtSpot, Stub, Sys, Common, idt_block, idt_forms}
+use Rattle.ev_blocks.specs.Idt.{IdtExit, IdtToNext, IdtSpot, Stub, Sys, Common, idt_block, idt_forms}
 use Rattle.ev_blocks.specs.Idt as idt
 use Rattle.ev_blocks.specs.Nmi.{Choice, GsBase, BodyBegin, NmiExit, NmiSpot, Choosing, Repeats, Begins, nmi_block, nmi_forms, is_first}
 use Rattle.ev_blocks.specs.Nmi as nmi
@@ -31,6 +31,17 @@ forms (InFred s) = fred_forms s
 forms (InIdt s) = idt_forms s
 forms (InNmi s) = nmi_forms s
 forms (InBody layout s) = forms_of layout
+
+-- whether the exit is changing the words of the current task, and whether the block knows the return frame of its NMI
+abbrev pub switches : Spot → Bool
+switches (InFred (fred.Leaves FredToNext)) = true
+switches (InIdt (idt.Leaves (IdtToNext r))) = true
+switches s = false
+
+abbrev pub holds : Spot → Bool
+holds (InNmi (Choosing c g)) = is_first c
+holds (InNmi (Repeats g)) = true
+holds s = false
 
 -- ---- edges
 

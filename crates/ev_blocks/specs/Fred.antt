@@ -1,13 +1,13 @@
 -- Blocks of the kernel's code under FRED: entries from a task and from the kernel, and exits.
-use Rattle.std.specs.Prelude.{◌≡◌, ℕ, ◌+◌, ◌-◌, true, List, [], ◌∷◌, ◌++◌}
+use Rattle.std.specs.Prelude.{ℕ, ◌+◌, ◌-◌, true, List, [], ◌∷◌, ◌++◌}
 use Rattle.ev_listing.specs.AddressMap.{fred_page, user_table, kernel_table}
 use Rattle.ev_listing.specs.FredCode.{fred_listings}
 use Rattle.ev_symbolic.specs.Value.{M, V, K, P, X, B, OAdd, OSub, OAnd, OShl, OShr, Fact}
-use Rattle.ev_symbolic.specs.State.{Word, SS, Line, Ground, Block, absolute}
+use Rattle.ev_symbolic.specs.State.{Word, SS, Line, Ground, Block}
 use Rattle.ev_symbolic.specs.Listed.{lines_of}
 use Rattle.ev_symbolic.specs.Openings.{word, words_from, at_base, gs_word}
 use Rattle.ev_symbolic.specs.Names.{task_tag, next_task_tag, next_top_tag, error, frame_rip, frame_cs, frame_flags, frame_rsp, frame_ss, information, key, running, fault_address, next_selector, next_gs, next_error, next_rip, next_cs, next_flags, next_rsp, next_ss, next_saved, says_same, says_ring, top_less, opens}
-use Rattle.ev_distances.specs.Form.{Form, OnStack, InArea, OnTask, OnNextTask, OnNextStack}
+use Rattle.ev_distances.specs.Form.{OnStack, InArea, OnTask, OnNextTask, OnNextStack}
 use Rattle.ev_blocks.specs.Shapes.{Origin, UserCode, KernelCode, ring, FredFrame, Forms, private, kernel_text, ground_over, over, area_of, from_top, fred_frame, body_words, found_registers, called_registers, at_load, place_in, frame_of, values}
 
 unfoldable pub fred_lines : List Line

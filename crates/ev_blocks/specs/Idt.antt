@@ -9,10 +9,10 @@ use Rattle.ev_asm.specs.Assembly.{Places}
 use Rattle.ev_symbolic.specs.Value.{M, V, K, P, X, B, OSub, Fact}
 use Rattle.ev_symbolic.specs.State.{Word, SS, Line, Ground, Block, top_tag}
 use Rattle.ev_symbolic.specs.Listed.{lines_in, lines_at}
-use Rattle.ev_symbolic.specs.Openings.{gs_tag, word, words_from, at_base, gs_word}
+use Rattle.ev_symbolic.specs.Openings.{word, words_from, at_base, gs_word}
 use Rattle.ev_symbolic.specs.Names.{task_tag, next_task_tag, next_top_tag, stub_tag, error, frame_rip, frame_cs, frame_flags, frame_rsp, frame_ss, information, key, saved, running, fault_address, next_selector, next_gs, next_key, next_error, next_rip, next_cs, next_flags, next_rsp, next_ss, next_saved, says_zero, says_same, says_ring, top_less, opens, opens_in_user_gs}
 use Rattle.ev_distances.specs.Form.{OnStack, InArea, OnTask, OnNextTask, OnNextStack}
-use Rattle.ev_blocks.specs.Shapes.{Origin, UserCode, KernelCode, ring, IdtFrame, Forms, private, kernel_text, ground_over, over, area_of, from_top, interrupted, body_words, as_found, found_registers, called_registers, at_load, place_in, frame_of, values}
+use Rattle.ev_blocks.specs.Shapes.{Origin, UserCode, KernelCode, ring, IdtFrame, Forms, private, kernel_text, ground_over, over, area_of, from_top, interrupted, body_words, as_found, found_registers, at_load, place_in, frame_of, values}
 
 -- ---- the listings without the 256 entries of vectors, which have no label: jumps have the same targets as in the whole
 

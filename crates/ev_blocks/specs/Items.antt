@@ -1,12 +1,12 @@
 -- Blocks of bodies: the way from the table of bodies to the first item, items, and the instructions before and behind an item's visible one.
-use Rattle.std.specs.Prelude.{ℕ, pos, ◌+◌, ◌-◌, Bool, true, false, List, [], ◌∷◌}
+use Rattle.std.specs.Prelude.{ℕ, pos, ◌+◌, Bool, true, false, List, [], ◌∷◌}
 use Rattle.ev_isa.specs.declared.instruction.Ins.{Ins}
 use Rattle.ev_isa.specs.declared.instruction.Ins.TheVariants.{MovImm, Alu, AluImm, Shl, Shr, Jmp, Jcc}
 use Rattle.ev_isa.specs.declared.instruction.AluOp.TheVariants.{Add, And, Sub, Cmp}
 use Rattle.ev_isa.specs.declared.instruction.Cond.TheVariants.{C}
 use Rattle.ev_mem.specs.Memory.{page_map}
-use Rattle.ev_symbolic.specs.Value.{M, V, K, P, X, B, OAdd, OSub, OAnd, OShl, OShr, OLess, Fact}
-use Rattle.ev_symbolic.specs.State.{SS, Line, Block}
+use Rattle.ev_symbolic.specs.Value.{V, K, X, B, OAdd, OSub, OAnd, OShl, OShr, OLess, Fact}
+use Rattle.ev_symbolic.specs.State.{Block}
 use Rattle.ev_symbolic.specs.Listed.{lines_at}
 use Rattle.ev_symbolic.specs.Openings.{at_base}
 use Rattle.ev_symbolic.specs.Names.{item_tag, says, top_less, opens}

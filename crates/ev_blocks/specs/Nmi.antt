@@ -51,7 +51,8 @@ with_gs KernelGs a rsp words = opens a rsp words
 
 -- ---- the choice, through FIRST up to NBODY, or through REDIR and INRET up to the return
 
--- A first NMI has the stack's 118H bytes to itself. An inner one has its own frame and two words below it, writes the return frame, and reads whether a body runs.
+-- A first NMI has the stack's 118H bytes to itself. An inner one has its own frame and two words below it, writes the return frame, and reads whether a body
+-- runs.
 abbrev pub first_forms : Forms
 first_forms = private (OnStack 0x118 ∷ [])
 

@@ -1,10 +1,10 @@
 -- What blocks are made of: grounds over forms of windows, the words of an activation's three layouts, and how one block goes on in the next. Own.
-use Rattle.std.specs.Prelude.{ℕ, ◌+◌, ◌-◌, Bool, List, [], ◌∷◌, ◌++◌}
+use Rattle.std.specs.Prelude.{ℕ, ◌-◌, Bool, List, [], ◌∷◌, ◌++◌}
 use Rattle.ev_listing.specs.AddressMap.{fred_page, code_end}
-use Rattle.ev_symbolic.specs.Value.{M, V, K, P, X, B, OAdd, OShl, Fact}
+use Rattle.ev_symbolic.specs.Value.{M, V, K, X, B, OAdd, OShl, Fact}
 use Rattle.ev_symbolic.specs.State.{Word, SS, Win, Line, Ground, Block, top_tag, absolute_tag}
 use Rattle.ev_symbolic.specs.Openings.{win_at, words_from}
-use Rattle.ev_symbolic.specs.Names.{item_tag, error, frame_rip, frame_cs, frame_flags, frame_rsp, frame_ss, information, frame_end, key, saved, other_gs, gs_selector, fault_address, level_rsp, top_less}
+use Rattle.ev_symbolic.specs.Names.{item_tag, error, frame_rip, frame_cs, frame_flags, frame_rsp, frame_ss, information, frame_end, key, saved, other_gs, gs_selector, level_rsp, top_less}
 use Rattle.ev_distances.specs.Form.{Form, OnStack, Stretch, wins_of}
 
 -- what an event interrupted: code of a task, or code of the kernel

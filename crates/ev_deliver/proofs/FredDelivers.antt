@@ -1,9 +1,9 @@
 -- The delivery of any event under FRED.
-use Rattle.std.proofs.Common.{◌≡◌, ℕ, ◌+◌, ◌-◌, ◌*◌, ◌/◌, ◌%◌, ◌^◌, ◌<◌, ◌≤◌, Bool, true, false, ◌&&◌, List, [], ◌∷◌, get_or, set, drop, map, length, reverse, None, refl, sym, ap, ◌∙◌, subst, arith}
+use Rattle.std.proofs.Common.{◌≡◌, ℕ, ◌+◌, ◌-◌, ◌*◌, ◌/◌, ◌%◌, ◌^◌, ◌<◌, ◌≤◌, Bool, true, false, ◌&&◌, List, [], ◌∷◌, get_or, set, drop, map, length, reverse, None, refl, sym, ap, ◌∙◌, arith}
 use Rattle.std.specs.Prelude.{◌==◌, if◌then◌else◌, bit_and}
 use Rattle.std.proofs.lemmas.Bool.{eqb-true, eq-eqb}
 use Rattle.std.proofs.lemmas.Nat.{and_mask}
-use Rattle.ev_isa.specs.Word.{NatMap, bit_if}
+use Rattle.ev_isa.specs.Word.{bit_if}
 use Rattle.ev_isa.specs.Flags.{flags_word}
 use Rattle.ev_event.specs.declared.event.Event.{Event}
 use Rattle.ev_event.specs.declared.event.EventType.{EventType}
@@ -17,15 +17,15 @@ use Rattle.ev_mem.specs.Memory.{Memory, view}
 use Rattle.ev_fred.specs.FredDelivery.{fred_delivery, in_fred_handler, exchanged_if, handler_page, new_level, frame_top, is_software, has_length, ss_word}
 use Rattle.ev_fred.specs.FredDelivery as delivery
 use Rattle.ev_symbolic.specs.Value.{M, OSub, OSame, number}
-use Rattle.ev_symbolic.specs.State.{Loc, top_tag, in_win}
+use Rattle.ev_symbolic.specs.State.{top_tag}
 use Rattle.ev_symbolic.specs.Agrees.{Env, eval, eval_flags, untracked, Known, Open, Code, FactsHold, Agrees, Fits, with_words}
 use Rattle.ev_symbolic.specs.Openings.{gs_tag}
 use Rattle.ev_symbolic.specs.Names.{says_same}
 use Rattle.ev_symbolic.proofs.Blocks.{begins, levels_split}
 use Rattle.ev_symbolic.proofs.Placed.{listed_known, places_open, no_event, eight_open}
 use Rattle.ev_blocks.specs.Shapes.{from_top, fred_frame}
-use Rattle.ev_blocks.specs.Fred.{FredWay, ByCall, ByInt3, ByIntN, ByOther, FromKernel, event_type, event_vector, way_facts, fred_block}
-use Rattle.ev_deliver.specs.FredDelivers.{way_by, way_of, entry_by, entry_of, other_base, cr2_after, faulted, fred_variables, no_flags, FredSite, frame_at, fred_handler, fred_words, FredFacts, FredBegins, FredDelivers}
+use Rattle.ev_blocks.specs.Fred.{ByInt3, ByIntN, FromKernel, event_type, event_vector, way_facts, fred_block}
+use Rattle.ev_deliver.specs.FredDelivers.{way_by, entry_by, entry_of, other_base, faulted, fred_variables, FredSite, frame_at, fred_handler, fred_words, FredFacts, FredDelivers}
 
 -- ---- sixteen registers, one by one
 
@@ -266,10 +266,20 @@ module _ (c : Processor) (e : Event) (env : Env) (var : env.var ≡ fred_variabl
   by_kind SoftInt q = pick (e.vector == 3) refl
     where
       pick : (b : Bool) → (e.vector == 3) ≡ b → FactsHold env (way_facts (if b then ByInt3 else ByIntN))
-      pick true r = (same_type 7 SoftInt q, (same_type 4 SoftInt q,
-          (same_vector 3 ∙ ap (λ x. number OSame (number OSub x 3) 0) (eqb-true e.vector 3 r), tt)))
-      pick false r = (same_type 7 SoftInt q, (same_type 4 SoftInt q,
-          (same_vector 3 ∙ ap (λ b. if b then 1 else 0) (unlike e.vector 3 small (omega arith) r), tt)))
+      pick true r = (
+        same_type 7 SoftInt q,
+        (
+          same_type 4 SoftInt q,
+          (same_vector 3 ∙ ap (λ x. number OSame (number OSub x 3) 0) (eqb-true e.vector 3 r), tt),
+        ),
+      )
+      pick false r = (
+        same_type 7 SoftInt q,
+        (
+          same_type 4 SoftInt q,
+          (same_vector 3 ∙ ap (λ b. if b then 1 else 0) (unlike e.vector 3 small (omega arith) r), tt),
+        ),
+      )
   by_kind Int1 q = (same_type 7 Int1 q, (same_type 4 Int1 q, tt))
   by_kind Int3 q = (same_type 7 Int3 q, (same_type 4 Int3 q, tt))
   by_kind Other q = (same_type 7 Other q, tt)

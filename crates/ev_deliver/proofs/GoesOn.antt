@@ -1,32 +1,26 @@
 -- From one block to the next.
-use Rattle.std.proofs.Common.{◌≡◌, ℕ, ◌+◌, ◌%◌, ◌<◌, Bool, true, false, List, [], ◌∷◌, get_or, set, length, pos, Some, refl, sym, ap, ◌∙◌, subst, arith, length-set}
-use Rattle.ev_isa.specs.Word.{NatMap, displaced, is_canonical}
-use Rattle.ev_isa.specs.Flags.{Flags, flags_of, flags_word, modelled}
-use Rattle.ev_isa.specs.Spelling.{spelling}
-use Rattle.ev_isa.specs.declared.instruction.Ins.{Ins}
-use Rattle.ev_isa.specs.declared.instruction.Ins.TheVariants.{Load, Jmp, JmpReg}
+use Rattle.std.proofs.Common.{◌≡◌, ℕ, ◌+◌, ◌%◌, ◌<◌, Bool, true, false, List, [], ◌∷◌, get_or, set, pos, Some, refl, sym, ap, ◌∙◌, subst, arith, length-set}
+use Rattle.ev_isa.specs.Word.{NatMap, is_canonical}
+use Rattle.ev_isa.specs.Flags.{flags_of, flags_word}
+use Rattle.ev_isa.specs.declared.instruction.Ins.TheVariants.{Jmp, JmpReg}
 use Rattle.ev_listing.specs.AddressMap.{vector_stub, common_entry}
 use Rattle.ev_state.specs.Processor.{Processor, is_user, register}
 use Rattle.ev_state.proofs.FlagLaws.{kept}
 use Rattle.ev_mem.specs.Memory.{Memory}
 use Rattle.ev_symbolic.specs.Value.{M, V, FVar}
-use Rattle.ev_symbolic.specs.State.{Loc, Win, SS, Block, Ground, in_win}
-use Rattle.ev_symbolic.specs.Agrees.{Env, addr, eval, eval_flags, untracked, Code, edge_cell, Known, IsOpen, Open, IsTold, Agrees, Fits, At}
-use Rattle.ev_symbolic.specs.Join.{env_after}
-use Rattle.ev_symbolic.specs.Names.{stub_tag, item_tag, top_less}
+use Rattle.ev_symbolic.specs.State.{Win, SS, Block, Ground, in_win}
+use Rattle.ev_symbolic.specs.Agrees.{Env, addr, eval, eval_flags, edge_cell, Known, Open, Agrees}
+use Rattle.ev_symbolic.specs.Names.{stub_tag, top_less}
 use Rattle.ev_symbolic.specs.Single.{IsAt, onward, Leads}
-use Rattle.ev_symbolic.proofs.FlagBits.{flags_back}
 use Rattle.ev_symbolic.proofs.Single as single
 use Rattle.ev_symbolic.proofs.Blocks.{begins, at_end, joined}
 use Rattle.ev_blocks.specs.Shapes.{Origin, UserCode, KernelCode, Layout, FredFrame, IdtFrame, NmiFrame, body_bytes, body_words}
 use Rattle.ev_blocks.specs.Idt.{Stub, Common, stub_values, idt_block}
 use Rattle.ev_blocks.specs.Items.{AtTable, AtJump, AtItem, table_load, body_jump, body_block}
-use Rattle.ev_paths.specs.Cells.{load_of, TableCells}
-use Rattle.ev_paths.specs.Ends.{Enters}
+use Rattle.ev_paths.specs.Cells.{load_of}
 use Rattle.ev_paths.specs.IdtEnds.{stub_bytes, idt_end}
-use Rattle.ev_paths.specs.Lines.{StubJump}
 use Rattle.ev_paths.proofs.IdtEnds.{idt_enters}
-use Rattle.ev_deliver.specs.GoesOn.{GoesOn, continued, EntriesContinue, StubsGoOn, place_of, with_rax, TableLoads, with_item, BodyJumps}
+use Rattle.ev_deliver.specs.GoesOn.{continued, EntriesContinue, StubsGoOn, place_of, with_rax, TableLoads, with_item, BodyJumps}
 
 nothing_open : (env : Env) (m : Memory) (W : List Win) → W ≡ [] → Open env W m.regions
 nothing_open env m W h l i = let clash : false ≡ true = ap (λ (X : List Win). in_win X l) (sym h) ∙ i in absurd (cc)

@@ -1,24 +1,22 @@
 -- The delivery of any event through the IDT.
-use Rattle.std.proofs.Common.{◌≡◌, ◌≢◌, ℕ, ◌+◌, ◌-◌, ◌*◌, ◌%◌, ◌^◌, ◌<◌, Bool, true, false, ◌&&◌, List, [], ◌∷◌, ◌++◌, get_or, set, drop, map, length, reverse, None, refl, sym, ap, ◌∙◌, subst, arith}
+use Rattle.std.proofs.Common.{◌≡◌, ℕ, ◌+◌, ◌-◌, ◌*◌, ◌%◌, ◌<◌, Bool, true, false, ◌&&◌, List, [], ◌∷◌, ◌++◌, get_or, set, drop, map, length, reverse, None, refl, sym, ap, ◌∙◌, arith}
 use Rattle.std.specs.Prelude.{◌==◌, nat_lt, if◌then◌else◌}
 use Rattle.std.proofs.lemmas.Bool.{eqb-true}
 use Rattle.std.proofs.lemmas.List.{length-set}
-use Rattle.ev_isa.specs.Word.{NatMap}
 use Rattle.ev_isa.specs.Flags.{flags_word}
 use Rattle.ev_event.specs.declared.event.Event.{Event}
 use Rattle.ev_event.specs.Event.{gp, has_error_code, is_hardware, nmi_event}
-use Rattle.ev_effect.specs.Frame.{addresses, placed, first_event}
+use Rattle.ev_effect.specs.Frame.{addresses, first_event}
 use Rattle.ev_gate.specs.declared.gate.Gate.{Gate}
-use Rattle.ev_gate.specs.Gate.{gate_at}
-use Rattle.ev_listing.specs.AddressMap.{vector_stub, sys_entry, nmi_entry}
+use Rattle.ev_listing.specs.AddressMap.{vector_stub, nmi_entry}
 use Rattle.ev_concrete.specs.Opening.{gate}
 use Rattle.ev_state.specs.Outcome.{Outcome, Went, Met, with_cr2, below, frame_written}
 use Rattle.ev_state.specs.Processor.{Processor, is_user, rsp}
 use Rattle.ev_mem.specs.Memory.{Memory, view}
-use Rattle.ev_idt.specs.IdtDelivery.{idt_delivery, idt_frame, in_handler, through_gate, is_gated, new_rsp, syscall_idt}
+use Rattle.ev_idt.specs.IdtDelivery.{idt_delivery, in_handler, through_gate, is_gated, new_rsp, syscall_idt}
 use Rattle.ev_symbolic.specs.Value.{M}
-use Rattle.ev_symbolic.specs.State.{Win, Word, top_tag, in_win}
-use Rattle.ev_symbolic.specs.Agrees.{Env, eval, eval_flags, untracked, Apart, IsTold, Known, Open, Code, Agrees, Fits, with_words}
+use Rattle.ev_symbolic.specs.State.{Win, top_tag}
+use Rattle.ev_symbolic.specs.Agrees.{Env, eval, eval_flags, untracked, IsTold, Known, Open, Code, Agrees, Fits, with_words}
 use Rattle.ev_symbolic.specs.Openings.{gs_tag}
 use Rattle.ev_symbolic.specs.Names.{stub_tag}
 use Rattle.ev_symbolic.specs.Placed.{all_in}
@@ -28,8 +26,8 @@ use Rattle.ev_blocks.specs.Shapes.{Origin, UserCode, KernelCode, from_top, inter
 use Rattle.ev_blocks.specs.Idt.{Stub, Sys, pushed, pushed_bytes, idt_block}
 use Rattle.ev_blocks.specs.Nmi.{Choice, FirstFromTask, FirstLow, FirstHigh, InnerLow, InnerHigh, InnerAtLast, InnerInRepeat, GsBase, TaskGs, KernelGs, Choosing, nmi_block, reads_running, running_if}
 use Rattle.ev_deliver.specs.FredDelivers.{other_base, faulted}
-use Rattle.ev_deliver.specs.IdtDelivers.{origin_by, idt_variables, stub_of, frame_at, idt_handler, idt_words, IdtSite, StubSite, StubBegins, IdtDelivers, nmi_variables, task_base, kernel_base, running_at, NmiSite, NmiBegins, NmiDelivers, call_variables, CallSite, CallDelivers}
-use Rattle.ev_deliver.proofs.FredDelivers.{listed, listed_is, tabled, with_cr2_is}
+use Rattle.ev_deliver.specs.IdtDelivers.{origin_by, stub_of, frame_at, idt_handler, idt_words, IdtSite, StubSite, IdtDelivers, running_at, NmiSite, NmiDelivers, CallDelivers}
+use Rattle.ev_deliver.proofs.FredDelivers.{listed_is, tabled, with_cr2_is}
 
 -- ---- the delivery through a gate
 
@@ -72,7 +70,8 @@ module _ (c : Processor) (m : Memory) (e : Event) (env : Env) (site : IdtSite c 
 
       by_place : List ℕ → ℕ → ℕ → Outcome
       by_place f a n =
-          frame_written (faulted c e) (in_handler (faulted c e) (gate e.vector) e.kind a) m.words a f (first_event (view m false) true (reverse (addresses a n)))
+          frame_written (faulted c e) (in_handler (faulted c e) (gate e.vector) e.kind a) m.words a f
+          (first_event (view m false) true (reverse (addresses a n)))
 
       by_frame : List ℕ → ℕ → Outcome
       by_frame f t = by_place f (below t (length f)) (length f)

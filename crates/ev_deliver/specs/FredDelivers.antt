@@ -1,5 +1,5 @@
 -- The delivery of any event under FRED: its frame, and the block that begins, with what its variables are. FRED specification, chapter "FRED event delivery".
-use Rattle.std.specs.Prelude.{◌≡◌, ℕ, ◌+◌, ◌-◌, ◌*◌, ◌%◌, ◌^◌, ◌<◌, Bool, true, false, ◌&&◌, ◌==◌, if◌then◌else◌, List, get_or, length, map}
+use Rattle.std.specs.Prelude.{◌≡◌, ℕ, ◌+◌, ◌-◌, ◌*◌, ◌%◌, ◌^◌, ◌<◌, Bool, true, false, ◌&&◌, ◌==◌, if◌then◌else◌, get_or, length, map}
 use Rattle.ev_isa.specs.Word.{NatMap}
 use Rattle.ev_isa.specs.Flags.{Flags, no_status}
 use Rattle.ev_event.specs.declared.event.Event.{Event}

@@ -1,6 +1,6 @@
 -- From one block to the next: where a block ends at the opening of the next, and by the single instructions that stand between an entry and the body's first
 -- item: the jump of a vector's entry, the load of the body's address from its table, and the jump to it.
-use Rattle.std.specs.Prelude.{◌≡◌, ℕ, ◌<◌, ◌==◌, Bool, true, false, if◌then◌else◌, List, [], get_or, length, pos, Some}
+use Rattle.std.specs.Prelude.{◌≡◌, ℕ, ◌<◌, ◌==◌, Bool, true, if◌then◌else◌, List, [], length, pos, Some}
 use Rattle.ev_isa.specs.Word.{displaced, is_canonical}
 use Rattle.ev_isa.specs.Flags.{flags_of}
 use Rattle.ev_isa.specs.declared.instruction.Ins.{Ins}
@@ -13,7 +13,7 @@ use Rattle.ev_symbolic.specs.Join.{env_after}
 use Rattle.ev_symbolic.specs.Names.{stub_tag, item_tag}
 use Rattle.ev_symbolic.specs.Single.{Leads}
 use Rattle.ev_listing.specs.AddressMap.{vector_stub}
-use Rattle.ev_blocks.specs.Shapes.{Origin, Layout, FredFrame, IdtFrame, NmiFrame}
+use Rattle.ev_blocks.specs.Shapes.{Origin, Layout, NmiFrame}
 use Rattle.ev_blocks.specs.Idt.{Stub, Common, stub_values, idt_block}
 use Rattle.ev_blocks.specs.Items.{AtTable, AtJump, AtItem, body_block}
 use Rattle.ev_paths.specs.Cells.{TableCells}

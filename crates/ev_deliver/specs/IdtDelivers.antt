@@ -1,5 +1,5 @@
 -- The delivery of any event through the IDT: its frame, and the block that begins, with what its variables are. SDM volume 3, 6.12 to 6.14; SYSCALL, volume 2.
-use Rattle.std.specs.Prelude.{◌≡◌, ◌≢◌, ℕ, ◌+◌, ◌-◌, ◌%◌, ◌^◌, ◌<◌, Bool, true, false, ◌&&◌, ◌==◌, nat_lt, if◌then◌else◌, List, get_or, set, length, map}
+use Rattle.std.specs.Prelude.{◌≡◌, ◌≢◌, ℕ, ◌+◌, ◌-◌, ◌%◌, ◌^◌, ◌<◌, Bool, true, false, ◌&&◌, ◌==◌, nat_lt, if◌then◌else◌, get_or, set, length, map}
 use Rattle.ev_isa.specs.Word.{NatMap}
 use Rattle.ev_isa.specs.Flags.{flags_word}
 use Rattle.ev_event.specs.declared.event.Event.{Event}
@@ -17,9 +17,9 @@ use Rattle.ev_symbolic.specs.State.{top_tag}
 use Rattle.ev_symbolic.specs.Agrees.{Env, eval, untracked, Open, Code, At, Fits, with_words}
 use Rattle.ev_symbolic.specs.Openings.{gs_tag}
 use Rattle.ev_symbolic.specs.Names.{stub_tag}
-use Rattle.ev_blocks.specs.Shapes.{Origin, UserCode, KernelCode, interrupted}
+use Rattle.ev_blocks.specs.Shapes.{Origin, UserCode, KernelCode}
 use Rattle.ev_blocks.specs.Idt.{IdtSpot, Stub, Sys, pushed, pushed_bytes, idt_block}
-use Rattle.ev_blocks.specs.Nmi.{Choice, GsBase, TaskGs, KernelGs, Choosing, nmi_block, reads_running}
+use Rattle.ev_blocks.specs.Nmi.{Choice, GsBase, TaskGs, KernelGs, Choosing, nmi_block}
 use Rattle.ev_deliver.specs.FredDelivers.{faulted, fred_variables}
 
 -- what was interrupted

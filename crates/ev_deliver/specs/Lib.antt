@@ -1,4 +1,5 @@
 pub mod FredDelivers
 pub mod IdtDelivers
-pub mod Returns
 pub mod GoesOn
+pub mod Tops
+pub mod Facts

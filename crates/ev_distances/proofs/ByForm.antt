@@ -1,18 +1,18 @@
 -- Windows by form: each is an interval, the kernel has access to it, and closed tests of forms tell that windows lie apart.
-use Rattle.std.proofs.Common.{◌≡◌, ◌≢◌, ℕ, ◌+◌, ◌-◌, ◌*◌, ◌%◌, ◌<◌, ◌≤◌, Bool, true, false, not, ◌&&◌, List, [], ◌∷◌, refl, sym, ap, ◌∙◌, subst, arith, ◌⊎◌, inl, inr, ⊎_elim}
+use Rattle.std.proofs.Common.{◌≡◌, ◌≢◌, ℕ, ◌+◌, ◌-◌, ◌*◌, ◌%◌, ◌<◌, ◌≤◌, Bool, true, false, not, ◌&&◌, List, [], ◌∷◌, refl, sym, ap, ◌∙◌, arith, ◌⊎◌, inl, inr, ⊎_elim}
 use Rattle.std.specs.Prelude.{◌==◌, ◌||◌, nat_le, if◌then◌else◌}
 use Rattle.std.proofs.lemmas.Bool.{eqb-true, eq-eqb, leb-true, not-true}
 use Rattle.ev_body.specs.declared.image.Image.{Image}
-use Rattle.ev_listing.specs.AddressMap.{pcpu, record_address, stack_top}
+use Rattle.ev_listing.specs.AddressMap.{record_address, stack_top}
 use Rattle.ev_concrete.specs.Opening.{regions}
 use Rattle.ev_symbolic.specs.Value.{M}
-use Rattle.ev_symbolic.specs.State.{Win, top_tag}
-use Rattle.ev_symbolic.specs.Agrees.{Env, Open}
+use Rattle.ev_symbolic.specs.State.{top_tag}
+use Rattle.ev_symbolic.specs.Agrees.{Env}
 use Rattle.ev_symbolic.specs.Openings.{win_at}
 use Rattle.ev_symbolic.specs.Names.{task_tag, next_task_tag, next_top_tag, record_tag}
 use Rattle.ev_symbolic.specs.Openings.{gs_tag}
 use Rattle.ev_symbolic.proofs.Values.{and_left, and_right}
-use Rattle.ev_distances.specs.Span.{Areas, Stacks, Span, OtherProcessor, OtherNumber, Before, Behind, plainly_apart, part_eq, DifferUnless, Apart, ApartFrom, AllApart, Located, AllLocated, ApartUnless, OthersFrom, OthersApart, IsCovered, AllCovered, all_aligned}
+use Rattle.ev_distances.specs.Span.{Areas, Stacks, Span, OtherProcessor, OtherNumber, Before, Behind, part_eq, DifferUnless, Apart, ApartFrom, AllApart, Located, AllLocated, ApartUnless, OthersFrom, OthersApart, IsCovered, AllCovered, all_aligned}
 use Rattle.ev_distances.specs.Form.{Form, OnStack, Stretch, InArea, OnTask, OnNextTask, OnNextStack, InRecord, record_bytes, win_of, Where, span_of, wins_of, spans_of, HasBase, IsWhere, depth_of, bytes_of, is_form, are_forms, Each, HasRoom, Fitting, part_of, is_own, apart_off_stack, apart_in_one, apart_on_two_stacks, apart_by_depth, apart_at_one_top, apart_from_all, all_apart}
 use Rattle.ev_distances.specs.Claims.{FormsAreApart, FormsAreOpen, OfTwoProcessors, OnTwoStacks, IsAbove, ByDepth, AtOneTop}
 use Rattle.ev_distances.proofs.Spans.{differ, far}
@@ -213,7 +213,8 @@ module _ (x : Where) (site : x.site < 8) where
   one_apart : (fs gs : List Form) → all_apart apart_in_one fs gs ≡ true → OthersApart (wins_of fs) (spans_of x fs) (wins_of gs) (spans_of x gs)
   one_apart [] [] h = tt
   one_apart [] (g ∷ gs) h = tt
-  one_apart (f ∷ fs) gs h = (one_from f gs (and_left (apart_from_all apart_in_one f gs) _ h), one_apart fs gs (and_right (apart_from_all apart_in_one f gs) _ h))
+  one_apart (f ∷ fs) gs h =
+      (one_from f gs (and_left (apart_from_all apart_in_one f gs) _ h), one_apart fs gs (and_right (apart_from_all apart_in_one f gs) _ h))
 
 pub forms_apart : FormsAreApart
 forms_apart n e x fs gs f g h =

@@ -1,11 +1,11 @@
 -- What the blocks of bodies come to: closed facts, each by computation, with the numbers of items as variables.
-use Rattle.std.proofs.Common.{◌≡◌, ℕ, ◌+◌, Bool, true, false, refl}
+use Rattle.std.proofs.Common.{ℕ, ◌+◌, Bool, true, false, refl}
 use Rattle.ev_isa.specs.Spelling.{spelling, four_bytes}
 use Rattle.ev_mem.specs.Memory.{page_map}
 use Rattle.ev_symbolic.specs.Value.{K, X}
 use Rattle.ev_blocks.specs.Shapes.{Layout, FredFrame, IdtFrame, NmiFrame}
 use Rattle.ev_blocks.specs.Items.{AtTable, AtJump, AtItem, AtNumber, AtNumbers, AtKick, AtUserWord, AtPageWord, BehindSti, BehindKick, masked, page_word, behind_move, behind_sti, behind_branch, behind_kick}
-use Rattle.ev_paths.specs.BodyEnds.{Comes, BodyEnds, BodyTellsNoCr2}
+use Rattle.ev_paths.specs.BodyEnds.{Comes, BodyEnds, BodyTellsNoCr2, ItemOffsets}
 
 number : (fred : Bool) (layout : Layout) (n : ℕ) → Comes fred layout (AtNumber n) 10 (K n) (X 1) (X 2)
 unfolding spelling four_bytes
@@ -157,3 +157,9 @@ body_untold false NmiFrame (AtPageWord true) = refl
 body_untold false NmiFrame (AtPageWord false) = refl
 body_untold false NmiFrame BehindSti = refl
 body_untold false NmiFrame BehindKick = refl
+
+-- ---- offsets
+
+pub item_offsets : ItemOffsets
+unfolding spelling four_bytes
+item_offsets = record { move = λ s. refl; branch = λ s d. refl; sti = refl; kick = refl; skipped = refl }

@@ -1,9 +1,9 @@
 -- Single cells of the kernel's code, each looked up by computation.
-use Rattle.std.proofs.Common.{◌≡◌, ℕ, Bool, true, false, List, [], ◌∷◌, Option, Some, None, refl, sym, ap, ◌∙◌, subst}
+use Rattle.std.proofs.Common.{◌≡◌, ℕ, Bool, true, false, [], ◌∷◌, Some, refl, sym, ap, ◌∙◌}
 use Rattle.std.specs.Prelude.{◌==◌, if◌then◌else◌, ◌+◌}
 use Rattle.std.proofs.lemmas.Bool.{eqb-true}
 use Rattle.ev_isa.specs.Spelling.{spelling, four_bytes}
-use Rattle.ev_isa.specs.declared.mode.Mode.TheVariants.{Idt, Fred}
+use Rattle.ev_isa.specs.declared.mode.Mode.TheVariants.{Idt}
 use Rattle.ev_asm.specs.Assembly.{size, places, distance}
 use Rattle.ev_listing.specs.AddressMap.{nbody_entry}
 use Rattle.ev_listing.specs.FredCode.{fred_listings}

@@ -5,8 +5,8 @@ use Rattle.ev_asm.specs.Assembly.{size, places, distance}
 use Rattle.ev_listing.specs.FredCode.{fred_listings}
 use Rattle.ev_symbolic.specs.Run.{brun}
 use Rattle.ev_blocks.specs.Shapes.{FredFrame, UserCode, KernelCode}
-use Rattle.ev_paths.specs.Ends.{Continues, TellsNoCr2}
-use Rattle.ev_blocks.specs.Fred.{FredWay, ByCall, ByInt3, ByIntN, ByOther, FredToKernel, FredToTask, FredToNext, FredSpot, FromUser, FromKernel, Leaves, LeavesNmi, way_values, kernel_values, fred_lines, fred_block, eretu_place, erets_place}
+use Rattle.ev_paths.specs.Ends.{Continues}
+use Rattle.ev_blocks.specs.Fred.{FredWay, ByCall, ByInt3, ByIntN, ByOther, FredToKernel, FredToTask, FredToNext, FromUser, FromKernel, Leaves, LeavesNmi, way_values, kernel_values, fred_lines, fred_block, eretu_place, erets_place}
 use Rattle.ev_blocks.specs.Items.{AtTable, body_block}
 use Rattle.ev_paths.specs.FredEnds.{fred_end, FredEnters, ReturnsAt, ReturnsToNext, FredReturns, FredTellsNoCr2}
 

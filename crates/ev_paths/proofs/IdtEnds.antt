@@ -1,11 +1,10 @@
 -- What the blocks of IDT's code come to: closed facts, each by computation; the vector of an entry is any number.
-use Rattle.std.proofs.Common.{◌≡◌, ℕ, Bool, true, false, Some, refl}
+use Rattle.std.proofs.Common.{ℕ, Bool, true, false, refl}
 use Rattle.ev_isa.specs.Spelling.{spelling, four_bytes}
 use Rattle.ev_asm.specs.Assembly.{size, places, distance}
-use Rattle.ev_symbolic.specs.Run.{brun}
 use Rattle.ev_blocks.specs.Shapes.{Origin, UserCode, KernelCode, IdtFrame}
 use Rattle.ev_paths.specs.Ends.{TellsNoCr2, Enters}
-use Rattle.ev_blocks.specs.Idt.{IdtReturn, BySysret, ByOtherRip, ByOtherFlags, IdtToKernel, IdtToTask, IdtToNext, Stub, Sys, Common, Leaves, idt_places, sys_lines, common_lines, exit_lines, sys_values, common_values, idt_block}
+use Rattle.ev_blocks.specs.Idt.{ByOtherRip, ByOtherFlags, Stub, Sys, Common, idt_places, sys_lines, common_lines, exit_lines, sys_values, common_values, idt_block}
 use Rattle.ev_blocks.specs.Items.{AtTable, body_block}
 use Rattle.ev_paths.specs.IdtEnds.{idt_end, EntersCommon, IdtEnters, IretToKernel, IretToTask, IretToNext, SysretToTask, SysretToNext, IdtReturns, IdtTellsNoCr2}
 
@@ -66,7 +65,11 @@ call_enters : Enters (idt_block Sys) (idt_end Sys) sys_values (body_block false 
 unfolding idt_end idt_places sys_lines common_lines exit_lines spelling four_bytes size places distance
 call_enters = record {
   runs = refl;
-  continues = record { joins = record { regs = refl; gs = refl; kernel_gs = refl; selector = refl; cr2 = tt; rsp0 = refl; words = refl; inside = refl }; rip = refl; blocked = refl };
+  continues = record {
+    joins = record { regs = refl; gs = refl; kernel_gs = refl; selector = refl; cr2 = tt; rsp0 = refl; words = refl; inside = refl };
+    rip = refl;
+    blocked = refl;
+  };
 }
 
 common_enters : (o : Origin) (page_fault : Bool)
@@ -74,19 +77,35 @@ common_enters : (o : Origin) (page_fault : Bool)
 unfolding idt_end idt_places sys_lines common_lines exit_lines spelling four_bytes size places distance
 common_enters UserCode true = record {
   runs = refl;
-  continues = record { joins = record { regs = refl; gs = refl; kernel_gs = refl; selector = refl; cr2 = tt; rsp0 = refl; words = refl; inside = refl }; rip = refl; blocked = refl };
+  continues = record {
+    joins = record { regs = refl; gs = refl; kernel_gs = refl; selector = refl; cr2 = tt; rsp0 = refl; words = refl; inside = refl };
+    rip = refl;
+    blocked = refl;
+  };
 }
 common_enters UserCode false = record {
   runs = refl;
-  continues = record { joins = record { regs = refl; gs = refl; kernel_gs = refl; selector = refl; cr2 = tt; rsp0 = refl; words = refl; inside = refl }; rip = refl; blocked = refl };
+  continues = record {
+    joins = record { regs = refl; gs = refl; kernel_gs = refl; selector = refl; cr2 = tt; rsp0 = refl; words = refl; inside = refl };
+    rip = refl;
+    blocked = refl;
+  };
 }
 common_enters KernelCode true = record {
   runs = refl;
-  continues = record { joins = record { regs = refl; gs = refl; kernel_gs = refl; selector = refl; cr2 = tt; rsp0 = refl; words = refl; inside = refl }; rip = refl; blocked = refl };
+  continues = record {
+    joins = record { regs = refl; gs = refl; kernel_gs = refl; selector = refl; cr2 = tt; rsp0 = refl; words = refl; inside = refl };
+    rip = refl;
+    blocked = refl;
+  };
 }
 common_enters KernelCode false = record {
   runs = refl;
-  continues = record { joins = record { regs = refl; gs = refl; kernel_gs = refl; selector = refl; cr2 = tt; rsp0 = refl; words = refl; inside = refl }; rip = refl; blocked = refl };
+  continues = record {
+    joins = record { regs = refl; gs = refl; kernel_gs = refl; selector = refl; cr2 = tt; rsp0 = refl; words = refl; inside = refl };
+    rip = refl;
+    blocked = refl;
+  };
 }
 
 pub idt_enters : IdtEnters

@@ -1,11 +1,11 @@
 -- The lines of the blocks stand in code that has the kernel's cells.
-use Rattle.std.proofs.Common.{◌≡◌, ℕ, zero, suc, pos, negsuc, ◌+◌, ◌-◌, ◌*◌, ◌%◌, ◌^◌, ◌<◌, ◌≤◌, Bool, true, false, List, [], ◌∷◌, ◌++◌, Some, refl, sym, ap, ◌∙◌, subst, arith, ◌⊎◌, inl, inr, ⊎_elim}
+use Rattle.std.proofs.Common.{◌≡◌, ℕ, zero, suc, pos, negsuc, ◌+◌, ◌-◌, ◌*◌, ◌%◌, ◌^◌, ◌<◌, ◌≤◌, Bool, true, false, List, [], ◌∷◌, ◌++◌, Some, refl, sym, ap, ◌∙◌, subst, arith, inl, inr}
 use Rattle.std.specs.Prelude.{nat_le, if◌then◌else◌, codes}
 use Rattle.std.proofs.lemmas.Bool.{le-leb, leb-true, leb-false}
 use Rattle.ev_isa.specs.Word.{displaced}
 use Rattle.ev_isa.specs.Spelling.{spelling, four_bytes}
 use Rattle.ev_isa.specs.declared.instruction.Ins.TheVariants.{PushImm, Jmp}
-use Rattle.ev_isa.specs.declared.mode.Mode.TheVariants.{Idt, Fred}
+use Rattle.ev_isa.specs.declared.mode.Mode.TheVariants.{Idt}
 use Rattle.ev_event.specs.Event.{has_error_code}
 use Rattle.ev_asm.specs.Assembly.{Places, place, size, places, distance}
 use Rattle.ev_listing.specs.AddressMap.{vector_stub, common_entry, no_body, sys_entry, exit_entry, nmi_entry, repeat_entry, nbody_entry, exitn_entry, nlast_entry}
@@ -14,8 +14,8 @@ use Rattle.ev_listing.specs.IdtCode.{stub, stubs, idt_listings, none, sys, commo
 use Rattle.ev_listing.specs.Marks.{Marked, Listing, stmts_of, all_places}
 use Rattle.ev_listing.specs.Statements.{op, jmp}
 use Rattle.ev_symbolic.specs.Value.{M}
-use Rattle.ev_symbolic.specs.Agrees.{Env, addr, Code, edge_cell, Stands}
-use Rattle.ev_symbolic.specs.Listed.{lines_in, lines_at, cells_from, cells_in, are_low, AllFound, IsIn, AreIn}
+use Rattle.ev_symbolic.specs.Agrees.{Env, Code, edge_cell, Stands}
+use Rattle.ev_symbolic.specs.Listed.{lines_at, cells_from, cells_in, are_low, AllFound, IsIn, AreIn}
 use Rattle.ev_symbolic.specs.Names.{stub_tag}
 use Rattle.ev_symbolic.specs.Openings.{at_base}
 use Rattle.ev_symbolic.proofs.Listed.{stands_in}
@@ -26,7 +26,7 @@ use Rattle.ev_blocks.specs.Idt as idt
 use Rattle.ev_blocks.specs.Idt.{IdtSpot, Stub, Sys, Common, no_listing, sys_listing, common_listing, exit_listing, nmi_listing, repeat_listing, nbody_listing, exitn_listing, nlast_listing, idt_places, sys_lines, common_lines, exit_lines, stub_code, idt_block}
 use Rattle.ev_blocks.specs.Nmi as nmi_spots
 use Rattle.ev_blocks.specs.Nmi.{NmiSpot, Choosing, Repeats, Begins, nmi_lines, repeat_lines, nbody_lines, exitn_lines, nmi_block}
-use Rattle.ev_paths.specs.Lines.{HasKernel, FredLinesStand, IsAtStub, IdtLinesStand, NmiLinesStand, StubJump, StubsJump}
+use Rattle.ev_paths.specs.Lines.{HasKernel, FredLinesStand, IdtLinesStand, NmiLinesStand, StubJump, StubsJump}
 
 -- ---- FRED: one listing
 

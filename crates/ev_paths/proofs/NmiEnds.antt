@@ -1,5 +1,5 @@
 -- What the blocks of the NMI code under IDT come to: closed facts, each by computation.
-use Rattle.std.proofs.Common.{◌≡◌, false, Some, refl}
+use Rattle.std.proofs.Common.{false, refl}
 use Rattle.ev_isa.specs.Spelling.{spelling, four_bytes}
 use Rattle.ev_asm.specs.Assembly.{size, places, distance}
 use Rattle.ev_symbolic.specs.Names.{other_gs}
@@ -17,29 +17,64 @@ use Rattle.ev_paths.specs.NmiEnds.{nmi_end, GoesOn, GoesBack, Redirects, Repeati
 from_task : GoesOn FirstFromTask TaskGs
 unfolding nmi_end idt_places nmi_lines repeat_lines nbody_lines exitn_lines spelling four_bytes size places distance
 from_task = record {
-  enters = record { runs = refl; continues = record { joins = record { regs = refl; gs = refl; kernel_gs = refl; selector = refl; cr2 = refl; rsp0 = refl; words = refl; inside = refl }; rip = refl; blocked = refl } };
+  enters = record {
+    runs = refl;
+    continues = record {
+      joins = record { regs = refl; gs = refl; kernel_gs = refl; selector = refl; cr2 = refl; rsp0 = refl; words = refl; inside = refl };
+      rip = refl;
+      blocked = refl;
+    };
+  };
   frame = refl;
 }
 
 first_low : (g : GsBase) → GoesOn FirstLow g
 unfolding nmi_end idt_places nmi_lines repeat_lines nbody_lines exitn_lines spelling four_bytes size places distance
 first_low TaskGs = record {
-  enters = record { runs = refl; continues = record { joins = record { regs = refl; gs = refl; kernel_gs = refl; selector = refl; cr2 = refl; rsp0 = refl; words = refl; inside = refl }; rip = refl; blocked = refl } };
+  enters = record {
+    runs = refl;
+    continues = record {
+      joins = record { regs = refl; gs = refl; kernel_gs = refl; selector = refl; cr2 = refl; rsp0 = refl; words = refl; inside = refl };
+      rip = refl;
+      blocked = refl;
+    };
+  };
   frame = refl;
 }
 first_low KernelGs = record {
-  enters = record { runs = refl; continues = record { joins = record { regs = refl; gs = refl; kernel_gs = refl; selector = refl; cr2 = refl; rsp0 = refl; words = refl; inside = refl }; rip = refl; blocked = refl } };
+  enters = record {
+    runs = refl;
+    continues = record {
+      joins = record { regs = refl; gs = refl; kernel_gs = refl; selector = refl; cr2 = refl; rsp0 = refl; words = refl; inside = refl };
+      rip = refl;
+      blocked = refl;
+    };
+  };
   frame = refl;
 }
 
 first_high : (g : GsBase) → GoesOn FirstHigh g
 unfolding nmi_end idt_places nmi_lines repeat_lines nbody_lines exitn_lines spelling four_bytes size places distance
 first_high TaskGs = record {
-  enters = record { runs = refl; continues = record { joins = record { regs = refl; gs = refl; kernel_gs = refl; selector = refl; cr2 = refl; rsp0 = refl; words = refl; inside = refl }; rip = refl; blocked = refl } };
+  enters = record {
+    runs = refl;
+    continues = record {
+      joins = record { regs = refl; gs = refl; kernel_gs = refl; selector = refl; cr2 = refl; rsp0 = refl; words = refl; inside = refl };
+      rip = refl;
+      blocked = refl;
+    };
+  };
   frame = refl;
 }
 first_high KernelGs = record {
-  enters = record { runs = refl; continues = record { joins = record { regs = refl; gs = refl; kernel_gs = refl; selector = refl; cr2 = refl; rsp0 = refl; words = refl; inside = refl }; rip = refl; blocked = refl } };
+  enters = record {
+    runs = refl;
+    continues = record {
+      joins = record { regs = refl; gs = refl; kernel_gs = refl; selector = refl; cr2 = refl; rsp0 = refl; words = refl; inside = refl };
+      rip = refl;
+      blocked = refl;
+    };
+  };
   frame = refl;
 }
 
@@ -80,8 +115,10 @@ inner_at_last KernelGs = record {
 
 inner_in_repeat : (g : GsBase) → GoesBack InnerInRepeat g
 unfolding nmi_end idt_places nmi_lines repeat_lines nbody_lines exitn_lines spelling four_bytes size places distance
-inner_in_repeat TaskGs = record { runs = refl; rip = refl; regs = refl; gs = refl; kernel_gs = refl; selector = refl; rsp0 = refl; blocked = refl; words = refl }
-inner_in_repeat KernelGs = record { runs = refl; rip = refl; regs = refl; gs = refl; kernel_gs = refl; selector = refl; rsp0 = refl; blocked = refl; words = refl }
+inner_in_repeat TaskGs =
+    record { runs = refl; rip = refl; regs = refl; gs = refl; kernel_gs = refl; selector = refl; rsp0 = refl; blocked = refl; words = refl }
+inner_in_repeat KernelGs =
+    record { runs = refl; rip = refl; regs = refl; gs = refl; kernel_gs = refl; selector = refl; rsp0 = refl; blocked = refl; words = refl }
 
 -- ---- REPEAT and NBODY
 
@@ -114,9 +151,30 @@ repeating KernelGs = record {
 
 begins : (b : BodyBegin) → Enters (nmi_block (Begins b)) (nmi_end (Begins b)) (begin_values b) (body_block false NmiFrame AtTable)
 unfolding nmi_end idt_places nmi_lines repeat_lines nbody_lines exitn_lines spelling four_bytes size places distance
-begins FromTask = record { runs = refl; continues = record { joins = record { regs = refl; gs = refl; kernel_gs = refl; selector = refl; cr2 = tt; rsp0 = refl; words = refl; inside = refl }; rip = refl; blocked = refl } }
-begins FromKernel = record { runs = refl; continues = record { joins = record { regs = refl; gs = refl; kernel_gs = refl; selector = refl; cr2 = tt; rsp0 = refl; words = refl; inside = refl }; rip = refl; blocked = refl } }
-begins FromKernelInTaskGs = record { runs = refl; continues = record { joins = record { regs = refl; gs = refl; kernel_gs = refl; selector = refl; cr2 = tt; rsp0 = refl; words = refl; inside = refl }; rip = refl; blocked = refl } }
+begins FromTask = record {
+  runs = refl;
+  continues = record {
+    joins = record { regs = refl; gs = refl; kernel_gs = refl; selector = refl; cr2 = tt; rsp0 = refl; words = refl; inside = refl };
+    rip = refl;
+    blocked = refl;
+  };
+}
+begins FromKernel = record {
+  runs = refl;
+  continues = record {
+    joins = record { regs = refl; gs = refl; kernel_gs = refl; selector = refl; cr2 = tt; rsp0 = refl; words = refl; inside = refl };
+    rip = refl;
+    blocked = refl;
+  };
+}
+begins FromKernelInTaskGs = record {
+  runs = refl;
+  continues = record {
+    joins = record { regs = refl; gs = refl; kernel_gs = refl; selector = refl; cr2 = tt; rsp0 = refl; words = refl; inside = refl };
+    rip = refl;
+    blocked = refl;
+  };
+}
 
 -- ---- the exit
 

@@ -1,12 +1,17 @@
 -- What the blocks of bodies come to, in any layout and mode: the numbers of items are variables of the proof.
-use Rattle.std.specs.Prelude.{◌≡◌, ℕ, ◌+◌, Bool, List, [], ◌∷◌, Some}
+use Rattle.std.specs.Prelude.{◌≡◌, ℤ, ℕ, pos, ◌+◌, Bool, [], ◌∷◌, length, Some}
+use Rattle.ev_isa.specs.Spelling.{spelling}
+use Rattle.ev_isa.specs.declared.instruction.Ins.{Ins}
+use Rattle.ev_isa.specs.declared.instruction.Ins.TheVariants.{MovReg, AluImm, Jmp, Jcc, Sti, Wrmsr}
+use Rattle.ev_isa.specs.declared.instruction.AluOp.TheVariants.{Cmp}
+use Rattle.ev_isa.specs.declared.instruction.Cond.TheVariants.{Nz}
+use Rattle.ev_mem.specs.Memory.{page_map}
 use Rattle.ev_symbolic.specs.Value.{V, K, X}
-use Rattle.ev_symbolic.specs.State.{SS, Block}
+use Rattle.ev_symbolic.specs.State.{SS}
 use Rattle.ev_symbolic.specs.Run.{brun}
 use Rattle.ev_symbolic.specs.Openings.{at_base}
 use Rattle.ev_symbolic.specs.Names.{item_tag, top_less}
-use Rattle.ev_mem.specs.Memory.{page_map}
-use Rattle.ev_blocks.specs.Shapes.{Layout, body_bytes, as_found}
+use Rattle.ev_blocks.specs.Shapes.{Layout, body_bytes}
 use Rattle.ev_paths.specs.Ends.{TellsNoCr2}
 use Rattle.ev_blocks.specs.Items.{BodySpot, AtNumber, AtNumbers, AtKick, AtUserWord, AtPageWord, BehindSti, BehindKick, masked, page_word, body_block, behind_move, behind_sti, behind_branch, behind_kick}
 
@@ -35,3 +40,11 @@ AllBodyEnds = (fred : Bool) (layout : Layout) → BodyEnds fred layout
 -- no block of a body is told of CR2
 abbrev pub BodyTellsNoCr2 : Type 0
 BodyTellsNoCr2 = (fred : Bool) (layout : Layout) (s : BodySpot) → TellsNoCr2 (body_block fred layout s)
+
+-- the offsets in items at which blocks open, by the lengths of what stands before them, whatever the registers and distances
+pub record ItemOffsets : Type 0 where
+  pub move : (s : ℕ) → length (spelling (MovReg 0 s)) ≡ behind_move
+  pub branch : (s : ℕ) (d : ℤ) → length (spelling (AluImm Cmp s (pos 2))) + length (spelling (Jcc Nz d)) ≡ behind_branch
+  pub sti : length (spelling Sti) ≡ behind_sti
+  pub kick : (behind_branch + 30) + length (spelling Wrmsr) ≡ behind_kick
+  pub skipped : length (spelling (Jmp (pos 1))) + length (spelling Ins.Nop) ≡ 6

@@ -6,7 +6,7 @@ use Rattle.ev_symbolic.specs.Openings.{gs_tag, words_from}
 use Rattle.ev_symbolic.specs.Names.{next_top_tag, saved, next_saved, other_gs, gs_selector, level_rsp, next_selector, next_gs, top_less}
 use Rattle.ev_blocks.specs.Shapes.{UserCode, KernelCode, FredFrame, registers_of, interrupted_words}
 use Rattle.ev_paths.specs.Ends.{end_of, TellsNoCr2, Enters, Returns}
-use Rattle.ev_blocks.specs.Fred.{FredWay, FredExit, FredToKernel, FredToTask, FredToNext, FredSpot, FromUser, FromKernel, Leaves, LeavesNmi, way_values, kernel_values, fred_block, next_interrupted, eretu_place, erets_place}
+use Rattle.ev_blocks.specs.Fred.{FredWay, FredToKernel, FredToTask, FredToNext, FredSpot, FromUser, FromKernel, Leaves, LeavesNmi, way_values, kernel_values, fred_block, next_interrupted, eretu_place, erets_place}
 use Rattle.ev_blocks.specs.Items.{AtTable, body_block}
 
 unfoldable pub fred_end : FredSpot → SS

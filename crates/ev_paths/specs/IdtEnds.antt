@@ -1,6 +1,6 @@
 -- What the blocks of IDT's code come to.
-use Rattle.std.specs.Prelude.{◌≡◌, ℕ, ◌-◌, Bool, true, false, List, Some}
-use Rattle.ev_symbolic.specs.Value.{M, V, P}
+use Rattle.std.specs.Prelude.{◌≡◌, ℕ, ◌-◌, Bool, true, false, Some}
+use Rattle.ev_symbolic.specs.Value.{M, P}
 use Rattle.ev_symbolic.specs.State.{SS}
 use Rattle.ev_symbolic.specs.Run.{brun}
 use Rattle.ev_symbolic.specs.Join.{Joins}

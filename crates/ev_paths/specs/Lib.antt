@@ -4,5 +4,4 @@ pub mod IdtEnds
 pub mod NmiEnds
 pub mod BodyEnds
 pub mod Lines
-pub mod Grounds
 pub mod Cells

@@ -1,5 +1,5 @@
 -- The lines of the blocks stand in code that has the kernel's cells, and what the entry of a vector jumps to.
-use Rattle.std.specs.Prelude.{◌≡◌, ℤ, ℕ, ◌+◌, ◌<◌, Bool, true, false, Some}
+use Rattle.std.specs.Prelude.{◌≡◌, ℤ, ℕ, ◌+◌, ◌<◌, Bool, Some}
 use Rattle.ev_isa.specs.Word.{displaced}
 use Rattle.ev_isa.specs.declared.instruction.Ins.TheVariants.{Jmp}
 use Rattle.ev_isa.specs.declared.mode.Mode.{Mode}

@@ -1,13 +1,13 @@
 -- What the blocks of the NMI code under IDT come to.
-use Rattle.std.specs.Prelude.{◌≡◌, ℕ, ◌+◌, ◌-◌, false, List, [], ◌∷◌, Some}
+use Rattle.std.specs.Prelude.{◌≡◌, ℕ, ◌+◌, false, List, [], ◌∷◌, Some}
 use Rattle.ev_listing.specs.AddressMap.{repeat_entry, nlast_entry}
 use Rattle.ev_symbolic.specs.Value.{V, K, P, X}
-use Rattle.ev_symbolic.specs.State.{Word, SS, Block, absolute}
+use Rattle.ev_symbolic.specs.State.{Word, SS, absolute}
 use Rattle.ev_symbolic.specs.Run.{brun}
 use Rattle.ev_symbolic.specs.Join.{Joins}
 use Rattle.ev_symbolic.specs.Openings.{gs_tag}
 use Rattle.ev_symbolic.specs.Names.{saved, other_gs, gs_selector, level_rsp, top_less}
-use Rattle.ev_blocks.specs.Shapes.{NmiFrame, registers_of, from_top, interrupted, body_words}
+use Rattle.ev_blocks.specs.Shapes.{NmiFrame, registers_of, from_top, interrupted}
 use Rattle.ev_paths.specs.Ends.{end_of, HasWords, Enters, Returns}
 use Rattle.ev_blocks.specs.Nmi.{Choice, FirstFromTask, FirstLow, FirstHigh, InnerLow, InnerHigh, InnerAtLast, InnerInRepeat, GsBase, TaskGs, KernelGs, BodyBegin, NmiExit, Exchanging, Staying, NmiSpot, Choosing, Repeats, Begins, Leaves, begin_of, to_nbody, begin_values, nmi_block}
 use Rattle.ev_blocks.specs.Items.{AtTable, body_block}

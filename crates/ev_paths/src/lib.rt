@@ -2,17 +2,16 @@
 //! stand in code that has the kernel's cells.
 #![tactic(auto)]
 
-ghost use Rattle.ev_paths.specs.BodyEnds.{AllBodyEnds, BodyTellsNoCr2};
+ghost use Rattle.ev_paths.specs.BodyEnds.{AllBodyEnds, BodyTellsNoCr2, ItemOffsets};
 ghost use Rattle.ev_paths.specs.Cells.{FredCellsStand, IdtCellsStand};
 ghost use Rattle.ev_paths.specs.FredEnds.{FredEnters, FredReturns, FredTellsNoCr2};
-ghost use Rattle.ev_paths.specs.Grounds.{WindowsFit, InnerIsApart, OthersAreApart, DeeperAreApart, AllGrounded};
 ghost use Rattle.ev_paths.specs.IdtEnds.{IdtEnters, IdtReturns, IdtTellsNoCr2};
 ghost use Rattle.ev_paths.specs.Lines.{FredLinesStand, IdtLinesStand, NmiLinesStand, StubsJump};
 ghost use Rattle.ev_paths.specs.NmiEnds.{NmiEnds};
 
-/// Under FRED: each entry comes to the load of the body's address, and each exit to its return with
-/// the registers restored; none is told of CR2. Own; FRED specification, chapters on delivery and
-/// returns.
+/// Under FRED: each entry comes to the load of the body's address, and each exit to its return
+/// with the registers restored; none is told of CR2. Own; FRED specification, chapters on delivery
+/// and returns.
 pub fn fred_blocks()
     ensures enters { FredEnters }
     ensures returns { FredReturns }
@@ -21,9 +20,9 @@ pub fn fred_blocks()
     ensures cells { FredCellsStand }
 {}
 
-/// Under IDT: each vector's entry, of any number, comes to its jump to the code in common; that and
-/// SYSCALL's entry to the load of the body's address; and each exit to SYSRETQ or IRETQ with the
-/// registers restored. Own; SDM volume 3, 6.12 to 6.14.
+/// Under IDT: each vector's entry, of any number, comes to its jump to the code in common; that
+/// and SYSCALL's entry to the load of the body's address; and each exit to SYSRETQ or IRETQ with
+/// the registers restored. Own; SDM volume 3, 6.12 to 6.14.
 pub fn idt_blocks()
     ensures enters { IdtEnters }
     ensures returns { IdtReturns }
@@ -33,9 +32,9 @@ pub fn idt_blocks()
     ensures cells { IdtCellsStand }
 {}
 
-/// The NMI code under IDT: a first NMI comes to NBODY with two copies of its frame, and NBODY to the
-/// load of the body's address; an inner one makes the return frame lead to REPEAT, and returns as it
-/// came; REPEAT comes to NBODY again; and the exit to its return. Own; SDM volume 3, 6.7.1.
+/// The NMI code under IDT: a first NMI comes to NBODY with two copies of its frame, and NBODY to
+/// the load of the body's address; an inner one makes the return frame lead to REPEAT, and returns
+/// as it came; REPEAT comes to NBODY again; and the exit to its return. Own; SDM volume 3, 6.7.1.
 pub fn nmi_blocks()
     ensures ends { NmiEnds }
     ensures lines { NmiLinesStand }
@@ -46,16 +45,5 @@ pub fn nmi_blocks()
 pub fn body_blocks()
     ensures ends { AllBodyEnds }
     ensures cr2 { BodyTellsNoCr2 }
-{}
-
-/// The windows of every block are forms, of which closed tests hold: what a block writes lies apart
-/// from what it knows, an inner NMI apart from what it interrupted, and whatever writes its own stack
-/// alone apart from activations on other stacks and above it. An activation that is where a spot says
-/// is grounded in its block. Own.
-pub fn windows()
-    ensures fit { WindowsFit }
-    ensures inner { InnerIsApart }
-    ensures others { OthersAreApart }
-    ensures deeper { DeeperAreApart }
-    ensures grounded { AllGrounded }
+    ensures offsets { ItemOffsets }
 {}

@@ -1,6 +1,9 @@
 pub mod FlagBits
 pub mod Values
 pub mod Words
+mod Effects
+mod Plain
+mod System
 pub mod Sound
 pub mod Blocks
 pub mod Listed

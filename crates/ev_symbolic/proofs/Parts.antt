@@ -1,5 +1,5 @@
 -- Parts of listings stand in the code of the whole.
-use Rattle.std.proofs.Common.{◌≡◌, ℕ, List, [], ◌∷◌, ◌++◌, sym, ap, subst, ⊎_elim}
+use Rattle.std.proofs.Common.{List, [], ◌∷◌, ◌++◌, sym, subst, ⊎_elim}
 use Rattle.ev_asm.specs.Assembly.{Places}
 use Rattle.ev_listing.specs.Marks.{Listing}
 use Rattle.ev_symbolic.specs.Agrees.{Code}

@@ -1,5 +1,5 @@
 -- The words of a frame: where a delivery places them, an activation knows them; all else stays; and the kernel has access to their places.
-use Rattle.std.proofs.Common.{◌≡◌, ℕ, zero, suc, ◌+◌, ◌*◌, ◌%◌, ◌<◌, ◌≤◌, Bool, true, false, ◌&&◌, List, [], ◌∷◌, length, map, Some, None, refl, sym, ap, ◌∙◌, subst, arith, ◌⊎◌, inl, inr, ⊎_elim}
+use Rattle.std.proofs.Common.{◌≡◌, ℕ, zero, suc, ◌+◌, ◌*◌, ◌%◌, ◌<◌, ◌≤◌, Bool, true, false, List, [], ◌∷◌, length, map, Some, None, refl, sym, ap, ◌∙◌, subst, arith, ◌⊎◌, inl, inr, ⊎_elim}
 use Rattle.ev_isa.specs.Word.{NatMap, put_at, wrap}
 use Rattle.ev_event.specs.Event.{ss}
 use Rattle.ev_effect.specs.Frame.{addresses, placed, or_else, first_event}
@@ -7,7 +7,7 @@ use Rattle.ev_mem.specs.declared.region.Region.{Region}
 use Rattle.ev_mem.specs.Memory.{Memory, view}
 use Rattle.ev_symbolic.specs.Value.{M, V}
 use Rattle.ev_symbolic.specs.State.{Loc, Word, Win, in_win, write, find, top_tag}
-use Rattle.ev_symbolic.specs.Agrees.{Env, eval, addr, Known, Apart, IsOpen, Open}
+use Rattle.ev_symbolic.specs.Agrees.{Env, eval, addr, Known, Apart, Open}
 use Rattle.ev_symbolic.specs.Placed.{at_top, words_placed, all_in, AllOpen}
 use Rattle.ev_symbolic.proofs.Values.{and_left, and_right, add_shift}
 use Rattle.ev_symbolic.proofs.Words.{put_same, put_other, without_ok, accessible}

@@ -1,10 +1,8 @@
 -- Single instructions of the kernel at words to which it has access.
-use Rattle.std.proofs.Common.{◌≡◌, ℤ, ℕ, ◌+◌, ◌-◌, ◌^◌, Bool, true, false, List, get_or, set, Option, Some, None, Ok, Err, refl, sym, ap, ◌∙◌, subst}
+use Rattle.std.proofs.Common.{◌≡◌, ℕ, Bool, true, false, List, set, Option, Ok, refl, sym, ap, ◌∙◌}
 use Rattle.std.specs.Prelude.{◌==◌, if◌then◌else◌}
-use Rattle.ev_isa.specs.Word.{NatMap, put_at, wrap, sign_extend, displaced, is_canonical}
-use Rattle.ev_isa.specs.Flags.{Status, flags_word, flags_of, alu, sum, difference, holds}
-use Rattle.ev_isa.specs.declared.instruction.AluOp.{AluOp}
-use Rattle.ev_isa.specs.declared.instruction.Cond.{Cond}
+use Rattle.ev_isa.specs.Word.{NatMap, put_at, sign_extend, displaced}
+use Rattle.ev_isa.specs.Flags.{Status, flags_of, alu, sum, difference, holds}
 use Rattle.ev_isa.specs.declared.instruction.Ins.{Ins}
 use Rattle.ev_isa.specs.declared.instruction.Ins.TheVariants.{MovImm, MovReg, Load, Store, StoreImm, GsLoad, GsStore, Xchg, Xadd, CmpXchg, Alu, AluImm, Jmp, Jcc, JmpReg, Push, PushImm}
 use Rattle.ev_event.specs.declared.event.Event.{Event}
@@ -18,7 +16,7 @@ use Rattle.ev_proc.specs.ProcessorStep.{ran}
 use Rattle.ev_symbolic.specs.Agrees.{IsOpen}
 use Rattle.ev_symbolic.specs.Single.{IsAt, onward, in_status, Leads, Loads, Stores, StoresNumber, LoadsFromGs, StoresToGs, pushed_at, Pushes, PushesNumber, Exchanges, Adds, Compares, Moves, MovesNumber, Computes, ComputesNumber, Jumps, JumpsTo, Branches, SinglesAreSteps}
 use Rattle.ev_symbolic.proofs.Words.{accessible}
-use Rattle.ev_symbolic.proofs.Sound.{task, loaded, jumped_if, branched, executes}
+use Rattle.ev_symbolic.proofs.Effects.{task, loaded, jumped_if, branched, executes}
 
 -- what an effect comes to that writes a word and leaves this task
 abbrev written : Processor → Task → NatMap ℕ → ℕ → ℕ → Option Event → Executed

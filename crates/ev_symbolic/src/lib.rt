@@ -21,8 +21,8 @@ pub fn instructions()
     ensures single { SinglesAreSteps }
 {}
 
-/// Sections of listings whose cells the code has stand in it by themselves, with the jumps' targets
-/// of the whole. Own.
+/// Sections of listings whose cells the code has stand in it by themselves, with the jumps'
+/// targets of the whole. Own.
 pub fn listings()
     ensures parts { PartsStand }
 {}

@@ -2,3 +2,4 @@ pub mod Gates
 pub mod Opened
 pub mod Mapped
 pub mod Stand
+pub mod Stacks

@@ -13,13 +13,13 @@ neither true y h = h
 neither false y h = refl
 
 -- in none of the areas that lie above, and of those that lie below
-above : (base bytes a : ℕ) → a < base → within base bytes a ≡ false
+pub above : (base bytes a : ℕ) → a < base → within base bytes a ≡ false
 above base bytes a h = let t : nat_le base a ≡ false = lt-leb base a h in rw t refl
 
 below : (base bytes a : ℕ) → base + bytes ≤ a → within base bytes a ≡ false
 below base bytes a h = neither (nat_le base a) (nat_lt a (base + bytes)) (le-ltb a (base + bytes) h)
 
-inside : (base bytes a : ℕ) → base ≤ a → a < base + bytes → within base bytes a ≡ true
+pub inside : (base bytes a : ℕ) → base ≤ a → a < base + bytes → within base bytes a ≡ true
 inside base bytes a h k =
     let t : nat_le base a ≡ true = le-leb base a h in
     let u : nat_lt a (base + bytes) ≡ true = lt-ltb a (base + bytes) k in

@@ -8,7 +8,7 @@ use Rattle.ev_body.specs.declared.image.Image.{Image}
 use Rattle.ev_gate.specs.Gate.{gate_in}
 use Rattle.ev_idt.specs.Tables.{IsHandler, IsReadable}
 use Rattle.ev_listing.specs.AddressMap.{pcpu, idt_base}
-use Rattle.ev_concrete.specs.Opening.{code_of, listings, idt_word, opening_word}
+use Rattle.ev_concrete.specs.Opening.{code_of, listings, idt_word}
 use Rattle.ev_tables.specs.Claims.{HoldsIdt, GatesStand, TablesStand}
 use Rattle.ev_tables.proofs.Gates.{gate_is, handler}
 use Rattle.ev_tables.proofs.Opened.{opened_idt}

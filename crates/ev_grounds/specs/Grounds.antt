@@ -1,19 +1,19 @@
 -- What stands on the windows of blocks: closed tests of their forms, and what an activation owes so that it is grounded in a block.
-use Rattle.std.specs.Prelude.{◌≡◌, ℕ, ◌+◌, ◌≤◌, true, false, [], List}
+use Rattle.std.specs.Prelude.{◌≡◌, ℕ, ◌+◌, ◌≤◌, true, false, []}
 use Rattle.ev_isa.specs.declared.mode.Mode.{Mode}
 use Rattle.ev_state.specs.Processor.{is_user}
 use Rattle.ev_proc.specs.ProcessorStep.{has_fred}
 use Rattle.ev_symbolic.specs.Value.{M}
 use Rattle.ev_symbolic.specs.Agrees.{Env, FactsHold, Described, AreTops, Grounded}
 use Rattle.ev_symbolic.specs.Names.{item_tag}
-use Rattle.ev_distances.specs.Form.{Form, Where, wins_of, are_forms, Fitting, all_apart, apart_in_one, apart_on_two_stacks, apart_by_depth, apart_at_one_top}
+use Rattle.ev_distances.specs.Form.{Where, wins_of, are_forms, Fitting, all_apart, apart_in_one, apart_on_two_stacks, apart_by_depth, apart_at_one_top}
 use Rattle.ev_blocks.specs.Shapes.{Layout, NmiFrame, body_forms}
 use Rattle.ev_blocks.specs.Idt.{Sys, IdtToNext}
 use Rattle.ev_blocks.specs.Idt as idt
 use Rattle.ev_blocks.specs.Fred.{FredToNext}
 use Rattle.ev_blocks.specs.Fred as fred
 use Rattle.ev_blocks.specs.Nmi.{Choice, InnerInRepeat, is_first, choice_forms, repeat_forms}
-use Rattle.ev_blocks.specs.Blocks.{Spot, InFred, InIdt, InNmi, InBody, block, forms}
+use Rattle.ev_blocks.specs.Blocks.{Spot, InFred, InIdt, InBody, block, forms}
 
 -- a block's windows are those of its forms, and nobody else writes there
 pub record HasForms (mode : Mode) (s : Spot) : Type 0 where

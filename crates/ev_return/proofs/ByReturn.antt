@@ -1,32 +1,28 @@
 -- What the returns come to.
-use Rattle.std.proofs.Common.{◌≡◌, ℕ, ◌+◌, ◌/◌, ◌%◌, ◌^◌, Bool, true, false, not, ◌&&◌, List, [], ◌∷◌, get_or, set, map, Some, None, refl, sym, ap, ◌∙◌, subst, arith}
+use Rattle.std.proofs.Common.{◌≡◌, ℕ, ◌+◌, ◌/◌, ◌%◌, ◌^◌, true, false, ◌&&◌, List, [], ◌∷◌, get_or, set, map, None, refl, sym, ap, ◌∙◌, arith}
 use Rattle.std.specs.Prelude.{◌==◌, nat_le, if◌then◌else◌}
-use Rattle.std.proofs.lemmas.Bool.{eq-eqb}
-use Rattle.ev_isa.specs.Word.{NatMap, wrap, bit, is_canonical}
+use Rattle.ev_isa.specs.Word.{wrap, is_canonical}
 use Rattle.ev_isa.specs.Flags.{modelled}
-use Rattle.ev_isa.specs.Spelling.{spelling}
-use Rattle.ev_isa.specs.declared.instruction.Ins.{Ins}
 use Rattle.ev_isa.specs.declared.instruction.Ins.TheVariants.{Sysretq, Iretq, Eretu, Erets}
 use Rattle.ev_event.specs.Event.{ss as ss_event, gp, ud}
 use Rattle.ev_effect.specs.Frame.{addresses, or_else, first_event}
-use Rattle.ev_state.specs.Processor.{Processor, is_user, rsp, with_rsp, register, selector, gs_exchanged}
-use Rattle.ev_state.specs.Outcome.{Outcome, Went, Met}
+use Rattle.ev_state.specs.Processor.{Processor, is_user, rsp, register, selector, gs_exchanged}
+use Rattle.ev_state.specs.Outcome.{Went, Met}
 use Rattle.ev_mem.specs.Memory.{Memory, view}
-use Rattle.ev_apic.specs.declared.apic.Apic.{Apic}
 use Rattle.ev_exec.specs.Exec.{Special, exec}
 use Rattle.ev_idt.specs.IdtDelivery.{is_return, returned, iret_words, iret_after, iretq, sysretq}
 use Rattle.ev_fred.specs.FredDelivery.{fred_returned, eretu_words, erets_words, frame_read, return_addresses, eretu, erets}
-use Rattle.ev_proc.specs.ProcessorStep.{has_fred, executed, ran, fault, special, after_return}
+use Rattle.ev_proc.specs.ProcessorStep.{has_fred, ran, fault, special, after_return}
 use Rattle.ev_symbolic.specs.Value.{M, V, P}
 use Rattle.ev_symbolic.specs.State.{SS, Win, Ground, Block}
-use Rattle.ev_symbolic.specs.Agrees.{Env, eval, addr, untracked, Known, Open, Agrees}
+use Rattle.ev_symbolic.specs.Agrees.{Env, eval, untracked, Known, Open, Agrees}
 use Rattle.ev_symbolic.specs.Openings.{at_base, words_from}
 use Rattle.ev_symbolic.proofs.Words.{accessible}
 use Rattle.ev_symbolic.proofs.Sound.{executes}
 use Rattle.ev_symbolic.proofs.Blocks.{all_found}
 use Rattle.ev_blocks.specs.Shapes.{registers_of}
 use Rattle.ev_paths.specs.Ends.{Returns}
-use Rattle.ev_deliver.specs.Returns.{LeadsBack, Restores, IretWords, IretReturns, IretReturnsByWords, SysretReturns, EretuWords, EretsWords, blocked_after, EretuReturns, EretsReturns}
+use Rattle.ev_return.specs.Returns.{LeadsBack, Restores, IretWords, IretReturns, IretReturnsByWords, SysretReturns, EretuWords, EretsWords, blocked_after, EretuReturns, EretsReturns}
 
 -- ---- five words one behind the other
 
@@ -158,7 +154,8 @@ module _ (env : Env) (G : Ground) (z : SS) (c : Processor) (m : Memory) (w : Pro
       → LeadsBack c m Eretu w (blocked_after c (eval env ss))
   unfolding exec special eretu
   eretu_back fred rip cs flags sp ss reads words q i a nmi =
-      let d : Processor = record (gs_exchanged (fred_returned c (eval env rip) (eval env flags) (eval env sp) (eval env ss))) { cs = 0x33; ss = 0x2b; cpl = 3 } in
+      let d : Processor =
+      record (gs_exchanged (fred_returned c (eval env rip) (eval env flags) (eval env sp) (eval env ss))) { cs = 0x33; ss = 0x2b; cpl = 3 } in
       let taken : (c.level == 0) && is_canonical (eval env rip) && (selector (eval env cs) == 0x33) && (selector (eval env ss) == 0x2b) ≡ true =
       ap (λ (y : Processor). (y.level == 0) && is_canonical (eval env rip) && (selector (eval env cs) == 0x33) && (selector (eval env ss) == 0x2b)) g.rest
       ∙ ap (λ x. (x == 0) && is_canonical (eval env rip) && (selector (eval env cs) == 0x33) && (selector (eval env ss) == 0x2b)) i.level
@@ -229,7 +226,7 @@ iret_returns_by_words env G z c m w area r base other chosen level rip cs flags 
     iret_back env G z c m w area r base other chosen level regs gs kernel_gs select rsp0 g k rip cs flags sp ss reads words q i
 
 pub sysret_returns : SysretReturns
-sysret_returns env G b z place c m w area sp base other chosen level x g k fred q sti rest =
+sysret_returns env G b z place c m w area sp base other chosen level frame x g k fred q sti rest =
     sysret_back env G z c m w area sp base other chosen level x.regs x.gs x.kernel_gs x.selector x.rsp0 g k fred sp refl q sti rest
 
 pub eretu_returns : EretuReturns

@@ -5,15 +5,15 @@ use Rattle.ev_isa.specs.Word.{is_canonical}
 use Rattle.ev_isa.specs.declared.mode.Mode.{Mode}
 use Rattle.ev_isa.specs.declared.mode.Mode.TheVariants.{Idt, Fred}
 use Rattle.ev_symbolic.specs.Value.{M}
-use Rattle.ev_symbolic.specs.State.{Loc, Win, in_win, in_text}
+use Rattle.ev_symbolic.specs.State.{Loc, Win, in_text}
 use Rattle.ev_symbolic.specs.Agrees.{Env, addr, Apart, Far, Grounded}
 use Rattle.ev_symbolic.specs.Names.{item_tag}
-use Rattle.ev_distances.specs.Span.{Codes, Span}
+use Rattle.ev_distances.specs.Span.{Codes}
 use Rattle.ev_symbolic.proofs.Values.{and_left, and_right}
 use Rattle.ev_distances.specs.Form.{Form, OnStack, Stretch, InArea, OnTask, OnNextTask, OnNextStack, InRecord, Where, wins_of, Fitting, is_own, all_apart, apart_from_all, apart_off_stack, apart_on_two_stacks, apart_by_depth, apart_at_one_top}
 use Rattle.ev_distances.proofs.ByForm.{forms_apart}
 use Rattle.ev_distances.proofs.Windows.{text_ok, in_code}
-use Rattle.ev_blocks.specs.Shapes.{UserCode, KernelCode, Layout, FredFrame, IdtFrame, NmiFrame, kernel_text, item_text, body_forms}
+use Rattle.ev_blocks.specs.Shapes.{Layout, FredFrame, IdtFrame, NmiFrame, kernel_text, item_text, body_forms}
 use Rattle.ev_blocks.specs.Fred.{ByCall, ByInt3, ByIntN, ByOther, FredToKernel, FredToTask, FredToNext, FromUser, FromKernel, LeavesNmi}
 use Rattle.ev_blocks.specs.Fred as fred
 use Rattle.ev_blocks.specs.Idt.{BySysret, ByOtherRip, ByOtherFlags, IdtToKernel, IdtToTask, IdtToNext, Stub, Sys, Common}
@@ -22,7 +22,7 @@ use Rattle.ev_blocks.specs.Nmi.{Choice, FirstFromTask, FirstLow, FirstHigh, Inne
 use Rattle.ev_blocks.specs.Nmi as nmi
 use Rattle.ev_blocks.specs.Items.{AtTable, AtJump, AtItem, AtNumber, AtNumbers, AtKick, AtUserWord, AtPageWord, BehindSti, BehindKick}
 use Rattle.ev_blocks.specs.Blocks.{Spot, InFred, InIdt, InNmi, InBody, block, forms}
-use Rattle.ev_paths.specs.Grounds.{HasForms, AreForms, WindowsFit, InnerIsApart, WritesItsStack, OthersAreApart, DeeperAreApart, HasItem, IsHere, AllGrounded}
+use Rattle.ev_grounds.specs.Grounds.{HasForms, AreForms, WindowsFit, InnerIsApart, WritesItsStack, OthersAreApart, DeeperAreApart, HasItem, IsHere, AllGrounded}
 
 both : (a b : Bool) → a ≡ true → b ≡ true → (a && b) ≡ true
 both true b h k = k
@@ -212,13 +212,17 @@ module _ (n : ℕ) (e : Env) (x : Where) where
   own_fitting (InIdt (Common o page_fault)) f = f
   own_fitting (InIdt (idt.Leaves IdtToKernel)) f = f
   own_fitting (InIdt (idt.Leaves (IdtToTask r))) f = record { at = f.at; forms = refl; bases = (f.bases.0, tt); room = (f.room.0, tt) }
-  own_fitting (InIdt (idt.Leaves (IdtToNext r))) f = record { at = f.at; forms = refl; bases = (f.bases.1.0, (f.bases.1.1.0, tt)); room = (f.room.1.0, (f.room.1.1.0, tt)) }
+  own_fitting (InIdt (idt.Leaves (IdtToNext r))) f =
+      record { at = f.at; forms = refl; bases = (f.bases.1.0, (f.bases.1.1.0, tt)); room = (f.room.1.0, (f.room.1.1.0, tt)) }
   own_fitting (InNmi (Choosing FirstFromTask g)) f = f
   own_fitting (InNmi (Choosing FirstLow g)) f = f
   own_fitting (InNmi (Choosing FirstHigh g)) f = f
-  own_fitting (InNmi (Choosing InnerLow g)) f = record { at = f.at; forms = refl; bases = (f.bases.0, (f.bases.1.0, tt)); room = (f.room.0, (f.room.1.0, tt)) }
-  own_fitting (InNmi (Choosing InnerHigh g)) f = record { at = f.at; forms = refl; bases = (f.bases.0, (f.bases.1.0, tt)); room = (f.room.0, (f.room.1.0, tt)) }
-  own_fitting (InNmi (Choosing InnerAtLast g)) f = record { at = f.at; forms = refl; bases = (f.bases.0, (f.bases.1.0, tt)); room = (f.room.0, (f.room.1.0, tt)) }
+  own_fitting (InNmi (Choosing InnerLow g)) f =
+      record { at = f.at; forms = refl; bases = (f.bases.0, (f.bases.1.0, tt)); room = (f.room.0, (f.room.1.0, tt)) }
+  own_fitting (InNmi (Choosing InnerHigh g)) f =
+      record { at = f.at; forms = refl; bases = (f.bases.0, (f.bases.1.0, tt)); room = (f.room.0, (f.room.1.0, tt)) }
+  own_fitting (InNmi (Choosing InnerAtLast g)) f =
+      record { at = f.at; forms = refl; bases = (f.bases.0, (f.bases.1.0, tt)); room = (f.room.0, (f.room.1.0, tt)) }
   own_fitting (InNmi (Choosing InnerInRepeat g)) f = f
   own_fitting (InNmi (Repeats g)) f = f
   own_fitting (InNmi (Begins b)) f = f
@@ -233,14 +237,18 @@ module _ (n : ℕ) (e : Env) (x : Where) where
   CodeIs W = (l : Loc) → in_text W l ≡ true → is_canonical (addr e l) ≡ true
 
   kernel_code : e.base 1000 ≡ 0 → CodeIs kernel_text
-  kernel_code z l h = text_ok e kernel_text (record { part = Codes; p = 0; n = 0; lo = 0; len = 0x6000 } ∷ [])
-      (in_code e 1000 0xffffffff81000000 0x6000 0xffffffff81000000 (let q : e.base 1000 + 0xffffffff81000000 ≡ 0xffffffff81000000 = omega (arith, z) in q)
-      (omega arith) (omega arith) (omega arith) (omega arith), tt) l h
+  kernel_code z l h = text_ok e kernel_text (record { part = Codes; p = 0; n = 0; lo = 0; len = 0x6000 } ∷ []) (
+    in_code e 1000 0xffffffff81000000 0x6000 0xffffffff81000000 (let q : e.base 1000 + 0xffffffff81000000 ≡ 0xffffffff81000000 = omega (arith, z) in q)
+        (omega arith) (omega arith) (omega arith) (omega arith),
+    tt,
+  ) l h
 
   item_code : 0xffffffff82000000 ≤ e.base item_tag → e.base item_tag + 0x100 ≤ M → CodeIs item_text
-  item_code a b l h = text_ok e item_text (record { part = Codes; p = 0; n = 0; lo = e.base item_tag - 0xffffffff81000000; len = 0x100 } ∷ [])
-      (in_code e item_tag 0 0x100 (e.base item_tag) (let q : e.base item_tag + 0 ≡ e.base item_tag = omega arith in q) (omega arith) (omega arith) b
-      (omega arith), tt) l h
+  item_code a b l h = text_ok e item_text (record { part = Codes; p = 0; n = 0; lo = e.base item_tag - 0xffffffff81000000; len = 0x100 } ∷ []) (
+    in_code e item_tag 0 0x100 (e.base item_tag) (let q : e.base item_tag + 0 ≡ e.base item_tag = omega arith in q) (omega arith) (omega arith) b
+        (omega arith),
+    tt,
+  ) l h
 
   text_is : (mode : Mode) (s : Spot) → e.base 1000 ≡ 0 → HasItem s e → CodeIs (block mode s).ground.text
   text_is mode (InFred (FromUser w)) z i = kernel_code z

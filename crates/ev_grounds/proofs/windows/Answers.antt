@@ -1,5 +1,5 @@
-use Rattle.ev_paths.proofs.Grounds as proof
-use Rattle.ev_paths.proofs.windows.Goals as goal
+use Rattle.ev_grounds.proofs.Grounds as proof
+use Rattle.ev_grounds.proofs.windows.Goals as goal
 
 pub returns : goal.returns
 returns c = record {

@@ -12,7 +12,7 @@ use Rattle.ev_apic.specs.declared.apic.Apic.{Apic}
 use Rattle.ev_idt.specs.IdtDelivery.{is_return}
 use Rattle.ev_proc.specs.ProcessorStep.{has_fred, executed, ran}
 use Rattle.ev_symbolic.specs.Value.{V, P}
-use Rattle.ev_symbolic.specs.State.{SS, Block, Ground}
+use Rattle.ev_symbolic.specs.State.{Word, SS, Block, Ground}
 use Rattle.ev_symbolic.specs.Agrees.{Env, eval, untracked, Agrees}
 use Rattle.ev_symbolic.specs.Openings.{words_from}
 use Rattle.ev_blocks.specs.Shapes.{registers_of}
@@ -66,7 +66,8 @@ IretReturnsByWords =
 abbrev pub SysretReturns : Type 0
 SysretReturns =
     (env : Env) (G : Ground) (b : Block) (z : SS) (place : ℕ) (c : Processor) (m : Memory) (w : Processor) (area : ℕ → V) (sp base other chosen level : V)
-    → Returns b z place (registers_of area sp) base other chosen level [] → Agrees env G z c m → is_user env.rest ≡ false → has_fred env.rest ≡ false
+    (frame : List Word) → Returns b z place (registers_of area sp) base other chosen level frame → Agrees env G z c m → is_user env.rest ≡ false
+    → has_fred env.rest ≡ false
     → Restores env w (registers_of area sp) (area 1) (area 11) base other chosen level → w.sti_blocked ≡ false
     → record env.rest { cpl = 3; cs = 0x33; ss = 0x2b } ≡ untracked w → LeadsBack c m Sysretq w c.nmi_blocked
 

@@ -1,0 +1,14 @@
+use Rattle.ev_deliver.proofs.IdtDelivers.{idt_delivers, nmi_delivers, call_delivers}
+use Rattle.ev_deliver.proofs.Tops.{idt_from_task, idt_from_body, idt_from_nmi_body, idt_of_nmi}
+use Rattle.ev_deliver.proofs.idt_events.Goals as goal
+
+pub returns : goal.returns
+returns c = record {
+  begins = idt_delivers;
+  nmi = nmi_delivers;
+  call = call_delivers;
+  from_task = idt_from_task;
+  from_body = idt_from_body;
+  from_nmi_body = idt_from_nmi_body;
+  own_stack = idt_of_nmi;
+}
