@@ -194,6 +194,7 @@ module _ (image : Image) (known : CallId → Bool) (ruled : (n : ℕ) (b : Body)
         );
         pending = is.pending;
         mail = is.mail;
+        nmi = is.nmi;
         queue = is.queue;
       })
 

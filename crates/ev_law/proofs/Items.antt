@@ -93,7 +93,7 @@ module _ (image : Image) (ruled : (n : ℕ) (b : Body) → slice_get image.bodie
   switched_legal : (known : CallId → Bool) (x : Processor) (ts : List ℕ) → IsLegalProcessor image known x
       → IsLegalProcessor image known (switched x ts)
   switched_legal known x [] h = h
-  switched_legal known x (t ∷ ts) h = record { bodies = h.bodies; pending = h.pending; mail = h.mail; queue = h.queue }
+  switched_legal known x (t ∷ ts) h = record { bodies = h.bodies; pending = h.pending; mail = h.mail; nmi = h.nmi; queue = h.queue }
 
   pub dropped_legal : (known : CallId → Bool) (c : BodyContext) (x : Processor) (below : List BodyContext) → IsLegalProcessor image known x
       → AreLegal image known below → IsLegalProcessor image known (dropped image c x below)
@@ -102,9 +102,9 @@ module _ (image : Image) (ruled : (n : ℕ) (b : Body) → slice_get image.bodie
       pick : (b : Bool) → IsLegalProcessor image known (if b then rescheduled (record x { bodies = [] }) else record x { bodies = [] })
       pick true =
           switched_legal known (record x { bodies = []; resched = false }) (x.waiting ++ x.running ∷ [])
-          (record { bodies = k; pending = h.pending; mail = h.mail; queue = h.queue })
-      pick false = record { bodies = k; pending = h.pending; mail = h.mail; queue = h.queue }
-  dropped_legal known c x (b ∷ bs) h k = record { bodies = k; pending = h.pending; mail = h.mail; queue = h.queue }
+          (record { bodies = k; pending = h.pending; mail = h.mail; nmi = h.nmi; queue = h.queue })
+      pick false = record { bodies = k; pending = h.pending; mail = h.mail; nmi = h.nmi; queue = h.queue }
+  dropped_legal known c x (b ∷ bs) h k = record { bodies = k; pending = h.pending; mail = h.mail; nmi = h.nmi; queue = h.queue }
 
   -- ---- a delivery
 
@@ -235,7 +235,8 @@ module _ (image : Image) (ruled : (n : ℕ) (b : Body) → slice_get image.bodie
     item_legal (Slot d k) e =
         goes_on m (onward (with_local c d ((processor m p).slots k))) (Slot d k) (alike_self image m) e refl refl refl refl refl refl (λ h. absurd (cc)) refl
     item_legal (Put k s) e = goes_on (with_slot m p k (local c s)) (onward c) (Put k s)
-        (put_alike image m p (record (processor m p) { slots = put_at (processor m p).slots k (local c s) }) refl refl refl (λ v. v) (λ h. (h.each p).queue))
+        (put_alike image m p (record (processor m p) { slots = put_at (processor m p).slots k (local c s) }) refl refl refl (λ v. v) (λ h. (h.each p).nmi)
+        (λ h. (h.each p).queue))
         e refl refl refl refl refl refl (λ h. absurd (cc)) refl
     item_legal (Cell d k) e =
         goes_on m (onward (with_local c d (m.cells k))) (Cell d k) (alike_self image m) e refl refl refl refl refl refl (λ h. absurd (cc)) refl
@@ -263,9 +264,10 @@ module _ (image : Image) (ruled : (n : ℕ) (b : Body) → slice_get image.bodie
         (λ h. absurd (cc)) refl
     item_legal (SetReg r s) e = let t = with_reg (task (processor m p)) r (local c s) in
         goes_on (with_task_at m p t) (onward c) (SetReg r s) (put_alike image m p (with_task (processor m p) t) refl refl refl (λ v. v)
-        (λ h. (h.each p).queue)) e refl refl refl refl refl refl (λ h. absurd (cc)) refl
+        (λ h. (h.each p).nmi) (λ h. (h.each p).queue)) e refl refl refl refl refl refl (λ h. absurd (cc)) refl
     item_legal (SetRip a) e = let t = record (task (processor m p)) { rip = a } in
-        goes_on (with_task_at m p t) (onward c) (SetRip a) (put_alike image m p (with_task (processor m p) t) refl refl refl (λ v. v) (λ h. (h.each p).queue))
+        goes_on (with_task_at m p t) (onward c) (SetRip a) (put_alike image m p (with_task (processor m p) t) refl refl refl (λ v. v) (λ h. (h.each p).nmi)
+        (λ h. (h.each p).queue))
         e refl refl refl refl refl refl (λ h. absurd (cc)) refl
     item_legal (Map s) e =
         goes_on (with_page m (place_of (local c s)) true) (onward (unknown_flags c)) (Map s) (alike_page image m (place_of (local c s)) true) e refl refl refl
@@ -274,7 +276,8 @@ module _ (image : Image) (ruled : (n : ℕ) (b : Body) → slice_get image.bodie
         goes_on (with_page m (place_of (local c s)) false) (onward (unknown_flags c)) (Unmap s) (alike_page image m (place_of (local c s)) false) e refl refl
         refl refl refl refl (λ h. absurd (cc)) refl
     item_legal Resched e = goes_on (with_processor m p (record (processor m p) { resched = true })) (onward c) Resched
-        (put_alike image m p (record (processor m p) { resched = true }) refl refl refl (λ v. v) (λ h. (h.each p).queue)) e refl refl refl refl refl refl
+        (put_alike image m p (record (processor m p) { resched = true }) refl refl refl (λ v. v) (λ h. (h.each p).nmi) (λ h. (h.each p).queue)) e refl refl
+        refl refl refl refl
         (λ h. absurd (cc)) refl
     item_legal Sti e = goes_on m (onward (record c { interrupts = true })) Sti (alike_self image m) e refl refl refl refl refl refl (λ h. absurd (cc)) refl
     item_legal Cli e =

@@ -1,8 +1,8 @@
 -- Every line of a script keeps the machine legal, from the opening on.
-use Rattle.std.specs.Prelude.{◌≡◌, refl, ℕ, zero, suc, ◌≤◌, ◌<◌, Bool, true, false, not, ◌&&◌, if◌then◌else◌, List, [], ◌∷◌, Option, Some, None, slice_get}
+use Rattle.std.specs.Prelude.{◌≡◌, refl, ℕ, zero, suc, ◌≤◌, ◌<◌, Bool, true, false, not, ◌&&◌, if◌then◌else◌, List, [], ◌∷◌, Option, Some, None, slice_get, ◌||◌}
 use Rattle.std.specs.List.{list_any}
 use Rattle.std.proofs.Common.{arith, ap, sym, ◌∙◌, subst, inl, inr}
-use Rattle.std.proofs.lemmas.Bool.{and_parts, not-true, or_cases}
+use Rattle.std.proofs.lemmas.Bool.{and_parts, not-true, or_cases, or_right}
 use Rattle.ev_isa.specs.Word.{NatSet, put_at, greatest_below}
 use Rattle.ev_event.specs.Event.{nmi_event, interrupt_event}
 use Rattle.ev_body.specs.declared.key.Key.{Key}
@@ -45,12 +45,12 @@ module _ (image : Image) (ruled : (n : ℕ) (b : Body) → slice_get image.bodie
       → Legal image (task_step image m p s).0
   task_legal m p (Goes t words) f h e =
       put_legal image (record m { words = words }) p (with_task (processor m p) t) refl ((alike_words image m words).legal h)
-      (record { bodies = (h.each p).bodies; pending = (h.each p).pending; mail = (h.each p).mail; queue = (h.each p).queue })
+      (record { bodies = (h.each p).bodies; pending = (h.each p).pending; mail = (h.each p).mail; nmi = (h.each p).nmi; queue = (h.each p).queue })
   task_legal m p (Raises saved event) f h e =
       let x : Processor = with_task (processor m p) (saved_by event.kind (record (task (processor m p)) { rip = saved })) in
       put_legal image m p (delivered image p x event).0 (delivered_records image p x event) h
       (delivered_legal image (knows image m) ruled p x event
-      (record { bodies = (h.each p).bodies; pending = (h.each p).pending; mail = (h.each p).mail; queue = (h.each p).queue })
+      (record { bodies = (h.each p).bodies; pending = (h.each p).pending; mail = (h.each p).mail; nmi = (h.each p).nmi; queue = (h.each p).queue })
       (subst (λ bs. CanCome image bs event) (sym e) (fault_can_come image (knows image m) ruled event f)))
 
   -- ---- the last context
@@ -77,7 +77,14 @@ module _ (image : Image) (ruled : (n : ℕ) (b : Body) → slice_get image.bodie
   nmi_legal m p h alone =
       put_legal image m p (nmi_delivered image p (processor m p)).0 (delivered_records image p (record (processor m p) { nmi = false }) nmi_event) h
       (delivered_legal image (knows image m) ruled p (record (processor m p) { nmi = false }) nmi_event
-      (record { bodies = (h.each p).bodies; pending = (h.each p).pending; mail = (h.each p).mail; queue = (h.each p).queue })
+      (record {
+        bodies = (h.each p).bodies;
+        pending = (h.each p).pending;
+        mail = (h.each p).mail;
+        nmi = λ e. (h.each p).nmi
+            (or_right (processor m p).nmi (processor m p).mail_nmi e);
+        queue = (h.each p).queue;
+      })
       (nmi_can_come image (knows image m) ruled (processor m p).bodies ((h.each p).bodies) alone))
 
   interrupt_legal : (m : Machine) (p v : ℕ) → Legal image m → open_to_interrupts (processor m p).bodies ≡ true → v < 256
@@ -91,6 +98,7 @@ module _ (image : Image) (ruled : (n : ℕ) (b : Body) → slice_get image.bodie
         bodies = (h.each p).bodies;
         pending = put_vector image (processor m p).pending v false (λ e. absurd (cc)) (h.each p).pending;
         mail = (h.each p).mail;
+        nmi = (h.each p).nmi;
         queue = (h.each p).queue;
       })
       (interrupt_can_come image (knows image m) ruled v (processor m p).bodies ((h.each p).bodies) ((h.each p).pending.each v q.0).from hi on q.1))
@@ -125,11 +133,12 @@ module _ (image : Image) (ruled : (n : ℕ) (b : Body) → slice_get image.bodie
   arrived_legal : (known : CallId → Bool) (x : Processor) (key : Key) → is_sendable key ≡ true → has_body_of image key ≡ true
       → IsLegalProcessor image known x → IsLegalProcessor image known (arrived x key)
   unfolding key_number
-  arrived_legal known x Nmi h b k = record { bodies = k.bodies; pending = k.pending; mail = k.mail; queue = k.queue }
+  arrived_legal known x Nmi h b k = record { bodies = k.bodies; pending = k.pending; mail = k.mail; nmi = λ e. used_by_body image Nmi b; queue = k.queue }
   arrived_legal known x (Irq v) h b k = record {
     bodies = k.bodies;
     pending = put_vector image x.pending v true (λ e. sendable_interrupt image v h (used_by_body image (Irq v) b)) k.pending;
     mail = k.mail;
+    nmi = k.nmi;
     queue = k.queue;
   }
   arrived_legal known x _ h b k = absurd (cc)
@@ -139,6 +148,7 @@ module _ (image : Image) (ruled : (n : ℕ) (b : Body) → slice_get image.bodie
     bodies = k.bodies;
     pending = record { each = λ v e. elim (or_cases (x.pending v) (x.mail v) e) [ inl a ↦ k.pending.each v a | inr a ↦ k.mail.each v a ] };
     mail = record { each = λ v e. absurd (cc) };
+    nmi = λ e. k.nmi (elim (or_cases (x.nmi || x.mail_nmi) false e) [ inl a ↦ a | inr b ↦ absurd (cc) ]);
     queue = k.queue;
   }
 

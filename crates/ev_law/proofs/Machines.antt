@@ -21,7 +21,7 @@ use Rattle.ev_abstract.specs.Context.{BodyContext, CallId}
 use Rattle.ev_abstract.specs.Machine.{Processor, Machine, CallRecord, Taken, processor, with_processor}
 use Rattle.ev_abstract.specs.CrossCall.{record_of, with_record, in_state, with_queue, queued, all_taken}
 use Rattle.ev_abstract.specs.ItemMeaning.{replace_last, with_context, with_cell, with_page, mailed, with_mail}
-use Rattle.ev_law.specs.Legal.{AreLegal, AreVectors, IsInterrupt, IsLegalProcessor, Legal, declares, knows}
+use Rattle.ev_law.specs.Legal.{AreLegal, AreVectors, IsInterrupt, IsLegalProcessor, awaits_nmi, Legal, declares, knows}
 
 all_grown : (f g : CallId → Bool) → ((k : CallId) → f k ≡ true → g k ≡ true) → (ks : List CallId) → list_all f ks ≡ true → list_all g ks ≡ true
 all_grown f g h [] l = refl
@@ -42,6 +42,7 @@ module _ (image : Image) where
     bodies = legal_grown f g h x.bodies (l.bodies);
     pending = l.pending;
     mail = l.mail;
+    nmi = l.nmi;
     queue = all_grown f g h x.queue l.queue;
   }
 
@@ -101,13 +102,15 @@ module _ (image : Image) where
 
   pub put_alike : (m : Machine) (p : ℕ) (x : Processor) → x.bodies ≡ (processor m p).bodies → x.pending ≡ (processor m p).pending
       → x.records ≡ (processor m p).records
-      → (AreVectors image (processor m p).mail → AreVectors image x.mail) → (Legal image m → list_all (knows image m) x.queue ≡ true)
+      → (AreVectors image (processor m p).mail → AreVectors image x.mail) → (Legal image m → awaits_nmi x ≡ true → is_used image Nmi ≡ true)
+      → (Legal image m → list_all (knows image m) x.queue ≡ true)
       → Alike m (with_processor m p x)
-  put_alike m p x e f r g q = record {
+  put_alike m p x e f r g n q = record {
     legal = λ h. put_legal m p x r h (record {
       bodies = rw e ((h.each p).bodies);
       pending = rw f ((h.each p).pending);
       mail = g (h.each p).mail;
+      nmi = n h;
       queue = q h;
     });
     bodies = put_bodies m p x e;
@@ -129,7 +132,13 @@ module _ (image : Image) where
       → Alike m (with_record m k r)
   alike_record m k r d = record {
     legal = λ h. put_grown m k.from x grows h
-        (record { bodies = (h.each k.from).bodies; pending = (h.each k.from).pending; mail = (h.each k.from).mail; queue = (h.each k.from).queue });
+        (record {
+          bodies = (h.each k.from).bodies;
+          pending = (h.each k.from).pending;
+          mail = (h.each k.from).mail;
+          nmi = (h.each k.from).nmi;
+          queue = (h.each k.from).queue;
+        });
     bodies = put_bodies m k.from x refl;
     grows = grows;
   }
@@ -156,7 +165,7 @@ module _ (image : Image) where
 
   pub alike_queue : (m : Machine) (p : ℕ) (queue : List CallId) → (Legal image m → list_all (knows image m) queue ≡ true)
       → Alike m (with_queue m p queue)
-  alike_queue m p queue q = put_alike m p (record (processor m p) { queue = queue }) refl refl refl (λ v. v) q
+  alike_queue m p queue q = put_alike m p (record (processor m p) { queue = queue }) refl refl refl (λ v. v) (λ h. (h.each p).nmi) q
 
   known_then : (m : Machine) (k : CallId) (r : CallRecord) → declares image r.func ≡ true → knows image (with_record m k r) k ≡ true
   known_then m k r d = pick (k.from == k.from) refl
@@ -208,6 +217,11 @@ module _ (image : Image) where
   mailed_vectors x (Irq v) h u k = put_vector x.mail v true (λ e. sendable_interrupt v h u) k
   mailed_vectors x _ h u k = absurd (cc)
 
+  mailed_nmi : (x : Processor) (key : Key) → is_used image key ≡ true → (awaits_nmi x ≡ true → is_used image Nmi ≡ true)
+      → awaits_nmi (mailed x key) ≡ true → is_used image Nmi ≡ true
+  mailed_nmi x Nmi u k e = u
+  mailed_nmi x _ u k e = k e
+
   mailed_same : (x : Processor) (key : Key)
       → ((mailed x key).bodies ≡ x.bodies) × ((mailed x key).pending ≡ x.pending) × ((mailed x key).records ≡ x.records) × ((mailed x key).queue ≡ x.queue)
   mailed_same x Nmi = (refl, refl, refl, refl)
@@ -216,6 +230,7 @@ module _ (image : Image) where
   pub alike_mail : (m : Machine) (to : ℕ) (key : Key) → is_sendable key ≡ true → is_used image key ≡ true → Alike m (with_mail m to key)
   alike_mail m to key h u =
       let s = mailed_same (processor m to) key in put_alike m to (mailed (processor m to) key) s.0 s.1 s.2 (mailed_vectors (processor m to) key h u)
+      (λ l. mailed_nmi (processor m to) key u (l.each to).nmi)
       (λ l. subst (λ ks. list_all (knows image m) ks ≡ true) (sym s.3) (l.each to).queue)
 
   pub alike_kick : (m : Machine) (to : ℕ) (b : Bool) → is_used image (Irq 0xfb) ≡ true → Alike m (if b then with_mail m to (Irq 0xfb) else m)
@@ -252,6 +267,7 @@ module _ (image : Image) where
         bodies = subst (λ bs. AreLegal image (knows image m) (replace_last d bs)) (sym e) k;
         pending = (h.each p).pending;
         mail = (h.each p).mail;
+        nmi = (h.each p).nmi;
         queue = (h.each p).queue;
       })
 

@@ -1,7 +1,7 @@
 -- Sides of keys that must have a body have one.
 use Rattle.std.specs.Prelude.{◌≡◌, refl, ℕ, zero, suc, ◌+◌, ◌<◌, ◌≤◌, Bool, true, false, if◌then◌else◌, List, [], ◌∷◌, ◌++◌, Option, Some, None, find, map, flat_map, filter, is_none, is_some}
 use Rattle.std.specs.Option.{option_or}
-use Rattle.std.proofs.Common.{arith, sym, ◌∙◌, subst, ◌⊎◌, inl, inr}
+use Rattle.std.proofs.Common.{arith, ap, sym, ◌∙◌, subst, ◌⊎◌, inl, inr}
 use Rattle.std.proofs.lemmas.Bool.{or_cases}
 use Rattle.std.proofs.lemmas.List.Folds.{find-append}
 use Rattle.ev_body.specs.declared.key.Key.{Key}
@@ -16,7 +16,7 @@ use Rattle.ev_abstract.specs.Chain.{is_breakpoint, is_user_access}
 use Rattle.ev_abstract.specs.declared.refusal.Refusal.{Refusal}
 use Rattle.ev_abstract.specs.Rules.{both_sides, first_some, irq_keys, is_used, missing, missing_body, missing_refusal, required, rules, some_body_has}
 use Rattle.ev_law.specs.Legal.{IsInterrupt}
-use Rattle.ev_law.specs.Laws.{VectorsHaveBodies}
+use Rattle.ev_law.specs.Laws.{NmisHaveBodies, VectorsHaveBodies}
 use Rattle.ev_law.proofs.Runs.{runs_are_legal}
 
 -- ---- a search that finds nothing
@@ -27,6 +27,13 @@ module _ (test : Key × Side → Bool) where
     where
       by : (o : Option (Key × Side)) → option_or o (find test ys) ≡ None → find test ys ≡ None
       by None h = h
+      by (Some r) h = absurd (cc)
+
+  nothing_in_front : (xs ys : List (Key × Side)) → find test (xs ++ ys) ≡ None → find test xs ≡ None
+  nothing_in_front xs ys h = by (find test xs) (sym (find-append test xs ys) ∙ h)
+    where
+      by : (o : Option (Key × Side)) → option_or o (find test ys) ≡ None → o ≡ None
+      by None h = refl
       by (Some r) h = absurd (cc)
 
   nothing_first : (r : Key × Side) (rs : List (Key × Side)) → find test (r ∷ rs) ≡ None → (test r ≡ false) × (find test rs ≡ None)
@@ -112,3 +119,27 @@ vectors_have_bodies image script p v is accepted s h =
     let x = processor (run image script) p in
     let l = (runs_are_legal image script is accepted s).each p in
     interrupt_has_bodies image v accepted.1.kept (elim (or_cases (x.pending v) (x.mail v) h) [ inl a ↦ l.pending.each v a | inr a ↦ l.mail.each v a ])
+
+-- ---- an NMI
+
+-- the sides that come before those of NMIs
+abbrev before_nmi : Image → List (Key × Side)
+before_nmi image =
+    map (λ key. (key, User)) filled_keys
+    ++ (if some_body_has image is_breakpoint then (Bp, Kernel) ∷ [] else [])
+    ++ (if some_body_has image is_user_access then (Pf, Kernel) ∷ [] else [])
+
+nmi_has_bodies : (image : Image) → rules image ≡ None → is_used image Nmi ≡ true
+    → (is_some (first_body 0 image.bodies (key_number Nmi) User) ≡ true) × (is_some (first_body 0 image.bodies (key_number Nmi) Kernel) ≡ true)
+nmi_has_bodies image kept u =
+    let front : find (missing image) (before_interrupts image) ≡ None =
+    nothing_in_front (missing image) (before_interrupts image) (flat_map both_sides (filter (is_used image) (irq_keys 0x20 0xe0))) (found image kept) in
+    let nmi : find (missing image) (if is_used image Nmi then both_sides Nmi else []) ≡ None =
+    nothing_behind (missing image) (before_nmi image) (if is_used image Nmi then both_sides Nmi else []) front in
+    let both : find (missing image) (both_sides Nmi) ≡ None = sym (ap (λ t. find (missing image) (if t then both_sides Nmi else [])) u) ∙ nmi in
+    let a = nothing_first (missing image) (Nmi, User) ((Nmi, Kernel) ∷ []) both in
+    let b = nothing_first (missing image) (Nmi, Kernel) [] a.1 in
+    (is_there (first_body 0 image.bodies (key_number Nmi) User) a.0, is_there (first_body 0 image.bodies (key_number Nmi) Kernel) b.0)
+
+pub nmis_have_bodies : NmisHaveBodies
+nmis_have_bodies image script p is accepted s h = nmi_has_bodies image accepted.1.kept (((runs_are_legal image script is accepted s).each p).nmi h)

@@ -27,6 +27,7 @@ opening_is_legal image = record {
     bodies = tt;
     pending = record { each = λ v e. absurd (cc) };
     mail = record { each = λ v e. absurd (cc) };
+    nmi = λ e. absurd (cc);
     queue = refl;
   };
 }

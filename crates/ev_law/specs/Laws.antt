@@ -2,12 +2,12 @@
 use Rattle.std.specs.Prelude.{◌≡◌, ◌⊎◌, ℕ, ◌/◌, ◌≤◌, ◌<◌, Bool, true, false, ◌||◌, nat_lt, List, ◌∷◌, ◌++◌, length, Option, Some, None, is_some, slice_get}
 use Rattle.std.specs.List.{list_any, list_all}
 use Rattle.ev_isa.specs.declared.instruction.Cond.{Cond}
-use Rattle.ev_body.specs.declared.key.Key.TheVariants.{Irq, Bp, Pf}
+use Rattle.ev_body.specs.declared.key.Key.TheVariants.{Irq, Bp, Pf, Nmi}
 use Rattle.ev_body.specs.declared.item.Item.TheVariants.{Jcc}
 use Rattle.ev_body.specs.declared.body.Body.{Body}
 use Rattle.ev_body.specs.declared.image.Image.{Image}
 use Rattle.ev_body.specs.declared.key.Side.TheVariants.{User, Kernel}
-use Rattle.ev_body.specs.Bodies.{body_items, first_body}
+use Rattle.ev_body.specs.Bodies.{body_items, first_body, key_number}
 use Rattle.ev_body.specs.WellFormed.{IsImage}
 use Rattle.ev_abstract.specs.Context.{BodyContext}
 use Rattle.ev_abstract.specs.Machine.{Machine, processor, opening}
@@ -18,7 +18,7 @@ use Rattle.ev_abstract.specs.Rules.{if_at, in_function}
 use Rattle.ev_abstract.specs.Script.{is_line, IsScript}
 use Rattle.ev_abstract.specs.declared.script_line.Line.{Line}
 use Rattle.ev_abstract.specs.Run.{line_step, run}
-use Rattle.ev_law.specs.Legal.{Legal, numbers, read_at, runs_calls}
+use Rattle.ev_law.specs.Legal.{Legal, awaits_nmi, numbers, read_at, runs_calls}
 
 -- ---- the invariant
 
@@ -51,6 +51,13 @@ VectorsHaveBodies = (image : Image) (script : List Line) (p v : ℕ) → IsImage
     → ((processor (run image script) p).pending v || (processor (run image script) p).mail v) ≡ true
     → (is_some (first_body 0 image.bodies v User) ≡ true)
     × (is_some (first_body 0 image.bodies v Kernel) ≡ true)
+
+-- and so does an NMI that is latched or in the mail
+abbrev pub NmisHaveBodies : Type 0
+NmisHaveBodies = (image : Image) (script : List Line) (p : ℕ) → IsImage image → IsAccepted image
+    → IsScript image script → awaits_nmi (processor (run image script) p) ≡ true
+    → (is_some (first_body 0 image.bodies (key_number Nmi) User) ≡ true)
+    × (is_some (first_body 0 image.bodies (key_number Nmi) Kernel) ≡ true)
 
 -- ---- what follows of each context
 

@@ -5,7 +5,7 @@ use Rattle.std.specs.List.{list_any, list_all}
 use Rattle.ev_isa.specs.Word.{NatSet}
 use Rattle.ev_isa.specs.Flags.{Status}
 use Rattle.ev_body.specs.declared.key.Key.{Key}
-use Rattle.ev_body.specs.declared.key.Key.TheVariants.{Irq}
+use Rattle.ev_body.specs.declared.key.Key.TheVariants.{Irq, Nmi}
 use Rattle.ev_body.specs.declared.item.Item.{Item}
 use Rattle.ev_body.specs.declared.item.Item.TheVariants.{Jcc}
 use Rattle.ev_body.specs.declared.body.Part.{Part}
@@ -103,11 +103,16 @@ pub record IsInterrupt (image : Image) (v : ℕ) : Type 0 where
 pub record AreVectors (image : Image) (s : NatSet) : Type 0 where
   pub each : (v : ℕ) → s v ≡ true → IsInterrupt image v
 
--- a processor's bodies are legal, its vectors interrupts', and its queued calls known
+-- whether an NMI is latched or in the mail
+abbrev pub awaits_nmi : Processor → Bool
+awaits_nmi x = x.nmi || x.mail_nmi
+
+-- a processor's bodies are legal, its vectors interrupts', its NMIs used, and its queued calls known
 pub record IsLegalProcessor (image : Image) (known : CallId → Bool) (x : Processor) : Type 0 where
   pub bodies : AreLegal image known x.bodies
   pub pending : AreVectors image x.pending
   pub mail : AreVectors image x.mail
+  pub nmi : awaits_nmi x ≡ true → is_used image Nmi ≡ true
   pub queue : list_all known x.queue ≡ true
 
 -- whether the body has the function
