@@ -77,9 +77,15 @@ unfolding is_nmi
 from_nmi Nmi h = refl
 from_nmi _ h = absurd (cc)
 
--- an event that is no interrupt
+-- the numbers of the keys whose user side every image has
+abbrev pub user_numbers : List ℕ
+user_numbers = 0x100 ∷ 1 ∷ 3 ∷ 6 ∷ 12 ∷ 13 ∷ 14 ∷ 17 ∷ []
+
+-- an event that is no interrupt, of one of these keys
 unfoldable pub is_fault : Event → Bool
-is_fault e = is_none (service_of e.kind e.vector) && (nat_lt (event_key e.kind e.vector) 32 || (event_key e.kind e.vector == 0x100))
+is_fault e =
+    is_none (service_of e.kind e.vector) && (nat_lt (event_key e.kind e.vector) 32 || (event_key e.kind e.vector == 0x100))
+    && list_any (λ n. n == event_key e.kind e.vector) user_numbers
 
 fault_class : (k : Key) (n : ℕ) → is_key k ≡ true → key_number k ≡ n → (nat_lt n 32 || (n == 0x100)) ≡ true → class_of k ≡ None
 unfolding key_number class_of
@@ -357,10 +363,13 @@ module _ (image : Image) (known : CallId → Bool) (ruled : (n : ℕ) (b : Body)
 
   pub fault_can_come : (e : Event) → is_fault e ≡ true → CanCome image [] e
   unfolding is_fault
-  fault_can_come e h = let p = and_parts (is_none (service_of e.kind e.vector)) _ h in record {
-    serves = λ n b q k. none (service_of e.kind e.vector) p.0 ∙ sym (fault_class b.key _ (key_of n b q) k p.1);
-    over = λ n b q k side. over_task b side;
-  }
+  fault_can_come e h =
+      let front = and_parts (is_none (service_of e.kind e.vector) && (nat_lt (event_key e.kind e.vector) 32 || (event_key e.kind e.vector == 0x100)))
+      (list_any (λ n. n == event_key e.kind e.vector) user_numbers) h in
+      let p = and_parts (is_none (service_of e.kind e.vector)) _ front.0 in record {
+        serves = λ n b q k. none (service_of e.kind e.vector) p.0 ∙ sym (fault_class b.key _ (key_of n b q) k p.1);
+        over = λ n b q k side. over_task b side;
+      }
     where
       none : (o : Option ℕ) → is_none o ≡ true → o ≡ None
       none None h = refl

@@ -1,9 +1,11 @@
 -- Sides of keys that must have a body have one.
-use Rattle.std.specs.Prelude.{◌≡◌, refl, ℕ, zero, suc, ◌+◌, ◌<◌, ◌≤◌, Bool, true, false, if◌then◌else◌, List, [], ◌∷◌, ◌++◌, Option, Some, None, find, map, flat_map, filter, is_none, is_some}
+use Rattle.std.specs.Prelude.{◌≡◌, refl, ℕ, zero, suc, ◌+◌, ◌<◌, ◌≤◌, Bool, true, false, if◌then◌else◌, List, [], ◌∷◌, ◌++◌, Option, Some, None, find, map, flat_map, filter, is_none, is_some, ◌==◌, ◌&&◌, ◌||◌, nat_lt}
 use Rattle.std.specs.Option.{option_or}
 use Rattle.std.proofs.Common.{arith, ap, sym, ◌∙◌, subst, ◌⊎◌, inl, inr}
-use Rattle.std.proofs.lemmas.Bool.{or_cases}
+use Rattle.std.specs.List.{list_any}
+use Rattle.std.proofs.lemmas.Bool.{or_cases, and_parts, eqb-true}
 use Rattle.std.proofs.lemmas.List.Folds.{find-append}
+use Rattle.ev_event.specs.declared.event.Event.{Event}
 use Rattle.ev_body.specs.declared.key.Key.{Key}
 use Rattle.ev_body.specs.declared.key.Key.TheVariants.{Nmi, Bp, Pf, Irq}
 use Rattle.ev_body.specs.declared.key.Side.{Side}
@@ -12,11 +14,15 @@ use Rattle.ev_body.specs.declared.image.Image.{Image}
 use Rattle.ev_body.specs.Bodies.{key_number, first_body, filled_keys}
 use Rattle.ev_abstract.specs.Machine.{processor}
 use Rattle.ev_abstract.specs.Run.{run}
-use Rattle.ev_abstract.specs.Chain.{is_breakpoint, is_user_access}
+use Rattle.ev_abstract.specs.Chain.{has_item, is_breakpoint, is_user_access}
+use Rattle.ev_abstract.specs.Delivery.{event_key, service_of}
 use Rattle.ev_abstract.specs.declared.refusal.Refusal.{Refusal}
 use Rattle.ev_abstract.specs.Rules.{both_sides, first_some, irq_keys, is_used, missing, missing_body, missing_refusal, required, rules, some_body_has}
 use Rattle.ev_law.specs.Legal.{IsInterrupt}
-use Rattle.ev_law.specs.Laws.{NmisHaveBodies, VectorsHaveBodies}
+use Rattle.ev_law.specs.Laws.{BodyFaultsHaveBodies, NmisHaveBodies, UserEventsHaveBodies, VectorsHaveBodies, has_body_for}
+use Rattle.ev_law.proofs.Delivery.{is_fault, user_numbers}
+use Rattle.ev_law.proofs.Lists.{any_at}
+use Rattle.ev_law.proofs.UserFaults.{RaisesFaults, user_step_faults}
 use Rattle.ev_law.proofs.Runs.{runs_are_legal}
 
 -- ---- a search that finds nothing
@@ -143,3 +149,64 @@ nmi_has_bodies image kept u =
 
 pub nmis_have_bodies : NmisHaveBodies
 nmis_have_bodies image script p is accepted s h = nmi_has_bodies image accepted.1.kept (((runs_are_legal image script is accepted s).each p).nmi h)
+
+-- ---- faults
+
+-- the sides that come before that of page faults in bodies
+abbrev before_access : Image → List (Key × Side)
+before_access image =
+    map (λ key. (key, User)) filled_keys
+    ++ (if some_body_has image is_breakpoint then (Bp, Kernel) ∷ [] else [])
+
+no_nmi_missing : (image : Image) → rules image ≡ None → find (missing image) (before_nmi image) ≡ None
+no_nmi_missing image kept =
+    nothing_in_front (missing image) (before_nmi image) (if is_used image Nmi then both_sides Nmi else [])
+    (nothing_in_front (missing image) (before_interrupts image) (flat_map both_sides (filter (is_used image) (irq_keys 0x20 0xe0))) (found image kept))
+
+-- a side that is wanted where a test holds
+wanted_side : (image : Image) (t : Bool) (key : Key) → t ≡ true → find (missing image) (if t then (key, Kernel) ∷ [] else []) ≡ None
+    → is_some (first_body 0 image.bodies (key_number key) Kernel) ≡ true
+wanted_side image true key h e = is_there (first_body 0 image.bodies (key_number key) Kernel) (nothing_first (missing image) (key, Kernel) [] e).0
+wanted_side image false key h e = absurd (cc)
+
+pub body_faults_have_bodies : BodyFaultsHaveBodies
+body_faults_have_bodies image n b is accepted f = (
+  λ h. wanted_side image (some_body_has image is_breakpoint) Bp (any_at (has_item is_breakpoint) image.bodies n b f h)
+      (nothing_behind (missing image) (map (λ key. (key, User)) filled_keys) (if some_body_has image is_breakpoint then (Bp, Kernel) ∷ [] else [])
+      (nothing_in_front (missing image) (before_access image) (if some_body_has image is_user_access then (Pf, Kernel) ∷ [] else [])
+      (no_nmi_missing image accepted.1.kept))),
+  λ h. wanted_side image (some_body_has image is_user_access) Pf (any_at (has_item is_user_access) image.bodies n b f h)
+      (nothing_behind (missing image) (before_access image) (if some_body_has image is_user_access then (Pf, Kernel) ∷ [] else [])
+      (no_nmi_missing image accepted.1.kept)),
+)
+
+-- the user side of a key by its number
+user_there : (image : Image) (keys : List Key) (n : ℕ) → find (missing image) (map (λ key. (key, User)) keys) ≡ None
+    → list_any (λ k. k == n) (map key_number keys) ≡ true → is_some (first_body 0 image.bodies n User) ≡ true
+user_there image [] n e h = absurd (cc)
+user_there image (key ∷ keys) n e h =
+    let p = nothing_first (missing image) (key, User) (map (λ k. (k, User)) keys) e in
+    elim (or_cases (key_number key == n) (list_any (λ k. k == n) (map key_number keys)) h) [
+      | inl a ↦ subst (λ k. is_some (first_body 0 image.bodies k User) ≡ true) (eqb-true (key_number key) n a)
+          (is_there (first_body 0 image.bodies (key_number key) User) p.0)
+      | inr later ↦ user_there image keys n p.1 later
+    ]
+
+numbers_are : map key_number filled_keys ≡ user_numbers
+unfolding key_number
+numbers_are = refl
+
+fault_has_body : (image : Image) (e : Event) → rules image ≡ None → is_fault e ≡ true → has_body_for image User e ≡ true
+unfolding is_fault
+fault_has_body image e kept h =
+    let front = and_parts (is_none (service_of e.kind e.vector) && (nat_lt (event_key e.kind e.vector) 32 || (event_key e.kind e.vector == 0x100)))
+    (list_any (λ n. n == event_key e.kind e.vector) user_numbers) h in
+    user_there image filled_keys (event_key e.kind e.vector)
+    (nothing_in_front (missing image) (map (λ key. (key, User)) filled_keys) (if some_body_has image is_breakpoint then (Bp, Kernel) ∷ [] else [])
+    (nothing_in_front (missing image) (before_access image) (if some_body_has image is_user_access then (Pf, Kernel) ∷ [] else [])
+    (no_nmi_missing image kept)))
+    (ap (list_any (λ n. n == event_key e.kind e.vector)) numbers_are ∙ front.1)
+
+pub user_events_have_bodies : UserEventsHaveBodies
+user_events_have_bodies image memory t saved e is accepted h =
+    fault_has_body image e accepted.1.kept (subst RaisesFaults h (user_step_faults memory t))

@@ -6,13 +6,19 @@ use Rattle.ev_body.specs.declared.key.Key.TheVariants.{Irq, Bp, Pf, Nmi}
 use Rattle.ev_body.specs.declared.item.Item.TheVariants.{Jcc}
 use Rattle.ev_body.specs.declared.body.Body.{Body}
 use Rattle.ev_body.specs.declared.image.Image.{Image}
+use Rattle.ev_event.specs.declared.event.Event.{Event}
+use Rattle.ev_effect.specs.Task.{Task}
+use Rattle.ev_body.specs.declared.key.Side.{Side}
 use Rattle.ev_body.specs.declared.key.Side.TheVariants.{User, Kernel}
 use Rattle.ev_body.specs.Bodies.{body_items, first_body, key_number}
 use Rattle.ev_body.specs.WellFormed.{IsImage}
 use Rattle.ev_abstract.specs.Context.{BodyContext}
 use Rattle.ev_abstract.specs.Machine.{Machine, processor, opening}
 use Rattle.ev_abstract.specs.Accepted.{IsAccepted}
-use Rattle.ev_abstract.specs.Chain.{is_nmi, bodies_of}
+use Rattle.ev_abstract.specs.Chain.{is_nmi, bodies_of, has_item, is_breakpoint, is_user_access}
+use Rattle.ev_abstract.specs.Delivery.{event_key}
+use Rattle.ev_isa.specs.Pages.{UserMemory}
+use Rattle.ev_abstract.specs.UserCode.{Raises, user_step}
 use Rattle.ev_abstract.specs.Claims.{standing_bodies}
 use Rattle.ev_abstract.specs.Rules.{if_at, in_function}
 use Rattle.ev_abstract.specs.Script.{is_line, IsScript}
@@ -58,6 +64,24 @@ NmisHaveBodies = (image : Image) (script : List Line) (p : ℕ) → IsImage imag
     → IsScript image script → awaits_nmi (processor (run image script) p) ≡ true
     → (is_some (first_body 0 image.bodies (key_number Nmi) User) ≡ true)
     × (is_some (first_body 0 image.bodies (key_number Nmi) Kernel) ≡ true)
+
+-- ---- what follows of faults
+
+-- whether some body runs on the event from the side
+abbrev pub has_body_for : Image → Side → Event → Bool
+has_body_for image side e = is_some (first_body 0 image.bodies (event_key e.kind e.vector) side)
+
+-- what user code raises has a body
+abbrev pub UserEventsHaveBodies : Type 0
+UserEventsHaveBodies = (image : Image) (memory : UserMemory) (t : Task) (saved : ℕ) (e : Event)
+    → IsImage image → IsAccepted image → user_step memory t ≡ Raises saved e → has_body_for image User e ≡ true
+
+-- and so has what an item of a body raises: a breakpoint, or a page fault
+abbrev pub BodyFaultsHaveBodies : Type 0
+BodyFaultsHaveBodies = (image : Image) (n : ℕ) (b : Body) → IsImage image → IsAccepted image
+    → slice_get image.bodies n ≡ Some b
+    → (has_item is_breakpoint b ≡ true → is_some (first_body 0 image.bodies (key_number Bp) Kernel) ≡ true)
+    × (has_item is_user_access b ≡ true → is_some (first_body 0 image.bodies (key_number Pf) Kernel) ≡ true)
 
 -- ---- what follows of each context
 
