@@ -65,7 +65,7 @@ ground_over fred text forms facts = record {
 }
 
 -- a block over this
-abbrev pub over : (g : Ground) → List Line → SS → ℕ → Block
+abbrev pub over : (ground : Ground) → List Line → SS → ℕ → Block
 over g lines opening steps = record { ground = g; lines = lines; opening = opening; steps = steps }
 
 -- ---- words
