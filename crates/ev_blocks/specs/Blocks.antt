@@ -19,6 +19,7 @@ pub data Spot : Type 0 where
   InNmi : NmiSpot → Spot
   InBody : Layout → BodySpot → Spot
 
+-- the block of a spot; a body's has the mode's setting
 abbrev pub block : Mode → Spot → Block
 block mode (InFred s) = fred_block s
 block mode (InIdt s) = idt_block s
@@ -26,6 +27,7 @@ block mode (InNmi s) = nmi_block s
 block Fred (InBody layout s) = body_block true layout s
 block Idt (InBody layout s) = body_block false layout s
 
+-- the forms of its windows
 abbrev pub forms : Spot → Forms
 forms (InFred s) = fred_forms s
 forms (InIdt s) = idt_forms s
@@ -38,6 +40,7 @@ switches (InFred (fred.Leaves FredToNext)) = true
 switches (InIdt (idt.Leaves (IdtToNext r))) = true
 switches s = false
 
+-- whether it knows the return frame
 abbrev pub holds : Spot → Bool
 holds (InNmi (Choosing c g)) = is_first c
 holds (InNmi (Repeats g)) = true
@@ -70,16 +73,19 @@ abbrev pub behind_choice : Bool → ℕ
 behind_choice true = item_edges + 23
 behind_choice false = 1
 
+-- behind the other blocks of the NMI code
 abbrev pub behind_nmi : NmiSpot → ℕ
 behind_nmi (Choosing c g) = behind_choice (is_first c)
 behind_nmi (Begins b) = item_edges + 2
 behind_nmi s = 0
 
+-- behind FRED's blocks
 abbrev pub behind_fred : FredSpot → ℕ
 behind_fred (FromUser w) = item_edges + 2
 behind_fred FromKernel = item_edges + 2
 behind_fred s = 0
 
+-- behind any
 abbrev pub behind : Spot → ℕ
 behind (InFred s) = behind_fred s
 behind (InIdt s) = behind_idt s
@@ -94,6 +100,7 @@ edges mode spot k = ((block mode spot).steps - k) + behind spot
 abbrev pub edges_behind : Mode → Spot → ℕ
 edges_behind mode spot = edges mode spot (block mode spot).steps
 
+-- at the beginning of its block
 abbrev pub edges_from : Mode → Spot → ℕ
 edges_from mode spot = edges mode spot 0
 
@@ -118,5 +125,6 @@ pub record EdgesFall (mode : Mode) : Type 0 where
   pub idt_exit : (layout : Layout) (x : IdtExit) → edges_from mode (InIdt (idt.Leaves x)) < edges_from mode (InBody layout AtItem)
   pub nmi_exit : (layout : Layout) (x : NmiExit) → edges_from mode (InNmi (nmi.Leaves x)) < edges_from mode (InBody layout AtItem)
 
+-- in both modes
 abbrev pub AllEdgesFall : Type 0
 AllEdgesFall = (mode : Mode) → EdgesFall mode

@@ -30,11 +30,13 @@ table_load FredFrame = 0xffffffff810002b6
 table_load IdtFrame = 0xffffffff810031b4
 table_load NmiFrame = 0xffffffff81004aa0
 
+-- the jump behind it
 abbrev pub body_jump : Layout → ℕ
 body_jump FredFrame = 0xffffffff810002bd
 body_jump IdtFrame = 0xffffffff810031bb
 body_jump NmiFrame = 0xffffffff81004aa7
 
+-- a body's windows
 abbrev pub forms_of : Layout → Forms
 forms_of layout = private (body_forms layout)
 
@@ -57,13 +59,16 @@ abbrev pub page_code : List Ins
 page_code =
     MovImm 1 0x10000000 ∷ Alu Sub 0 1 ∷ Shr 0 12 ∷ AluImm Cmp 0 (pos 256) ∷ Jcc C (pos 10) ∷ MovImm 0 256 ∷ Shl 0 3 ∷ MovImm 1 page_map ∷ Alu Add 0 1 ∷ []
 
+-- the number of the page of the address in RAX
 abbrev pub page_number : V
 page_number = B OShr (B OSub (X 0) (K 0x10000000)) (K 12)
 
+-- whether it is a page of the map
 abbrev pub is_page_fact : Bool → Fact
 is_page_fact true = says (B OLess page_number (K 256)) 1
 is_page_fact false = says (B OLess page_number (K 256)) 0
 
+-- a page's path skips one instruction
 abbrev pub page_steps : Bool → ℕ
 page_steps true = 8
 page_steps false = 9
@@ -72,6 +77,7 @@ page_steps false = 9
 abbrev pub masked : V
 masked = B OAnd (X 0) (K 0x7ffffffffff8)
 
+-- the address of the page's word
 abbrev pub page_word : Bool → V
 page_word true = B OAdd (B OShl page_number (K 3)) (K page_map)
 page_word false = K (page_map + 0x800)
@@ -84,15 +90,19 @@ numbers_code rcx rax rdx = MovImm 1 rcx ∷ MovImm 0 rax ∷ MovImm 2 rdx ∷ []
 abbrev pub behind_move : ℕ
 behind_move = 3
 
+-- `sti`
 abbrev pub behind_sti : ℕ
 behind_sti = 1
 
+-- the comparison of `kick` and its branch
 abbrev pub behind_branch : ℕ
 behind_branch = 13
 
+-- what `kick` sends with
 abbrev pub behind_kick : ℕ
 behind_kick = 45
 
+-- the block of each spot, in a mode and a layout
 abbrev pub body_block : Bool → Layout → BodySpot → Block
 body_block fred layout AtTable = at_code fred layout (table_load layout)
 body_block fred layout AtJump = at_code fred layout (body_jump layout)

@@ -10,15 +10,19 @@ use Rattle.ev_distances.specs.Form.{Form, OnStack, Stretch}
 use Rattle.ev_blocks.specs.Shapes.{Origin, UserCode, KernelCode, ring, NmiFrame, Forms, private, body_forms, kernel_text, ground_over, over, from_top, interrupted, body_words, found_registers, same_saved, frame_of, values}
 use Rattle.ev_blocks.specs.Idt.{idt_places, nmi_listing, repeat_listing, nbody_listing, exitn_listing, nlast_listing}
 
+-- the lines of the choice
 unfoldable pub nmi_lines : List Line
 nmi_lines = lines_in idt_places (nmi_listing ∷ [])
 
+-- those of REPEAT
 unfoldable pub repeat_lines : List Line
 repeat_lines = lines_in idt_places (repeat_listing ∷ [])
 
+-- those of NBODY
 unfoldable pub nbody_lines : List Line
 nbody_lines = lines_in idt_places (nbody_listing ∷ [])
 
+-- those of EXITN and NLAST
 unfoldable pub exitn_lines : List Line
 exitn_lines = lines_in idt_places (exitn_listing ∷ nlast_listing ∷ [])
 
@@ -39,12 +43,14 @@ pub data BodyBegin : Type 0 where
 pub data NmiExit : Type 0 where
   Exchanging Staying : NmiExit
 
+-- The choice, REPEAT, NBODY, and the exit.
 pub data NmiSpot : Type 0 where
   Choosing : Choice → GsBase → NmiSpot
   Repeats : GsBase → NmiSpot
   Begins : BodyBegin → NmiSpot
   Leaves : NmiExit → NmiSpot
 
+-- an opening with this base in GS
 abbrev pub with_gs : GsBase → ℕ → V → List Word → SS
 with_gs TaskGs a rsp words = opens_in_user_gs a rsp words
 with_gs KernelGs a rsp words = opens a rsp words
@@ -56,15 +62,19 @@ with_gs KernelGs a rsp words = opens a rsp words
 abbrev pub first_forms : Forms
 first_forms = private (OnStack 0x118 ∷ [])
 
+-- an inner NMI's frame with the two words below it
 abbrev pub inner_frame : Form
 inner_frame = Stretch 0x38 0x38
 
+-- the words that the last return reads
 abbrev pub return_frame : Form
 return_frame = Stretch 0x90 0x28
 
+-- the word that tells whether a body runs
 abbrev pub running_word : Form
 running_word = Stretch 0x40 8
 
+-- the windows of each choice
 abbrev pub choice_forms : Choice → Forms
 choice_forms FirstFromTask = first_forms
 choice_forms FirstLow = first_forms
@@ -72,6 +82,7 @@ choice_forms FirstHigh = first_forms
 choice_forms InnerInRepeat = private (inner_frame ∷ [])
 choice_forms c = record { known = inner_frame ∷ return_frame ∷ running_word ∷ []; own = inner_frame ∷ return_frame ∷ [] }
 
+-- what holds on each
 abbrev pub choice_facts : Choice → List Fact
 choice_facts FirstFromTask = says_ring 3 ∷ []
 choice_facts FirstLow = says_ring 0 ∷ says_below frame_rip repeat_entry 1 ∷ says_same frame_rip (nlast_entry + 12) 0 ∷ says_same running 1 0 ∷ []
@@ -86,6 +97,7 @@ choice_facts InnerAtLast =
     says_ring 0 ∷ says_below frame_rip repeat_entry 0 ∷ says_below frame_rip nbody_entry 0 ∷ says_same frame_rip (nlast_entry + 12) 1 ∷ []
 choice_facts InnerInRepeat = says_ring 0 ∷ says_below frame_rip repeat_entry 0 ∷ says_below frame_rip nbody_entry 1 ∷ []
 
+-- its length
 abbrev pub choice_steps : Choice → ℕ
 choice_steps FirstFromTask = 44
 choice_steps FirstLow = 54
@@ -95,16 +107,19 @@ choice_steps InnerHigh = 28
 choice_steps InnerAtLast = 25
 choice_steps InnerInRepeat = 14
 
+-- whether it reads that word
 abbrev pub reads_running : Choice → Bool
 reads_running FirstFromTask = false
 reads_running InnerAtLast = false
 reads_running InnerInRepeat = false
 reads_running c = true
 
+-- the word, where it is read
 abbrev pub running_if : Bool → List Word
 running_if true = from_top 0x40 (running ∷ [])
 running_if false = []
 
+-- whether the NMI is a first one
 abbrev pub is_first : Choice → Bool
 is_first FirstFromTask = true
 is_first FirstLow = true
@@ -116,6 +131,7 @@ abbrev pub told_if : Bool → Option V
 told_if true = Some fault_address
 told_if false = None
 
+-- a choice, from the delivery on
 abbrev pub choosing : Choice → GsBase → Block
 choosing c g =
     over (ground_over false kernel_text (choice_forms c) (choice_facts c)) nmi_lines
@@ -124,9 +140,11 @@ choosing c g =
 
 -- ---- REPEAT, up to its jump; an inner NMI may come, and writes the 38H bytes below the top
 
+-- all but the 38H bytes below the top
 abbrev pub repeat_forms : Forms
 repeat_forms = private (Stretch 0x118 0xe0 ∷ [])
 
+-- REPEAT, with RSP at the return frame
 abbrev pub repeats : GsBase → Block
 repeats g =
     over (ground_over false kernel_text repeat_forms []) repeat_lines
@@ -134,6 +152,7 @@ repeats g =
 
 -- ---- NBODY, up to the load of the body's address
 
+-- what a body of an NMI leaves to inner ones is none of its windows
 abbrev pub span_forms : Forms
 span_forms = private (body_forms NmiFrame)
 
@@ -141,20 +160,24 @@ span_forms = private (body_forms NmiFrame)
 abbrev pub top_bit : V → V
 top_bit gs = B OShr (B OShr gs (K 32)) (K 31)
 
+-- what holds at each beginning
 abbrev pub begin_facts : BodyBegin → List Fact
 begin_facts FromTask = says_ring 3 ∷ says (top_bit other_gs) 0 ∷ []
 begin_facts FromKernel = says_ring 0 ∷ says (top_bit (P gs_tag 0)) 1 ∷ []
 begin_facts FromKernelInTaskGs = says_ring 0 ∷ says (top_bit other_gs) 0 ∷ []
 
+-- the base in GS there
 abbrev pub begin_gs : BodyBegin → GsBase
 begin_gs FromKernel = KernelGs
 begin_gs b = TaskGs
 
+-- its length
 abbrev pub begin_steps : BodyBegin → ℕ
 begin_steps FromTask = 21
 begin_steps FromKernel = 19
 begin_steps FromKernelInTaskGs = 20
 
+-- NBODY
 abbrev pub begins : BodyBegin → Block
 begins b =
     over (ground_over false kernel_text span_forms (begin_facts b)) nbody_lines
@@ -166,6 +189,7 @@ begin_of FirstFromTask g = FromTask
 begin_of c TaskGs = FromKernelInTaskGs
 begin_of c KernelGs = FromKernel
 
+-- the frame's variables as they are
 abbrev pub frame_now : List V
 frame_now = frame_of error frame_rip frame_cs frame_flags frame_rsp frame_ss information key running
 
@@ -180,14 +204,17 @@ abbrev pub was_kernel : BodyBegin → ℕ
 was_kernel FromKernel = 1
 was_kernel b = 0
 
+-- what the NMI interrupted
 abbrev pub begin_origin : BodyBegin → Origin
 begin_origin FromTask = UserCode
 begin_origin b = KernelCode
 
+-- the table of bodies
 abbrev pub begin_table : BodyBegin → ℕ
 begin_table FromTask = user_table
 begin_table b = kernel_table
 
+-- the variables of the next block
 abbrev pub begin_values : BodyBegin → List V
 begin_values b =
     values
@@ -197,26 +224,31 @@ begin_values b =
 
 -- ---- the exit, up to the return: R15 tells whether the bases are exchanged, and R14 is CR2
 
+-- what R15 tells
 abbrev pub exit_facts : NmiExit → List Fact
 exit_facts Exchanging = says_same (X 15) 0 1 ∷ []
 exit_facts Staying = says_same (X 15) 0 0 ∷ []
 
+-- the exchange is one instruction
 abbrev pub exit_steps : NmiExit → ℕ
 exit_steps Exchanging = 22
 exit_steps Staying = 21
 
+-- the exit
 abbrev pub leaves : NmiExit → Block
 leaves x =
     over (ground_over false kernel_text span_forms (exit_facts x)) exitn_lines (opens exitn_entry (top_less 0x118) (body_words NmiFrame)) (exit_steps x)
 
 -- ---- each spot
 
+-- the windows of each spot
 abbrev pub nmi_forms : NmiSpot → Forms
 nmi_forms (Choosing c g) = choice_forms c
 nmi_forms (Repeats g) = repeat_forms
 nmi_forms (Begins b) = span_forms
 nmi_forms (Leaves x) = span_forms
 
+-- the block of each spot
 abbrev pub nmi_block : NmiSpot → Block
 nmi_block (Choosing c g) = choosing c g
 nmi_block (Repeats g) = repeats g

@@ -28,6 +28,7 @@ pub record Forms : Type 0 where
   pub known : List Form
   pub own : List Form
 
+-- windows that a block knows and writes
 abbrev pub private : List Form → Forms
 private fs = record { known = fs; own = fs }
 
@@ -50,6 +51,7 @@ kernel_text = win_at absolute_tag fred_page (code_end - fred_page) ∷ []
 abbrev pub item_text : List Win
 item_text = win_at item_tag 0 0x100 ∷ []
 
+-- a ground over these windows, which loads no descriptor and sets no RSP
 abbrev pub ground_over : Bool → List Win → Forms → List Fact → Ground
 ground_over fred text forms facts = record {
   known = wins_of forms.known;
@@ -63,7 +65,7 @@ ground_over fred text forms facts = record {
 }
 
 -- a block over this
-abbrev pub over : (g : Ground) → List Line → SS → ℕ → Block
+abbrev pub over : (ground : Ground) → List Line → SS → ℕ → Block
 over g lines opening steps = record { ground = g; lines = lines; opening = opening; steps = steps }
 
 -- ---- words
@@ -88,6 +90,7 @@ interrupted = frame_rip ∷ frame_cs ∷ frame_flags ∷ frame_rsp ∷ frame_ss 
 abbrev pub fred_frame : List V
 fred_frame = error ∷ interrupted ++ information ∷ frame_end ∷ []
 
+-- the saved area with the variables of its own
 abbrev pub saved_area : List V
 saved_area = area_of saved
 

@@ -1,10 +1,11 @@
 -- The delivery of any event through the IDT.
-use Rattle.std.proofs.Common.{◌≡◌, ℕ, ◌+◌, ◌-◌, ◌*◌, ◌%◌, ◌<◌, Bool, true, false, ◌&&◌, List, [], ◌∷◌, ◌++◌, get_or, set, drop, map, length, reverse, None, refl, sym, ap, ◌∙◌, arith}
+use Rattle.std.proofs.Common.{◌≡◌, ◌≢◌, ℕ, ◌+◌, ◌-◌, ◌*◌, ◌%◌, ◌<◌, Bool, true, false, ◌&&◌, List, [], ◌∷◌, ◌++◌, get_or, set, drop, map, length, reverse, None, refl, sym, ap, ◌∙◌, arith}
 use Rattle.std.specs.Prelude.{◌==◌, nat_lt, if◌then◌else◌}
 use Rattle.std.proofs.lemmas.Bool.{eqb-true}
 use Rattle.std.proofs.lemmas.List.{length-set}
 use Rattle.ev_isa.specs.Flags.{flags_word}
 use Rattle.ev_event.specs.declared.event.Event.{Event}
+use Rattle.ev_event.specs.declared.event.EventType.{EventType}
 use Rattle.ev_event.specs.Event.{gp, has_error_code, is_hardware, nmi_event}
 use Rattle.ev_effect.specs.Frame.{addresses, first_event}
 use Rattle.ev_gate.specs.declared.gate.Gate.{Gate}
@@ -26,7 +27,7 @@ use Rattle.ev_blocks.specs.Shapes.{Origin, UserCode, KernelCode, from_top, inter
 use Rattle.ev_blocks.specs.Idt.{Stub, Sys, pushed, pushed_bytes, idt_block}
 use Rattle.ev_blocks.specs.Nmi.{Choice, FirstFromTask, FirstLow, FirstHigh, InnerLow, InnerHigh, InnerAtLast, InnerInRepeat, GsBase, TaskGs, KernelGs, Choosing, nmi_block, reads_running, running_if}
 use Rattle.ev_deliver.specs.FredDelivers.{other_base, faulted}
-use Rattle.ev_deliver.specs.IdtDelivers.{origin_by, stub_of, frame_at, idt_handler, idt_words, IdtSite, StubSite, IdtDelivers, running_at, NmiSite, NmiDelivers, CallDelivers}
+use Rattle.ev_deliver.specs.IdtDelivers.{origin_by, stub_of, frame_at, idt_handler, idt_words, IdtSite, StubSite, IdtDelivers, IdtRefuses, running_at, NmiSite, NmiDelivers, CallDelivers}
 use Rattle.ev_deliver.proofs.FredDelivers.{listed_is, tabled, with_cr2_is}
 
 -- ---- the delivery through a gate
@@ -171,6 +172,26 @@ idt_delivers code c m e env s rest flags fit o =
       at = begins code (idt_block (stub_of c e)) env (idt_handler c e (frame_at env h)) (with_words m (idt_words env h m.words)) fit
           (agrees code c m e env s (is_user c) refl h rest flags fit o);
     }
+
+-- ---- a gate that is closed to the task
+
+not_three : (v : ℕ) → v ≢ 3 → (v == 3) ≡ false
+not_three v h = pick (v == 3) refl
+  where
+    pick : (b : Bool) → (v == 3) ≡ b → b ≡ false
+    pick true q = absurd (h (eqb-true v 3 q))
+    pick false q = refl
+
+pub idt_refuses : IdtRefuses
+unfolding idt_delivery
+idt_refuses c m e gate_is kind user other =
+    ap (λ (g : Gate). if is_gated e.kind && is_user c && nat_lt g.dpl 3 then met else through_gate (with_cr2 c e) m e g) gate_is
+    ∙ ap (λ (k : EventType). if is_gated k && is_user c && nat_lt (gate e.vector).dpl 3 then met else through_gate (with_cr2 c e) m e (gate e.vector)) kind
+    ∙ ap (λ (b : Bool). if b && nat_lt (gate e.vector).dpl 3 then met else through_gate (with_cr2 c e) m e (gate e.vector)) user
+    ∙ ap (λ (b : Bool). if nat_lt (if b then 3 else 0) 3 then met else through_gate (with_cr2 c e) m e (gate e.vector)) (not_three e.vector other)
+  where
+    met : Outcome
+    met = Met c (gp (8 * e.vector + 2))
 
 -- ---- an NMI
 

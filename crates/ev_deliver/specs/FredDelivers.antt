@@ -20,14 +20,17 @@ use Rattle.ev_blocks.specs.Fred.{FredWay, ByCall, ByInt3, ByIntN, ByOther, FredS
 
 -- ---- which block begins
 
+-- by the type, and of INT n by the vector
 abbrev pub way_by : EventType → ℕ → FredWay
 way_by Other v = ByCall
 way_by SoftInt v = if v == 3 then ByInt3 else ByIntN
 way_by kind v = ByOther
 
+-- that of an event
 abbrev pub way_of : Event → FredWay
 way_of e = way_by e.kind e.vector
 
+-- from a task or from the kernel
 abbrev pub entry_by : Bool → Event → FredSpot
 entry_by true e = FromUser (way_of e)
 entry_by false e = FromKernel
@@ -51,6 +54,7 @@ other_base false c = c.msrs.kernel_gs_base
 abbrev pub cr2_after : Event → ℕ → ℕ
 cr2_after e a = if is_hardware e.kind && (e.vector == 14) then e.info else a
 
+-- the processor with that CR2
 abbrev pub faulted : Processor → Event → Processor
 faulted c e = record c { cr2 = cr2_after e c.cr2 }
 
@@ -83,9 +87,11 @@ pub record FredSite (c : Processor) (e : Event) (env : Env) : Type 0 where
 abbrev pub frame_at : Env → ℕ
 frame_at env = (env.base top_tag + (M - 0x40)) % M
 
+-- the handler's processor
 abbrev pub fred_handler : Processor → Event → Env → Processor
 fred_handler c e env = in_fred_handler (faulted c e) e (new_level c e false) (frame_at env)
 
+-- the words with the frame
 abbrev pub fred_words : Env → NatMap ℕ → NatMap ℕ
 fred_words env words = placed words (frame_at env) (map (eval env) fred_frame)
 
@@ -99,6 +105,7 @@ pub record FredBegins (code : Code) (c : Processor) (m : Memory) (e : Event) (en
   pub went : fred_delivery c m e false ≡ Went (fred_handler c e env) (fred_words env m.words) (frame_at env)
   pub at : At code (fred_block (entry_of c e)) 0 env (fred_handler c e env) (with_words m (fred_words env m.words))
 
+-- so it is for every event, processor and memory
 abbrev pub FredDelivers : Type 0
 FredDelivers = (code : Code) (c : Processor) (m : Memory) (e : Event) (env : Env) → FredSite c e env
     → env.rest ≡ untracked (fred_handler c e env) → Fits code env (fred_block (entry_of c e))

@@ -44,6 +44,7 @@ EntriesContinue = (code : Code) (b next : Block) (z : SS) (θ : List V) (env : E
 
 -- ---- the jump of a vector's entry, to the code in common for a page fault or another event
 
+-- at the end of a vector's entry
 abbrev pub StubsGoOn : Type 0
 StubsGoOn =
     (code : Code) (o : Origin) (has_error : Bool) (v : ℕ) (page_fault : Bool) (env : Env) (c : Processor) (m : Memory) → v < 256
@@ -61,9 +62,11 @@ abbrev pub place_of : Layout → Processor → ℕ
 place_of NmiFrame c = displaced (register c 1) (pos 0x10)
 place_of layout c = displaced (register c 0) (pos 0)
 
+-- the environment where RAX is what was loaded
 abbrev pub with_rax : Env → ℕ → Env
 with_rax env t = record env { var = λ i. if i == 0 then t else env.var i }
 
+-- at the load
 abbrev pub TableLoads : Type 0
 TableLoads =
     (code : Code) (fred : Bool) (layout : Layout) (env : Env) (c : Processor) (m : Memory) (a t : ℕ) → TableCells code layout
@@ -73,9 +76,11 @@ TableLoads =
 
 -- ---- the jump to the body
 
+-- the environment where the item's base is its address
 abbrev pub with_item : Env → ℕ → Env
 with_item env a = record env { base = λ t. if t == item_tag then a else env.base t }
 
+-- at the jump
 abbrev pub BodyJumps : Type 0
 BodyJumps =
     (code : Code) (fred : Bool) (layout : Layout) (env : Env) (c : Processor) (m : Memory) → TableCells code layout

@@ -1,12 +1,13 @@
 -- The delivery of any event through the IDT: its frame, and the block that begins, with what its variables are. SDM volume 3, 6.12 to 6.14; SYSCALL, volume 2.
-use Rattle.std.specs.Prelude.{◌≡◌, ◌≢◌, ℕ, ◌+◌, ◌-◌, ◌%◌, ◌^◌, ◌<◌, Bool, true, false, ◌&&◌, ◌==◌, nat_lt, if◌then◌else◌, get_or, set, length, map}
+use Rattle.std.specs.Prelude.{◌≡◌, ◌≢◌, ℕ, ◌+◌, ◌-◌, ◌*◌, ◌%◌, ◌^◌, ◌<◌, Bool, true, false, ◌&&◌, ◌==◌, nat_lt, if◌then◌else◌, get_or, set, length, map}
 use Rattle.ev_isa.specs.Word.{NatMap}
 use Rattle.ev_isa.specs.Flags.{flags_word}
 use Rattle.ev_event.specs.declared.event.Event.{Event}
-use Rattle.ev_event.specs.Event.{has_error_code, is_hardware, nmi_event}
+use Rattle.ev_event.specs.declared.event.EventType.TheVariants.{SoftInt}
+use Rattle.ev_event.specs.Event.{gp, has_error_code, is_hardware, nmi_event}
 use Rattle.ev_effect.specs.Frame.{placed}
 use Rattle.ev_gate.specs.Gate.{gate_at}
-use Rattle.ev_state.specs.Outcome.{Went}
+use Rattle.ev_state.specs.Outcome.{Went, Met}
 use Rattle.ev_state.specs.Processor.{Processor, is_user}
 use Rattle.ev_mem.specs.Memory.{Memory}
 use Rattle.ev_idt.specs.IdtDelivery.{idt_delivery, in_handler, is_gated, new_rsp, syscall_idt}
@@ -41,9 +42,11 @@ stub_of c e = Stub (origin_by (is_user c)) (has_error_code e.vector) e.vector
 abbrev pub frame_at : Env → Bool → ℕ
 frame_at env has_error = (env.base top_tag + (M - pushed_bytes has_error)) % M
 
+-- the handler's processor
 abbrev pub idt_handler : Processor → Event → ℕ → Processor
 idt_handler c e frame = in_handler (faulted c e) (gate e.vector) e.kind frame
 
+-- the words with the frame
 abbrev pub idt_words : Env → Bool → NatMap ℕ → NatMap ℕ
 idt_words env has_error words = placed words (frame_at env has_error) (map (eval env) (pushed has_error))
 
@@ -75,11 +78,17 @@ pub record StubBegins (code : Code) (c : Processor) (m : Memory) (e : Event) (en
   pub at : At code (idt_block (stub_of c e)) 0 env (idt_handler c e (frame_at env (has_error_code e.vector)))
       (with_words m (idt_words env (has_error_code e.vector) m.words))
 
+-- so it is for every event of every vector but that of NMIs
 abbrev pub IdtDelivers : Type 0
 IdtDelivers = (code : Code) (c : Processor) (m : Memory) (e : Event) (env : Env) → StubSite c m e env
     → env.rest ≡ untracked (idt_handler c e (frame_at env (has_error_code e.vector)))
     → (idt_handler c e (frame_at env (has_error_code e.vector))).flags ≡ flags_word env.flags
     → Fits code env (idt_block (stub_of c e)) → Open env (idt_block (stub_of c e)).ground.known m.regions → StubBegins code c m e env
+
+-- INT n of a task through a gate that is closed to it: the general protection fault that is delivered in its place
+abbrev pub IdtRefuses : Type 0
+IdtRefuses = (c : Processor) (m : Memory) (e : Event) → gate_at m.words c.idt e.vector ≡ gate e.vector → e.kind ≡ SoftInt → is_user c ≡ true
+    → e.vector ≢ 3 → idt_delivery c m e ≡ Met c (gp (8 * e.vector + 2))
 
 -- ---- an NMI, on its own stack
 
@@ -87,27 +96,33 @@ IdtDelivers = (code : Code) (c : Processor) (m : Memory) (e : Event) (env : Env)
 abbrev pub nmi_variables : Processor → (base running : ℕ) → ℕ → ℕ
 nmi_variables c base running i = if i == 25 then running else (if i == 60 then base else idt_variables c nmi_event i)
 
+-- the base that isn't the kernel's, by which is in GS
 abbrev pub task_base : GsBase → Processor → ℕ
 task_base TaskGs c = c.msrs.gs_base
 task_base KernelGs c = c.msrs.kernel_gs_base
 
+-- and the kernel's
 abbrev pub kernel_base : GsBase → Processor → ℕ
 kernel_base TaskGs c = c.msrs.kernel_gs_base
 kernel_base KernelGs c = c.msrs.gs_base
 
+-- the address of the word that tells whether a body runs
 abbrev pub running_at : Env → ℕ
 running_at env = (env.base top_tag + (M - 0x40)) % M
 
+-- what the delivery of an NMI finds
 pub record NmiSite (c : Processor) (m : Memory) (g : GsBase) (env : Env) : Type 0 where
   pub site : IdtSite c m nmi_event env
   pub area : kernel_base g c ≡ env.base gs_tag
   pub area_small : env.base gs_tag < M
   pub var : env.var ≡ nmi_variables c (task_base g c) (m.words (running_at env))
 
+-- it goes on at the first instruction of the NMI code, whatever that will choose
 pub record NmiBegins (code : Code) (c : Processor) (m : Memory) (choice : Choice) (g : GsBase) (env : Env) : Type 0 where
   pub went : idt_delivery c m nmi_event ≡ Went (idt_handler c nmi_event (frame_at env false)) (idt_words env false m.words) (frame_at env false)
   pub at : At code (nmi_block (Choosing choice g)) 0 env (idt_handler c nmi_event (frame_at env false)) (with_words m (idt_words env false m.words))
 
+-- so it is for every choice and either base
 abbrev pub NmiDelivers : Type 0
 NmiDelivers = (code : Code) (c : Processor) (m : Memory) (choice : Choice) (g : GsBase) (env : Env) → NmiSite c m g env
     → env.rest ≡ untracked (idt_handler c nmi_event (frame_at env false))
@@ -117,6 +132,7 @@ NmiDelivers = (code : Code) (c : Processor) (m : Memory) (choice : Choice) (g : 
 
 -- ---- SYSCALL writes no word: RIP and RFLAGS go into RCX and R11
 
+-- the registers as SYSCALL leaves them, the task's GS base, the selector, and RSP of level 0
 abbrev pub call_variables : Processor → ℕ → ℕ
 call_variables c i =
     if i == 60 then c.msrs.gs_base else (if i == 61 then c.gs else (if i == 63 then get_or c.msrs.rsp 0 0
@@ -133,6 +149,7 @@ pub record CallSite (c : Processor) (m : Memory) (env : Env) : Type 0 where
   pub top_small : env.base top_tag < M
   pub var : env.var ≡ call_variables c
 
+-- it goes on at the first instruction of its entry
 abbrev pub CallDelivers : Type 0
 CallDelivers = (code : Code) (c : Processor) (m : Memory) (env : Env) → CallSite c m env → env.rest ≡ untracked (syscall_idt c)
     → (syscall_idt c).flags ≡ flags_word env.flags → Fits code env (idt_block Sys) → Open env (idt_block Sys).ground.known m.regions

@@ -2,4 +2,3 @@ pub mod FredDelivers
 pub mod IdtDelivers
 pub mod GoesOn
 pub mod Tops
-pub mod Facts

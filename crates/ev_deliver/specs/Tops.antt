@@ -29,13 +29,16 @@ abbrev pub IdtFromTask : Type 0
 IdtFromTask = (c : Processor) (words : NatMap ℕ) (v t : ℕ) → is_user c ≡ true → v ≢ 2 → v ≢ 8 → rsp0_at words c.tss ≡ t → t % 16 ≡ 0
     → new_rsp c words (gate v) ≡ t
 
+-- from a body
 abbrev pub IdtFromBody : Type 0
 IdtFromBody = (c : Processor) (words : NatMap ℕ) (v t : ℕ) → is_user c ≡ false → v ≢ 2 → v ≢ 8 → rsp c ≡ t - 0xb0 → t % 16 ≡ 0 → 0x100 ≤ t
     → new_rsp c words (gate v) ≡ t - 0xb0
 
+-- from a body of an NMI
 abbrev pub IdtFromNmiBody : Type 0
 IdtFromNmiBody = (c : Processor) (words : NatMap ℕ) (v t : ℕ) → is_user c ≡ false → v ≢ 2 → v ≢ 8 → rsp c ≡ t - 0x118 → t % 16 ≡ 0 → 0x120 ≤ t
     → new_rsp c words (gate v) ≡ t - 0x120
 
+-- of an NMI
 abbrev pub IdtOfNmi : Type 0
 IdtOfNmi = (c : Processor) (words : NatMap ℕ) (t : ℕ) → ist_at words c.tss 1 ≡ t → t % 16 ≡ 0 → new_rsp c words (gate 2) ≡ t

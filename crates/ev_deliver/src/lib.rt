@@ -2,10 +2,9 @@
 //! entry to the body's first item.
 #![tactic(auto)]
 
-ghost use Rattle.ev_deliver.specs.Facts.{FactsTell};
 ghost use Rattle.ev_deliver.specs.FredDelivers.{FredDelivers, FredFacts};
 ghost use Rattle.ev_deliver.specs.GoesOn.{EntriesContinue, StubsGoOn, TableLoads, BodyJumps};
-ghost use Rattle.ev_deliver.specs.IdtDelivers.{IdtDelivers, NmiDelivers, CallDelivers};
+ghost use Rattle.ev_deliver.specs.IdtDelivers.{IdtDelivers, IdtRefuses, NmiDelivers, CallDelivers};
 ghost use Rattle.ev_deliver.specs.Tops.{FredFromTask, FredFromBody, FredToLevel, IdtFromTask, IdtFromBody, IdtFromNmiBody, IdtOfNmi};
 
 /// Under FRED the delivery of any event, from a task or from the kernel, places its frame and goes
@@ -20,10 +19,12 @@ pub fn fred_events()
 {}
 
 /// Through the IDT the delivery of any event of any vector, from a task or from the kernel, goes
-/// on at the vector's entry; that of an NMI at the NMI code, whatever it chooses; and SYSCALL at
-/// its entry; and where their frames end. SDM volume 3, 6.12 to 6.14; volume 2, SYSCALL.
+/// on at the vector's entry, but for INT n of a task at a closed gate, which is #GP; that of an NMI
+/// at the NMI code, whatever it chooses; and SYSCALL at its entry; and where their frames end. SDM
+/// volume 3, 6.12 to 6.14; volume 2, SYSCALL.
 pub fn idt_events()
     ensures begins { IdtDelivers }
+    ensures refuses { IdtRefuses }
     ensures nmi { NmiDelivers }
     ensures call { CallDelivers }
     ensures from_task { IdtFromTask }
@@ -39,9 +40,4 @@ pub fn entries()
     ensures stubs { StubsGoOn }
     ensures loads { TableLoads }
     ensures jumps { BodyJumps }
-{}
-
-/// When the facts hold that say which way a path of the kernel's code goes. Own.
-pub fn facts_of_paths()
-    ensures tell { FactsTell }
 {}

@@ -37,17 +37,21 @@ abbrev pub OfTwoProcessors : Type 0
 OfTwoProcessors = (n : ℕ) (e e' : Env) (x y : Where) (fs gs : List Form) → Fitting n e x fs → Fitting n e' y gs → x.p ≢ y.p
     → Far e (wins_of fs) e' (wins_of gs)
 
+-- on two stacks, where the first may know the next task's too
 abbrev pub OnTwoStacks : Type 0
 OnTwoStacks = (n : ℕ) (e e' : Env) (x y : Where) (fs gs : List Form) → Fitting n e x fs → Fitting n e' y gs → x.stack ≢ y.stack → x.next ≢ y.stack
     → all_apart apart_on_two_stacks fs gs ≡ true → Far e (wins_of fs) e' (wins_of gs)
 
+-- all of a form of the first is in use above the second
 abbrev pub IsAbove : Where → Where → Form → Type 0
 IsAbove x y f = x.used + depth_of f ≤ y.used
 
+-- on one stack, the second below all of the first
 abbrev pub ByDepth : Type 0
 ByDepth = (n : ℕ) (e e' : Env) (x y : Where) (fs gs : List Form) → Fitting n e x fs → Fitting n e' y gs → Each (IsAbove x y) fs
     → all_apart apart_by_depth fs gs ≡ true → Far e (wins_of fs) e' (wins_of gs)
 
+-- at one place of a stack
 abbrev pub AtOneTop : Type 0
 AtOneTop = (n : ℕ) (e e' : Env) (x y : Where) (fs gs : List Form) → Fitting n e x fs → Fitting n e' y gs → x.used ≡ y.used
     → all_apart apart_at_one_top fs gs ≡ true → Far e (wins_of fs) e' (wins_of gs)

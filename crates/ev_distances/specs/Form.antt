@@ -19,6 +19,7 @@ pub data Form : Type 0 where
   OnNextStack : (bytes : ℕ) → Form
   InRecord : Form
 
+-- a call record has eight words
 abbrev pub record_bytes : ℕ
 record_bytes = 0x40
 
@@ -51,9 +52,11 @@ span_of x (OnNextTask n) = record { part = Tasks; p = x.p; n = x.next; lo = 0; l
 span_of x (OnNextStack n) = record { part = Stacks; p = x.p; n = x.next; lo = 0x4000 - n; len = n }
 span_of x InRecord = record { part = Areas; p = x.p; n = 0; lo = 0x800 + record_bytes * x.site; len = record_bytes }
 
+-- the windows of forms
 abbrev pub wins_of : List Form → List Win
 wins_of fs = map win_of fs
 
+-- their intervals
 abbrev pub spans_of : Where → List Form → List Span
 spans_of x fs = map (span_of x) fs
 
@@ -85,6 +88,7 @@ depth_of (OnStack n) = n
 depth_of (Stretch d n) = d
 depth_of f = 0
 
+-- whether a form has a size and alignment that it may have
 abbrev pub is_form : Form → Bool
 is_form (OnStack n) = not (n == 0) && (nat_le n 0x2000 && (n % 8 == 0))
 is_form (Stretch d n) = not (n == 0) && (nat_le n d && (nat_le d 0x2000 && ((n % 8 == 0) && (d % 8 == 0))))
@@ -94,6 +98,7 @@ is_form (OnNextTask n) = nat_le n 0x40
 is_form (OnNextStack n) = not (n == 0) && (nat_le n 0x2000 && (n % 8 == 0))
 is_form InRecord = true
 
+-- whether all have
 abbrev pub are_forms : List Form → Bool
 are_forms [] = true
 are_forms (f ∷ fs) = is_form f && are_forms fs
@@ -116,6 +121,7 @@ pub record Fitting (processors : ℕ) (e : Env) (x : Where) (fs : List Form) : T
 
 -- ---- closed tests of two forms
 
+-- how many bytes a form has
 abbrev pub bytes_of : Form → ℕ
 bytes_of (OnStack n) = n
 bytes_of (Stretch d n) = n
@@ -125,6 +131,7 @@ bytes_of (OnNextTask n) = n
 bytes_of (OnNextStack n) = n
 bytes_of InRecord = record_bytes
 
+-- the part of the address map that it lies in
 abbrev pub part_of : Form → Part
 part_of (InArea lo n) = Areas
 part_of InRecord = Areas
@@ -163,10 +170,12 @@ apart_at_one_top f g =
     if is_own g && is_own f then (nat_le (depth_of g + bytes_of f) (depth_of f) || nat_le (depth_of f + bytes_of g) (depth_of g))
     else apart_off_stack f g
 
+-- whether a test holds of a form and each of a list
 abbrev pub apart_from_all : (Form → Form → Bool) → Form → List Form → Bool
 apart_from_all t f [] = true
 apart_from_all t f (g ∷ gs) = t f g && apart_from_all t f gs
 
+-- whether it holds of each form of one list and each of another
 abbrev pub all_apart : (Form → Form → Bool) → List Form → List Form → Bool
 all_apart t [] gs = true
 all_apart t (f ∷ fs) gs = apart_from_all t f gs && all_apart t fs gs

@@ -27,6 +27,7 @@ pub record AreForms (s : Spot) : Type 0 where
   pub own : are_forms (forms s).own ≡ true
   pub apart : all_apart apart_in_one (forms s).known (forms s).own ≡ true
 
+-- so it is for every spot
 abbrev pub WindowsFit : Type 0
 WindowsFit = (mode : Mode) (s : Spot) → HasForms mode s × AreForms s
 
@@ -47,6 +48,7 @@ WritesItsStack s = Unit {0}
 abbrev pub OthersAreApart : Type 0
 OthersAreApart = (s t : Spot) → WritesItsStack t → all_apart apart_on_two_stacks (forms s).known (forms t).own ≡ true
 
+-- and on one stack, below a body, nothing that the body knows
 abbrev pub DeeperAreApart : Type 0
 DeeperAreApart = (layout : Layout) (t : Spot) → WritesItsStack t → all_apart apart_by_depth (body_forms layout) (forms t).own ≡ true
 
@@ -57,6 +59,7 @@ abbrev pub HasItem : Spot → Env → Type 0
 HasItem (InBody layout s) e = (0xffffffff82000000 ≤ e.base item_tag) × (e.base item_tag + 0x100 ≤ M)
 HasItem s e = Unit {0}
 
+-- an activation is where a spot says, at these places of the address map
 pub record IsHere (processors : ℕ) (mode : Mode) (e : Env) (x : Where) (s : Spot) : Type 0 where
   pub fitting : Fitting processors e x (forms s).known
   pub zero_base : e.base 1000 ≡ 0
@@ -67,5 +70,6 @@ pub record IsHere (processors : ℕ) (mode : Mode) (e : Env) (x : Where) (s : Sp
   pub descriptors : Described e (block mode s).ground.descriptors
   pub tops : AreTops e (block mode s).ground.tops
 
+-- so it is grounded in the spot's block
 abbrev pub AllGrounded : Type 0
 AllGrounded = (processors : ℕ) (mode : Mode) (e : Env) (x : Where) (s : Spot) → IsHere processors mode e x s → Grounded e (block mode s).ground

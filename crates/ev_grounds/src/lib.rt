@@ -1,6 +1,7 @@
-//! The windows of every block, and who is grounded in one.
+//! The windows of every block, who is grounded in one, and when the facts of paths hold.
 #![tactic(auto)]
 
+ghost use Rattle.ev_grounds.specs.Facts.{FactsTell};
 ghost use Rattle.ev_grounds.specs.Grounds.{WindowsFit, InnerIsApart, OthersAreApart, DeeperAreApart, AllGrounded};
 
 /// The windows of every block are forms, of which closed tests hold: what a block writes lies
@@ -13,4 +14,9 @@ pub fn windows()
     ensures others { OthersAreApart }
     ensures deeper { DeeperAreApart }
     ensures grounded { AllGrounded }
+{}
+
+/// When the facts hold that say which way a path of the kernel's code goes. Own.
+pub fn facts_of_paths()
+    ensures tell { FactsTell }
 {}

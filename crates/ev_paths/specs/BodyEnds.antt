@@ -25,6 +25,7 @@ pub record Comes (fred : Bool) (layout : Layout) (s : BodySpot) (offset : ℕ) (
         rax ∷ rcx ∷ rdx ∷ X 3 ∷ top_less (body_bytes layout) ∷ X 5 ∷ X 6 ∷ X 7 ∷ X 8 ∷ X 9 ∷ X 10 ∷ X 11 ∷ X 12 ∷ X 13 ∷ X 14 ∷ X 15 ∷ [];
   }
 
+-- each block of a body
 pub record BodyEnds (fred : Bool) (layout : Layout) : Type 0 where
   pub number : (n : ℕ) → Comes fred layout (AtNumber n) 10 (K n) (X 1) (X 2)
   pub numbers : (rcx rax rdx : ℕ) → Comes fred layout (AtNumbers rcx rax rdx) 30 (K rax) (K rcx) (K rdx)
@@ -34,6 +35,7 @@ pub record BodyEnds (fred : Bool) (layout : Layout) : Type 0 where
   pub behind_sti : Comes fred layout BehindSti (behind_sti + 1) (X 0) (X 1) (X 2)
   pub behind_kick : Comes fred layout BehindKick (behind_kick + 6) (X 0) (X 1) (X 2)
 
+-- in every layout and mode
 abbrev pub AllBodyEnds : Type 0
 AllBodyEnds = (fred : Bool) (layout : Layout) → BodyEnds fred layout
 

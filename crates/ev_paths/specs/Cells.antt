@@ -27,6 +27,7 @@ pub record TableCells (code : Code) (layout : Layout) : Type 0 where
   pub load : CellIs code (table_load layout) (load_of layout) (body_jump layout) false
   pub jump : CellIs code (body_jump layout) (JmpReg 0) (body_jump layout + 2) false
 
+-- those of FRED's code
 pub record FredCells (code : Code) : Type 0 where
   pub table : TableCells code FredFrame
   pub eretu : CellIs code eretu_place Eretu (eretu_place + 4) true
@@ -38,6 +39,7 @@ pub record RepeatJump (code : Code) : Type 0 where
   pub is : CellIs code repeat_jump (Jmp distance) (repeat_jump + 5) true
   pub leads : displaced (repeat_jump + 5) distance ≡ nbody_entry
 
+-- those of IDT's
 pub record IdtCells (code : Code) : Type 0 where
   pub table : TableCells code IdtFrame
   pub nmi_table : TableCells code NmiFrame
@@ -47,8 +49,10 @@ pub record IdtCells (code : Code) : Type 0 where
   pub last : CellIs code last_return Iretq (last_return + 2) true
   pub repeats : RepeatJump code
 
+-- they stand wherever FRED's listings do
 abbrev pub FredCellsStand : Type 0
 FredCellsStand = (code : Code) → HasKernel Fred code → FredCells code
 
+-- and wherever IDT's do
 abbrev pub IdtCellsStand : Type 0
 IdtCellsStand = (code : Code) → HasKernel Idt code → IdtCells code

@@ -15,6 +15,7 @@ abbrev pub is_untold : Option V → Bool
 is_untold None = true
 is_untold (Some v) = false
 
+-- so it holds with any CR2
 abbrev pub TellsNoCr2 : Block → Type 0
 TellsNoCr2 b = every (λ s. is_untold s.cr2) b ≡ true
 

@@ -9,9 +9,11 @@ use Rattle.ev_paths.specs.Ends.{end_of, TellsNoCr2, Enters, Returns}
 use Rattle.ev_blocks.specs.Fred.{FredWay, FredToKernel, FredToTask, FredToNext, FredSpot, FromUser, FromKernel, Leaves, LeavesNmi, way_values, kernel_values, fred_block, next_interrupted, eretu_place, erets_place}
 use Rattle.ev_blocks.specs.Items.{AtTable, body_block}
 
+-- the state that the block of a spot comes to
 unfoldable pub fred_end : FredSpot → SS
 fred_end s = end_of (fred_block s)
 
+-- each entry comes to the load of the body's address
 abbrev pub FredEnters : Type 0
 FredEnters =
     ((w : FredWay) → Enters (fred_block (FromUser w)) (fred_end (FromUser w)) (way_values w) (body_block true FredFrame AtTable))
@@ -29,6 +31,7 @@ ReturnsToNext s =
     Returns (fred_block s) (fred_end s) eretu_place (registers_of next_saved (P next_top_tag (M - 0x40))) (P gs_tag 0) next_gs next_selector
     (P next_top_tag 0) (words_from next_top_tag (M - 0x38) next_interrupted)
 
+-- each exit comes to its return
 pub record FredReturns : Type 0 where
   pub to_kernel : ReturnsAt erets_place (Leaves FredToKernel)
   pub to_task : ReturnsAt eretu_place (Leaves FredToTask)

@@ -11,6 +11,7 @@ use Rattle.ev_paths.specs.Ends.{end_of, TellsNoCr2, Enters, Returns}
 use Rattle.ev_blocks.specs.Idt.{IdtReturn, BySysret, ByOtherRip, ByOtherFlags, IdtToKernel, IdtToTask, IdtToNext, IdtSpot, Stub, Sys, Common, Leaves, stub_values, sys_values, common_values, next_interrupted, sysretq_place, iretq_place, idt_block}
 use Rattle.ev_blocks.specs.Items.{AtTable, body_block}
 
+-- the state that the block of a spot comes to
 unfoldable pub idt_end : IdtSpot → SS
 idt_end s = end_of (idt_block s)
 
@@ -27,6 +28,7 @@ pub record EntersCommon (o : Origin) (has_error : Bool) (v : ℕ) (page_fault : 
   pub joins : Joins (record (idt_end (Stub o has_error v)) { cr2 = (idt_block (Common o page_fault)).opening.cr2 }) (stub_values has_error v)
       (idt_block (Common o page_fault)).ground.known (idt_block (Common o page_fault)).opening
 
+-- each entry comes to the next block
 pub record IdtEnters : Type 0 where
   pub stub : (o : Origin) (has_error : Bool) (v : ℕ) (page_fault : Bool) → EntersCommon o has_error v page_fault
   pub call : Enters (idt_block Sys) (idt_end Sys) sys_values (body_block false IdtFrame AtTable)
@@ -45,6 +47,7 @@ IretToTask r =
     Returns (idt_block (Leaves (IdtToTask r))) (idt_end (Leaves (IdtToTask r))) iretq_place (registers_of saved (top_less 0x28)) other_gs (P gs_tag 0)
     gs_selector level_rsp (interrupted_words IdtFrame)
 
+-- by IRETQ to another task
 abbrev pub IretToNext : IdtReturn → Type 0
 IretToNext r =
     Returns (idt_block (Leaves (IdtToNext r))) (idt_end (Leaves (IdtToNext r))) iretq_place (registers_of next_saved (P next_top_tag (M - 0x28))) next_gs
@@ -56,11 +59,13 @@ SysretToTask =
     Returns (idt_block (Leaves (IdtToTask BySysret))) (idt_end (Leaves (IdtToTask BySysret))) sysretq_place (registers_of saved frame_rsp) other_gs
     (P gs_tag 0) gs_selector level_rsp (interrupted_words IdtFrame)
 
+-- by SYSRETQ to another task
 abbrev pub SysretToNext : Type 0
 SysretToNext =
     Returns (idt_block (Leaves (IdtToNext BySysret))) (idt_end (Leaves (IdtToNext BySysret))) sysretq_place (registers_of next_saved next_rsp) next_gs
     (P gs_tag 0) next_selector level_rsp (words_from next_top_tag (M - 0x28) next_interrupted)
 
+-- each exit comes to its return
 pub record IdtReturns : Type 0 where
   pub to_kernel : IretToKernel
   pub to_task : SysretToTask

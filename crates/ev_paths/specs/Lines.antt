@@ -20,6 +20,7 @@ use Rattle.ev_paths.specs.IdtEnds.{stub_bytes}
 abbrev pub HasKernel : Mode → Code → Type 0
 HasKernel mode code = AllFound code (cells_in (all_places (kernel_listings mode)) (kernel_listings mode))
 
+-- under FRED
 abbrev pub FredLinesStand : Type 0
 FredLinesStand = (code : Code) (e : Env) → e.base 1000 ≡ 0 → HasKernel Fred code → (s : FredSpot) → Stands code e (fred_block s).lines
 
@@ -28,9 +29,11 @@ abbrev pub IsAtStub : Env → IdtSpot → Type 0
 IsAtStub e (Stub o has_error v) = (v < 256) × (has_error_code v ≡ has_error) × (e.base stub_tag ≡ vector_stub v)
 IsAtStub e s = Unit {0}
 
+-- under IDT
 abbrev pub IdtLinesStand : Type 0
 IdtLinesStand = (code : Code) (e : Env) → e.base 1000 ≡ 0 → HasKernel Idt code → (s : IdtSpot) → IsAtStub e s → Stands code e (idt_block s).lines
 
+-- and those of the NMI code
 abbrev pub NmiLinesStand : Type 0
 NmiLinesStand = (code : Code) (e : Env) → e.base 1000 ≡ 0 → HasKernel Idt code → (s : NmiSpot) → Stands code e (nmi_block s).lines
 
@@ -40,5 +43,6 @@ pub record StubJump (code : Code) (v : ℕ) (has_error : Bool) : Type 0 where
   pub is : code (vector_stub v + stub_bytes has_error) ≡ Some (edge_cell (Jmp distance) (vector_stub v + stub_bytes has_error + 5))
   pub leads : displaced (vector_stub v + stub_bytes has_error + 5) distance ≡ common_entry
 
+-- so it is for each of the 256 vectors
 abbrev pub StubsJump : Type 0
 StubsJump = (code : Code) → HasKernel Idt code → (v : ℕ) → v < 256 → StubJump code v (has_error_code v)

@@ -12,6 +12,7 @@ use Rattle.ev_paths.specs.Ends.{end_of, HasWords, Enters, Returns}
 use Rattle.ev_blocks.specs.Nmi.{Choice, FirstFromTask, FirstLow, FirstHigh, InnerLow, InnerHigh, InnerAtLast, InnerInRepeat, GsBase, TaskGs, KernelGs, BodyBegin, NmiExit, Exchanging, Staying, NmiSpot, Choosing, Repeats, Begins, Leaves, begin_of, to_nbody, begin_values, nmi_block}
 use Rattle.ev_blocks.specs.Items.{AtTable, body_block}
 
+-- the state that the block of a spot comes to
 unfoldable pub nmi_end : NmiSpot → SS
 nmi_end s = end_of (nmi_block s)
 
@@ -19,6 +20,7 @@ nmi_end s = end_of (nmi_block s)
 abbrev pub leads_back : List Word
 leads_back = from_top 0x90 interrupted
 
+-- and those that lead to REPEAT
 abbrev pub leads_again : List Word
 leads_again = from_top 0x90 (K repeat_entry ∷ K 0x10 ∷ K 2 ∷ top_less 0x90 ∷ K 0x18 ∷ [])
 
@@ -32,6 +34,7 @@ abbrev pub base_of : GsBase → V
 base_of TaskGs = other_gs
 base_of KernelGs = P gs_tag 0
 
+-- and the other
 abbrev pub other_of : GsBase → V
 other_of TaskGs = P gs_tag 0
 other_of KernelGs = other_gs
@@ -40,6 +43,7 @@ other_of KernelGs = other_gs
 abbrev pub inner_return : ℕ
 inner_return = 0xffffffff810040b7
 
+-- the last return
 abbrev pub last_return : ℕ
 last_return = nlast_entry + 12
 
@@ -72,6 +76,7 @@ pub record ReturnsLast (x : NmiExit) (base other : V) : Type 0 where
   pub cr2 : (nmi_end (Leaves x)).cr2 ≡ Some (X 14)
   pub idle : HasWords (nmi_end (Leaves x)) (from_top 0x40 (K 0 ∷ []))
 
+-- each block of the NMI code
 pub record NmiEnds : Type 0 where
   pub from_task : GoesOn FirstFromTask TaskGs
   pub first_low : (g : GsBase) → GoesOn FirstLow g

@@ -24,6 +24,7 @@ LeadsBack c m i w blocked = (a : Apic) (nmi : Bool) → executed c a m nmi (Some
 
 -- ---- what the values at an exit's end say of w: its registers, RIP and RFLAGS, the bases of GS in and out of use, the selector, and RSP of level 0
 
+-- with RIP canonical, and with the modelled bits of RFLAGS
 pub record Restores (env : Env) (w : Processor) (regs : List V) (rip flags base other chosen level : V) : Type 0 where
   pub regs_are : map (eval env) regs ≡ w.regs
   pub rip_is : eval env rip ≡ w.rip
@@ -79,6 +80,7 @@ pub record EretuWords (env : Env) (w : Processor) (cs ss : V) : Type 0 where
   pub blocked : bit 16 (eval env ss) ≡ w.sti_blocked
   pub rest : record env.rest { cpl = 3; cs = 0x33; ss = 0x2b } ≡ untracked w
 
+-- to the kernel the level goes back
 pub record EretsWords (env : Env) (w : Processor) (cs ss : V) : Type 0 where
   pub cs_is : selector (eval env cs) ≡ 0x10
   pub level_is : eval env cs / 2 ^ 16 % 4 ≡ w.level
@@ -100,6 +102,7 @@ EretuReturns =
     → Restores env w (registers_of area sp) rip flags other base chosen level → EretuWords env w cs ss
     → LeadsBack c m Eretu w (blocked_after c (eval env ss))
 
+-- ERETS leaves them
 abbrev pub EretsReturns : Type 0
 EretsReturns =
     (env : Env) (G : Ground) (b : Block) (z : SS) (place : ℕ) (c : Processor) (m : Memory) (w : Processor) (area : ℕ → V) (t o : ℕ)

@@ -25,6 +25,7 @@ pub record RunsInside (code : Code) (b : Block) (k : ℕ) (e : Env) (c : Process
   pub to : Inside code b k e c m
   pub is : step c a m nmi ≡ ran to.cpu a to.words nmi
 
+-- a processor in a block makes the step to the block's next state
 abbrev pub StepsInside : Type 0
 StepsInside = (code : Code) (b : Block) (k : ℕ) (e : Env) (c : Processor) (m : Memory) → At code b k e c m → (s : SS) → brun b (suc k) ≡ Some s
     → Fetches code m → (a : Apic) (nmi : Bool) → next_of c a nmi ≡ Next.Instruction → RunsInside code b (suc k) e c m a nmi

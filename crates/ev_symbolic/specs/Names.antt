@@ -10,6 +10,7 @@ use Rattle.ev_symbolic.specs.Openings.{gs_tag, opening}
 abbrev pub task_tag : ℕ
 task_tag = 18
 
+-- those of the task that it is switched to
 abbrev pub next_task_tag : ℕ
 next_task_tag = 19
 
@@ -35,24 +36,31 @@ stub_tag = 23
 abbrev pub error : V
 error = X 16
 
+-- RIP
 abbrev pub frame_rip : V
 frame_rip = X 17
 
+-- CS, under FRED with the stack level above it
 abbrev pub frame_cs : V
 frame_cs = X 18
 
+-- RFLAGS
 abbrev pub frame_flags : V
 frame_flags = X 19
 
+-- RSP
 abbrev pub frame_rsp : V
 frame_rsp = X 20
 
+-- SS, under FRED with what it tells of the event above it
 abbrev pub frame_ss : V
 frame_ss = X 21
 
+-- the event data
 abbrev pub information : V
 information = X 22
 
+-- the last word of FRED's frame, which is 0
 abbrev pub frame_end : V
 frame_end = X 23
 
@@ -72,12 +80,15 @@ saved r = X (30 + r)
 abbrev pub other_gs : V
 other_gs = X 60
 
+-- the selector in GS
 abbrev pub gs_selector : V
 gs_selector = X 61
 
+-- CR2
 abbrev pub fault_address : V
 fault_address = X 62
 
+-- RSP of level 0
 abbrev pub level_rsp : V
 level_rsp = X 63
 
@@ -85,35 +96,45 @@ level_rsp = X 63
 abbrev pub next_selector : V
 next_selector = X 50
 
+-- its GS base
 abbrev pub next_gs : V
 next_gs = X 51
 
+-- the key in its area
 abbrev pub next_key : V
 next_key = X 52
 
+-- the error code in its area
 abbrev pub next_error : V
 next_error = X 53
 
+-- its RIP
 abbrev pub next_rip : V
 next_rip = X 54
 
+-- its CS
 abbrev pub next_cs : V
 next_cs = X 55
 
+-- its RFLAGS
 abbrev pub next_flags : V
 next_flags = X 56
 
+-- its RSP
 abbrev pub next_rsp : V
 next_rsp = X 57
 
+-- its SS
 abbrev pub next_ss : V
 next_ss = X 58
 
+-- what its saved area gives register r
 abbrev pub next_saved : ℕ → V
 next_saved r = X (70 + r)
 
 -- ---- facts: which way a path goes
 
+-- a value is a number
 abbrev pub says : V → ℕ → Fact
 says v n = record { val = v; is = n }
 
@@ -121,9 +142,11 @@ says v n = record { val = v; is = n }
 abbrev pub says_zero : V → ℕ → Fact
 says_zero v n = says (B OSame v (K 0)) n
 
+-- whether a value is the number k
 abbrev pub says_same : V → ℕ → ℕ → Fact
 says_same v k n = says_zero (B OSub v (K k)) n
 
+-- whether a value is below the number k
 abbrev pub says_below : V → ℕ → ℕ → Fact
 says_below v k n = says (B OLess v (K k)) n
 

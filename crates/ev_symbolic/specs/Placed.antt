@@ -5,6 +5,7 @@ use Rattle.ev_symbolic.specs.Value.{M, V}
 use Rattle.ev_symbolic.specs.State.{Loc, Word, Win, in_win, write, top_tag}
 use Rattle.ev_symbolic.specs.Agrees.{IsOpen}
 
+-- a place by its offset from the top, modulo 2 ^ 64
 abbrev pub at_top : ℕ → Loc
 at_top off = record { tag = top_tag; off = off }
 

@@ -28,6 +28,7 @@ GatesStand = (mode : Mode) (image : Image) (words : NatMap ℕ) → IsImage imag
 abbrev pub IsOpening : Mode → Image → NatMap ℕ → ℕ → Type 0
 IsOpening mode image words a = words a ≡ opening_word (code_of (listings mode image)) mode image a
 
+-- so the stacks of NMIs and double faults are those of the address map
 abbrev pub StacksStand : Type 0
 StacksStand = (mode : Mode) (image : Image) (words : NatMap ℕ) (p : ℕ) → IsImage image → p < image.processors
     → IsOpening mode image words (pcpu p + 0x428) → IsOpening mode image words (pcpu p + 0x430)

@@ -7,7 +7,7 @@ use Rattle.ev_symbolic.specs.Value.{M, V, K, B, OSub, OSame}
 use Rattle.ev_symbolic.specs.Agrees.{Env, eval}
 use Rattle.ev_symbolic.specs.Names.{frame_cs, says_same, says_below, says_ring}
 use Rattle.ev_blocks.specs.Nmi.{top_bit}
-use Rattle.ev_deliver.specs.Facts.{FactsTell}
+use Rattle.ev_grounds.specs.Facts.{FactsTell}
 
 -- whether a difference is 0
 same_difference : (a b : ℕ) → a ≡ b → ((a + M - b) % M == 0) ≡ true

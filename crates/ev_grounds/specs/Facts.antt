@@ -5,6 +5,7 @@ use Rattle.ev_symbolic.specs.Agrees.{Env, eval}
 use Rattle.ev_symbolic.specs.Names.{frame_cs, says_same, says_below, says_ring}
 use Rattle.ev_blocks.specs.Nmi.{top_bit}
 
+-- each kind of fact, by the values of an environment
 pub record FactLaws (e : Env) : Type 0 where
   pub user : eval e frame_cs % 2 ^ 16 ≡ 0x33 → eval e (says_ring 3).val ≡ 3
   pub kernel : eval e frame_cs % 2 ^ 16 ≡ 0x10 → eval e (says_ring 0).val ≡ 0
@@ -17,5 +18,6 @@ pub record FactLaws (e : Env) : Type 0 where
   pub lower_half : (v : V) → eval e v < 2 ^ 63 → eval e (top_bit v) ≡ 0
   pub upper_half : (v : V) → 2 ^ 63 ≤ eval e v → eval e v < M → eval e (top_bit v) ≡ 1
 
+-- in every environment
 abbrev pub FactsTell : Type 0
 FactsTell = (e : Env) → FactLaws e
