@@ -1,12 +1,14 @@
 // Lines from a source.
 
-ghost use Rattle.std.specs.Prelude.{◌≡◌, ◌≤◌, ◌<◌, ℕ, ◌+◌, length, [], true, false, IfOk, IfSome};
+ghost use Rattle.std.specs.Prelude.{◌≡◌, ◌≤◌, ◌<◌, ℕ, ◌+◌, length, [], true, false, IfOk, IfSome, List, Some};
 ghost use Rattle.ev_io.specs.Transfer.{Draws, Rose};
 ghost use Rattle.ev_io.specs.Lines.{Answers, First, Gives, Numbers, OnReadFault, TakesLine, coming, drawn, outcomes};
+ghost use Rattle.ev_io.specs.InputLines.{Skips};
 ghost use Rattle.std.specs.Io.KnownBytes.{IsAtEnd};
 
 use crate::chunk::Chunk;
 use crate::text::{LINE_LIMIT, LineText};
+use crate::tokens::is_passed_over;
 use crate::transfer::{Failed, Source};
 use ev_isa::NoMemory;
 use std::alloc::Global;
@@ -93,6 +95,33 @@ impl Lines {
             Ok(Some(number))
         } else {
             Ok(None)
+        }
+    }
+
+    /// Reads on to the next line that isn't passed over, and answers its number, or None at the end of
+    /// the input. A blank line and one whose first token begins with `#` are passed over, and count as
+    /// lines. It is for a reader that hasn't answered a fault. Own.
+    pub fn next_said<S: Source>(&mut self, src: &mut S) -> Result<Option<u32>, LineFault>
+        // what is answered is what comes of the lines of the bytes to come
+        ensures said { (bytes : List ℕ) → coming self.old.chunk (S.left src.old) ≡ Some bytes → Skips self.old bytes self.new (coming self.new.chunk (S.left src.new)) result }
+        ensures number { IfOk result (λ o. IfSome o (λ n. self.new.number ≡ n)) }
+        ensures grew { IfOk result (λ o. IfSome o (λ _. self.old.gone < self.new.gone)) }
+
+        // bytes are read only as they are given or kept, up to byte 8,388,609
+        ensures draws { Draws (drawn self.old) (drawn self.new) (S.left src.old) (S.left src.new) }
+        ensures most { drawn self.new ≤ 8388609 }
+        ensures within { self.new.gone ≤ 8388608 }
+
+        ensures later { S.faults src.old ≤ S.faults src.new }
+        ensures cause { OnReadFault result (Rose (S.faults src.old) (S.faults src.new)) }
+    {
+        loop {
+            let Some(number) = self.next(src)? else {
+                return Ok(None);
+            };
+            if !is_passed_over(self.text()) {
+                return Ok(Some(number));
+            }
         }
     }
 
