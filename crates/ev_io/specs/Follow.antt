@@ -1,7 +1,6 @@
 -- Reading lines in turn: each follows what stands before it, or has its one cause. Own.
-use Rattle.std.specs.Prelude.{ℕ, suc, ◌+◌, true, false, List, [], ◌∷◌, length, Some, None, Result, Ok, Err}
+use Rattle.std.specs.Prelude.{ℕ, ◌+◌, true, false, List, [], ◌∷◌, length, Some, None, Result, Ok, Err}
 use Rattle.ev_io.specs.declared.cause.Cause.{Cause}
-use Rattle.ev_io.specs.declared.cause.Cause.TheVariants as Cause
 use Rattle.ev_io.specs.Tokens.{Token, tokens_of, is_passed_over}
 use Rattle.ev_io.specs.InputLines.{ByteFault, TooLarge, TooLong, NotAscii, line_fault, text_of}
 
@@ -25,6 +24,6 @@ line_follows rule before s line = elim (line_fault before line) [
 unfoldable pub read : {S : Type 0} → (S → List Token → Result S Cause) → (n before : ℕ) → S → List (List ℕ) → Result S (ℕ × Cause)
 read rule n before s [] = Ok s
 read rule n before s (line ∷ lines) = elim (line_follows rule before s line) [
-  | Err cause ↦ Err (suc n, cause)
-  | Ok s' ↦ read rule (suc n) (before + length line) s' lines
+  | Err cause ↦ Err (n + 1, cause)
+  | Ok s' ↦ read rule (n + 1) (before + length line) s' lines
 ]

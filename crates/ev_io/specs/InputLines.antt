@@ -1,8 +1,7 @@
 -- The lines of an input's bytes, the faults of their bytes, and the next line that isn't passed over. Own.
-use Rattle.std.specs.Prelude.{◌≡◌, ◌≤◌, ℕ, suc, ◌+◌, Bool, true, false, not, ◌&&◌, nat_le, ◌==◌, List, [], ◌∷◌, ◌++◌, length, filter, Option, Some, None, Result, Ok, Err, All}
+use Rattle.std.specs.Prelude.{◌≡◌, ℕ, ◌+◌, Bool, true, false, not, ◌&&◌, nat_le, ◌==◌, List, [], ◌∷◌, ◌++◌, length, filter, Option, Some, None, Result, Ok, Err}
 use Rattle.ev_io.specs.declared.lines.LineFault.{LineFault}
-use Rattle.ev_io.specs.declared.lines.LineFault.TheVariants as LineFault
-use Rattle.ev_io.specs.Lines.{Reading, IsPrintable}
+use Rattle.ev_io.specs.Lines.{Reading, IsPart}
 use Rattle.ev_io.specs.Tokens.{onto_first, tokens_of, is_passed_over}
 
 -- ---- lines
@@ -44,7 +43,7 @@ byte_fault before k b = elim (nat_le 8388608 (before + k)) [
 unfoldable pub fault_from : ℕ → ℕ → List ℕ → Option ByteFault
 fault_from before k [] = None
 fault_from before k (b ∷ bs) = elim (byte_fault before k b) [
-  | None ↦ fault_from before (suc k) bs
+  | None ↦ fault_from before (k + 1) bs
   | Some fault ↦ Some fault
 ]
 
@@ -69,28 +68,28 @@ pub data Next : Type 0 where
 unfoldable pub next_said : ℕ → ℕ → List (List ℕ) → Next
 next_said n before [] = Ends n before
 next_said n before (line ∷ lines) = elim (line_fault before line) [
-  | Some fault ↦ Faulty (suc n) fault
+  | Some fault ↦ Faulty (n + 1) fault
   | None ↦ elim (is_passed_over (tokens_of (text_of line))) [
-    | true ↦ next_said (suc n) (before + length line) lines
-    | false ↦ Says (suc n) (before + length line) (text_of line) lines
+    | true ↦ next_said (n + 1) (before + length line) lines
+    | false ↦ Says (n + 1) (before + length line) (text_of line) lines
   ]
 ]
 
--- what was read of a line of which no byte was refused, where so many bytes stand before the line
-pub record IsPart (before : ℕ) (part : List ℕ) : Type 0 where
-  pub printable : All IsPrintable part
-  pub short : length part ≤ 4096
-  pub within : before + length part ≤ 8388608
+-- the bytes of these lines
+abbrev pub joined : List (List ℕ) → List ℕ
+joined [] = []
+joined (line ∷ lines) = line ++ joined lines
 
--- Bytes were drawn: lines that are passed over, and a part of the next line.
+-- Bytes were drawn: lines that are passed over, and a part of the line behind them.
 pub record DrawsPart (old : Reading) (bytes : List ℕ) (new : Reading) (rest : Option (List ℕ)) : Type 0 where
-  pub passed : List ℕ
+  pub passed : List (List ℕ)
   pub left : List ℕ
   pub to_come : rest ≡ Some left
-  pub whole : bytes ≡ passed ++ (new.text ++ left)
-  pub over : next_said old.number old.gone (lines_of passed) ≡ Ends new.number (old.gone + length passed)
-  pub part : IsPart (old.gone + length passed) new.text
-  pub gone : new.gone ≡ old.gone + length passed + length new.text
+  pub whole : bytes ≡ joined passed ++ (new.text ++ left)
+  pub lines : lines_of bytes ≡ passed ++ lines_of (new.text ++ left)
+  pub over : next_said old.number old.gone passed ≡ Ends new.number (old.gone + length (joined passed))
+  pub part : IsPart (old.gone + length (joined passed)) new.text
+  pub gone : new.gone ≡ old.gone + length (joined passed) + length new.text
 
 -- a reader that stood so before these bytes answers what comes of their lines
 abbrev pub Skips : Reading → List ℕ → Reading → Option (List ℕ) → Result (Option ℕ) LineFault → Type 0

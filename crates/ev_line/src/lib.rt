@@ -5,7 +5,6 @@
 mod addressing;
 mod keys;
 mod kind;
-mod laws;
 mod names;
 mod numbers;
 mod registers;
@@ -14,7 +13,6 @@ pub use addressing::{gs, memory};
 pub use ev_io::Cause;
 pub use keys::{key, sent_key, side};
 pub use kind::{Kind, is_shaped, kind_by_start};
-pub use laws::forms_of_lines;
 pub use names::label;
 pub use numbers::{number, number_within, processor, signed};
 pub use registers::{local, register};
