@@ -1,14 +1,12 @@
 -- The forms of a line: a word and what stands at each place behind it. Own.
-use Rattle.std.specs.Prelude.{ℕ, suc, Bool, true, false, ◌||◌, ◌==◌, List, [], ◌∷◌, length, filter, filter_map, find, slice_get, is_some, option_map, codes, Option, Some, None, Result, Ok, Err}
-use Rattle.std.specs.List.{list_any, list_all}
+use Rattle.std.specs.Prelude.{ℕ, suc, Bool, true, false, ◌||◌, ◌==◌, nat_eq, List, [], ◌∷◌, length, filter, filter_map, find, slice_get, is_some, option_map, codes, Option, Some, None, Result, Ok, Err}
+use Rattle.std.specs.List.{list_any, list_all, starts_with}
 use Rattle.ev_io.specs.declared.cause.Cause.{Cause}
-use Rattle.ev_io.specs.declared.cause.Cause.TheVariants as Cause
 use Rattle.ev_io.specs.Number.{is_between}
 use Rattle.ev_io.specs.Tokens.{Token}
 use Rattle.ev_line.specs.declared.kind.Kind.{Kind}
-use Rattle.ev_line.specs.declared.kind.Kind.TheVariants as Kind
 use Rattle.ev_line.specs.Names.{register_of}
-use Rattle.ev_line.specs.Operands.{Place, Value, value, memory_parts, gs_part, behind_word}
+use Rattle.ev_line.specs.Operands.{Place, Value, value, memory_parts, gs_part}
 use Rattle.ev_line.specs.Operands.{Register, Local, Number, Signed, Memory, Gs, Within, Processor, New, NewRegister}
 
 -- what is made of the values of these places
@@ -54,9 +52,9 @@ begins_number (c ∷ cs) = is_between 0x30 0x39 c || c == 0x2d
 
 -- By its first characters, where several kinds may stand: `[` and `gs:[` begin a memory operand, a digit or `-` a number, and all else is a register.
 unfoldable pub kind_by_start : Token → Kind
-kind_by_start t = elim (is_some (behind_word (codes "[") t)) [
+kind_by_start t = elim (starts_with nat_eq t (codes "[")) [
   | true ↦ Kind.Memory
-  | false ↦ elim (is_some (behind_word (codes "gs:[") t)) [
+  | false ↦ elim (starts_with nat_eq t (codes "gs:[")) [
     | true ↦ Kind.GsMemory
     | false ↦ elim (begins_number t) [ true ↦ Kind.Number | false ↦ Kind.Register ]
   ]

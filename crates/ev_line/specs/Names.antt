@@ -1,12 +1,12 @@
 -- Names, registers, keys and sides as tokens. Own.
-use Rattle.std.specs.Prelude.{ℕ, suc, ◌+◌, ◌*◌, Bool, true, false, not, ◌&&◌, ◌||◌, nat_le, nat_lt, ◌==◌, List, [], ◌∷◌, length, codes, Option, Some, None}
+use Rattle.std.specs.Prelude.{ℕ, suc, ◌+◌, ◌-◌, ◌*◌, Bool, true, false, ◌&&◌, ◌||◌, nat_le, ◌==◌, List, [], ◌∷◌, length, codes, Option, Some, None}
 use Rattle.std.specs.List.{list_all}
 use Rattle.std.specs.Str.{bytes_eq}
 use Rattle.ev_body.specs.declared.key.Key.{Key}
 use Rattle.ev_body.specs.declared.key.Key.TheVariants.{Sys, Db, Nmi, Bp, Ud, Ss, Gp, Pf, Ac, Irq}
 use Rattle.ev_body.specs.declared.key.Side.{Side}
 use Rattle.ev_body.specs.declared.key.Side.TheVariants.{User, Kernel, Both}
-use Rattle.ev_io.specs.Number.{is_between, digit}
+use Rattle.ev_io.specs.Number.{is_between}
 use Rattle.ev_io.specs.Tokens.{Token}
 use Rattle.ev_abstract.specs.EntryText.{register_names, key_text, side_text}
 
@@ -36,17 +36,21 @@ register_of t = place_from 0 register_names t
 
 -- ---- keys and sides
 
--- a digit or a lower letter up to `f`
-abbrev pub is_low_digit : ℕ → Bool
-is_low_digit c = not (is_between 0x41 0x5a c) && nat_lt (digit c) 16
+-- the value of a digit or a lower letter up to `f`
+unfoldable pub low_digit : ℕ → Option ℕ
+low_digit c = elim (is_between 0x30 0x39 c) [
+  | true ↦ Some (c - 0x30)
+  | false ↦ elim (is_between 0x61 0x66 c) [ true ↦ Some (c - 0x57) | false ↦ None ]
+]
 
--- the interrupt of these two digits, from 20H on
-unfoldable pub interrupt : ℕ → ℕ → Option Key
-interrupt x y = elim (is_low_digit x && is_low_digit y && nat_le 2 (digit x)) [ true ↦ Some (Irq (16 * digit x + digit y)) | false ↦ None ]
+-- the interrupt of two digits, from 20H on
+abbrev pub interrupt : Option ℕ → Option ℕ → Option Key
+interrupt (Some x) (Some y) = elim (nat_le 0x20 (16 * x + y)) [ true ↦ Some (Irq (16 * x + y)) | false ↦ None ]
+interrupt x y = None
 
 -- `irq` and two lower hexadecimal digits
 unfoldable pub interrupt_key : Token → Option Key
-interrupt_key (i ∷ r ∷ q ∷ x ∷ y ∷ []) = elim (bytes_eq (i ∷ r ∷ q ∷ []) (codes "irq")) [ true ↦ interrupt x y | false ↦ None ]
+interrupt_key (i ∷ r ∷ q ∷ x ∷ y ∷ []) = elim (bytes_eq (i ∷ r ∷ q ∷ []) (codes "irq")) [ true ↦ interrupt (low_digit x) (low_digit y) | false ↦ None ]
 interrupt_key _ = None
 
 -- the keys with a name of their own

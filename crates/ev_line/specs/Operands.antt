@@ -1,12 +1,12 @@
 -- What may stand at a place of a line, and the value of a token there or its cause. Own.
-use Rattle.std.specs.Prelude.{ℕ, ℤ, pos, neg_ℤ, Bool, true, false, not, ◌&&◌, ◌||◌, nat_le, nat_lt, ◌==◌, List, [], ◌∷◌, codes, Option, Some, None, Result, Ok, Err}
+use Rattle.std.specs.Prelude.{ℕ, ◌+◌, ◌-◌, ℤ, pos, neg_ℤ, Bool, true, false, not, ◌&&◌, ◌||◌, nat_le, nat_lt, ◌==◌, List, [], ◌∷◌, length, take, drop, slice_index, position, codes, Option, Some, None, option_map, Result, Ok, Err}
+use Rattle.std.specs.Str.{bytes_eq}
 use Rattle.std.specs.List.{list_any}
 use Rattle.ev_body.specs.declared.key.Key.{Key}
 use Rattle.ev_body.specs.declared.key.Side.{Side}
 use Rattle.ev_body.specs.Bodies.{key_number}
 use Rattle.ev_body.specs.WellFormed.{is_local, is_sendable}
 use Rattle.ev_io.specs.declared.cause.Cause.{Cause}
-use Rattle.ev_io.specs.declared.cause.Cause.TheVariants as Cause
 use Rattle.ev_io.specs.Number.{number_of}
 use Rattle.ev_io.specs.Tokens.{Token}
 use Rattle.ev_asm.specs.Assembly.{Places, is_name, place}
@@ -115,34 +115,18 @@ sent_key t = if_it is_sendable Cause.Name (key t)
 
 -- a token without its last character where that is `]`
 unfoldable pub closed : Token → Option Token
-closed [] = None
-closed (c ∷ cs) = last_closed c cs (closed cs)
-  where
-    last_closed : ℕ → Token → Option Token → Option Token
-    last_closed c [] rest = elim (c == 0x5d) [ true ↦ Some [] | false ↦ None ]
-    last_closed c (d ∷ ds) None = None
-    last_closed c (d ∷ ds) (Some rest) = Some (c ∷ rest)
-
-abbrev pub is_sign : ℕ → Bool
-is_sign c = (c == 0x2b) || (c == 0x2d)
-
--- what stands before the first sign, whether that is `-`, and what stands behind it
-unfoldable pub parted : Token → Option (Token × Bool × Token)
-parted [] = None
-parted (c ∷ cs) = elim (is_sign c) [
-  | true ↦ Some ([], c == 0x2d, cs)
-  | false ↦ with_first c (parted cs)
-]
-  where
-    with_first : ℕ → Option (Token × Bool × Token) → Option (Token × Bool × Token)
-    with_first c None = None
-    with_first c (Some e) = Some (c ∷ e.0, e.1, e.2)
+closed t = elim (bytes_eq (drop (length t - 1) t) (codes "]")) [ true ↦ Some (take (length t - 1) t) | false ↦ None ]
 
 -- what stands behind these first characters
 unfoldable pub behind_word : Token → Token → Option Token
-behind_word [] t = Some t
-behind_word (w ∷ ws) [] = None
-behind_word (w ∷ ws) (c ∷ cs) = elim (w == c) [ true ↦ behind_word ws cs | false ↦ None ]
+behind_word word t = elim (bytes_eq (take (length word) t) word) [ true ↦ Some (drop (length word) t) | false ↦ None ]
+
+abbrev pub is_sign : ℕ → Bool
+is_sign c = c == 0x2b || c == 0x2d
+
+-- what stands before the first sign, whether that is `-`, and what stands behind it
+unfoldable pub parted : Token → Option (Token × Bool × Token)
+parted t = option_map (λ at. (take at t, slice_index t at == 0x2d, drop (at + 1) t)) (position is_sign t)
 
 abbrev pub and_then : {X Y : Type 0} → (X → Option Y) → Option X → Option Y
 and_then f None = None

@@ -1,6 +1,6 @@
 // Memory operands.
 
-ghost use Rattle.std.specs.Prelude.{◌≡◌, false, codes};
+ghost use Rattle.std.specs.Prelude.{◌≡◌, false};
 ghost use Rattle.std.specs.Option.{option_map};
 ghost use Rattle.ev_line.specs.Operands.{based, behind_word, closed, displacement, gs, gs_part, memory, memory_parts, parted};
 
@@ -20,17 +20,24 @@ pub struct Parts<'a> {
     number: &'a [u8],
 }
 
-/// What stands inside the brackets.
+/// What stands before a last `]`.
+#[tactic(auto, unfolding(crate::specs::Operands::closed))]
 fn closed(t: &[u8]) -> Option<&[u8]>
     ensures { option_map (λ x. x.now) result ≡ closed t.now }
 {
-    match t {
-        [inside @ .., b']'] => Some(inside),
-        _ => None,
-    }
+    t.strip_suffix(b"]")
+}
+
+/// What stands behind these first characters.
+#[tactic(auto, unfolding(crate::specs::Operands::behind_word))]
+fn behind_word<'a>(word: &[u8], t: &'a [u8]) -> Option<&'a [u8]>
+    ensures { option_map (λ x. x.now) result ≡ behind_word word.now t.now }
+{
+    t.strip_prefix(word)
 }
 
 /// The parts on both sides of the first sign.
+#[tactic(auto, unfolding(crate::specs::Operands::parted))]
 fn parted(t: &[u8]) -> Option<Parts<'_>>
     ensures { option_map (λ p. (p.name.now, p.is_negative, p.number.now)) result ≡ parted t.now }
 {
@@ -43,25 +50,19 @@ fn parted(t: &[u8]) -> Option<Parts<'_>>
 }
 
 /// The register, the sign and the number of an operand with its brackets and its sign.
-#[tactic(auto, unfolding(crate::specs::Operands::memory_parts, crate::specs::Operands::behind_word))]
+#[tactic(auto, unfolding(crate::specs::Operands::memory_parts))]
 pub fn memory_parts(t: &[u8]) -> Option<Parts<'_>>
     ensures { option_map (λ p. (p.name.now, p.is_negative, p.number.now)) result ≡ memory_parts t.now }
 {
-    match t {
-        [b'[', rest @ ..] => parted(closed(rest)?),
-        _ => None,
-    }
+    parted(closed(behind_word(b"[", t)?)?)
 }
 
 /// The number of an operand at the GS base with its brackets.
-#[tactic(auto, unfolding(crate::specs::Operands::gs_part, crate::specs::Operands::behind_word))]
+#[tactic(auto, unfolding(crate::specs::Operands::gs_part))]
 pub fn gs_part(t: &[u8]) -> Option<&[u8]>
     ensures { option_map (λ x. x.now) result ≡ gs_part t.now }
 {
-    match t {
-        [b'g', b's', b':', b'[', rest @ ..] => closed(rest),
-        _ => None,
-    }
+    closed(behind_word(b"gs:[", t)?)
 }
 
 /// The register and the displacement of a memory operand.

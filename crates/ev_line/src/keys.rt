@@ -1,30 +1,31 @@
 // Keys and sides.
 
-ghost use Rattle.std.specs.Prelude.{◌≡◌, if◌then◌else◌, Some, None};
-ghost use Rattle.ev_line.specs.Names.{interrupt, is_low_digit, key_of, side_of};
+ghost use Rattle.std.specs.Prelude.{◌≡◌, ◌<◌, IfSome};
+ghost use Rattle.ev_line.specs.Names.{interrupt, key_of, low_digit, side_of};
 ghost use Rattle.ev_line.specs.Operands.{key, sent_key, side};
-ghost use Rattle.ev_io.specs.Number.{digit};
 ghost use Rattle.ev_body.specs.WellFormed.{is_sendable};
-ghost use Rattle.std.specs.Option.{option_map};
 
 use ev_body::{Key, Side};
 use ev_io::Cause;
 
 /// The value of a digit or a lower letter up to `f`.
+#[tactic(auto, unfolding(crate::specs::Names::low_digit))]
 fn low_digit(b: u8) -> Option<u8>
-    ensures { result ≡ (if is_low_digit b then Some (digit b) else None) }
+    ensures value { result ≡ low_digit b }
+    ensures small { IfSome result (λ d. d < 16) }
 {
-    match b {
-        b'0'..=b'9' => Some(b - b'0'),
-        b'a'..=b'f' => Some(b - b'a' + 10),
-        _ => None,
+    if b.is_ascii_digit() {
+        Some(b - b'0')
+    } else if (b'a'..=b'f').contains(&b) {
+        Some(b - b'a' + 10)
+    } else {
+        None
     }
 }
 
 /// The interrupt of two lower hexadecimal digits, from 20H on.
-#[tactic(auto, unfolding(crate::specs::Names::interrupt))]
 fn interrupt(high: u8, low: u8) -> Option<Key>
-    ensures { result ≡ interrupt high low }
+    ensures { result ≡ interrupt (low_digit high) (low_digit low) }
 {
     let vector = 16 * low_digit(high)? + low_digit(low)?;
     if vector < 0x20 {

@@ -1,7 +1,7 @@
 // Kinds of operands.
 
 ghost use Rattle.std.specs.Prelude.{◌≡◌};
-ghost use Rattle.ev_line.specs.Forms.{is_shaped, kind_by_start};
+ghost use Rattle.ev_line.specs.Forms.{begins_number, is_shaped, kind_by_start};
 
 use crate::addressing::{gs_part, memory_parts};
 
@@ -20,17 +20,30 @@ pub enum Kind {
     Register,
 }
 
+/// Whether a token begins as a number does: with a digit or `-`.
+fn begins_number(t: &[u8]) -> bool
+    ensures { result ≡ begins_number t.now }
+{
+    match t {
+        [first, ..] => first.is_ascii_digit() || *first == b'-',
+        [] => false,
+    }
+}
+
 /// The kind of a token by its first characters, where memory operands, numbers and registers may
 /// stand. Own.
 #[tactic(auto, unfolding(crate::specs::Forms::kind_by_start))]
 pub fn kind_by_start(t: &[u8]) -> Kind
     ensures { result ≡ kind_by_start t.now }
 {
-    match t {
-        [b'[', ..] => Kind::Memory,
-        [b'g', b's', b':', b'[', ..] => Kind::GsMemory,
-        [b'0'..=b'9' | b'-', ..] => Kind::Number,
-        _ => Kind::Register,
+    if t.starts_with(b"[") {
+        Kind::Memory
+    } else if t.starts_with(b"gs:[") {
+        Kind::GsMemory
+    } else if begins_number(t) {
+        Kind::Number
+    } else {
+        Kind::Register
     }
 }
 

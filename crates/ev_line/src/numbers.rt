@@ -1,6 +1,6 @@
 // Numbers.
 
-ghost use Rattle.std.specs.Prelude.{◌≡◌, true, false, pos, neg_ℤ};
+ghost use Rattle.std.specs.Prelude.{◌≡◌, ◌≤◌, ◌<◌, true, false, IfOk};
 ghost use Rattle.ev_line.specs.Operands.{displacement, number, number_within, processor, signed};
 
 use ev_io::{Cause, read_number};
@@ -16,7 +16,9 @@ pub fn number(t: &[u8]) -> Result<u64, Cause>
 /// A number from `low` to `high`, else Number or Limit. Own.
 #[tactic(auto, unfolding(crate::specs::Operands::number_within))]
 pub fn number_within(low: u64, high: u64, t: &[u8]) -> Result<u64, Cause>
-    ensures { result ≡ number_within low high t.now }
+    ensures value { result ≡ number_within low high t.now }
+    ensures low { IfOk result (λ n. low ≤ n) }
+    ensures high { IfOk result (λ n. n ≤ high) }
 {
     let n = number(t)?;
     if low <= n && n <= high {
@@ -29,7 +31,8 @@ pub fn number_within(low: u64, high: u64, t: &[u8]) -> Result<u64, Cause>
 /// The number of a processor below the count, else Number or NoSuchProcessor. Own.
 #[tactic(auto, unfolding(crate::specs::Operands::processor))]
 pub fn processor(count: u64, t: &[u8]) -> Result<u64, Cause>
-    ensures { result ≡ processor count t.now }
+    ensures value { result ≡ processor count t.now }
+    ensures below { IfOk result (λ n. n < count) }
 {
     let n = number(t)?;
     if n < count {
