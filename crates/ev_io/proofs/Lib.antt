@@ -5,3 +5,4 @@ pub mod TokenLaws
 pub mod InputLineLaws
 pub mod NextLaws
 pub mod FollowLaws
+pub mod StandLaws

@@ -1,8 +1,9 @@
 -- Reading lines in turn: each follows what stands before it, or has its one cause. Own.
-use Rattle.std.specs.Prelude.{ℕ, ◌+◌, true, false, List, [], ◌∷◌, length, Some, None, Result, Ok, Err}
+use Rattle.std.specs.Prelude.{◌≡◌, ℕ, ◌+◌, true, false, List, [], ◌∷◌, ◌++◌, length, Option, Some, None, Result, Ok, Err}
 use Rattle.ev_io.specs.declared.cause.Cause.{Cause}
 use Rattle.ev_io.specs.Tokens.{Token, tokens_of, is_passed_over}
-use Rattle.ev_io.specs.InputLines.{ByteFault, TooLarge, TooLong, NotAscii, line_fault, text_of}
+use Rattle.ev_io.specs.InputLines.{ByteFault, TooLarge, TooLong, NotAscii, line_fault, text_of, lines_of, joined}
+use Rattle.ev_io.specs.Lines.{Reading, IsPart}
 
 abbrev pub cause_of : ByteFault → Cause
 cause_of TooLarge = Cause.TooLarge
@@ -27,3 +28,13 @@ read rule n before s (line ∷ lines) = elim (line_follows rule before s line) [
   | Err cause ↦ Err (n + 1, cause)
   | Ok s' ↦ read rule (n + 1) (before + length line) s' lines
 ]
+
+-- Bytes were drawn: lines that follow each other from what stood, and a part of the line behind them.
+pub record FollowsPart {S : Type 0} (rule : S → List Token → Result S Cause) (old : Reading) (s : S) (bytes : List ℕ) (new : Reading) (rest : Option (List ℕ)) : Type 0 where
+  pub passed : List (List ℕ)
+  pub left : List ℕ
+  pub to_come : rest ≡ Some left
+  pub lines : lines_of bytes ≡ passed ++ lines_of (new.text ++ left)
+  pub stands : S
+  pub follow : read rule old.number old.gone s passed ≡ Ok stands
+  pub part : IsPart (old.gone + length (joined passed)) new.text

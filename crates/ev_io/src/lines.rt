@@ -139,6 +139,13 @@ impl Lines {
         }
     }
 
+    /// How many lines were given: the number of the one that was given last, or 0. Own.
+    pub fn number(&self) -> u32
+        ensures { result ≡ self.now.number }
+    {
+        self.number
+    }
+
     /// The line that was given last, without its line feed.
     pub fn text(&self) -> &[u8]
         ensures { result.now ≡ self.now.text }
