@@ -5,7 +5,7 @@ use Rattle.ev_io.specs.declared.lines.LineFault.TheVariants as LineFault
 use Rattle.ev_io.specs.Lines.{Reading, IsPart}
 use Rattle.ev_io.specs.Tokens.{Token, tokens_of, is_passed_over}
 use Rattle.ev_io.specs.InputLines.{ByteFault, TooLarge, TooLong, NotAscii, lines_of, text_of, line_fault, joined, Next, Says, Ends, Faulty, next_said, DrawsPart, Skips}
-use Rattle.ev_io.specs.Follow.{cause_of, line_follows, read, FollowsPart}
+use Rattle.ev_io.specs.Follow.{cause_of, line_follows, read, Stands, FollowsPart}
 use Rattle.ev_io.proofs.NextLaws.{over_first, said_first, fault_first}
 use Rattle.ev_io.proofs.FollowLaws.{read_on, read_next, count_on, count_next}
 
@@ -85,15 +85,6 @@ through n before (line ∷ lines) m gone text behind e =
         }
 
 -- ---- a reader behind lines that follow each other
-
-pub record Stands {S : Type 0} (rule : S → List Token → Result S Cause) (old : Reading) (first : S) (bytes : List ℕ) (now : Reading) (rest : Option (List ℕ)) (s : S) : Type 0 where
-  pub passed : List (List ℕ)
-  pub left : List ℕ
-  pub to_come : rest ≡ Some left
-  pub lines : lines_of bytes ≡ passed ++ lines_of left
-  pub follow : read rule old.number old.gone first passed ≡ Ok s
-  pub number : now.number ≡ old.number + length passed
-  pub gone : now.gone ≡ old.gone + length (joined passed)
 
 pub stands_first : {S : Type 0} → (rule : S → List Token → Result S Cause) (old : Reading) (first : S) (bytes : List ℕ) (rest : Option (List ℕ)) → rest ≡ Some bytes → Stands rule old first bytes old rest first
 unfolding read

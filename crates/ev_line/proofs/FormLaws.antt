@@ -1,5 +1,5 @@
 -- What the forms of a word come to: a word of one form, and tokens behind the last place.
-use Rattle.std.proofs.Common.{◌≡◌, ℕ, zero, suc, ◌+◌, ◌<◌, ◌≤◌, Bool, true, false, ◌&&◌, cond, List, [], ◌∷◌, ◌++◌, length, take, drop, Option, Some, None, Result, Ok, Err, refl, ap, sym, ◌∙◌, take_all, arith}
+use Rattle.std.proofs.Common.{◌≡◌, ◌≢◌, ℕ, zero, suc, ◌+◌, ◌<◌, ◌≤◌, Bool, true, false, ◌&&◌, cond, List, [], ◌∷◌, ◌++◌, length, take, drop, Option, Some, None, Result, Ok, Err, refl, ap, sym, ◌∙◌, take_all, arith}
 use Rattle.std.specs.Prelude.{nat_le, ◌==◌, filter, filter_map, find, slice_get, option_map}
 use Rattle.std.specs.List.{list_all}
 use Rattle.std.proofs.lemmas.Bool.Decides.{nat_tests}
@@ -10,7 +10,7 @@ use Rattle.ev_io.specs.declared.cause.Cause.TheVariants as Cause
 use Rattle.ev_io.specs.Tokens.{Token}
 use Rattle.ev_line.specs.declared.kind.Kind.{Kind}
 use Rattle.ev_line.specs.declared.kind.Kind.TheVariants as Kind
-use Rattle.ev_line.specs.Operands.{Place}
+use Rattle.ev_line.specs.Operands.{Place, Value, value, then_make}
 use Rattle.ev_line.specs.Forms.{Form, Maker, form, same_kind, kind_of, kind_at, kind_among, takes, kind_here, is_shaped, fitting, has_places, read_places, read_form, read_fitting, read_forms, read_by, is_plain, read_only}
 use Rattle.ev_line.proofs.NameLaws.{both}
 
@@ -73,6 +73,38 @@ one_form {X} f ts h = ap (read_fitting ts) (fits_alone 0 ts f h) ∙ by (has_pla
     by : (e : Bool) → has_places ts f ≡ e → read_fitting ts (f ∷ []) ≡ read_only f ts
     by true e = rw (read_fitting, read_only, e) refl
     by false e = rw (read_fitting, read_only, e) refl
+
+-- one place, and two places from left to right
+pub one_place : {X : Type 0} → (p : Place) (f : Value p → X) (t : Token) → read_only (form (p ∷ []) f) (t ∷ []) ≡ then_make f (value p t)
+unfolding read_only read_places
+one_place {X} p f t = by (value p t) refl
+  where
+    by : (r : Result (Value p) Cause) → value p t ≡ r → read_only (form {X = X} (p ∷ []) f) (t ∷ []) ≡ then_make f (value p t)
+    by (Ok v) e = rw (read_only, read_places, e) refl
+    by (Err cause) e = rw (read_only, read_places, e) refl
+
+abbrev pub make_both : {A B X : Type 0} → (A → B → X) → Result A Cause → Result B Cause → Result X Cause
+make_both f (Err cause) r = Err cause
+make_both f (Ok v) (Err cause) = Err cause
+make_both f (Ok v) (Ok w) = Ok (f v w)
+
+pub two_places : {X : Type 0} → (p q : Place) (f : Value p → Value q → X) (a b : Token) → read_only (form (p ∷ q ∷ []) f) (a ∷ b ∷ []) ≡ make_both f (value p a) (value q b)
+unfolding read_only read_places
+two_places {X} p q f a b = by (value p a) refl (value q b) refl
+  where
+    by : (r : Result (Value p) Cause) → value p a ≡ r → (s : Result (Value q) Cause) → value q b ≡ s
+        → read_only (form {X = X} (p ∷ q ∷ []) f) (a ∷ b ∷ []) ≡ make_both f (value p a) (value q b)
+    by (Err cause) e s k = rw (read_only, read_places, e) refl
+    by (Ok v) e (Err cause) k = rw (read_only, read_places, e, read_places, k) refl
+    by (Ok v) e (Ok w) k = rw (read_only, read_places, e, read_places, k) refl
+
+-- another number of tokens
+pub other_count : {X : Type 0} → (f : Form X) (ts : List Token) → length f.places ≢ length ts → read_only f ts ≡ Err Cause.Count
+unfolding read_only
+other_count f ts h = rw (read_only, differ (length f.places) (length ts) h) refl
+  where
+    differ : (a b : ℕ) → a ≢ b → a == b ≡ false
+    differ a b h = grind (arith, nat_tests)
 
 -- ---- tokens behind the last place
 

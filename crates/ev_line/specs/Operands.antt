@@ -111,6 +111,10 @@ side t = or_else Cause.Name (side_of t)
 unfoldable pub sent_key : Token → Result Key Cause
 sent_key t = if_it is_sendable Cause.Name (key t)
 
+-- such a key, of which there is a body
+unfoldable pub key_of_body : List ℕ → Token → Result Key Cause
+key_of_body keys t = if_it (λ k. among keys (key_number k)) Cause.NoBody (sent_key t)
+
 -- ---- memory operands: `[`, a register, `+` or `-`, a number, `]`; or `gs:[`, a number, `]`
 
 -- a token without its last character where that is `]`
@@ -180,4 +184,4 @@ value (Processor count) t = processor count t
 value (New taken high) t = if_it (λ n. not (among taken n)) Cause.Double (number_within 0 high t)
 value (NewRegister taken) t = if_it (λ n. not (among taken n)) Cause.Double (register t)
 value (TextLabel places) t = then_make (place places) (if_it (has_label places) Cause.NoLabel (label t))
-value (KeyOfBody keys) t = if_it (λ k. among keys (key_number k)) Cause.NoBody (sent_key t)
+value (KeyOfBody keys) t = key_of_body keys t

@@ -1,8 +1,9 @@
 // Keys and sides.
 
-ghost use Rattle.std.specs.Prelude.{◌≡◌, ◌<◌, IfSome};
+ghost use Rattle.std.specs.Prelude.{◌≡◌, ◌<◌, true, IfSome, IfOk};
 ghost use Rattle.ev_line.specs.Names.{interrupt, key_of, low_digit, side_of};
 ghost use Rattle.ev_line.specs.Operands.{key, sent_key, side};
+ghost use Rattle.ev_body.specs.Bodies.{key_number};
 ghost use Rattle.ev_body.specs.WellFormed.{is_sendable};
 
 use ev_body::{Key, Side};
@@ -76,7 +77,8 @@ fn is_sent(key: Key) -> bool
 /// The key that a token names where it can be sent, else Name. Own.
 #[tactic(auto, unfolding(crate::specs::Operands::sent_key))]
 pub fn sent_key(t: &[u8]) -> Result<Key, Cause>
-    ensures { result ≡ sent_key t.now }
+    ensures value { result ≡ sent_key t.now }
+    ensures sent { IfOk result (λ key. is_sendable key ≡ true) }
 {
     let key = key(t)?;
     if is_sent(key) {
@@ -105,4 +107,23 @@ pub fn side(t: &[u8]) -> Result<Side, Cause>
     ensures { result ≡ side t.now }
 {
     side_of(t).ok_or(Cause::Name)
+}
+
+/// The number of a key: its vector, and 100H for SYSCALL. Own.
+#[tactic(auto, unfolding(ev_body::specs::Bodies::key_number))]
+pub fn key_number(key: Key) -> u16
+    ensures { result ≡ key_number key }
+{
+    match key {
+        Key::Sys => 0x100,
+        Key::Db => 1,
+        Key::Nmi => 2,
+        Key::Bp => 3,
+        Key::Ud => 6,
+        Key::Ss => 12,
+        Key::Gp => 13,
+        Key::Pf => 14,
+        Key::Ac => 17,
+        Key::Irq(vector) => u16::from(vector),
+    }
 }
