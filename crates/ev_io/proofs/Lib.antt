@@ -6,3 +6,4 @@ pub mod InputLineLaws
 pub mod NextLaws
 pub mod FollowLaws
 pub mod StandLaws
+pub mod DecimalLaws

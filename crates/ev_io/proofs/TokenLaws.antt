@@ -1,8 +1,8 @@
 -- Tokens from the front, and the first byte that is no space.
-use Rattle.std.proofs.Common.{◌≡◌, ℕ, Bool, true, false, not, List, [], ◌∷◌, Option, Some, None, refl}
+use Rattle.std.proofs.Common.{◌≡◌, ℕ, ◌<◌, Bool, true, false, not, ◌&&◌, List, [], ◌∷◌, ◌++◌, length, Option, Some, None, refl, ap, arith}
 use Rattle.std.specs.Prelude.{◌==◌}
-use Rattle.std.specs.List.{find, slice_split}
-use Rattle.ev_io.specs.Tokens.{Token, pieces, tokens_of, is_passed_over}
+use Rattle.std.specs.List.{find, filter, list_all, slice_split}
+use Rattle.ev_io.specs.Tokens.{Token, pieces, tokens_of, is_passed_over, is_empty}
 
 -- the first byte that is no space
 abbrev pub first_said : List ℕ → Option ℕ
@@ -33,3 +33,36 @@ split_pieces (b ∷ bs) = by (b == 0x20) refl (split_pieces bs)
     by : (e : Bool) → b == 0x20 ≡ e → slice_split (λ c. c == 0x20) bs ≡ pieces bs → slice_split (λ c. c == 0x20) (b ∷ bs) ≡ pieces (b ∷ bs)
     by true h more = rw (h, more) refl
     by false h more = rw (h, more) refl
+
+-- ---- tokens that are joined by spaces
+
+abbrev pub spaceless : List ℕ → Bool
+spaceless t = list_all (λ b. not (b == 0x20)) t
+
+no_space : (b : ℕ) (bs : List ℕ) → spaceless (b ∷ bs) ≡ true → (b == 0x20 ≡ false) × (spaceless bs ≡ true)
+no_space b bs h = by (b == 0x20) h
+  where
+    by : (e : Bool) → (not e && spaceless bs) ≡ true → (e ≡ false) × (spaceless bs ≡ true)
+    by true k = absurd cc
+    by false k = (refl, k)
+
+first_piece : (t rest : List ℕ) → spaceless t ≡ true → pieces (t ++ 0x20 ∷ rest) ≡ t ∷ pieces rest
+unfolding pieces
+first_piece [] rest h = refl
+first_piece (b ∷ bs) rest h = let p = no_space b bs h in rw (p.0, first_piece bs rest p.1) refl
+
+last_piece : (t : List ℕ) → spaceless t ≡ true → pieces t ≡ t ∷ []
+unfolding pieces
+last_piece [] h = refl
+last_piece (b ∷ bs) h = let p = no_space b bs h in rw (p.0, last_piece bs p.1) refl
+
+-- a token before a space, and the last one
+pub first_token : (t rest : List ℕ) → 0 < length t → spaceless t ≡ true → tokens_of (t ++ 0x20 ∷ rest) ≡ t ∷ tokens_of rest
+unfolding tokens_of
+first_token [] rest l h = absurd (omega (arith, l))
+first_token (b ∷ bs) rest l h = ap (λ (ps : List Token). filter (λ t. not (is_empty t)) ps) (first_piece (b ∷ bs) rest h)
+
+pub last_token : (t : List ℕ) → 0 < length t → spaceless t ≡ true → tokens_of t ≡ t ∷ []
+unfolding tokens_of
+last_token [] l h = absurd (omega (arith, l))
+last_token (b ∷ bs) l h = ap (λ (ps : List Token). filter (λ t. not (is_empty t)) ps) (last_piece (b ∷ bs) h)

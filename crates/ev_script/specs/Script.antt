@@ -1,9 +1,11 @@
 -- Scripts: the lines of an input behind the line `script`, and behind them the line `end`. Own.
-use Rattle.std.specs.Prelude.{◌≡◌, ℕ, ◌+◌, true, false, nat_le, List, [], ◌∷◌, ◌++◌, length, codes, Option, Some, None, Result, Ok, Err, MatchResult, Vec}
+use Rattle.std.specs.Prelude.{◌≡◌, ℕ, ◌+◌, Bool, true, false, nat_le, List, [], ◌∷◌, ◌++◌, length, codes, Option, Some, None, Result, Ok, Err, MatchResult, Vec}
 use Rattle.std.specs.Str.{bytes_eq}
 use Rattle.ev_body.specs.KernelImage.{KernelImage}
 use Rattle.ev_io.specs.declared.cause.Cause.{Cause}
 use Rattle.ev_io.specs.declared.cause.Cause.TheVariants as Cause
+use Rattle.ev_io.specs.declared.lines.LineFault.{LineFault}
+use Rattle.ev_io.specs.declared.lines.LineFault.TheVariants as LineFault
 use Rattle.ev_io.specs.Lines.{Reading}
 use Rattle.ev_io.specs.InputLines.{lines_of}
 use Rattle.ev_io.specs.Tokens.{Token, is_empty}
@@ -19,13 +21,22 @@ unfoldable pub one_more : ℕ → Result Line Cause → Result (Option Line) Cau
 one_more count (Err cause) = Err cause
 one_more count (Ok line) = elim (nat_le 200000 count) [ true ↦ Err Cause.Limit | false ↦ Ok (Some line) ]
 
+-- whether a line is the line `end`, which has no further token
+unfoldable pub ends : List Token → Result Bool Cause
+ends [] = Ok false
+ends (t ∷ ts) = elim (bytes_eq t (codes "end")) [
+  | true ↦ elim (is_empty ts) [ true ↦ Ok true | false ↦ Err Cause.Count ]
+  | false ↦ Ok false
+]
+
+abbrev pub said_by : Result Bool Cause → ℕ → Result Line Cause → Result (Option Line) Cause
+said_by (Err cause) count line = Err cause
+said_by (Ok true) count line = Ok None
+said_by (Ok false) count line = one_more count line
+
 -- what a line says behind so many script lines: a script line, or the script's end
 unfoldable pub said : KernelImage → ℕ → List Token → Result (Option Line) Cause
-said image count [] = Err Cause.Word
-said image count (t ∷ ts) = elim (bytes_eq t (codes "end")) [
-  | true ↦ elim (is_empty ts) [ true ↦ Ok None | false ↦ Err Cause.Count ]
-  | false ↦ one_more count (line_of_tokens image (t ∷ ts))
-]
+said image count ts = said_by (ends ts) count (line_of_tokens image ts)
 
 -- the script lines so far, and whether the line `end` stands behind them
 pub data Standing : Type 0 where
@@ -53,6 +64,13 @@ whole n (Ok (Open script)) = Err (n, Cause.NoEnd)
 -- The script of these lines, where n lines of so many bytes of the input stand before them; or the first line that doesn't follow, with its cause.
 unfoldable pub read_script : KernelImage → (n before : ℕ) → List (List ℕ) → Result (List Line) (ℕ × Cause)
 read_script image n before lines = whole (n + length lines) (read (follows image) n before (Open []) lines)
+
+-- a fault of the reader of lines, as a fault of the script
+abbrev pub fault_of : LineFault → ScriptFault
+fault_of LineFault.ReadFault = ScriptFault.Read
+fault_of (LineFault.TooLarge n) = ScriptFault.BadLine n Cause.TooLarge
+fault_of (LineFault.TooLong n) = ScriptFault.BadLine n Cause.TooLong
+fault_of (LineFault.NotAscii n k) = ScriptFault.BadLine n Cause.NotAscii
 
 -- A fault of a reader that stood so before these bytes: the first refusal of their script; or the source failed, and the lines before had none.
 abbrev pub Refuses : KernelImage → Reading → List ℕ → Reading → Option (List ℕ) → ScriptFault → Type 0

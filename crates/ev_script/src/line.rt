@@ -165,7 +165,7 @@ fn line_of_word(image: &Image, word: Word, operands: &[&[u8]]) -> Result<Line, C
 }
 
 /// The script line of these tokens, the first of which is its word.
-fn line_of_tokens(image: &Image, tokens: &[&[u8]]) -> Result<Line, Cause>
+pub fn line_of_tokens(image: &Image, tokens: &[&[u8]]) -> Result<Line, Cause>
     ensures value { result ≡ line_of_tokens image.now (map (λ t. t.now) tokens.now) }
     ensures formed { IfOk result (λ line. is_line image.now line ≡ true) }
 {

@@ -1,13 +1,13 @@
 // Reading scripts.
 
-ghost use Rattle.std.specs.Prelude.{◌≡◌, ◌≤◌, ◌<◌, ℕ, List, true, Some, IfOk, IfSome, vec_len};
+ghost use Rattle.std.specs.Prelude.{◌≡◌, ◌≤◌, ◌<◌, ℕ, List, map, true, Some, IfOk, IfSome, vec_len};
 ghost use Rattle.ev_io.specs.Transfer.{Draws, Rose};
 ghost use Rattle.ev_io.specs.Lines.{coming, drawn};
 ghost use Rattle.ev_io.specs.Tokens.{tokens_of};
 ghost use Rattle.ev_abstract.specs.Script.{IsScript, is_line};
-ghost use Rattle.ev_script.specs.Script.{OnRead, ReadsScript, ReadsToEnd, said};
+ghost use Rattle.ev_script.specs.Script.{OnRead, ReadsScript, ReadsToEnd, ends, fault_of, said};
 
-use crate::line::line_of;
+use crate::line::line_of_tokens;
 use ev_abstract::Line;
 use ev_body::Image;
 use ev_io::{Cause, LineFault, Lines, Source, tokens_in};
@@ -38,20 +38,35 @@ pub enum ScriptFault {
     NoMemory,
 }
 
+/// Whether a line is the line `end`: Count where it has a further token.
+#[tactic(auto, unfolding(crate::specs::Script::ends))]
+fn ends(tokens: &[&[u8]]) -> Result<bool, Cause>
+    ensures { result ≡ ends (map (λ t. t.now) tokens.now) }
+{
+    let [first, rest @ ..] = tokens else {
+        return Ok(false);
+    };
+    if *first != b"end".as_slice() {
+        return Ok(false);
+    }
+    if rest.is_empty() {
+        Ok(true)
+    } else {
+        Err(Cause::Count)
+    }
+}
+
 /// What a line says behind so many script lines: a script line, or None at the script's end.
-#[tactic(auto, unfolding(crate::specs::Script::said, crate::specs::Script::one_more))]
 fn said(image: &Image, count: usize, text: &[u8]) -> Result<Option<Line>, Cause>
     ensures value { result ≡ said image.now count (tokens_of text.now) }
     ensures formed { IfOk result (λ o. IfSome o (λ line. is_line image.now line ≡ true)) }
     ensures room { IfOk result (λ o. IfSome o (λ _. count < 200000)) }
 {
     let tokens = tokens_in(text);
-    match tokens.as_slice() {
-        [b"end"] => return Ok(None),
-        [b"end", ..] => return Err(Cause::Count),
-        _ => {}
+    if ends(tokens.as_slice())? {
+        return Ok(None);
     }
-    let line = line_of(text, image)?;
+    let line = line_of_tokens(image, tokens.as_slice())?;
     if count >= SCRIPT_LIMIT {
         return Err(Cause::Limit);
     }
@@ -59,7 +74,9 @@ fn said(image: &Image, count: usize, text: &[u8]) -> Result<Option<Line>, Cause>
 }
 
 /// The fault of a line's bytes, or of the source.
-fn fault_of(fault: LineFault) -> ScriptFault {
+fn fault_of(fault: LineFault) -> ScriptFault
+    ensures { result ≡ fault_of fault }
+{
     match fault {
         LineFault::ReadFault => ScriptFault::Read,
         LineFault::TooLarge(number) => ScriptFault::BadLine(number, Cause::TooLarge),
@@ -81,6 +98,7 @@ fn read_to_end<S: Source>(
     ensures few { IfOk result (λ script. vec_len script ≤ 200000) }
 
     ensures draws { Draws (drawn lines.old) (drawn lines.new) (S.left src.old) (S.left src.new) }
+    ensures most { drawn lines.new ≤ 8388609 }
     ensures later { S.faults src.old ≤ S.faults src.new }
     ensures cause { OnRead result (Rose (S.faults src.old) (S.faults src.new)) }
 {
@@ -92,11 +110,10 @@ fn read_to_end<S: Source>(
             Ok(Some(number)) => match said(image, script.len(), lines.text()) {
                 Err(cause) => return Err(ScriptFault::BadLine(number, cause)),
                 Ok(None) => return Ok(script),
-                Ok(Some(line)) => {
-                    if script.push(line).is_err() {
-                        return Err(ScriptFault::NoMemory);
-                    }
-                }
+                Ok(Some(line)) => match script.push(line) {
+                    Ok(()) => {}
+                    Err(_) => return Err(ScriptFault::NoMemory),
+                },
             },
         }
     }
