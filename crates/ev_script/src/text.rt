@@ -3,7 +3,6 @@
 ghost use Rattle.std.specs.Prelude.{◌≡◌, ◌≤◌, ◌<◌, ◌+◌, [], ◌∷◌, ◌++◌, true, length, decimal, Ok};
 ghost use Rattle.arrayvec.specs.ArrayString.{array_string_len};
 ghost use Rattle.ev_body.specs.KernelImage.{KernelImage};
-ghost use Rattle.ev_body.specs.WellFormed.{IsImage};
 ghost use Rattle.ev_abstract.specs.Script.{is_line};
 ghost use Rattle.ev_script.specs.LineText.{line_text};
 ghost use Rattle.ev_script.specs.ScriptLine.{line_of};
@@ -17,7 +16,7 @@ use ev_trace::{push_decimal, push_key};
 pub fn print_line(line: &Line, out: &mut ArrayString<64>)
     requires { out.old.bytes ≡ [] }
     ensures text { out.new.bytes ≡ line_text line.now }
-    ensures back { (image : KernelImage) → image.processors ≤ 8 → is_line image line.now ≡ true
+    ensures back { (image : KernelImage) → is_line image line.now ≡ true
         → line_of out.new.bytes image ≡ Ok line.now }
 {
     match *line {
