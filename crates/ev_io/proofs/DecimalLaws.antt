@@ -37,7 +37,8 @@ pub record IsDecimalOf (n : ℕ) (ds : List ℕ) : Type 0 where
   pub form : (length ds < 2) ⊎ (slice_index ds 0 ≢ 48)
 
 last_digit : (ds : List ℕ) (k : ℕ) → k < 10 → are_digits ds ≡ true → are_digits (ds ++ (48 + k) ∷ []) ≡ true
-last_digit ds k h all = list_all-append (λ b. nat_lt (digit b) 10) ds ((48 + k) ∷ []) ∙ ap (λ v. v && (nat_lt (digit (48 + k)) 10 && true)) all ∙ ap (λ v. v && true) (is_digit k h)
+last_digit ds k h all = list_all-append (λ b. nat_lt (digit b) 10) ds ((48 + k) ∷ []) ∙ ap (λ v. v && (nat_lt (digit (48 + k)) 10 && true)) all
+    ∙ ap (λ v. v && true) (is_digit k h)
 
 same_first : (ds : List ℕ) (d : ℕ) → 0 < length ds → slice_index (ds ++ d ∷ []) 0 ≡ slice_index ds 0
 same_first [] d h = absurd (omega (arith, h))

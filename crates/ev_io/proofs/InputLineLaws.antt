@@ -32,10 +32,12 @@ cut (suc r) (b ∷ bs) = by (is_printable b) refl (cut r bs)
       short = omega (arith, c.short);
       ends = elim c.ends [ inl p ↦ inl p | inr p ↦ inr (ap suc p) ];
     }
-    by false e c = record { text = []; rest = b ∷ bs; same = refl; printable = All-nil IsPrintable; short = omega arith; ends = inl (ap (λ v. cond v (1 + prefix_len is_printable bs) 0) e) }
+    by false e c = record { text = []; rest = b ∷ bs; same = refl; printable = All-nil IsPrintable; short = omega arith; ends =
+        inl (ap (λ v. cond v (1 + prefix_len is_printable bs) 0) e) }
 
 -- bytes that a line may still have, where so many are gone
-part_of : (before : ℕ) (bytes : List ℕ) → before ≤ 8388608 → (c : Cut (min 4096 (8388608 - before)) bytes) → IsPart before c.text × EndsBehind before c.text c.rest
+part_of : (before : ℕ) (bytes : List ℕ) → before ≤ 8388608 → (c : Cut (min 4096 (8388608 - before)) bytes)
+    → IsPart before c.text × EndsBehind before c.text c.rest
 part_of before bytes h c = (
   record { printable = c.printable; short = omega (arith, c.short); within = omega (arith, c.short) },
   elim c.ends [ inl p ↦ inl p | inr p ↦ room before (length c.text) h p ],
@@ -113,16 +115,19 @@ fault_behind before k [] rest h s w = ap (λ n. fault_from before n rest) (zero_
     zero_more n = omega arith
 fault_behind before k (b ∷ bs) rest h s w =
     rw (fault_from, clean_byte before k b (omega (arith, w)) (omega (arith, s)) (All-head IsPrintable b bs h))
-    (fault_behind before (k + 1) bs rest (All-tail IsPrintable b bs h) (omega (arith, s)) (omega (arith, w)) ∙ ap (λ n. fault_from before n rest) (counted k (length bs)))
+    (fault_behind before (k + 1) bs rest (All-tail IsPrintable b bs h) (omega (arith, s)) (omega (arith, w)) ∙ ap (λ n. fault_from before n rest)
+        (counted k (length bs)))
   where
     counted : (k n : ℕ) → k + 1 + n ≡ k + suc n
     counted k n = omega arith
 
 -- the fault of a line that goes on behind a part with this byte
-at_fault : (before : ℕ) (t : List ℕ) (b : ℕ) (more : List ℕ) (f : ByteFault) → IsPart before t → byte_fault before (length t) b ≡ Some f → line_fault before (t ++ b ∷ more) ≡ Some f
+at_fault : (before : ℕ) (t : List ℕ) (b : ℕ) (more : List ℕ) (f : ByteFault) → IsPart before t → byte_fault before (length t) b ≡ Some f
+    → line_fault before (t ++ b ∷ more) ≡ Some f
 unfolding fault_from
 at_fault before t b more f h e =
-    fault_behind before 0 t (b ∷ more) h.printable (omega (arith, h.short)) (omega (arith, h.within)) ∙ ap (λ n. fault_from before n (b ∷ more)) (none_more (length t)) ∙ rw (fault_from, e) refl
+    fault_behind before 0 t (b ∷ more) h.printable (omega (arith, h.short)) (omega (arith, h.within)) ∙ ap (λ n. fault_from before n (b ∷ more))
+        (none_more (length t)) ∙ rw (fault_from, e) refl
   where
     none_more : (n : ℕ) → 0 + n ≡ n
     none_more n = omega arith
@@ -151,7 +156,8 @@ pub data Met (number before : ℕ) (bytes : List ℕ) : Type 0 where
       → outcome number before bytes ≡ Bad (fault_of number f) → Met number before bytes
 
 -- a byte that a part is refused at
-refused : (number before : ℕ) (t : List ℕ) (b : ℕ) (rest : List ℕ) (f : ByteFault) → IsPart before t → EndsBehind before t (b ∷ rest) → byte_fault before (length t) b ≡ Some f
+refused : (number before : ℕ) (t : List ℕ) (b : ℕ) (rest : List ℕ) (f : ByteFault) → IsPart before t → EndsBehind before t (b ∷ rest)
+    → byte_fault before (length t) b ≡ Some f
     → outcome_at number before t (b ∷ rest) ≡ Bad (fault_of number f) → Met number before (t ++ b ∷ rest)
 refused number before t b rest f h s e o =
     let begins : Begins t b (t ++ b ∷ rest) = begins_behind t b rest h.printable in
@@ -165,7 +171,8 @@ long_byte : (before k b : ℕ) → nat_le 8388608 (before + k) ≡ false → b =
 unfolding byte_fault
 long_byte before k b h i j = rw (byte_fault, h, byte_fault, i, byte_fault, j) refl
 
-strange_byte : (before k b : ℕ) → nat_le 8388608 (before + k) ≡ false → b == 10 ≡ false → nat_le 4096 k ≡ false → is_printable b ≡ false → byte_fault before k b ≡ Some (NotAscii k)
+strange_byte : (before k b : ℕ) → nat_le 8388608 (before + k) ≡ false → b == 10 ≡ false → nat_le 4096 k ≡ false → is_printable b ≡ false
+    → byte_fault before k b ≡ Some (NotAscii k)
 unfolding byte_fault
 strange_byte before k b h i j p = rw (byte_fault, h, byte_fault, i, byte_fault, j, byte_fault, p) refl
 
@@ -190,7 +197,8 @@ strange_first b rest h = by (is_printable b) refl h
     by false k z = k
 
 -- a byte at which neither of the two limits is reached
-is_strange_at : (before : ℕ) (t : List ℕ) (b : ℕ) (rest : List ℕ) → EndsBehind before t (b ∷ rest) → before + length t < 8388608 → length t < 4096 → is_printable b ≡ false
+is_strange_at : (before : ℕ) (t : List ℕ) (b : ℕ) (rest : List ℕ) → EndsBehind before t (b ∷ rest) → before + length t < 8388608 → length t < 4096
+    → is_printable b ≡ false
 is_strange_at before t b rest (inl p) w s = strange_first b rest p
 is_strange_at before t b rest (inr (inl p)) w s = absurd (omega (arith, p))
 is_strange_at before t b rest (inr (inr p)) w s = absurd (omega (arith, p))
@@ -203,7 +211,8 @@ last_met number before (c ∷ cs) h s = Whole (c ∷ cs) [] refl
     (no_fault_end before (c ∷ cs) h)
     (outcome_append number before (c ∷ cs) [] h s ∙ ap (λ x. Line x [] (before + length (c ∷ cs))) (sym (text_end (c ∷ cs) h.printable)))
 
-feed_met : (number before : ℕ) (t rest : List ℕ) → IsPart before t → EndsBehind before t (10 ∷ rest) → before + length t < 8388608 → Met number before (t ++ 10 ∷ rest)
+feed_met : (number before : ℕ) (t rest : List ℕ) → IsPart before t → EndsBehind before t (10 ∷ rest) → before + length t < 8388608
+    → Met number before (t ++ 10 ∷ rest)
 feed_met number before t rest h s w = Whole (t ++ 10 ∷ []) rest (sym (append_assoc t (10 ∷ []) rest))
     (feed_behind t rest h.printable)
     (no_fault_feed before t h w)
@@ -214,7 +223,8 @@ feed_met number before t rest h s w = Whole (t ++ 10 ∷ []) rest (sym (append_a
     counted = omega (arith, length-append t (10 ∷ []))
 
 byte_met : (number before : ℕ) (t : List ℕ) (b : ℕ) (rest : List ℕ) → IsPart before t → EndsBehind before t (b ∷ rest)
-    → (e : Bool) → nat_le 8388608 (before + length t) ≡ e → (u : Bool) → b == 10 ≡ u → (v : Bool) → nat_le 4096 (length t) ≡ v → Met number before (t ++ b ∷ rest)
+    → (e : Bool) → nat_le 8388608 (before + length t) ≡ e → (u : Bool) → b == 10 ≡ u → (v : Bool) → nat_le 4096 (length t) ≡ v
+        → Met number before (t ++ b ∷ rest)
 byte_met number before t b rest h s true p u q v r =
     refused number before t b rest TooLarge h s (large_byte before (length t) b p) (is_large number before t b rest (le_true _ _ p))
 byte_met number before t b rest h s false p true q v r =
@@ -222,7 +232,8 @@ byte_met number before t b rest h s false p true q v r =
     subst (λ (c : ℕ). Met number before (t ++ c ∷ rest)) (sym feed)
     (feed_met number before t rest h (subst (λ (c : ℕ). EndsBehind before t (c ∷ rest)) feed s) (le_false _ _ p))
 byte_met number before t b rest h s false p false q true r =
-    refused number before t b rest TooLong h s (long_byte before (length t) b p q r) (is_long number before t b rest (le_false _ _ p) (eq_false b 10 q) (le_true _ _ r))
+    refused number before t b rest TooLong h s (long_byte before (length t) b p q r)
+        (is_long number before t b rest (le_false _ _ p) (eq_false b 10 q) (le_true _ _ r))
 byte_met number before t b rest h s false p false q false r =
     refused number before t b rest (NotAscii (length t)) h s
     (strange_byte before (length t) b p q r (is_strange_at before t b rest s (le_false _ _ p) (le_false _ _ r)))

@@ -159,9 +159,11 @@ end_here chunk (Some ys) e = ap (λ x. x ++ ys) e.0 ∙ e.1
 
 -- what is gone at a fault
 
-pub stops_here : (gone k : ℕ) (t : List ℕ) (all o : Option (List ℕ)) → IsPart gone t → k ≡ gone + length t → all ≡ prepend_known t o → StopsBehind [] gone all t k o
+pub stops_here : (gone k : ℕ) (t : List ℕ) (all o : Option (List ℕ)) → IsPart gone t → k ≡ gone + length t → all ≡ prepend_known t o
+    → StopsBehind [] gone all t k o
 stops_here gone k t all o h e q = record { clean = h; drawn = q ∙ ap (λ x. prepend_known x o) (sym (append-nil t)); counted = omega arith }
 
-pub stops_behind : (gone k b : ℕ) (t : List ℕ) (all o : Option (List ℕ)) → IsPart gone t → k ≡ gone + length t → all ≡ prepend_known t (prepend_known (b ∷ []) o)
+pub stops_behind : (gone k b : ℕ) (t : List ℕ) (all o : Option (List ℕ)) → IsPart gone t → k ≡ gone + length t
+    → all ≡ prepend_known t (prepend_known (b ∷ []) o)
     → (c : ℕ) × StopsBehind (c ∷ []) gone all t (k + 1) o
 stops_behind gone k b t all o h e q = (b, record { clean = h; drawn = q ∙ prepend_prepend t (b ∷ []) o; counted = omega arith })

@@ -36,9 +36,11 @@ read_more {S} rule n before s (x ∷ xs) ys = by (line_follows rule before s x) 
     summed = omega (arith, length-append x (joined xs))
 
     by : (r : Result S Cause)
-        → ((s' : S) → read rule (n + 1) (before + length x) s' (xs ++ ys) ≡ gone_on rule (n + 1 + length xs) (before + length x + length (joined xs)) ys (read rule (n + 1) (before + length x) s' xs))
+        → ((s' : S) → read rule (n + 1) (before + length x) s' (xs ++ ys) ≡ gone_on rule (n + 1 + length xs) (before + length x + length (joined xs)) ys
+            (read rule (n + 1) (before + length x) s' xs))
         → elim r [ Err cause ↦ Err (n + 1, cause) | Ok s' ↦ read rule (n + 1) (before + length x) s' (xs ++ ys) ]
-        ≡ gone_on rule (n + length (x ∷ xs)) (before + length (joined (x ∷ xs))) ys (elim r [ Err cause ↦ Err (n + 1, cause) | Ok s' ↦ read rule (n + 1) (before + length x) s' xs ])
+        ≡ gone_on rule (n + length (x ∷ xs)) (before + length (joined (x ∷ xs))) ys
+            (elim r [ Err cause ↦ Err (n + 1, cause) | Ok s' ↦ read rule (n + 1) (before + length x) s' xs ])
     by (Err cause) go = refl
     by (Ok s') go = rw (counted, summed) (go s')
 
@@ -51,7 +53,8 @@ pub record Through (n before : ℕ) (lines : List (List ℕ)) (m gone : ℕ) (te
   pub number : m ≡ n + length passed
   pub counted : gone ≡ before + length (joined passed)
 
-pub through : (n before : ℕ) (lines : List (List ℕ)) (m gone : ℕ) (text : List ℕ) (behind : List (List ℕ)) → next_said n before lines ≡ Says m gone text behind → Through n before lines m gone text behind
+pub through : (n before : ℕ) (lines : List (List ℕ)) (m gone : ℕ) (text : List ℕ) (behind : List (List ℕ))
+    → next_said n before lines ≡ Says m gone text behind → Through n before lines m gone text behind
 unfolding next_said
 through n before [] m gone text behind e = absurd cc
 through n before (line ∷ lines) m gone text behind e =
@@ -79,34 +82,42 @@ through n before (line ∷ lines) m gone text behind e =
         record {
           passed = line ∷ [];
           lies = ap (λ (ls : List (List ℕ)). line ∷ ls) rest;
-          said = said_first n before line [] h k ∙ ap (λ j. Says j (before + length line) (text_of line) []) number ∙ ap (λ j. Says m j (text_of line) []) bytes ∙ ap (λ t. Says m gone t []) same;
+          said = said_first n before line [] h k ∙ ap (λ j. Says j (before + length line) (text_of line) []) number
+              ∙ ap (λ j. Says m j (text_of line) []) bytes ∙ ap (λ t. Says m gone t []) same;
           number = omega (arith, number);
           counted = omega (arith, bytes, ap length (append-nil line));
         }
 
 -- ---- a reader behind lines that follow each other
 
-pub stands_first : {S : Type 0} → (rule : S → List Token → Result S Cause) (old : Reading) (first : S) (bytes : List ℕ) (rest : Option (List ℕ)) → rest ≡ Some bytes → Stands rule old first bytes old rest first
+pub stands_first : {S : Type 0} → (rule : S → List Token → Result S Cause) (old : Reading) (first : S) (bytes : List ℕ) (rest : Option (List ℕ))
+    → rest ≡ Some bytes → Stands rule old first bytes old rest first
 unfolding read
-stands_first rule old first bytes rest e = record { passed = []; left = bytes; to_come = e; lines = refl; follow = refl; number = omega arith; gone = omega arith }
+stands_first rule old first bytes rest e = record { passed = []; left = bytes; to_come = e; lines = refl; follow = refl; number = omega arith; gone =
+    omega arith }
 
 -- what comes of all lines is what comes of those behind it
-pub stands_on : {S : Type 0} → (rule : S → List Token → Result S Cause) (old : Reading) (first : S) (bytes : List ℕ) (now : Reading) (rest : Option (List ℕ)) (s : S) → (p : Stands rule old first bytes now rest s)
+pub stands_on : {S : Type 0} → (rule : S → List Token → Result S Cause) (old : Reading) (first : S) (bytes : List ℕ) (now : Reading)
+    (rest : Option (List ℕ)) (s : S) → (p : Stands rule old first bytes now rest s)
     → read rule old.number old.gone first (lines_of bytes) ≡ read_on rule s (next_said now.number now.gone (lines_of p.left))
 stands_on rule old first bytes now rest s p =
     ap (read rule old.number old.gone first) p.lines ∙ read_more rule old.number old.gone first p.passed (lines_of p.left)
     ∙ ap (gone_on rule (old.number + length p.passed) (old.gone + length (joined p.passed)) (lines_of p.left)) p.follow
-    ∙ ap (λ k. read rule k (old.gone + length (joined p.passed)) s (lines_of p.left)) (sym p.number) ∙ ap (λ k. read rule now.number k s (lines_of p.left)) (sym p.gone)
+    ∙ ap (λ k. read rule k (old.gone + length (joined p.passed)) s (lines_of p.left)) (sym p.number) ∙ ap (λ k. read rule now.number k s (lines_of p.left))
+        (sym p.gone)
     ∙ read_next rule now.number now.gone s (lines_of p.left)
 
 -- ---- the next answer
 
 -- a line that is said and follows
-pub stands_more : {S : Type 0} → (rule : S → List Token → Result S Cause) (old : Reading) (first : S) (bytes : List ℕ) (now : Reading) (rest : Option (List ℕ)) (s : S) (new : Reading) (rest' : Option (List ℕ)) (n : ℕ) (s' : S)
-    → (p : Stands rule old first bytes now rest s) → Skips now p.left new rest' (Ok (Some n)) → rule s (tokens_of new.text) ≡ Ok s' → Stands rule old first bytes new rest' s'
+pub stands_more : {S : Type 0} → (rule : S → List Token → Result S Cause) (old : Reading) (first : S) (bytes : List ℕ) (now : Reading)
+    (rest : Option (List ℕ)) (s : S) (new : Reading) (rest' : Option (List ℕ)) (n : ℕ) (s' : S)
+    → (p : Stands rule old first bytes now rest s) → Skips now p.left new rest' (Ok (Some n)) → rule s (tokens_of new.text) ≡ Ok s'
+        → Stands rule old first bytes new rest' s'
 unfolding read
 stands_more rule old first bytes now rest s new rest' n s' p k e =
-    let t : Through now.number now.gone (lines_of p.left) n new.gone new.text (lines_of k.0) = through now.number now.gone (lines_of p.left) n new.gone new.text (lines_of k.0) k.3 in
+    let t : Through now.number now.gone (lines_of p.left) n new.gone new.text (lines_of k.0) =
+            through now.number now.gone (lines_of p.left) n new.gone new.text (lines_of k.0) k.3 in
     record {
       passed = p.passed ++ t.passed;
       left = k.0;
@@ -122,19 +133,24 @@ stands_more rule old first bytes now rest s new rest' n s' p k e =
     }
 
 -- a line that is said and has a cause
-pub stands_refused : {S : Type 0} → (rule : S → List Token → Result S Cause) (old : Reading) (first : S) (bytes : List ℕ) (now : Reading) (rest : Option (List ℕ)) (s : S) (new : Reading) (rest' : Option (List ℕ)) (n : ℕ) (cause : Cause)
+pub stands_refused : {S : Type 0} → (rule : S → List Token → Result S Cause) (old : Reading) (first : S) (bytes : List ℕ) (now : Reading)
+    (rest : Option (List ℕ)) (s : S) (new : Reading) (rest' : Option (List ℕ)) (n : ℕ) (cause : Cause)
     → (p : Stands rule old first bytes now rest s) → Skips now p.left new rest' (Ok (Some n)) → rule s (tokens_of new.text) ≡ Err cause
     → read rule old.number old.gone first (lines_of bytes) ≡ Err (n, cause)
 unfolding read
-stands_refused rule old first bytes now rest s new rest' n cause p k e = stands_on rule old first bytes now rest s p ∙ ap (read_on rule s) k.3 ∙ rw (read_on, e) refl
+stands_refused rule old first bytes now rest s new rest' n cause p k e = stands_on rule old first bytes now rest s p ∙ ap (read_on rule s) k.3
+    ∙ rw (read_on, e) refl
 
 -- a line whose bytes have a fault
-pub stands_faulty : {S : Type 0} → (rule : S → List Token → Result S Cause) (old : Reading) (first : S) (bytes : List ℕ) (now : Reading) (rest : Option (List ℕ)) (s : S) (n : ℕ) (fault : ByteFault)
-    → (p : Stands rule old first bytes now rest s) → next_said now.number now.gone (lines_of p.left) ≡ Faulty n fault → read rule old.number old.gone first (lines_of bytes) ≡ Err (n, cause_of fault)
+pub stands_faulty : {S : Type 0} → (rule : S → List Token → Result S Cause) (old : Reading) (first : S) (bytes : List ℕ) (now : Reading)
+    (rest : Option (List ℕ)) (s : S) (n : ℕ) (fault : ByteFault)
+    → (p : Stands rule old first bytes now rest s) → next_said now.number now.gone (lines_of p.left) ≡ Faulty n fault
+        → read rule old.number old.gone first (lines_of bytes) ≡ Err (n, cause_of fault)
 stands_faulty rule old first bytes now rest s n fault p k = stands_on rule old first bytes now rest s p ∙ ap (read_on rule s) k
 
 -- no line is left
-pub stands_last : {S : Type 0} → (rule : S → List Token → Result S Cause) (old : Reading) (first : S) (bytes : List ℕ) (now : Reading) (rest : Option (List ℕ)) (s : S) (new : Reading)
+pub stands_last : {S : Type 0} → (rule : S → List Token → Result S Cause) (old : Reading) (first : S) (bytes : List ℕ) (now : Reading)
+    (rest : Option (List ℕ)) (s : S) (new : Reading)
     → (p : Stands rule old first bytes now rest s) → next_said now.number now.gone (lines_of p.left) ≡ Ends new.number new.gone
     → (read rule old.number old.gone first (lines_of bytes) ≡ Ok s) × (new.number ≡ old.number + length (lines_of bytes))
 stands_last rule old first bytes now rest s new p k = (
@@ -145,7 +161,8 @@ stands_last rule old first bytes now rest s new p k = (
 )
 
 -- the source failed
-pub stands_part : {S : Type 0} → (rule : S → List Token → Result S Cause) (old : Reading) (first : S) (bytes : List ℕ) (now : Reading) (rest : Option (List ℕ)) (s : S) (new : Reading) (rest' : Option (List ℕ))
+pub stands_part : {S : Type 0} → (rule : S → List Token → Result S Cause) (old : Reading) (first : S) (bytes : List ℕ) (now : Reading)
+    (rest : Option (List ℕ)) (s : S) (new : Reading) (rest' : Option (List ℕ))
     → (p : Stands rule old first bytes now rest s) → DrawsPart now p.left new rest' → FollowsPart rule old first bytes new rest'
 unfolding read
 stands_part rule old first bytes now rest s new rest' p d = record {

@@ -30,7 +30,8 @@ read rule n before s (line ∷ lines) = elim (line_follows rule before s line) [
 ]
 
 -- A reader that stood so before these bytes is behind lines that follow each other from what stood first: this stands behind them.
-pub record Stands {S : Type 0} (rule : S → List Token → Result S Cause) (old : Reading) (first : S) (bytes : List ℕ) (now : Reading) (rest : Option (List ℕ)) (s : S) : Type 0 where
+pub record Stands {S : Type 0} (rule : S → List Token → Result S Cause) (old : Reading) (first : S) (bytes : List ℕ) (now : Reading)
+    (rest : Option (List ℕ)) (s : S) : Type 0 where
   pub passed : List (List ℕ)
   pub left : List ℕ
   pub to_come : rest ≡ Some left
@@ -40,7 +41,8 @@ pub record Stands {S : Type 0} (rule : S → List Token → Result S Cause) (old
   pub gone : now.gone ≡ old.gone + length (joined passed)
 
 -- Bytes were drawn: lines that follow each other from what stood, and a part of the line behind them.
-pub record FollowsPart {S : Type 0} (rule : S → List Token → Result S Cause) (old : Reading) (s : S) (bytes : List ℕ) (new : Reading) (rest : Option (List ℕ)) : Type 0 where
+pub record FollowsPart {S : Type 0} (rule : S → List Token → Result S Cause) (old : Reading) (s : S) (bytes : List ℕ) (new : Reading)
+    (rest : Option (List ℕ)) : Type 0 where
   pub passed : List (List ℕ)
   pub left : List ℕ
   pub to_come : rest ≡ Some left

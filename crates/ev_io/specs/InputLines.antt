@@ -26,7 +26,8 @@ pub data ByteFault : Type 0 where
   TooLarge TooLong : ByteFault
   NotAscii : (offset : ℕ) → ByteFault
 
--- The fault of one byte, with so many bytes of the input before its line and so many of the line before it: the input is too large, or its line is too long, or it isn't printable, in this order.
+-- The fault of one byte, with so many bytes of the input before its line and so many of the line before it: the input is too large, or its line is
+-- too long, or it isn't printable, in this order.
 unfoldable pub byte_fault : ℕ → ℕ → ℕ → Option ByteFault
 byte_fault before k b = elim (nat_le 8388608 (before + k)) [
   | true ↦ Some TooLarge
@@ -58,7 +59,8 @@ fault_of number (NotAscii offset) = LineFault.NotAscii number offset
 
 -- ---- the next line that isn't passed over
 
--- A line's number, the number of bytes through it, its text, and the lines behind it; or the numbers of lines and of bytes where no line is left; or a fault of the line of this number.
+-- A line's number, the number of bytes through it, its text, and the lines behind it; or the numbers of lines and of bytes where no line is left; or
+-- a fault of the line of this number.
 pub data Next : Type 0 where
   Says : (number gone : ℕ) (text : List ℕ) (behind : List (List ℕ)) → Next
   Ends : (number gone : ℕ) → Next
@@ -93,7 +95,8 @@ pub record DrawsPart (old : Reading) (bytes : List ℕ) (new : Reading) (rest : 
 
 -- a reader that stood so before these bytes answers what comes of their lines
 abbrev pub Skips : Reading → List ℕ → Reading → Option (List ℕ) → Result (Option ℕ) LineFault → Type 0
-Skips old bytes new rest (Ok (Some n)) = (left : List ℕ) × (rest ≡ Some left) × (new.number ≡ n) × (next_said old.number old.gone (lines_of bytes) ≡ Says n new.gone new.text (lines_of left))
+Skips old bytes new rest (Ok (Some n)) = (left : List ℕ) × (rest ≡ Some left) × (new.number ≡ n)
+    × (next_said old.number old.gone (lines_of bytes) ≡ Says n new.gone new.text (lines_of left))
 Skips old bytes new rest (Ok None) = next_said old.number old.gone (lines_of bytes) ≡ Ends new.number new.gone
 Skips old bytes new rest (Err LineFault.ReadFault) = DrawsPart old bytes new rest
 Skips old bytes new rest (Err (LineFault.TooLarge n)) = next_said old.number old.gone (lines_of bytes) ≡ Faulty n TooLarge

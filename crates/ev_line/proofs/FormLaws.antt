@@ -88,7 +88,8 @@ make_both f (Err cause) r = Err cause
 make_both f (Ok v) (Err cause) = Err cause
 make_both f (Ok v) (Ok w) = Ok (f v w)
 
-pub two_places : {X : Type 0} → (p q : Place) (f : Value p → Value q → X) (a b : Token) → read_only (form (p ∷ q ∷ []) f) (a ∷ b ∷ []) ≡ make_both f (value p a) (value q b)
+pub two_places : {X : Type 0} → (p q : Place) (f : Value p → Value q → X) (a b : Token)
+    → read_only (form (p ∷ q ∷ []) f) (a ∷ b ∷ []) ≡ make_both f (value p a) (value q b)
 unfolding read_only read_places
 two_places {X} p q f a b = by (value p a) refl (value q b) refl
   where
@@ -119,16 +120,19 @@ no_kinds {X} n (f ∷ fs) h = let k = both (is_within n f) (list_all (is_within 
     le_true : (a b : ℕ) → nat_le a b ≡ true → a ≤ b
     le_true a b h = grind (arith, nat_tests)
 
-still_within : {X : Type 0} → (n : ℕ) (test : Form X → Bool) (forms : List (Form X)) → list_all (is_within n) forms ≡ true → list_all (is_within n) (filter test forms) ≡ true
+still_within : {X : Type 0} → (n : ℕ) (test : Form X → Bool) (forms : List (Form X)) → list_all (is_within n) forms ≡ true
+    → list_all (is_within n) (filter test forms) ≡ true
 still_within n test [] h = refl
 still_within {X} n test (f ∷ fs) h = let k = both (is_within n f) (list_all (is_within n) fs) h in by (test f) k.0 (still_within n test fs k.1)
   where
-    by : (e : Bool) → is_within n f ≡ true → list_all (is_within n) (filter test fs) ≡ true → list_all (is_within n) (cond e (f ∷ filter test fs) (filter test fs)) ≡ true
+    by : (e : Bool) → is_within n f ≡ true → list_all (is_within n) (filter test fs) ≡ true
+        → list_all (is_within n) (cond e (f ∷ filter test fs) (filter test fs)) ≡ true
     by true k more = rw k more
     by false k more = more
 
 -- tokens behind the places of all forms are passed over
-fitting_behind : {X : Type 0} → (n : ℕ) (us vs : List Token) (forms : List (Form X)) → list_all (is_within (n + length us)) forms ≡ true → fitting n (us ++ vs) forms ≡ fitting n us forms
+fitting_behind : {X : Type 0} → (n : ℕ) (us vs : List Token) (forms : List (Form X)) → list_all (is_within (n + length us)) forms ≡ true
+    → fitting n (us ++ vs) forms ≡ fitting n us forms
 unfolding fitting kind_here
 fitting_behind n [] [] forms h = refl
 fitting_behind n [] (v ∷ vs) forms h = rw (fitting, no_kinds n forms (ap (λ m. list_all (is_within m) forms) (none_more n) ∙ h)) refl
@@ -145,7 +149,8 @@ fitting_behind {X} n (u ∷ us) vs forms h =
     within k = still_within (suc n + length us) (λ f. takes k (slice_get f.places n)) forms (ap (λ m. list_all (is_within m) forms) (sym counted) ∙ h)
 
     by : (o : Option Kind) → kind_here (filter_map (kind_at n) forms) u ≡ o
-        → ((k : Kind) → fitting (suc n) (us ++ vs) (filter (λ f. takes k (slice_get f.places n)) forms) ≡ fitting (suc n) us (filter (λ f. takes k (slice_get f.places n)) forms))
+        → ((k : Kind) → fitting (suc n) (us ++ vs) (filter (λ f. takes k (slice_get f.places n)) forms) ≡ fitting (suc n) us
+            (filter (λ f. takes k (slice_get f.places n)) forms))
         → fitting n (u ∷ (us ++ vs)) forms ≡ fitting n (u ∷ us) forms
     by None e more = rw (fitting, e) refl
     by (Some k) e more = shaped (is_shaped k u) refl
@@ -154,11 +159,13 @@ fitting_behind {X} n (u ∷ us) vs forms h =
         shaped true g = rw (fitting, e, g) (more k)
         shaped false g = rw (fitting, e, g) refl
 
-fitting_within : {X : Type 0} → (m n : ℕ) (ts : List Token) (forms : List (Form X)) → list_all (is_within m) forms ≡ true → list_all (is_within m) (fitting n ts forms) ≡ true
+fitting_within : {X : Type 0} → (m n : ℕ) (ts : List Token) (forms : List (Form X)) → list_all (is_within m) forms ≡ true
+    → list_all (is_within m) (fitting n ts forms) ≡ true
 unfolding fitting
 fitting_within m n [] forms h = h
 fitting_within {X} m n (t ∷ ts) forms h =
-    by (kind_here (filter_map (kind_at n) forms) t) refl (λ k. fitting_within m (suc n) ts (filter (λ f. takes k (slice_get f.places n)) forms) (still_within m (λ f. takes k (slice_get f.places n)) forms h))
+    by (kind_here (filter_map (kind_at n) forms) t) refl (λ k. fitting_within m (suc n) ts (filter (λ f. takes k (slice_get f.places n)) forms)
+        (still_within m (λ f. takes k (slice_get f.places n)) forms h))
   where
     by : (o : Option Kind) → kind_here (filter_map (kind_at n) forms) t ≡ o
         → ((k : Kind) → list_all (is_within m) (fitting (suc n) ts (filter (λ f. takes k (slice_get f.places n)) forms)) ≡ true)
@@ -171,14 +178,17 @@ fitting_within {X} m n (t ∷ ts) forms h =
         shaped false g = rw (fitting, e, g) refl
 
 -- no form has so many places
-none_found : {X : Type 0} → (m : ℕ) (ts : List Token) (forms : List (Form X)) → list_all (is_within m) forms ≡ true → m < length ts → find (has_places ts) forms ≡ None
+none_found : {X : Type 0} → (m : ℕ) (ts : List Token) (forms : List (Form X)) → list_all (is_within m) forms ≡ true → m < length ts
+    → find (has_places ts) forms ≡ None
 none_found m ts [] h l = refl
-none_found {X} m ts (f ∷ fs) h l = let k = both (is_within m f) (list_all (is_within m) fs) h in rw (differ (length f.places) (length ts) k.0 l) (none_found m ts fs k.1 l)
+none_found {X} m ts (f ∷ fs) h l = let k = both (is_within m f) (list_all (is_within m) fs) h in
+    rw (differ (length f.places) (length ts) k.0 l) (none_found m ts fs k.1 l)
   where
     differ : (a b : ℕ) → nat_le a m ≡ true → m < b → a == b ≡ false
     differ a b g e = grind (arith, nat_tests)
 
-too_many : {X : Type 0} → (m : ℕ) (ts us : List Token) (forms : List (Form X)) → list_all (is_within m) forms ≡ true → m < length ts → m < length us → read_fitting ts forms ≡ read_fitting us forms
+too_many : {X : Type 0} → (m : ℕ) (ts us : List Token) (forms : List (Form X)) → list_all (is_within m) forms ≡ true → m < length ts → m < length us
+    → read_fitting ts forms ≡ read_fitting us forms
 unfolding read_fitting read_form
 too_many m ts us [] h k l = refl
 too_many {X} m ts us (f ∷ fs) h k l = ap (read_form ts) (none_found m ts (f ∷ fs) h k) ∙ none ∙ ap (read_form us) (sym (none_found m us (f ∷ fs) h l))
@@ -194,7 +204,8 @@ more_within {X} m n (f ∷ fs) h l = let k = both (is_within m f) (list_all (is_
     more a g = grind (arith, nat_tests)
 
 -- A token behind the places of all forms is one too many, whatever it is: the first of these tokens tell what comes of all.
-pub first_tokens : {X : Type 0} → (m : ℕ) (ts : List Token) (forms : List (Form X)) → list_all (is_within m) forms ≡ true → read_forms forms (take (m + 1) ts) ≡ read_forms forms ts
+pub first_tokens : {X : Type 0} → (m : ℕ) (ts : List Token) (forms : List (Form X)) → list_all (is_within m) forms ≡ true
+    → read_forms forms (take (m + 1) ts) ≡ read_forms forms ts
 unfolding read_forms
 first_tokens {X} m ts forms h = by (nat_le (length ts) (m + 1)) refl
   where
@@ -204,8 +215,11 @@ first_tokens {X} m ts forms h = by (nat_le (length ts) (m + 1)) refl
         le_true : (a b : ℕ) → nat_le a b ≡ true → a ≤ b
         le_true a b h = grind (arith, nat_tests)
     by false e =
-        ap (read_fitting (take (m + 1) ts)) (sym (fitting_behind 0 (take (m + 1) ts) (drop (m + 1) ts) forms (few (length (take (m + 1) ts)) (omega (arith, length-take (m + 1) ts, long)))) ∙ ap (λ (us : List Token). fitting 0 us forms) (take-append-drop (m + 1) ts))
-        ∙ too_many m (take (m + 1) ts) ts (fitting 0 ts forms) (fitting_within m 0 ts forms h) (omega (arith, length-take (m + 1) ts, long)) (omega (arith, long))
+        ap (read_fitting (take (m + 1) ts))
+            (sym (fitting_behind 0 (take (m + 1) ts) (drop (m + 1) ts) forms (few (length (take (m + 1) ts)) (omega (arith, length-take (m + 1) ts, long))))
+            ∙ ap (λ (us : List Token). fitting 0 us forms) (take-append-drop (m + 1) ts))
+        ∙ too_many m (take (m + 1) ts) ts (fitting 0 ts forms) (fitting_within m 0 ts forms h) (omega (arith, length-take (m + 1) ts, long))
+            (omega (arith, long))
       where
         le_false : (a b : ℕ) → nat_le a b ≡ false → b < a
         le_false a b h = grind (arith, nat_tests)
@@ -217,7 +231,8 @@ first_tokens {X} m ts forms h = by (nat_le (length ts) (m + 1)) refl
         few n l = more_within m (0 + n) forms h (omega (arith, l))
 
 -- A line whose forms have at most four places is told by its first six tokens.
-pub first_six : {X : Type 0} → (forms : Token → List (Form X)) (ts : List Token) → ((w : Token) → list_all (is_within 4) (forms w) ≡ true) → read_by forms (take 6 ts) ≡ read_by forms ts
+pub first_six : {X : Type 0} → (forms : Token → List (Form X)) (ts : List Token) → ((w : Token) → list_all (is_within 4) (forms w) ≡ true)
+    → read_by forms (take 6 ts) ≡ read_by forms ts
 unfolding read_by
 first_six forms [] h = refl
 first_six forms (w ∷ ts) h = first_tokens 4 ts (forms w) (h w)

@@ -25,8 +25,10 @@ all_ascii (b ∷ bs) h (suc i) = all_ascii bs (both (is_name_byte b) (list_all i
 pub name_is_ascii : (w : List ℕ) → is_good_name w ≡ true → IsAscii w
 unfolding is_good_name
 name_is_ascii [] h i = omega arith
-name_is_ascii (b ∷ bs) h zero = letter_small b (both (is_letter b) (list_all is_name_byte bs) (both (is_letter b && list_all is_name_byte bs) (nat_le (length bs) 30) h).0).0
-name_is_ascii (b ∷ bs) h (suc i) = all_ascii bs (both (is_letter b) (list_all is_name_byte bs) (both (is_letter b && list_all is_name_byte bs) (nat_le (length bs) 30) h).0).1 i
+name_is_ascii (b ∷ bs) h zero =
+    letter_small b (both (is_letter b) (list_all is_name_byte bs) (both (is_letter b && list_all is_name_byte bs) (nat_le (length bs) 30) h).0).0
+name_is_ascii (b ∷ bs) h (suc i) =
+    all_ascii bs (both (is_letter b) (list_all is_name_byte bs) (both (is_letter b && list_all is_name_byte bs) (nat_le (length bs) 30) h).0).1 i
 
 pub name_is_short : (w : List ℕ) → is_good_name w ≡ true → length w ≤ 31
 unfolding is_good_name

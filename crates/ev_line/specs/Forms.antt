@@ -60,7 +60,8 @@ kind_by_start t = elim (starts_with nat_eq t (codes "[")) [
   ]
 ]
 
--- The kind of a token where these kinds may stand. Where it is one alone, the token is of that kind. Where a label may stand beside a register, a register's name is a register.
+-- The kind of a token where these kinds may stand. Where it is one alone, the token is of that kind. Where a label may stand beside a register, a
+-- register's name is a register.
 unfoldable pub kind_among : Kind → List Kind → Token → Kind
 kind_among k ks t = elim (list_all (same_kind k) ks) [
   | true ↦ k

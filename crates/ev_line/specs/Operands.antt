@@ -15,7 +15,8 @@ use Rattle.ev_line.specs.Names.{is_good_name, register_of, key_of, side_of}
 -- Places, with what they are told of the lines before:
 -- Register, Local: one of the sixteen registers, or of the eight locals. Number: any number. Within: from low to high. Signed: a number of 32 bits with a sign.
 -- Memory, Gs: the word at a register and a displacement, or at a displacement from the GS base. Label: a label's name.
--- Processor: one below the count. New: a number up to `high` that isn't taken. NewRegister: a register that isn't taken. TextLabel: a label of the text, with its address.
+-- Processor: one below the count. New: a number up to `high` that isn't taken. NewRegister: a register that isn't taken. TextLabel: a label of the
+-- text, with its address.
 -- AnyKey, AnySide: a key, a side. SentKey: nmi or an interrupt. KeyOfBody: such a key, which has a body.
 pub data Place : Type 0 where
   Register Local Number Signed Memory Gs Label AnyKey AnySide SentKey : Place

@@ -52,7 +52,8 @@ fn parted(t: &[u8]) -> Option<Parts<'_>>
 /// The register, the sign and the number of an operand with its brackets and its sign.
 #[tactic(auto, unfolding(crate::specs::Operands::memory_parts))]
 pub fn memory_parts(t: &[u8]) -> Option<Parts<'_>>
-    ensures { option_map (λ p. (p.name.now, p.is_negative, p.number.now)) result ≡ memory_parts t.now }
+    ensures { option_map (λ p. (p.name.now, p.is_negative, p.number.now)) result
+        ≡ memory_parts t.now }
 {
     parted(closed(behind_word(b"[", t)?)?)
 }

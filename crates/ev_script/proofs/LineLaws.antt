@@ -35,12 +35,14 @@ just_two now d (x ∷ y ∷ []) h k = refl
 just_two now d (x ∷ y ∷ z ∷ zs) h k = absurd (omega (arith, k))
 
 -- one operand
-pub read_one : {A X : Type 0} → (p : Place) (f : Value p → X) (now : A → Token) (d : A) (xs : List A) (r : Result (Value p) Cause) → 1 ≤ length xs → length xs < 2
+pub read_one : {A X : Type 0} → (p : Place) (f : Value p → X) (now : A → Token) (d : A) (xs : List A) (r : Result (Value p) Cause) → 1 ≤ length xs
+    → length xs < 2
     → r ≡ value p (now (get_or xs 0 d)) → then_make f r ≡ read_only (form (p ∷ []) f) (map now xs)
 read_one p f now d xs r h k e = ap (then_make f) e ∙ sym (one_place p f (now (get_or xs 0 d))) ∙ ap (read_only (form (p ∷ []) f)) (sym (just_one now d xs h k))
 
 -- two operands
-pub read_two : {A X : Type 0} → (p q : Place) (f : Value p → Value q → X) (now : A → Token) (d : A) (xs : List A) (r : Result (Value p) Cause) (s : Result (Value q) Cause) → 2 ≤ length xs → length xs < 3
+pub read_two : {A X : Type 0} → (p q : Place) (f : Value p → Value q → X) (now : A → Token) (d : A) (xs : List A) (r : Result (Value p) Cause)
+    (s : Result (Value q) Cause) → 2 ≤ length xs → length xs < 3
     → r ≡ value p (now (get_or xs 0 d)) → s ≡ value q (now (get_or xs 1 d)) → make_both f r s ≡ read_only (form (p ∷ q ∷ []) f) (map now xs)
 read_two p q f now d xs r s h k e g =
     ap (λ x. make_both f x s) e ∙ ap (make_both f (value p (now (get_or xs 0 d)))) g ∙ sym (two_places p q f (now (get_or xs 0 d)) (now (get_or xs 1 d)))
@@ -94,8 +96,10 @@ no_key keys t cause e = sym (ap (if_it (has_key keys) Cause.NoBody) e)
 -- ---- words
 
 -- what is made of one place
-pub made_of_one : {X : Type 0} → (p : Place) (f : Value p → X) (ts : List Token) → read_only (form (p ∷ []) f) ts ≡ then_make f (read_only (form (p ∷ []) (λ v. v)) ts)
-made_of_one p f [] = other_count (form (p ∷ []) f) [] (λ e. absurd (omega (arith, e))) ∙ sym (ap (then_make f) (other_count (form (p ∷ []) (λ v. v)) [] (λ e. absurd (omega (arith, e)))))
+pub made_of_one : {X : Type 0} → (p : Place) (f : Value p → X) (ts : List Token)
+    → read_only (form (p ∷ []) f) ts ≡ then_make f (read_only (form (p ∷ []) (λ v. v)) ts)
+made_of_one p f [] = other_count (form (p ∷ []) f) [] (λ e. absurd (omega (arith, e)))
+    ∙ sym (ap (then_make f) (other_count (form (p ∷ []) (λ v. v)) [] (λ e. absurd (omega (arith, e)))))
 made_of_one {X} p f (t ∷ []) = one_place p f t ∙ by (value p t) ∙ sym (ap (then_make f) (one_place p (λ v. v) t))
   where
     by : (r : Result (Value p) Cause) → then_make f r ≡ then_make f (then_make (λ v. v) r)
@@ -106,19 +110,23 @@ made_of_one p f (t ∷ u ∷ us) =
     ∙ sym (ap (then_make f) (other_count (form (p ∷ []) (λ v. v)) (t ∷ u ∷ us) (λ e. absurd (omega (arith, e)))))
 
 -- the forms of each word, as one form
-pub turn_forms : (count : ℕ) (keys : List ℕ) (ts : List Token) → read_forms (forms_of_word count keys (Some Word.Turn)) ts ≡ then_make Line.Turn (read_only (form (Processor count ∷ []) (λ p. p)) ts)
+pub turn_forms : (count : ℕ) (keys : List ℕ) (ts : List Token) → read_forms (forms_of_word count keys (Some Word.Turn)) ts ≡ then_make Line.Turn
+    (read_only (form (Processor count ∷ []) (λ p. p)) ts)
 unfolding forms_of_word is_plain
 turn_forms count keys ts = one_form (form (Processor count ∷ []) (λ p. Line.Turn p)) ts refl ∙ made_of_one (Processor count) Line.Turn ts
 
-pub accept_forms : (count : ℕ) (keys : List ℕ) (ts : List Token) → read_forms (forms_of_word count keys (Some Word.Accept)) ts ≡ then_make Line.Accept (read_only (form (Processor count ∷ []) (λ p. p)) ts)
+pub accept_forms : (count : ℕ) (keys : List ℕ) (ts : List Token) → read_forms (forms_of_word count keys (Some Word.Accept)) ts ≡ then_make Line.Accept
+    (read_only (form (Processor count ∷ []) (λ p. p)) ts)
 unfolding forms_of_word is_plain
 accept_forms count keys ts = one_form (form (Processor count ∷ []) (λ p. Line.Accept p)) ts refl ∙ made_of_one (Processor count) Line.Accept ts
 
-pub edge_forms : (count : ℕ) (keys : List ℕ) (ts : List Token) → read_forms (forms_of_word count keys (Some Word.Edge)) ts ≡ read_only (form (Processor count ∷ Within 1 4096 ∷ []) (λ p n. Line.Edge p n)) ts
+pub edge_forms : (count : ℕ) (keys : List ℕ) (ts : List Token) → read_forms (forms_of_word count keys (Some Word.Edge)) ts ≡ read_only
+    (form (Processor count ∷ Within 1 4096 ∷ []) (λ p n. Line.Edge p n)) ts
 unfolding forms_of_word is_plain
 edge_forms count keys ts = one_form (form (Processor count ∷ Within 1 4096 ∷ []) (λ p n. Line.Edge p n)) ts refl
 
-pub arrive_forms : (count : ℕ) (keys : List ℕ) (ts : List Token) → read_forms (forms_of_word count keys (Some Word.Arrive)) ts ≡ read_only (form (Processor count ∷ KeyOfBody keys ∷ []) (λ p key. Line.Arrive p key)) ts
+pub arrive_forms : (count : ℕ) (keys : List ℕ) (ts : List Token) → read_forms (forms_of_word count keys (Some Word.Arrive)) ts ≡ read_only
+    (form (Processor count ∷ KeyOfBody keys ∷ []) (λ p key. Line.Arrive p key)) ts
 unfolding forms_of_word is_plain
 arrive_forms count keys ts = one_form (form (Processor count ∷ KeyOfBody keys ∷ []) (λ p key. Line.Arrive p key)) ts refl
 
@@ -133,7 +141,8 @@ few_places count keys (Some Word.Accept) = refl
 
 pub first_tokens_tell : (image : KernelImage) (ts : List Token) → line_of_tokens image (take 6 ts) ≡ line_of_tokens image ts
 unfolding line_of_tokens
-first_tokens_tell image ts = first_six (script_forms image.processors (keys_with_bodies image)) ts (λ w. few_places image.processors (keys_with_bodies image) (word_of w))
+first_tokens_tell image ts = first_six (script_forms image.processors (keys_with_bodies image)) ts
+    (λ w. few_places image.processors (keys_with_bodies image) (word_of w))
 
 -- ---- a line's first token
 
@@ -151,14 +160,17 @@ unfolding line_of_tokens read_by
 no_tokens image now [] h = refl
 no_tokens image now (x ∷ xs) h = absurd (omega (arith, h))
 
-pub unknown_word : {A : Type 0} → (image : KernelImage) (now : A → Token) (d : A) (xs : List A) → 1 ≤ length xs → word_of (now (get_or xs 0 d)) ≡ None → Err Cause.Word ≡ line_of_tokens image (map now xs)
+pub unknown_word : {A : Type 0} → (image : KernelImage) (now : A → Token) (d : A) (xs : List A) → 1 ≤ length xs → word_of (now (get_or xs 0 d)) ≡ None
+    → Err Cause.Word ≡ line_of_tokens image (map now xs)
 unfolding line_of_tokens read_by forms_of_word
 unknown_word image now d [] h e = absurd (omega (arith, h))
 unknown_word image now d (x ∷ xs) h e =
     sym (ap (λ (w : Option Word). read_forms (forms_of_word image.processors (keys_with_bodies image) w) (map now xs)) e ∙ none_read (map now xs))
 
-pub known_word : {A : Type 0} → (image : KernelImage) (now : A → Token) (d : A) (xs : List A) (w : Word) → 1 ≤ length xs → word_of (now (get_or xs 0 d)) ≡ Some w
-    → read_forms (forms_of_word image.processors (keys_with_bodies image) (Some w)) (map now (take (length xs - 1) (drop 1 xs))) ≡ line_of_tokens image (map now xs)
+pub known_word : {A : Type 0} → (image : KernelImage) (now : A → Token) (d : A) (xs : List A) (w : Word) → 1 ≤ length xs
+    → word_of (now (get_or xs 0 d)) ≡ Some w
+    → read_forms (forms_of_word image.processors (keys_with_bodies image) (Some w)) (map now (take (length xs - 1) (drop 1 xs))) ≡ line_of_tokens image
+        (map now xs)
 unfolding line_of_tokens read_by
 known_word image now d [] w h e = absurd (omega (arith, h))
 known_word image now d (x ∷ xs) w h e =

@@ -30,7 +30,8 @@ first_tokens_end (t ∷ u ∷ us) = refl
 -- ---- what a line says
 
 -- the first six tokens tell it
-pub said_is : (image : KernelImage) (count : ℕ) (ts : List Token) (r : Result Bool Cause) (l : Result Line Cause) → r ≡ ends (take 6 ts) → l ≡ line_of_tokens image (take 6 ts)
+pub said_is : (image : KernelImage) (count : ℕ) (ts : List Token) (r : Result Bool Cause) (l : Result Line Cause) → r ≡ ends (take 6 ts)
+    → l ≡ line_of_tokens image (take 6 ts)
     → said_by r count l ≡ said image count ts
 unfolding said
 said_is image count ts r l e f = ap (λ q. said_by q count l) (e ∙ first_tokens_end ts) ∙ ap (said_by (ends ts) count) (f ∙ first_tokens_tell image ts)
@@ -50,20 +51,24 @@ few_enough count line h = rw (one_more, room) refl
     room = grind (arith, nat_tests)
 
 -- what the text says, where it and the number of lines are known by other names
-pub said_at : (image : KernelImage) (m n : ℕ) (t u : List ℕ) (r : Result (Option Line) Cause) → m ≡ n → t ≡ u → r ≡ said image m (tokens_of t) → said image n (tokens_of u) ≡ r
+pub said_at : (image : KernelImage) (m n : ℕ) (t u : List ℕ) (r : Result (Option Line) Cause) → m ≡ n → t ≡ u → r ≡ said image m (tokens_of t)
+    → said image n (tokens_of u) ≡ r
 said_at image m n t u r e f h = sym (h ∙ ap (λ k. said image k (tokens_of t)) e ∙ ap (λ x. said image n (tokens_of x)) f)
 
 -- ---- what a line does
 
-pub follow_more : (image : KernelImage) (script : List Line) (ts : List Token) (line : Line) → said image (length script) ts ≡ Ok (Some line) → follows image (Open script) ts ≡ Ok (Open (script ++ line ∷ []))
+pub follow_more : (image : KernelImage) (script : List Line) (ts : List Token) (line : Line) → said image (length script) ts ≡ Ok (Some line)
+    → follows image (Open script) ts ≡ Ok (Open (script ++ line ∷ []))
 unfolding follows
 follow_more image script ts line e = ap (then_stands script) e
 
-pub follow_end : (image : KernelImage) (script : List Line) (ts : List Token) → said image (length script) ts ≡ Ok None → follows image (Open script) ts ≡ Ok (Ended script)
+pub follow_end : (image : KernelImage) (script : List Line) (ts : List Token) → said image (length script) ts ≡ Ok None
+    → follows image (Open script) ts ≡ Ok (Ended script)
 unfolding follows
 follow_end image script ts e = ap (then_stands script) e
 
-pub follow_bad : (image : KernelImage) (script : List Line) (ts : List Token) (cause : Cause) → said image (length script) ts ≡ Err cause → follows image (Open script) ts ≡ Err cause
+pub follow_bad : (image : KernelImage) (script : List Line) (ts : List Token) (cause : Cause) → said image (length script) ts ≡ Err cause
+    → follows image (Open script) ts ≡ Err cause
 unfolding follows
 follow_bad image script ts cause e = ap (then_stands script) e
 
@@ -73,21 +78,25 @@ nothing_follows image script ts = refl
 
 -- ---- the whole
 
-pub refused : (image : KernelImage) (n before : ℕ) (lines : List (List ℕ)) (m : ℕ) (cause : Cause) → read (follows image) n before (Open []) lines ≡ Err (m, cause) → read_script image n before lines ≡ Err (m, cause)
+pub refused : (image : KernelImage) (n before : ℕ) (lines : List (List ℕ)) (m : ℕ) (cause : Cause)
+    → read (follows image) n before (Open []) lines ≡ Err (m, cause) → read_script image n before lines ≡ Err (m, cause)
 unfolding read_script whole
 refused image n before lines m cause e = ap (whole (n + length lines)) e
 
-pub no_end : (image : KernelImage) (n before : ℕ) (lines : List (List ℕ)) (script : List Line) (m : ℕ) → read (follows image) n before (Open []) lines ≡ Ok (Open script) → m ≡ n + length lines
+pub no_end : (image : KernelImage) (n before : ℕ) (lines : List (List ℕ)) (script : List Line) (m : ℕ)
+    → read (follows image) n before (Open []) lines ≡ Ok (Open script) → m ≡ n + length lines
     → read_script image n before lines ≡ Err (m, Cause.NoEnd)
 unfolding read_script whole
 no_end image n before lines script m e k = ap (whole (n + length lines)) e ∙ ap (λ j. Err (j, Cause.NoEnd)) (sym k)
 
-pub is_whole : (image : KernelImage) (n before : ℕ) (lines : List (List ℕ)) (script : List Line) → read (follows image) n before (Open []) lines ≡ Ok (Ended script) → read_script image n before lines ≡ Ok script
+pub is_whole : (image : KernelImage) (n before : ℕ) (lines : List (List ℕ)) (script : List Line)
+    → read (follows image) n before (Open []) lines ≡ Ok (Ended script) → read_script image n before lines ≡ Ok script
 unfolding read_script whole
 is_whole image n before lines script e = ap (whole (n + length lines)) e
 
 -- a fault of the reader of lines, behind lines that follow
-pub faulty : (image : KernelImage) (old : Reading) (bytes : List ℕ) (now : Reading) (rest : Option (List ℕ)) (s : Standing) (new : Reading) (rest' : Option (List ℕ)) (x : LineFault)
+pub faulty : (image : KernelImage) (old : Reading) (bytes : List ℕ) (now : Reading) (rest : Option (List ℕ)) (s : Standing) (new : Reading)
+    (rest' : Option (List ℕ)) (x : LineFault)
     → (p : Stands (follows image) old (Open []) bytes now rest s) → Skips now p.left new rest' (Err x) → Refuses image old bytes new rest' (fault_of x)
 faulty image old bytes now rest s new rest' LineFault.ReadFault p k = stands_part (follows image) old (Open []) bytes now rest s new rest' p k
 faulty image old bytes now rest s new rest' (LineFault.TooLarge n) p k =
@@ -98,7 +107,8 @@ faulty image old bytes now rest s new rest' (LineFault.NotAscii n m) p k =
     refused image old.number old.gone (lines_of bytes) n Cause.NotAscii (stands_faulty (follows image) old (Open []) bytes now rest s n (NotAscii m) p k)
 
 -- a line that has a cause, behind lines that follow
-pub bad_line : (image : KernelImage) (old : Reading) (bytes : List ℕ) (now : Reading) (rest : Option (List ℕ)) (s : Standing) (new : Reading) (rest' : Option (List ℕ)) (n : ℕ) (cause : Cause)
+pub bad_line : (image : KernelImage) (old : Reading) (bytes : List ℕ) (now : Reading) (rest : Option (List ℕ)) (s : Standing) (new : Reading)
+    (rest' : Option (List ℕ)) (n : ℕ) (cause : Cause)
     → (p : Stands (follows image) old (Open []) bytes now rest s) → Skips now p.left new rest' (Ok (Some n)) → follows image s (tokens_of new.text) ≡ Err cause
     → read_script image old.number old.gone (lines_of bytes) ≡ Err (n, cause)
 bad_line image old bytes now rest s new rest' n cause p k e =
@@ -126,6 +136,7 @@ read_cause U (LineFault.TooLarge n) a b c h k = tt
 read_cause U (LineFault.TooLong n) a b c h k = tt
 read_cause U (LineFault.NotAscii n m) a b c h k = tt
 
-pub more_formed : (image : KernelImage) (script : List Line) (line : Line) → IsScript image script → is_line image line ≡ true → IsScript image (script ++ line ∷ [])
+pub more_formed : (image : KernelImage) (script : List Line) (line : Line) → IsScript image script → is_line image line ≡ true
+    → IsScript image (script ++ line ∷ [])
 more_formed image [] line h k = rw k refl
 more_formed image (l ∷ ls) line h k = let b = both (is_line image l) (list_all (is_line image) ls) h in rw b.0 (more_formed image ls line b.1 k)

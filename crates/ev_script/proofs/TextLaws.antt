@@ -38,12 +38,14 @@ picked false x cause h = absurd cc
 
 processor_read : (count p : ℕ) (t : Token) → number_of t ≡ Some p → nat_lt p count ≡ true → value (Processor count) t ≡ Ok p
 unfolding value processor number
-processor_read count p t h k = ap (λ o. if_it (λ n. nat_lt n count) Cause.NoSuchProcessor (or_else Cause.Number o)) h ∙ picked (nat_lt p count) p Cause.NoSuchProcessor k
+processor_read count p t h k = ap (λ o. if_it (λ n. nat_lt n count) Cause.NoSuchProcessor (or_else Cause.Number o)) h
+    ∙ picked (nat_lt p count) p Cause.NoSuchProcessor k
 
 edges_read : (n : ℕ) (t : Token) → number_of t ≡ Some n → nat_le 1 n ≡ true → nat_le n 4096 ≡ true → value (Within 1 4096) t ≡ Ok n
 unfolding value number_within number
 edges_read n t h k l =
-    ap (λ o. if_it (λ m. nat_le 1 m && nat_le m 4096) Cause.Limit (or_else Cause.Number o)) h ∙ picked (nat_le 1 n && nat_le n 4096) n Cause.Limit (ap (λ v. v && nat_le n 4096) k ∙ l)
+    ap (λ o. if_it (λ m. nat_le 1 m && nat_le m 4096) Cause.Limit (or_else Cause.Number o)) h ∙ picked (nat_le 1 n && nat_le n 4096) n Cause.Limit
+        (ap (λ v. v && nat_le n 4096) k ∙ l)
 
 key_read : (keys : List ℕ) (k : Key) (t : Token) → key_of t ≡ Some k → is_sendable k ≡ true → among keys (key_number k) ≡ true → value (KeyOfBody keys) t ≡ Ok k
 unfolding value key_of_body sent_key key
@@ -131,14 +133,16 @@ unfolding line_words line_of_tokens read_by word_of
 turn_back image p h k =
     ap (line_of_tokens image) (one_operand image (codes "turn") p (omega arith) refl h)
     ∙ turn_forms image.processors (keys_with_bodies image) (decimal p ∷ [])
-    ∙ ap (then_make Line.Turn) (one_place (Processor image.processors) (λ n. n) (decimal p) ∙ ap (then_make (λ n. n)) (processor_read image.processors p (decimal p) (number_back p h) k))
+    ∙ ap (then_make Line.Turn) (one_place (Processor image.processors) (λ n. n) (decimal p)
+        ∙ ap (then_make (λ n. n)) (processor_read image.processors p (decimal p) (number_back p h) k))
 
 accept_back : (image : KernelImage) (p : ℕ) → p < 2 ^ 64 → nat_lt p image.processors ≡ true → line_of (line_text (Line.Accept p)) image ≡ Ok (Line.Accept p)
 unfolding line_words line_of_tokens read_by word_of
 accept_back image p h k =
     ap (line_of_tokens image) (one_operand image (codes "accept") p (omega arith) refl h)
     ∙ accept_forms image.processors (keys_with_bodies image) (decimal p ∷ [])
-    ∙ ap (then_make Line.Accept) (one_place (Processor image.processors) (λ n. n) (decimal p) ∙ ap (then_make (λ n. n)) (processor_read image.processors p (decimal p) (number_back p h) k))
+    ∙ ap (then_make Line.Accept) (one_place (Processor image.processors) (λ n. n) (decimal p)
+        ∙ ap (then_make (λ n. n)) (processor_read image.processors p (decimal p) (number_back p h) k))
 
 edge_back : (image : KernelImage) (p n : ℕ) → p < 2 ^ 64 → n < 2 ^ 64 → nat_lt p image.processors ≡ true → nat_le 1 n ≡ true → nat_le n 4096 ≡ true
     → line_of (line_text (Line.Edge p n)) image ≡ Ok (Line.Edge p n)
@@ -157,10 +161,12 @@ unfolding line_words line_of_tokens read_by word_of
 arrive_back image p key h k s b =
     let word : IsWordOf key (key_text key) = sent_word key s in
     ap (line_of_tokens image) (first_token (codes "arrive") (decimal p ++ 32 ∷ key_text key) (omega arith) refl
-    ∙ ap (λ (ts : List Token). codes "arrive" ∷ ts) (decimal_then p (key_text key) h ∙ ap (λ (ts : List Token). decimal p ∷ ts) (last_token (key_text key) word.some word.spaces)))
+    ∙ ap (λ (ts : List Token). codes "arrive" ∷ ts)
+        (decimal_then p (key_text key) h ∙ ap (λ (ts : List Token). decimal p ∷ ts) (last_token (key_text key) word.some word.spaces)))
     ∙ arrive_forms image.processors (keys_with_bodies image) (decimal p ∷ key_text key ∷ [])
     ∙ two_places (Processor image.processors) (KeyOfBody (keys_with_bodies image)) (λ p key. Line.Arrive p key) (decimal p) (key_text key)
-    ∙ ap (λ r. make_both (λ p key. Line.Arrive p key) r (value (KeyOfBody (keys_with_bodies image)) (key_text key))) (processor_read image.processors p (decimal p) (number_back p h) k)
+    ∙ ap (λ r. make_both (λ p key. Line.Arrive p key) r (value (KeyOfBody (keys_with_bodies image)) (key_text key)))
+        (processor_read image.processors p (decimal p) (number_back p h) k)
     ∙ ap (make_both (λ p key. Line.Arrive p key) (Ok p))
     (key_read (keys_with_bodies image) key (key_text key) word.reads s (bodies_among image.bodies (key_number key) ∙ b))
 
@@ -169,18 +175,21 @@ pub turn_reads : (image : KernelImage) (p : ℕ) → p < 2 ^ 64 → is_line imag
 unfolding is_line
 turn_reads image p h k = turn_back image p h k
 
-pub accept_reads : (image : KernelImage) (p : ℕ) → p < 2 ^ 64 → is_line image (Line.Accept p) ≡ true → line_of (line_text (Line.Accept p)) image ≡ Ok (Line.Accept p)
+pub accept_reads : (image : KernelImage) (p : ℕ) → p < 2 ^ 64 → is_line image (Line.Accept p) ≡ true
+    → line_of (line_text (Line.Accept p)) image ≡ Ok (Line.Accept p)
 unfolding is_line
 accept_reads image p h k = accept_back image p h k
 
-pub edge_reads : (image : KernelImage) (p n : ℕ) → p < 2 ^ 64 → n < 2 ^ 64 → is_line image (Line.Edge p n) ≡ true → line_of (line_text (Line.Edge p n)) image ≡ Ok (Line.Edge p n)
+pub edge_reads : (image : KernelImage) (p n : ℕ) → p < 2 ^ 64 → n < 2 ^ 64 → is_line image (Line.Edge p n) ≡ true
+    → line_of (line_text (Line.Edge p n)) image ≡ Ok (Line.Edge p n)
 unfolding is_line
 edge_reads image p n h i k =
     let a = both (nat_lt p image.processors && nat_le 1 n) (nat_le n 4096) k in
     let b = both (nat_lt p image.processors) (nat_le 1 n) a.0 in
     edge_back image p n h i b.0 b.1 a.1
 
-pub arrive_reads : (image : KernelImage) (p : ℕ) (key : Key) → p < 2 ^ 64 → is_line image (Line.Arrive p key) ≡ true → line_of (line_text (Line.Arrive p key)) image ≡ Ok (Line.Arrive p key)
+pub arrive_reads : (image : KernelImage) (p : ℕ) (key : Key) → p < 2 ^ 64 → is_line image (Line.Arrive p key) ≡ true
+    → line_of (line_text (Line.Arrive p key)) image ≡ Ok (Line.Arrive p key)
 unfolding is_line
 arrive_reads image p key h k =
     let a = both (nat_lt p image.processors && is_sendable key) (has_body_of image key) k in

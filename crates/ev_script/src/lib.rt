@@ -7,5 +7,5 @@ mod text;
 
 pub use ev_abstract::Line;
 pub use line::line_of;
-pub use reading::{Script, ScriptFault, read_lines};
+pub use reading::{Script, ScriptFault, read_lines, read_script};
 pub use text::print_line;

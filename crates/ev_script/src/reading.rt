@@ -9,6 +9,7 @@ ghost use Rattle.ev_script.specs.Script.{OnRead, ReadsScript, ReadsToEnd, ends, 
 
 use crate::line::line_of_tokens;
 use ev_abstract::Line;
+use ev_accept::Accepted;
 use ev_body::Image;
 use ev_io::{Cause, LineFault, Lines, Source, tokens_in};
 use std::alloc::Global;
@@ -93,7 +94,8 @@ fn read_to_end<S: Source>(
     image: &Image,
 ) -> Result<Vec<Line>, ScriptFault>
     ensures reads { (bytes : List ℕ) → coming lines.old.chunk (S.left src.old) ≡ Some bytes
-        → ReadsToEnd image.now lines.old bytes lines.new (coming lines.new.chunk (S.left src.new)) result }
+        → ReadsToEnd image.now lines.old bytes lines.new
+            (coming lines.new.chunk (S.left src.new)) result }
     ensures formed { IfOk result (λ script. IsScript image.now script.items) }
     ensures few { IfOk result (λ script. vec_len script ≤ 200000) }
 
@@ -130,7 +132,8 @@ pub fn read_lines<S: Source>(
     image: &Image,
 ) -> Result<Script, ScriptFault>
     ensures reads { (bytes : List ℕ) → coming lines.old.chunk (S.left src.old) ≡ Some bytes
-        → ReadsScript image.now lines.old bytes lines.new (coming lines.new.chunk (S.left src.new)) result }
+        → ReadsScript image.now lines.old bytes lines.new
+            (coming lines.new.chunk (S.left src.new)) result }
     ensures formed { IfOk result (λ script. IsScript image.now script.lines.items) }
     ensures few { IfOk result (λ script. vec_len script.lines ≤ 200000) }
 
@@ -147,4 +150,28 @@ pub fn read_lines<S: Source>(
         Ok(Some(number)) => Err(ScriptFault::BadLine(number, Cause::AfterEnd)),
         Ok(None) => Ok(Script { lines: script }),
     }
+}
+
+/// Reads the script of an accepted image, as `read_lines` does. The line `script` is to be the one
+/// that was given last. Own.
+pub fn read_script<S: Source>(
+    alloc: Global,
+    lines: &mut Lines,
+    src: &mut S,
+    image: &Accepted,
+) -> Result<Script, ScriptFault>
+    ensures reads { (bytes : List ℕ) → coming lines.old.chunk (S.left src.old) ≡ Some bytes
+        → ReadsScript image.now.image lines.old bytes lines.new
+            (coming lines.new.chunk (S.left src.new)) result }
+    ensures formed { IfOk result (λ script. IsScript image.now.image script.lines.items) }
+    ensures few { IfOk result (λ script. vec_len script.lines ≤ 200000) }
+
+    // bytes are read only as they are given or kept, up to byte 8,388,609
+    ensures draws { Draws (drawn lines.old) (drawn lines.new) (S.left src.old) (S.left src.new) }
+    ensures most { drawn lines.new ≤ 8388609 }
+
+    ensures later { S.faults src.old ≤ S.faults src.new }
+    ensures cause { OnRead result (Rose (S.faults src.old) (S.faults src.new)) }
+{
+    read_lines(alloc, lines, src, image.image())
 }

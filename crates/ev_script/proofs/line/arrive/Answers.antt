@@ -22,7 +22,8 @@ pub returns-in_err-key-clause-value : goal.returns-in_err-key-clause-value
 unfolding value
 returns-in_err-key-clause-value c =
     let p = err_from_is_err_and c.from_residual-in_err-key.result c.from_residual-in_err-key.ensures.1 in
-    rw (p.1, p.2) (read_two (Processor _) (KeyOfBody _) _ _ _ c.args.operands.now (Ok c.in_ok-p.p) (Err c.in_err-key.field-0.0) c.in-len2.len_at_least c.in-len2.len_below
+    rw (p.1, p.2) (read_two (Processor _) (KeyOfBody _) _ _ _ c.args.operands.now (Ok c.in_ok-p.p) (Err c.in_err-key.field-0.0) c.in-len2.len_at_least
+        c.in-len2.len_below
     (sym c.in_ok-p.was ∙ c.declared.ensures.value) (sym c.in_err-key.was ∙ c.key_of_body.ensures.value))
 
 pub returns-clause-value : goal.returns-clause-value

@@ -22,7 +22,8 @@ pub returns-in_err-n-clause-value : goal.returns-in_err-n-clause-value
 unfolding value
 returns-in_err-n-clause-value c =
     let p = err_from_is_err_and c.from_residual-in_err-n.result c.from_residual-in_err-n.ensures.1 in
-    rw (p.1, p.2) (read_two (Processor _) (Within 1 4096) _ _ _ c.args.operands.now (Ok c.in_ok-p.p) (Err c.in_err-n.field-0.0) c.in-len2.len_at_least c.in-len2.len_below
+    rw (p.1, p.2) (read_two (Processor _) (Within 1 4096) _ _ _ c.args.operands.now (Ok c.in_ok-p.p) (Err c.in_err-n.field-0.0) c.in-len2.len_at_least
+        c.in-len2.len_below
     (sym c.in_ok-p.was ∙ c.declared.ensures.value) (sym c.in_err-n.was ∙ c.number_within.ensures.value))
 
 pub returns-clause-value : goal.returns-clause-value

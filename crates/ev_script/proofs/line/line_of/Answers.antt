@@ -6,5 +6,6 @@ use Rattle.ev_script.proofs.line.line_of.Goals as goal
 
 pub returns-clause-value : goal.returns-clause-value
 returns-clause-value c =
-    c.line_of_tokens.ensures.value ∙ ap (λ xs. line_of_tokens c.args.image.now (map (λ t. t.now) xs)) c.as_slice.ensures.value ∙ ap (line_of_tokens c.args.image.now) c.tokens_in.ensures
+    c.line_of_tokens.ensures.value ∙ ap (λ xs. line_of_tokens c.args.image.now (map (λ t. t.now) xs)) c.as_slice.ensures.value
+        ∙ ap (line_of_tokens c.args.image.now) c.tokens_in.ensures
     ∙ first_tokens_tell c.args.image.now (tokens_of c.args.text.now)

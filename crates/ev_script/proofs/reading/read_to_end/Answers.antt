@@ -90,7 +90,8 @@ loop-fault-preserved g c =
       stands = λ bytes e.
           let stands = c.loop-fault.invariant.stands bytes e in
           let skips = rw c.in-Ok-Some.field-0-is at (c.in-Ok-Some.ensures.said stands.left stands.to_come) in
-          rw grown (stands_more (follows c.args.image.now) c.args.lines.now (Open []) bytes c.loop-fault.lines _ _ c.next_said.new.self _ c.in-Ok-Some.number _ stands skips
+          rw grown (stands_more (follows c.args.image.now) c.args.lines.now (Open []) bytes c.loop-fault.lines _ _ c.next_said.new.self _
+              c.in-Ok-Some.number _ stands skips
           (follow_more c.args.image.now c.loop-fault.script.items _ line (said_at c.args.image.now _ _ _ _ _ count c.text.ensures said.value)));
       formed = rw grown (more_formed c.args.image.now c.loop-fault.script.items line c.loop-fault.invariant.formed said.formed);
       few = omega (arith, said.room, c.len.ensures, c.in-Ok.ensures.len);
