@@ -1,3 +1,4 @@
 pub mod LineLaws
 pub mod ScriptLaws
 pub mod TextLaws
+pub mod Examples
