@@ -28,7 +28,7 @@ over_read rule n before s line lines h k = rw (read, line_follows, h, tokens_fol
 said_read : {S : Type 0} → (rule : S → List Token → Result S Cause) (n before : ℕ) (s : S) (line : List ℕ) (lines : List (List ℕ))
     → line_fault before line ≡ None
     → is_passed_over (tokens_of (text_of line)) ≡ false
-        → read rule n before s (line ∷ lines) ≡ read_on rule s (Says (n + 1) (before + length line) (text_of line) lines)
+    → read rule n before s (line ∷ lines) ≡ read_on rule s (Says (n + 1) (before + length line) (text_of line) lines)
 unfolding read line_follows tokens_follow
 said_read rule n before s line lines h k = rw (read, line_follows, h, tokens_follow, k) refl
 

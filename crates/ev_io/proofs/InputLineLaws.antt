@@ -32,8 +32,15 @@ cut (suc r) (b ∷ bs) = by (is_printable b) refl (cut r bs)
       short = omega (arith, c.short);
       ends = elim c.ends [ inl p ↦ inl p | inr p ↦ inr (ap suc p) ];
     }
-    by false e c = record { text = []; rest = b ∷ bs; same = refl; printable = All-nil IsPrintable; short = omega arith; ends =
-        inl (ap (λ v. cond v (1 + prefix_len is_printable bs) 0) e) }
+    by false e c = record {
+      text = [];
+      rest = b ∷ bs;
+      same = refl;
+      printable = All-nil IsPrintable;
+      short = omega arith;
+      ends =
+          inl (ap (λ v. cond v (1 + prefix_len is_printable bs) 0) e);
+    }
 
 -- bytes that a line may still have, where so many are gone
 part_of : (before : ℕ) (bytes : List ℕ) → before ≤ 8388608 → (c : Cut (min 4096 (8388608 - before)) bytes)
@@ -116,7 +123,7 @@ fault_behind before k [] rest h s w = ap (λ n. fault_from before n rest) (zero_
 fault_behind before k (b ∷ bs) rest h s w =
     rw (fault_from, clean_byte before k b (omega (arith, w)) (omega (arith, s)) (All-head IsPrintable b bs h))
     (fault_behind before (k + 1) bs rest (All-tail IsPrintable b bs h) (omega (arith, s)) (omega (arith, w)) ∙ ap (λ n. fault_from before n rest)
-        (counted k (length bs)))
+    (counted k (length bs)))
   where
     counted : (k n : ℕ) → k + 1 + n ≡ k + suc n
     counted k n = omega arith
@@ -127,7 +134,7 @@ at_fault : (before : ℕ) (t : List ℕ) (b : ℕ) (more : List ℕ) (f : ByteFa
 unfolding fault_from
 at_fault before t b more f h e =
     fault_behind before 0 t (b ∷ more) h.printable (omega (arith, h.short)) (omega (arith, h.within)) ∙ ap (λ n. fault_from before n (b ∷ more))
-        (none_more (length t)) ∙ rw (fault_from, e) refl
+    (none_more (length t)) ∙ rw (fault_from, e) refl
   where
     none_more : (n : ℕ) → 0 + n ≡ n
     none_more n = omega arith
@@ -224,7 +231,7 @@ feed_met number before t rest h s w = Whole (t ++ 10 ∷ []) rest (sym (append_a
 
 byte_met : (number before : ℕ) (t : List ℕ) (b : ℕ) (rest : List ℕ) → IsPart before t → EndsBehind before t (b ∷ rest)
     → (e : Bool) → nat_le 8388608 (before + length t) ≡ e → (u : Bool) → b == 10 ≡ u → (v : Bool) → nat_le 4096 (length t) ≡ v
-        → Met number before (t ++ b ∷ rest)
+    → Met number before (t ++ b ∷ rest)
 byte_met number before t b rest h s true p u q v r =
     refused number before t b rest TooLarge h s (large_byte before (length t) b p) (is_large number before t b rest (le_true _ _ p))
 byte_met number before t b rest h s false p true q v r =
@@ -233,7 +240,7 @@ byte_met number before t b rest h s false p true q v r =
     (feed_met number before t rest h (subst (λ (c : ℕ). EndsBehind before t (c ∷ rest)) feed s) (le_false _ _ p))
 byte_met number before t b rest h s false p false q true r =
     refused number before t b rest TooLong h s (long_byte before (length t) b p q r)
-        (is_long number before t b rest (le_false _ _ p) (eq_false b 10 q) (le_true _ _ r))
+    (is_long number before t b rest (le_false _ _ p) (eq_false b 10 q) (le_true _ _ r))
 byte_met number before t b rest h s false p false q false r =
     refused number before t b rest (NotAscii (length t)) h s
     (strange_byte before (length t) b p q r (is_strange_at before t b rest s (le_false _ _ p) (le_false _ _ r)))

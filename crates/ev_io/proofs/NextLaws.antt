@@ -132,14 +132,14 @@ says_it old bytes now rest new rest' n p g e f o = (
   goes old bytes now rest p ∙ ap (next_said now.number now.gone) g.lines ∙ said_first now.number now.gone g.line (lines_of g.left') g.fine
       (ap (λ t. is_passed_over (tokens_of t)) g.text ∙ o)
       ∙ ap (λ k. Says k (now.gone + length g.line) (text_of g.line) (lines_of g.left')) (sym f) ∙ ap (λ k. Says n k (text_of g.line) (lines_of g.left'))
-          (sym g.gone)
+      (sym g.gone)
       ∙ ap (λ t. Says n new.gone t (lines_of g.left')) g.text,
 )
 
 ends_by : (old : Reading) (bytes : List ℕ) (now : Reading) (rest : Option (List ℕ)) (new : Reading) → (p : Passes old bytes now rest)
     → Met (now.number + 1) now.gone p.left
     → outcome (now.number + 1) now.gone p.left ≡ End → new.number ≡ now.number → new.gone ≡ now.gone
-        → next_said old.number old.gone (lines_of bytes) ≡ Ends new.number new.gone
+    → next_said old.number old.gone (lines_of bytes) ≡ Ends new.number new.gone
 unfolding next_said lines_of
 ends_by old bytes now rest new p (Nothing b o) e n k =
     goes old bytes now rest p ∙ ap (λ xs. next_said now.number now.gone (lines_of xs)) b ∙ ap (λ m. Ends m now.gone) (sym n) ∙ ap (Ends new.number) (sym k)
@@ -160,7 +160,7 @@ ends_it old bytes now rest new h p e n g = ends_by old bytes now rest new p (met
 faulty_by : (old : Reading) (bytes : List ℕ) (now : Reading) (rest : Option (List ℕ)) (x : LineFault) → (p : Passes old bytes now rest)
     → Met (now.number + 1) now.gone p.left
     → outcome (now.number + 1) now.gone p.left ≡ Bad x → (f : ByteFault) × (fault_of (now.number + 1) f ≡ x)
-        × (next_said old.number old.gone (lines_of bytes) ≡ Faulty (now.number + 1) f)
+    × (next_said old.number old.gone (lines_of bytes) ≡ Faulty (now.number + 1) f)
 faulty_by old bytes now rest x p (Nothing b o) e = absurd cc
 faulty_by old bytes now rest x p (Whole line l w b k o) e = absurd cc
 faulty_by old bytes now rest x p (Refused line lines f b k o) e =
@@ -168,7 +168,7 @@ faulty_by old bytes now rest x p (Refused line lines f b k o) e =
 
 pub is_faulty : (old : Reading) (bytes : List ℕ) (now : Reading) (rest : Option (List ℕ)) (x : LineFault) → now.gone ≤ 8388608 → (p : Passes old bytes now rest)
     → IfSome (outcomes (now.number + 1) now.gone rest) (λ y. y ≡ Bad x) → (f : ByteFault) × (fault_of (now.number + 1) f ≡ x)
-        × (next_said old.number old.gone (lines_of bytes) ≡ Faulty (now.number + 1) f)
+    × (next_said old.number old.gone (lines_of bytes) ≡ Faulty (now.number + 1) f)
 is_faulty old bytes now rest x h p e = faulty_by old bytes now rest x p (met (now.number + 1) now.gone p.left h)
     (known rest p.left (now.number + 1) now.gone (Bad x) p.to_come e)
 
@@ -221,7 +221,7 @@ stood_within (LineFault.NotAscii m k) before old part gone rest s h = omega (ari
 fault_within : (old : Reading) (bytes : List ℕ) (now : Reading) (rest : Option (List ℕ)) (new : Reading) (rest' : Option (List ℕ)) (x : LineFault)
     → now.gone ≤ 8388608 → (p : Passes old bytes now rest)
     → Gives (outcomes (now.number + 1) now.gone rest) new rest' (Err x) → Stops {T = Option ℕ} (Err x) now.gone rest new.text new.gone rest'
-        → new.number ≡ now.number → Skips old bytes new rest' (Err x)
+    → new.number ≡ now.number → Skips old bytes new rest' (Err x)
 fault_within old bytes now rest new rest' LineFault.ReadFault h p o s n = draws_it old bytes now rest new rest' p s n
 fault_within old bytes now rest new rest' (LineFault.TooLarge m) h p o s n = let f = is_faulty old bytes now rest (LineFault.TooLarge m) h p o in
     f.2 ∙ is_large (now.number + 1) m f.0 f.1
@@ -233,6 +233,6 @@ fault_within old bytes now rest new rest' (LineFault.NotAscii m k) h p o s n = l
 pub skips_fault : (old : Reading) (bytes : List ℕ) (now : Reading) (rest : Option (List ℕ)) (new : Reading) (rest' : Option (List ℕ)) (x : LineFault)
     → new.gone ≤ 8388608 → (p : Passes old bytes now rest)
     → Gives (outcomes (now.number + 1) now.gone rest) new rest' (Err x) → Stops {T = Option ℕ} (Err x) now.gone rest new.text new.gone rest'
-        → new.number ≡ now.number → Skips old bytes new rest' (Err x)
+    → new.number ≡ now.number → Skips old bytes new rest' (Err x)
 skips_fault old bytes now rest new rest' x h p o s n =
     fault_within old bytes now rest new rest' x (stood_within x now.gone rest new.text new.gone rest' s h) p o s n

@@ -1,10 +1,9 @@
 -- A reader behind lines that follow each other: what stands there, and what comes of the next answer.
 use Rattle.std.proofs.Common.{◌≡◌, ℕ, suc, ◌+◌, Bool, true, false, List, [], ◌∷◌, ◌++◌, length, Option, Some, None, Result, Ok, Err, refl, ap, sym, ◌∙◌, append-nil, append_assoc, length-append, arith}
 use Rattle.ev_io.specs.declared.cause.Cause.{Cause}
-use Rattle.ev_io.specs.declared.lines.LineFault.TheVariants as LineFault
-use Rattle.ev_io.specs.Lines.{Reading, IsPart}
+use Rattle.ev_io.specs.Lines.{Reading}
 use Rattle.ev_io.specs.Tokens.{Token, tokens_of, is_passed_over}
-use Rattle.ev_io.specs.InputLines.{ByteFault, TooLarge, TooLong, NotAscii, lines_of, text_of, line_fault, joined, Next, Says, Ends, Faulty, next_said, DrawsPart, Skips}
+use Rattle.ev_io.specs.InputLines.{ByteFault, lines_of, text_of, line_fault, joined, Says, Ends, Faulty, next_said, DrawsPart, Skips}
 use Rattle.ev_io.specs.Follow.{cause_of, line_follows, read, Stands, FollowsPart}
 use Rattle.ev_io.proofs.NextLaws.{over_first, said_first, fault_first}
 use Rattle.ev_io.proofs.FollowLaws.{read_on, read_next, count_on, count_next}
@@ -37,10 +36,10 @@ read_more {S} rule n before s (x ∷ xs) ys = by (line_follows rule before s x) 
 
     by : (r : Result S Cause)
         → ((s' : S) → read rule (n + 1) (before + length x) s' (xs ++ ys) ≡ gone_on rule (n + 1 + length xs) (before + length x + length (joined xs)) ys
-            (read rule (n + 1) (before + length x) s' xs))
+        (read rule (n + 1) (before + length x) s' xs))
         → elim r [ Err cause ↦ Err (n + 1, cause) | Ok s' ↦ read rule (n + 1) (before + length x) s' (xs ++ ys) ]
         ≡ gone_on rule (n + length (x ∷ xs)) (before + length (joined (x ∷ xs))) ys
-            (elim r [ Err cause ↦ Err (n + 1, cause) | Ok s' ↦ read rule (n + 1) (before + length x) s' xs ])
+        (elim r [ Err cause ↦ Err (n + 1, cause) | Ok s' ↦ read rule (n + 1) (before + length x) s' xs ])
     by (Err cause) go = refl
     by (Ok s') go = rw (counted, summed) (go s')
 
@@ -93,8 +92,16 @@ through n before (line ∷ lines) m gone text behind e =
 pub stands_first : {S : Type 0} → (rule : S → List Token → Result S Cause) (old : Reading) (first : S) (bytes : List ℕ) (rest : Option (List ℕ))
     → rest ≡ Some bytes → Stands rule old first bytes old rest first
 unfolding read
-stands_first rule old first bytes rest e = record { passed = []; left = bytes; to_come = e; lines = refl; follow = refl; number = omega arith; gone =
-    omega arith }
+stands_first rule old first bytes rest e = record {
+  passed = [];
+  left = bytes;
+  to_come = e;
+  lines = refl;
+  follow = refl;
+  number = omega arith;
+  gone =
+      omega arith;
+}
 
 -- what comes of all lines is what comes of those behind it
 pub stands_on : {S : Type 0} → (rule : S → List Token → Result S Cause) (old : Reading) (first : S) (bytes : List ℕ) (now : Reading)
@@ -104,7 +111,7 @@ stands_on rule old first bytes now rest s p =
     ap (read rule old.number old.gone first) p.lines ∙ read_more rule old.number old.gone first p.passed (lines_of p.left)
     ∙ ap (gone_on rule (old.number + length p.passed) (old.gone + length (joined p.passed)) (lines_of p.left)) p.follow
     ∙ ap (λ k. read rule k (old.gone + length (joined p.passed)) s (lines_of p.left)) (sym p.number) ∙ ap (λ k. read rule now.number k s (lines_of p.left))
-        (sym p.gone)
+    (sym p.gone)
     ∙ read_next rule now.number now.gone s (lines_of p.left)
 
 -- ---- the next answer
@@ -113,11 +120,11 @@ stands_on rule old first bytes now rest s p =
 pub stands_more : {S : Type 0} → (rule : S → List Token → Result S Cause) (old : Reading) (first : S) (bytes : List ℕ) (now : Reading)
     (rest : Option (List ℕ)) (s : S) (new : Reading) (rest' : Option (List ℕ)) (n : ℕ) (s' : S)
     → (p : Stands rule old first bytes now rest s) → Skips now p.left new rest' (Ok (Some n)) → rule s (tokens_of new.text) ≡ Ok s'
-        → Stands rule old first bytes new rest' s'
+    → Stands rule old first bytes new rest' s'
 unfolding read
 stands_more rule old first bytes now rest s new rest' n s' p k e =
     let t : Through now.number now.gone (lines_of p.left) n new.gone new.text (lines_of k.0) =
-            through now.number now.gone (lines_of p.left) n new.gone new.text (lines_of k.0) k.3 in
+    through now.number now.gone (lines_of p.left) n new.gone new.text (lines_of k.0) k.3 in
     record {
       passed = p.passed ++ t.passed;
       left = k.0;
@@ -145,7 +152,7 @@ stands_refused rule old first bytes now rest s new rest' n cause p k e = stands_
 pub stands_faulty : {S : Type 0} → (rule : S → List Token → Result S Cause) (old : Reading) (first : S) (bytes : List ℕ) (now : Reading)
     (rest : Option (List ℕ)) (s : S) (n : ℕ) (fault : ByteFault)
     → (p : Stands rule old first bytes now rest s) → next_said now.number now.gone (lines_of p.left) ≡ Faulty n fault
-        → read rule old.number old.gone first (lines_of bytes) ≡ Err (n, cause_of fault)
+    → read rule old.number old.gone first (lines_of bytes) ≡ Err (n, cause_of fault)
 stands_faulty rule old first bytes now rest s n fault p k = stands_on rule old first bytes now rest s p ∙ ap (read_on rule s) k
 
 -- no line is left

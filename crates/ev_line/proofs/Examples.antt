@@ -1,6 +1,6 @@
 -- Operands, and the kind of an operand by its first characters.
 use Rattle.std.proofs.Common.{◌≡◌, refl, [], ◌∷◌, Ok, Err}
-use Rattle.std.specs.Prelude.{ℕ, pos, negsuc, codes, List, Result}
+use Rattle.std.specs.Prelude.{ℕ, pos, negsuc, codes, List}
 use Rattle.ev_body.specs.declared.key.Key.TheVariants as Key
 use Rattle.ev_body.specs.declared.key.Side.TheVariants as Side
 use Rattle.ev_io.specs.declared.cause.Cause.TheVariants as Cause

@@ -1,17 +1,15 @@
 -- What the forms of a word come to: a word of one form, and tokens behind the last place.
-use Rattle.std.proofs.Common.{◌≡◌, ◌≢◌, ℕ, zero, suc, ◌+◌, ◌<◌, ◌≤◌, Bool, true, false, ◌&&◌, cond, List, [], ◌∷◌, ◌++◌, length, take, drop, Option, Some, None, Result, Ok, Err, refl, ap, sym, ◌∙◌, take_all, arith}
-use Rattle.std.specs.Prelude.{nat_le, ◌==◌, filter, filter_map, find, slice_get, option_map}
+use Rattle.std.proofs.Common.{◌≡◌, ◌≢◌, ℕ, zero, suc, ◌+◌, ◌<◌, ◌≤◌, Bool, true, false, cond, List, [], ◌∷◌, ◌++◌, length, take, drop, Option, Some, None, Result, Ok, Err, refl, ap, sym, ◌∙◌, take_all, arith}
+use Rattle.std.specs.Prelude.{nat_le, ◌==◌, filter, filter_map, find, slice_get}
 use Rattle.std.specs.List.{list_all}
 use Rattle.std.proofs.lemmas.Bool.Decides.{nat_tests}
 use Rattle.std.proofs.lemmas.List.{take-append-drop, length-take}
 use Rattle.std.proofs.lemmas.Option.{slice_get_past}
 use Rattle.ev_io.specs.declared.cause.Cause.{Cause}
-use Rattle.ev_io.specs.declared.cause.Cause.TheVariants as Cause
 use Rattle.ev_io.specs.Tokens.{Token}
 use Rattle.ev_line.specs.declared.kind.Kind.{Kind}
-use Rattle.ev_line.specs.declared.kind.Kind.TheVariants as Kind
 use Rattle.ev_line.specs.Operands.{Place, Value, value, then_make}
-use Rattle.ev_line.specs.Forms.{Form, Maker, form, same_kind, kind_of, kind_at, kind_among, takes, kind_here, is_shaped, fitting, has_places, read_places, read_form, read_fitting, read_forms, read_by, is_plain, read_only}
+use Rattle.ev_line.specs.Forms.{Form, form, same_kind, kind_of, kind_at, kind_among, takes, kind_here, is_shaped, fitting, has_places, read_places, read_form, read_fitting, read_forms, read_by, is_plain, read_only}
 use Rattle.ev_line.proofs.NameLaws.{both}
 
 -- ---- a word of one form
@@ -150,7 +148,7 @@ fitting_behind {X} n (u ∷ us) vs forms h =
 
     by : (o : Option Kind) → kind_here (filter_map (kind_at n) forms) u ≡ o
         → ((k : Kind) → fitting (suc n) (us ++ vs) (filter (λ f. takes k (slice_get f.places n)) forms) ≡ fitting (suc n) us
-            (filter (λ f. takes k (slice_get f.places n)) forms))
+        (filter (λ f. takes k (slice_get f.places n)) forms))
         → fitting n (u ∷ (us ++ vs)) forms ≡ fitting n (u ∷ us) forms
     by None e more = rw (fitting, e) refl
     by (Some k) e more = shaped (is_shaped k u) refl
@@ -165,7 +163,7 @@ unfolding fitting
 fitting_within m n [] forms h = h
 fitting_within {X} m n (t ∷ ts) forms h =
     by (kind_here (filter_map (kind_at n) forms) t) refl (λ k. fitting_within m (suc n) ts (filter (λ f. takes k (slice_get f.places n)) forms)
-        (still_within m (λ f. takes k (slice_get f.places n)) forms h))
+    (still_within m (λ f. takes k (slice_get f.places n)) forms h))
   where
     by : (o : Option Kind) → kind_here (filter_map (kind_at n) forms) t ≡ o
         → ((k : Kind) → list_all (is_within m) (fitting (suc n) ts (filter (λ f. takes k (slice_get f.places n)) forms)) ≡ true)
@@ -216,10 +214,10 @@ first_tokens {X} m ts forms h = by (nat_le (length ts) (m + 1)) refl
         le_true a b h = grind (arith, nat_tests)
     by false e =
         ap (read_fitting (take (m + 1) ts))
-            (sym (fitting_behind 0 (take (m + 1) ts) (drop (m + 1) ts) forms (few (length (take (m + 1) ts)) (omega (arith, length-take (m + 1) ts, long))))
-            ∙ ap (λ (us : List Token). fitting 0 us forms) (take-append-drop (m + 1) ts))
+        (sym (fitting_behind 0 (take (m + 1) ts) (drop (m + 1) ts) forms (few (length (take (m + 1) ts)) (omega (arith, length-take (m + 1) ts, long))))
+        ∙ ap (λ (us : List Token). fitting 0 us forms) (take-append-drop (m + 1) ts))
         ∙ too_many m (take (m + 1) ts) ts (fitting 0 ts forms) (fitting_within m 0 ts forms h) (omega (arith, length-take (m + 1) ts, long))
-            (omega (arith, long))
+        (omega (arith, long))
       where
         le_false : (a b : ℕ) → nat_le a b ≡ false → b < a
         le_false a b h = grind (arith, nat_tests)

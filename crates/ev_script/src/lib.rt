@@ -3,6 +3,8 @@
 
 mod line;
 mod reading;
+#[cfg(test)]
+mod tests;
 mod text;
 
 pub use ev_abstract::Line;

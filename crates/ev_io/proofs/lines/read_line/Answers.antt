@@ -149,7 +149,7 @@ returns-then-len-ge-LINE_LIMIT-clause-stops g c =
     let left = g.S.Source.left c.fill.new.src in
     let rest = prepend_known c.pop-b.new.self left in
     let comes = kept.same ∙ ap (prepend_known t) (c.fill.ensures.same ∙ ap (λ x. prepend_known x left) c.pop-b.ensures
-            ∙ prepend_first b c.pop-b.new.self left) in
+    ∙ prepend_first b c.pop-b.new.self left) in
     stops_behind c.args.gone.now k b t _ rest text kept.gone comes
 
 pub returns-then-len-ge-LINE_LIMIT-clause-draws : goal.returns-then-len-ge-LINE_LIMIT-clause-draws
@@ -186,7 +186,7 @@ returns-then-b-lt32-clause-stops g c =
     let left = g.S.Source.left c.fill.new.src in
     let rest = prepend_known c.pop-b.new.self left in
     let comes = kept.same ∙ ap (prepend_known t) (c.fill.ensures.same ∙ ap (λ x. prepend_known x left) c.pop-b.ensures
-            ∙ prepend_first b c.pop-b.new.self left) in
+    ∙ prepend_first b c.pop-b.new.self left) in
     stops_behind c.args.gone.now k b t _ rest text kept.gone comes
 
 pub returns-then-b-lt32-clause-draws : goal.returns-then-b-lt32-clause-draws

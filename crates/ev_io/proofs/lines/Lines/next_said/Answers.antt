@@ -15,7 +15,7 @@ loop-fault-init g c = record {
 pub returns-in-Err-clause-said : goal.returns-in-Err-clause-said
 returns-in-Err-clause-said g c = λ bytes e.
     skips_fault c.args.self.now bytes c.loop-fault.self _ c.next.new.self _ c.in-Err.fault c.next.ensures.within (c.loop-fault.invariant.passes bytes e)
-        c.in-Err.ensures.line c.in-Err.ensures.stops
+    c.in-Err.ensures.line c.in-Err.ensures.stops
     c.in-Err.ensures.number
 
 pub returns-in-Err-clause-draws : goal.returns-in-Err-clause-draws
@@ -42,7 +42,7 @@ returns-then-not-is_passed_over-clause-said g c = λ bytes e.
     let given = given c.loop-fault.self passes.left c.next.new.self _ _ within passes.to_come line in
     let said = sym c.is_passed_over.ensures ∙ c.if-not-is_passed_over.true in
     says_it c.args.self.now bytes c.loop-fault.self _ c.next.new.self _ c.in-Ok-Some.number passes given number.1 number.0
-        (ap (λ t. is_passed_over (tokens_of t)) (sym c.text.ensures) ∙ said)
+    (ap (λ t. is_passed_over (tokens_of t)) (sym c.text.ensures) ∙ said)
 
 pub returns-then-not-is_passed_over-clause-draws : goal.returns-then-not-is_passed_over-clause-draws
 returns-then-not-is_passed_over-clause-draws g c = draws_then _ _ _ _ _ _ c.loop-fault.invariant.draws c.next.ensures.draws
@@ -59,7 +59,7 @@ loop-fault-preserved g c =
           let passes = c.loop-fault.invariant.passes bytes e in
           let given = given c.loop-fault.self passes.left c.next.new.self _ _ within passes.to_come line in
           passes_more c.args.self.now bytes c.loop-fault.self _ c.next.new.self _ passes given number.1
-              (ap (λ t. is_passed_over (tokens_of t)) (sym c.text.ensures) ∙ over);
+          (ap (λ t. is_passed_over (tokens_of t)) (sym c.text.ensures) ∙ over);
       draws = draws_then _ _ _ _ _ _ c.loop-fault.invariant.draws c.next.ensures.draws;
       count = omega (arith, c.loop-fault.invariant.count, c.next.ensures.later);
       grown = omega (arith, c.loop-fault.invariant.grown, grew);
