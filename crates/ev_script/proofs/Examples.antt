@@ -7,14 +7,12 @@ use Rattle.ev_body.specs.declared.item.Item.TheVariants as Item
 use Rattle.ev_body.specs.Bodies.{key_number}
 use Rattle.ev_body.specs.KernelImage.{KernelImage}
 use Rattle.ev_io.specs.declared.cause.Cause.{Cause}
-use Rattle.ev_io.specs.declared.cause.Cause.TheVariants as Cause
 use Rattle.ev_io.specs.Number.{number_of, is_decimal, is_hexadecimal, is_digits, digit, value, below_word}
 use Rattle.ev_io.specs.Tokens.{pieces, tokens_of, is_passed_over}
 use Rattle.ev_io.specs.InputLines.{lines_of, text_of, byte_fault, fault_from}
 use Rattle.ev_io.specs.Follow.{read, line_follows, tokens_follow}
 use Rattle.ev_abstract.specs.EntryText.{key_text}
 use Rattle.ev_abstract.specs.declared.script_line.Line.{Line}
-use Rattle.ev_abstract.specs.declared.script_line.Line.TheVariants as Line
 use Rattle.ev_line.specs.Names.{low_digit, interrupt_key, key_of}
 use Rattle.ev_line.specs.Operands as operand
 use Rattle.ev_line.specs.Operands.{number, number_within, processor, key, sent_key, key_of_body}

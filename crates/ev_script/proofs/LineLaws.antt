@@ -10,13 +10,11 @@ use Rattle.ev_body.specs.Bodies.{key_number}
 use Rattle.ev_body.specs.KernelImage.{KernelImage}
 use Rattle.ev_abstract.specs.declared.script_line.Line.TheVariants as Line
 use Rattle.ev_io.specs.declared.cause.Cause.{Cause}
-use Rattle.ev_io.specs.declared.cause.Cause.TheVariants as Cause
 use Rattle.ev_io.specs.Tokens.{Token}
 use Rattle.ev_line.specs.Operands.{Place, Value, Processor, Within, KeyOfBody, value, then_make, if_it, among, sent_key, key_of_body}
 use Rattle.ev_line.specs.Forms.{Form, form, is_plain, kind_here, fitting, read_fitting, read_forms, read_by, read_only}
 use Rattle.ev_line.proofs.FormLaws.{one_form, one_place, make_both, two_places, other_count, is_within, first_six}
 use Rattle.ev_script.specs.declared.line.Word.{Word}
-use Rattle.ev_script.specs.declared.line.Word.TheVariants as Word
 use Rattle.ev_script.specs.ScriptLine.{word_of, forms_of_word, script_forms, keys_with_bodies, line_of_tokens}
 
 -- another number of operands
@@ -170,7 +168,7 @@ unknown_word image now d (x ∷ xs) h e =
 pub known_word : {A : Type 0} → (image : KernelImage) (now : A → Token) (d : A) (xs : List A) (w : Word) → 1 ≤ length xs
     → word_of (now (get_or xs 0 d)) ≡ Some w
     → read_forms (forms_of_word image.processors (keys_with_bodies image) (Some w)) (map now (take (length xs - 1) (drop 1 xs))) ≡ line_of_tokens image
-        (map now xs)
+    (map now xs)
 unfolding line_of_tokens read_by
 known_word image now d [] w h e = absurd (omega (arith, h))
 known_word image now d (x ∷ xs) w h e =

@@ -6,9 +6,7 @@ use Rattle.ev_line.proofs.NameLaws.{both}
 use Rattle.std.proofs.lemmas.Bool.Decides.{nat_tests}
 use Rattle.ev_body.specs.KernelImage.{KernelImage}
 use Rattle.ev_io.specs.declared.cause.Cause.{Cause}
-use Rattle.ev_io.specs.declared.cause.Cause.TheVariants as Cause
 use Rattle.ev_io.specs.declared.lines.LineFault.{LineFault}
-use Rattle.ev_io.specs.declared.lines.LineFault.TheVariants as LineFault
 use Rattle.ev_io.specs.Transfer.{Rose}
 use Rattle.ev_io.specs.Lines.{Reading, OnReadFault}
 use Rattle.ev_io.specs.InputLines.{TooLarge, TooLong, NotAscii, lines_of, Ends, next_said, Skips}

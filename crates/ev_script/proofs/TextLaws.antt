@@ -1,5 +1,5 @@
 -- The text of a script line reads as that line.
-use Rattle.std.proofs.Common.{◌≡◌, ℕ, zero, suc, ◌^◌, ◌<◌, ◌≤◌, Bool, true, false, ◌&&◌, ◌||◌, List, [], ◌∷◌, ◌++◌, length, Option, Some, None, Result, Ok, Err, refl, ap, sym, ◌∙◌, arith}
+use Rattle.std.proofs.Common.{◌≡◌, ℕ, zero, suc, ◌^◌, ◌<◌, Bool, true, false, ◌&&◌, ◌||◌, List, [], ◌∷◌, ◌++◌, length, Option, Some, None, Result, Ok, Err, refl, ap, sym, ◌∙◌, arith}
 use Rattle.std.specs.Prelude.{nat_le, nat_lt, ◌==◌, codes, decimal}
 use Rattle.std.specs.Fmt.{digits}
 use Rattle.std.proofs.lemmas.Bool.{eqb-true}
@@ -10,23 +10,19 @@ use Rattle.ev_body.specs.Bodies.{key_number}
 use Rattle.ev_body.specs.WellFormed.{is_sendable}
 use Rattle.ev_body.specs.KernelImage.{KernelImage}
 use Rattle.ev_io.specs.declared.cause.Cause.{Cause}
-use Rattle.ev_io.specs.declared.cause.Cause.TheVariants as Cause
 use Rattle.ev_io.specs.Number.{number_of}
 use Rattle.ev_io.specs.Tokens.{Token, tokens_of}
 use Rattle.ev_io.proofs.TokenLaws.{spaceless, first_token, last_token}
 use Rattle.ev_io.proofs.DecimalLaws.{IsDecimalOf, decimal_is, number_back, no_space}
-use Rattle.ev_abstract.specs.EntryText.{key_text, words}
+use Rattle.ev_abstract.specs.EntryText.{key_text}
 use Rattle.ev_abstract.specs.Script.{has_body_of, is_line}
 use Rattle.ev_abstract.specs.declared.script_line.Line.{Line}
-use Rattle.ev_abstract.specs.declared.script_line.Line.TheVariants as Line
 use Rattle.ev_line.specs.Names.{key_of, interrupt_key, low_digit}
 use Rattle.ev_line.specs.Operands.{Processor, Within, KeyOfBody, value, or_else, if_it, then_make, among, number, number_within, processor, key, sent_key, key_of_body}
-use Rattle.ev_line.specs.Forms.{form, read_forms, read_only, read_by}
+use Rattle.ev_line.specs.Forms.{read_by}
 use Rattle.ev_line.proofs.NameLaws.{both}
 use Rattle.ev_line.proofs.FormLaws.{one_place, make_both, two_places}
-use Rattle.ev_script.specs.declared.line.Word.{Word}
-use Rattle.ev_script.specs.declared.line.Word.TheVariants as Word
-use Rattle.ev_script.specs.ScriptLine.{word_of, forms_of_word, keys_with_bodies, line_of_tokens, line_of}
+use Rattle.ev_script.specs.ScriptLine.{word_of, keys_with_bodies, line_of_tokens, line_of}
 use Rattle.ev_script.specs.LineText.{line_words, line_text}
 use Rattle.ev_script.proofs.LineLaws.{turn_forms, edge_forms, arrive_forms, accept_forms, bodies_among}
 
@@ -45,7 +41,7 @@ edges_read : (n : ℕ) (t : Token) → number_of t ≡ Some n → nat_le 1 n ≡
 unfolding value number_within number
 edges_read n t h k l =
     ap (λ o. if_it (λ m. nat_le 1 m && nat_le m 4096) Cause.Limit (or_else Cause.Number o)) h ∙ picked (nat_le 1 n && nat_le n 4096) n Cause.Limit
-        (ap (λ v. v && nat_le n 4096) k ∙ l)
+    (ap (λ v. v && nat_le n 4096) k ∙ l)
 
 key_read : (keys : List ℕ) (k : Key) (t : Token) → key_of t ≡ Some k → is_sendable k ≡ true → among keys (key_number k) ≡ true → value (KeyOfBody keys) t ≡ Ok k
 unfolding value key_of_body sent_key key
@@ -134,7 +130,7 @@ turn_back image p h k =
     ap (line_of_tokens image) (one_operand image (codes "turn") p (omega arith) refl h)
     ∙ turn_forms image.processors (keys_with_bodies image) (decimal p ∷ [])
     ∙ ap (then_make Line.Turn) (one_place (Processor image.processors) (λ n. n) (decimal p)
-        ∙ ap (then_make (λ n. n)) (processor_read image.processors p (decimal p) (number_back p h) k))
+    ∙ ap (then_make (λ n. n)) (processor_read image.processors p (decimal p) (number_back p h) k))
 
 accept_back : (image : KernelImage) (p : ℕ) → p < 2 ^ 64 → nat_lt p image.processors ≡ true → line_of (line_text (Line.Accept p)) image ≡ Ok (Line.Accept p)
 unfolding line_words line_of_tokens read_by word_of
@@ -142,7 +138,7 @@ accept_back image p h k =
     ap (line_of_tokens image) (one_operand image (codes "accept") p (omega arith) refl h)
     ∙ accept_forms image.processors (keys_with_bodies image) (decimal p ∷ [])
     ∙ ap (then_make Line.Accept) (one_place (Processor image.processors) (λ n. n) (decimal p)
-        ∙ ap (then_make (λ n. n)) (processor_read image.processors p (decimal p) (number_back p h) k))
+    ∙ ap (then_make (λ n. n)) (processor_read image.processors p (decimal p) (number_back p h) k))
 
 edge_back : (image : KernelImage) (p n : ℕ) → p < 2 ^ 64 → n < 2 ^ 64 → nat_lt p image.processors ≡ true → nat_le 1 n ≡ true → nat_le n 4096 ≡ true
     → line_of (line_text (Line.Edge p n)) image ≡ Ok (Line.Edge p n)
@@ -162,11 +158,11 @@ arrive_back image p key h k s b =
     let word : IsWordOf key (key_text key) = sent_word key s in
     ap (line_of_tokens image) (first_token (codes "arrive") (decimal p ++ 32 ∷ key_text key) (omega arith) refl
     ∙ ap (λ (ts : List Token). codes "arrive" ∷ ts)
-        (decimal_then p (key_text key) h ∙ ap (λ (ts : List Token). decimal p ∷ ts) (last_token (key_text key) word.some word.spaces)))
+    (decimal_then p (key_text key) h ∙ ap (λ (ts : List Token). decimal p ∷ ts) (last_token (key_text key) word.some word.spaces)))
     ∙ arrive_forms image.processors (keys_with_bodies image) (decimal p ∷ key_text key ∷ [])
     ∙ two_places (Processor image.processors) (KeyOfBody (keys_with_bodies image)) (λ p key. Line.Arrive p key) (decimal p) (key_text key)
     ∙ ap (λ r. make_both (λ p key. Line.Arrive p key) r (value (KeyOfBody (keys_with_bodies image)) (key_text key)))
-        (processor_read image.processors p (decimal p) (number_back p h) k)
+    (processor_read image.processors p (decimal p) (number_back p h) k)
     ∙ ap (make_both (λ p key. Line.Arrive p key) (Ok p))
     (key_read (keys_with_bodies image) key (key_text key) word.reads s (bodies_among image.bodies (key_number key) ∙ b))
 

@@ -3,9 +3,7 @@ use Rattle.std.specs.Prelude.{◌≡◌, ℕ, ◌+◌, Bool, true, false, nat_le
 use Rattle.std.specs.Str.{bytes_eq}
 use Rattle.ev_body.specs.KernelImage.{KernelImage}
 use Rattle.ev_io.specs.declared.cause.Cause.{Cause}
-use Rattle.ev_io.specs.declared.cause.Cause.TheVariants as Cause
 use Rattle.ev_io.specs.declared.lines.LineFault.{LineFault}
-use Rattle.ev_io.specs.declared.lines.LineFault.TheVariants as LineFault
 use Rattle.ev_io.specs.Lines.{Reading}
 use Rattle.ev_io.specs.InputLines.{lines_of}
 use Rattle.ev_io.specs.Tokens.{Token, is_empty}
@@ -13,7 +11,6 @@ use Rattle.ev_io.specs.Follow.{read, Stands, FollowsPart}
 use Rattle.ev_abstract.specs.declared.script_line.Line.{Line}
 use Rattle.ev_script.specs.declared.reading.Script.{Script}
 use Rattle.ev_script.specs.declared.reading.ScriptFault.{ScriptFault}
-use Rattle.ev_script.specs.declared.reading.ScriptFault.TheVariants as ScriptFault
 use Rattle.ev_script.specs.ScriptLine.{line_of_tokens}
 
 -- a script line behind so many others: first its own cause, then one line too many

@@ -7,11 +7,9 @@ use Rattle.ev_body.specs.KernelImage.{KernelImage}
 use Rattle.ev_io.specs.declared.cause.Cause.{Cause}
 use Rattle.ev_io.specs.Tokens.{Token, tokens_of}
 use Rattle.ev_abstract.specs.declared.script_line.Line.{Line}
-use Rattle.ev_abstract.specs.declared.script_line.Line.TheVariants as Line
 use Rattle.ev_line.specs.Operands.{Processor, Within, KeyOfBody}
 use Rattle.ev_line.specs.Forms.{Form, form, read_by}
 use Rattle.ev_script.specs.declared.line.Word.{Word}
-use Rattle.ev_script.specs.declared.line.Word.TheVariants as Word
 
 -- the word of a script line
 unfoldable pub word_of : Token → Option Word

@@ -59,7 +59,11 @@ fn has_body(image: &Image, key: Key) -> bool
     ensures { result ≡ has_body_of image.now key }
 {
     let number = key_number(key);
-    image.bodies.as_slice().iter().any(|body| key_number(body.key) == number)
+    image
+        .bodies
+        .as_slice()
+        .iter()
+        .any(|body| key_number(body.key) == number)
 }
 
 /// A key that can be sent, and of which the image has a body.
@@ -78,10 +82,8 @@ fn key_of_body(image: &Image, t: &[u8]) -> Result<Key, Cause>
 
 /// The operand of `turn` and of `accept`.
 fn one_processor(image: &Image, operands: &[&[u8]]) -> Result<u32, Cause>
-    ensures value {
-        result ≡ read_only (form (Processor image.now.processors ∷ []) (λ p. p))
-            (map (λ t. t.now) operands.now)
-    }
+    ensures value { result ≡ read_only (form (Processor image.now.processors ∷ []) (λ p. p))
+        (map (λ t. t.now) operands.now) }
     ensures below { IfOk result (λ p. p < image.now.processors) }
 {
     let [p] = operands else {
@@ -92,10 +94,8 @@ fn one_processor(image: &Image, operands: &[&[u8]]) -> Result<u32, Cause>
 
 /// The line of the operands of `turn`.
 fn turn(image: &Image, operands: &[&[u8]]) -> Result<Line, Cause>
-    ensures value {
-        result ≡ then_make Line.Turn (read_only (form (Processor image.now.processors ∷ []) (λ p. p))
-            (map (λ t. t.now) operands.now))
-    }
+    ensures value { result ≡ then_make Line.Turn (read_only (form (Processor image.now.processors ∷ []) (λ p. p))
+        (map (λ t. t.now) operands.now)) }
     ensures formed { IfOk result (λ line. is_line image.now line ≡ true) }
 {
     Ok(Line::Turn(one_processor(image, operands)?))
@@ -103,10 +103,8 @@ fn turn(image: &Image, operands: &[&[u8]]) -> Result<Line, Cause>
 
 /// The line of the operands of `accept`.
 fn accept(image: &Image, operands: &[&[u8]]) -> Result<Line, Cause>
-    ensures value {
-        result ≡ then_make Line.Accept (read_only (form (Processor image.now.processors ∷ []) (λ p. p))
-            (map (λ t. t.now) operands.now))
-    }
+    ensures value { result ≡ then_make Line.Accept (read_only (form (Processor image.now.processors ∷ []) (λ p. p))
+        (map (λ t. t.now) operands.now)) }
     ensures formed { IfOk result (λ line. is_line image.now line ≡ true) }
 {
     Ok(Line::Accept(one_processor(image, operands)?))
@@ -114,11 +112,9 @@ fn accept(image: &Image, operands: &[&[u8]]) -> Result<Line, Cause>
 
 /// The line of the operands of `edge`.
 fn edge(image: &Image, operands: &[&[u8]]) -> Result<Line, Cause>
-    ensures value {
-        result ≡ read_only
-            (form (Processor image.now.processors ∷ Within 1 4096 ∷ []) (λ p n. Line.Edge p n))
-            (map (λ t. t.now) operands.now)
-    }
+    ensures value { result ≡ read_only
+        (form (Processor image.now.processors ∷ Within 1 4096 ∷ []) (λ p n. Line.Edge p n))
+        (map (λ t. t.now) operands.now) }
     ensures formed { IfOk result (λ line. is_line image.now line ≡ true) }
 {
     let [p, n] = operands else {
@@ -131,12 +127,10 @@ fn edge(image: &Image, operands: &[&[u8]]) -> Result<Line, Cause>
 
 /// The line of the operands of `arrive`.
 fn arrive(image: &Image, operands: &[&[u8]]) -> Result<Line, Cause>
-    ensures value {
-        let keys = keys_with_bodies image.now in
+    ensures value { let keys = keys_with_bodies image.now in
         result ≡ read_only
-            (form (Processor image.now.processors ∷ KeyOfBody keys ∷ []) (λ p key. Line.Arrive p key))
-            (map (λ t. t.now) operands.now)
-    }
+        (form (Processor image.now.processors ∷ KeyOfBody keys ∷ []) (λ p key. Line.Arrive p key))
+        (map (λ t. t.now) operands.now) }
     ensures formed { IfOk result (λ line. is_line image.now line ≡ true) }
 {
     let [p, key] = operands else {
@@ -149,11 +143,9 @@ fn arrive(image: &Image, operands: &[&[u8]]) -> Result<Line, Cause>
 
 /// The script line of a word and its operands.
 fn line_of_word(image: &Image, word: Word, operands: &[&[u8]]) -> Result<Line, Cause>
-    ensures value {
-        let keys = keys_with_bodies image.now in
+    ensures value { let keys = keys_with_bodies image.now in
         result ≡ read_forms (forms_of_word image.now.processors keys (Some word))
-            (map (λ t. t.now) operands.now)
-    }
+        (map (λ t. t.now) operands.now) }
     ensures formed { IfOk result (λ line. is_line image.now line ≡ true) }
 {
     match word {

@@ -95,7 +95,7 @@ fn read_to_end<S: Source>(
 ) -> Result<Vec<Line>, ScriptFault>
     ensures reads { (bytes : List ℕ) → coming lines.old.chunk (S.left src.old) ≡ Some bytes
         → ReadsToEnd image.now lines.old bytes lines.new
-            (coming lines.new.chunk (S.left src.new)) result }
+        (coming lines.new.chunk (S.left src.new)) result }
     ensures formed { IfOk result (λ script. IsScript image.now script.items) }
     ensures few { IfOk result (λ script. vec_len script ≤ 200000) }
 
@@ -133,7 +133,7 @@ pub fn read_lines<S: Source>(
 ) -> Result<Script, ScriptFault>
     ensures reads { (bytes : List ℕ) → coming lines.old.chunk (S.left src.old) ≡ Some bytes
         → ReadsScript image.now lines.old bytes lines.new
-            (coming lines.new.chunk (S.left src.new)) result }
+        (coming lines.new.chunk (S.left src.new)) result }
     ensures formed { IfOk result (λ script. IsScript image.now script.lines.items) }
     ensures few { IfOk result (λ script. vec_len script.lines ≤ 200000) }
 
@@ -162,7 +162,7 @@ pub fn read_script<S: Source>(
 ) -> Result<Script, ScriptFault>
     ensures reads { (bytes : List ℕ) → coming lines.old.chunk (S.left src.old) ≡ Some bytes
         → ReadsScript image.now.image lines.old bytes lines.new
-            (coming lines.new.chunk (S.left src.new)) result }
+        (coming lines.new.chunk (S.left src.new)) result }
     ensures formed { IfOk result (λ script. IsScript image.now.image script.lines.items) }
     ensures few { IfOk result (λ script. vec_len script.lines ≤ 200000) }
 

@@ -50,9 +50,17 @@ fn script(
 #[test]
 fn scripts(rt: HostRuntime) -> Result<(), Fail> {
     let image = image(rt.alloc())?;
-    let read = script(rt.alloc(), &image, b"turn 0\n\n# no line\n edge 0 2\nend\n", &[])?;
+    let read = script(
+        rt.alloc(),
+        &image,
+        b"turn 0\n\n# no line\n edge 0 2\nend\n",
+        &[],
+    )?;
     let lines = read.ok().ok_or("refused")?.lines;
-    assert_eq!(rt; lines.as_slice(), [Line::Turn(0), Line::Edge(0, 2)].as_slice());
+    assert_eq!(rt;
+        lines.as_slice(),
+        [Line::Turn(0), Line::Edge(0, 2)].as_slice()
+    );
     Ok(())
 }
 
@@ -70,7 +78,11 @@ fn refused_scripts(rt: HostRuntime) -> Result<(), Fail> {
     ];
     for (bytes, number, cause) in cases {
         let fault = script(rt.alloc(), &image, bytes, &[])?.err();
-        assert_eq!(rt; fault, Some(ScriptFault::BadLine(number, cause)), "{bytes:?}");
+        assert_eq!(rt;
+            fault,
+            Some(ScriptFault::BadLine(number, cause)),
+            "{bytes:?}"
+        );
     }
     let fault = script(rt.alloc(), &image, b"turn 0\n", &[1])?.err();
     assert_eq!(rt; fault, Some(ScriptFault::Read));
@@ -83,6 +95,9 @@ fn text_of_a_line(rt: HostRuntime) -> Result<(), Fail> {
     let mut out = ArrayString::new();
     print_line(&Line::Edge(0, 17), &mut out);
     assert_eq!(rt; out.as_str(), "edge 0 17");
-    assert_eq!(rt; line_of(out.as_str().as_bytes(), &image), Ok(Line::Edge(0, 17)));
+    assert_eq!(rt;
+        line_of(out.as_str().as_bytes(), &image),
+        Ok(Line::Edge(0, 17))
+    );
     Ok(())
 }

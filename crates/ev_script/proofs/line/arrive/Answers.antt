@@ -1,4 +1,4 @@
-use Rattle.std.proofs.Common.{◌≡◌, ◌∙◌, ap, sym, refl, arith, Ok, Err}
+use Rattle.std.proofs.Common.{◌∙◌, sym, refl, arith, Ok, Err}
 use Rattle.std.proofs.lemmas.Result.{err_from_is_err_and}
 use Rattle.ev_abstract.specs.Script.{is_line}
 use Rattle.ev_line.specs.Operands.{Processor, KeyOfBody, value}
@@ -23,7 +23,7 @@ unfolding value
 returns-in_err-key-clause-value c =
     let p = err_from_is_err_and c.from_residual-in_err-key.result c.from_residual-in_err-key.ensures.1 in
     rw (p.1, p.2) (read_two (Processor _) (KeyOfBody _) _ _ _ c.args.operands.now (Ok c.in_ok-p.p) (Err c.in_err-key.field-0.0) c.in-len2.len_at_least
-        c.in-len2.len_below
+    c.in-len2.len_below
     (sym c.in_ok-p.was ∙ c.declared.ensures.value) (sym c.in_err-key.was ∙ c.key_of_body.ensures.value))
 
 pub returns-clause-value : goal.returns-clause-value

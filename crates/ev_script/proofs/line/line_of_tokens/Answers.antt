@@ -11,4 +11,4 @@ returns-in-None-clause-value c = unknown_word c.args.image.now _ _ c.args.tokens
 pub returns-in-Some-clause-value : goal.returns-in-Some-clause-value
 returns-in-Some-clause-value c =
     c.line_of_word.ensures.value ∙ known_word c.args.image.now _ _ c.args.tokens.now c.in-Some.word c.in-len1-up.len_at_least
-        (sym c.word_of.ensures ∙ c.in-Some.is)
+    (sym c.word_of.ensures ∙ c.in-Some.is)

@@ -18,4 +18,4 @@ pub returns-clause-value : goal.returns-clause-value
 unfolding value
 returns-clause-value c =
     sym (whole c.declared.result) ∙ read_one (Processor _) (λ p. p) _ _ c.args.operands.now c.declared.result c.in-len1.len_at_least c.in-len1.len_below
-        c.declared.ensures.value
+    c.declared.ensures.value

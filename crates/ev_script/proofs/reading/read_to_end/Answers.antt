@@ -1,4 +1,4 @@
-use Rattle.std.proofs.Common.{◌≡◌, ◌∙◌, ap, sym, refl, arith, length, [], Err, Vec, Global}
+use Rattle.std.proofs.Common.{◌≡◌, ◌∙◌, refl, arith, length, [], Err, Vec, Global}
 use Rattle.ev_abstract.specs.declared.script_line.Line.{Line}
 use Rattle.ev_io.specs.Tokens.{tokens_of}
 use Rattle.ev_io.proofs.Bytes.{draws_nothing, draws_then}
@@ -91,7 +91,7 @@ loop-fault-preserved g c =
           let stands = c.loop-fault.invariant.stands bytes e in
           let skips = rw c.in-Ok-Some.field-0-is at (c.in-Ok-Some.ensures.said stands.left stands.to_come) in
           rw grown (stands_more (follows c.args.image.now) c.args.lines.now (Open []) bytes c.loop-fault.lines _ _ c.next_said.new.self _
-              c.in-Ok-Some.number _ stands skips
+          c.in-Ok-Some.number _ stands skips
           (follow_more c.args.image.now c.loop-fault.script.items _ line (said_at c.args.image.now _ _ _ _ _ count c.text.ensures said.value)));
       formed = rw grown (more_formed c.args.image.now c.loop-fault.script.items line c.loop-fault.invariant.formed said.formed);
       few = omega (arith, said.room, c.len.ensures, c.in-Ok.ensures.len);

@@ -1,4 +1,4 @@
-use Rattle.std.proofs.Common.{◌≡◌, ◌∙◌, ◌^◌, ◌<◌, ◌++◌, ◌∷◌, ap, sym, arith, append_assoc}
+use Rattle.std.proofs.Common.{◌∙◌, ◌^◌, ◌<◌, ◌++◌, ◌∷◌, ap, sym, arith, append_assoc}
 use Rattle.std.specs.Prelude.{codes, decimal}
 use Rattle.ev_abstract.specs.Script.{is_line}
 use Rattle.ev_abstract.specs.EntryText.{key_text}
@@ -16,7 +16,7 @@ unfolding line_words
 returns-in-Turn-clause-back c = λ image k.
     let small : c.in-Turn.p < 2 ^ 64 = omega arith in
     rw c.in-Turn.is (ap (λ t. line_of t image) c.word_and_processor.ensures.bytes ∙ turn_reads image c.in-Turn.p small
-        (sym (ap (is_line image) c.in-Turn.is) ∙ k))
+    (sym (ap (is_line image) c.in-Turn.is) ∙ k))
 
 pub returns-in-Accept-clause-text : goal.returns-in-Accept-clause-text
 unfolding line_words
@@ -27,14 +27,14 @@ unfolding line_words
 returns-in-Accept-clause-back c = λ image k.
     let small : c.in-Accept.p < 2 ^ 64 = omega arith in
     rw c.in-Accept.is (ap (λ t. line_of t image) c.word_and_processor-in-Accept.ensures.bytes ∙ accept_reads image c.in-Accept.p small
-        (sym (ap (is_line image) c.in-Accept.is) ∙ k))
+    (sym (ap (is_line image) c.in-Accept.is) ∙ k))
 
 pub returns-in-Edge-clause-text : goal.returns-in-Edge-clause-text
 unfolding line_words
 returns-in-Edge-clause-text c =
     rw c.in-Edge.is (c.push_decimal.ensures.bytes ∙ ap (λ t. t ++ 32 ∷ decimal c.from.result) c.word_and_processor-in-Edge.ensures.bytes
     ∙ append_assoc (codes "edge") (32 ∷ decimal c.in-Edge.p) (32 ∷ decimal c.from.result)
-        ∙ ap (λ n. codes "edge" ++ (32 ∷ decimal c.in-Edge.p ++ 32 ∷ decimal n)) c.from.ensures)
+    ∙ ap (λ n. codes "edge" ++ (32 ∷ decimal c.in-Edge.p ++ 32 ∷ decimal n)) c.from.ensures)
 
 pub returns-in-Edge-clause-back : goal.returns-in-Edge-clause-back
 unfolding line_words
@@ -43,7 +43,7 @@ returns-in-Edge-clause-back c = λ image k.
     let few : c.in-Edge.n < 2 ^ 64 = omega arith in
     let text = returns-in-Edge-clause-text c in
     rw c.in-Edge.is (ap (λ t. line_of t image) text ∙ ap (λ l. line_of (line_text l) image) c.in-Edge.is
-        ∙ edge_reads image c.in-Edge.p c.in-Edge.n small few (sym (ap (is_line image) c.in-Edge.is) ∙ k))
+    ∙ edge_reads image c.in-Edge.p c.in-Edge.n small few (sym (ap (is_line image) c.in-Edge.is) ∙ k))
 
 pub returns-in-Arrive-clause-text : goal.returns-in-Arrive-clause-text
 unfolding line_words
