@@ -5,6 +5,7 @@ use Rattle.ev_io.specs.Tokens.{Token, tokens_of, is_passed_over}
 use Rattle.ev_io.specs.InputLines.{ByteFault, TooLarge, TooLong, NotAscii, line_fault, text_of, lines_of, joined}
 use Rattle.ev_io.specs.Lines.{Reading, IsPart}
 
+-- the cause of a line whose bytes have a fault
 abbrev pub cause_of : ByteFault → Cause
 cause_of TooLarge = Cause.TooLarge
 cause_of TooLong = Cause.TooLong

@@ -48,6 +48,7 @@ fault_from before k (b ∷ bs) = elim (byte_fault before k b) [
   | Some fault ↦ Some fault
 ]
 
+-- the fault of a line, behind so many bytes of the input
 abbrev pub line_fault : ℕ → List ℕ → Option ByteFault
 line_fault before line = fault_from before 0 line
 

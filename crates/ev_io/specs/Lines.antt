@@ -12,9 +12,11 @@ pub data Outcome : Type 0 where
   End : Outcome
   Bad : LineFault → Outcome
 
+-- whether a byte is one of 20H to 7EH
 abbrev pub is_printable : ℕ → Bool
 is_printable b = nat_le 32 b && nat_le b 126
 
+-- the same as a fact
 abbrev pub IsPrintable : ℕ → Type 0
 IsPrintable b = is_printable b ≡ true
 
@@ -68,6 +70,7 @@ Answers o (Err (TooLong n)) text gone rest = IfSome o (λ x. x ≡ Bad (TooLong 
 Answers o (Err (TooLarge n)) text gone rest = IfSome o (λ x. x ≡ Bad (TooLarge n))
 Answers o (Err (NotAscii n k)) text gone rest = IfSome o (λ x. x ≡ Bad (NotAscii n k))
 
+-- the same for an answer with the number of the line
 abbrev pub Gives : Option Outcome → Reading → Option (List ℕ) → Result (Option ℕ) LineFault → Type 0
 Gives o new rest (Ok (Some n)) = Answers o (Ok true) new.text new.gone rest
 Gives o new rest (Ok None) = Answers o (Ok false) new.text new.gone rest

@@ -5,6 +5,7 @@ use Rattle.std.specs.Prelude.{ℕ, Bool, true, false, not, ◌==◌, List, [], �
 abbrev pub Token : Type 0
 Token = List ℕ
 
+-- whether a list has nothing
 abbrev pub is_empty : {X : Type 0} → List X → Bool
 is_empty [] = true
 is_empty (x ∷ xs) = false

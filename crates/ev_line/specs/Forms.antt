@@ -19,11 +19,13 @@ pub record Form (X : Type 0) : Type 0 where
   pub places : List Place
   pub made : Maker places X
 
+-- a form of these places
 abbrev pub form : {X : Type 0} → (places : List Place) → Maker places X → Form X
 form places made = record { places = places; made = made }
 
 -- ---- which kind of operand a token is
 
+-- whether two kinds are one
 unfoldable pub same_kind : Kind → Kind → Bool
 same_kind Kind.Memory Kind.Memory = true
 same_kind Kind.GsMemory Kind.GsMemory = true
@@ -32,6 +34,7 @@ same_kind Kind.Word Kind.Word = true
 same_kind Kind.Register Kind.Register = true
 same_kind _ _ = false
 
+-- the kind that a place takes
 unfoldable pub kind_of : Place → Kind
 kind_of Memory = Kind.Memory
 kind_of Gs = Kind.GsMemory
@@ -73,6 +76,7 @@ kind_among k ks t = elim (list_all (same_kind k) ks) [
 
 -- ---- reading a line by its forms
 
+-- the kind of place n of a form, if it has so many
 abbrev pub kind_at : {X : Type 0} → ℕ → Form X → Option Kind
 kind_at n f = option_map kind_of (slice_get f.places n)
 
@@ -118,6 +122,7 @@ unfoldable pub read_form : {X : Type 0} → List Token → Option (Form X) → R
 read_form ts None = Err Cause.Count
 read_form ts (Some f) = read_places f.places ts f.made
 
+-- whether a form has as many places as there are tokens
 abbrev pub has_places : {X : Type 0} → List Token → Form X → Bool
 has_places ts f = length f.places == length ts
 

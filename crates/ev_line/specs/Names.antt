@@ -12,9 +12,11 @@ use Rattle.ev_abstract.specs.EntryText.{register_names, key_text, side_text}
 
 -- ---- names
 
+-- a letter of either case
 abbrev pub is_letter : ℕ → Bool
 is_letter c = is_between 0x41 0x5a c || is_between 0x61 0x7a c
 
+-- a letter, a digit or `_`
 abbrev pub is_name_byte : ℕ → Bool
 is_name_byte c = is_letter c || is_between 0x30 0x39 c || c == 0x5f
 
@@ -57,6 +59,7 @@ interrupt_key _ = None
 abbrev pub named_keys : List Key
 named_keys = Sys ∷ Db ∷ Nmi ∷ Bp ∷ Ud ∷ Ss ∷ Gp ∷ Pf ∷ Ac ∷ []
 
+-- the key of this name among these, or an interrupt
 abbrev pub key_in : List Key → Token → Option Key
 key_in [] t = interrupt_key t
 key_in (k ∷ ks) t = elim (bytes_eq t (key_text k)) [ true ↦ Some k | false ↦ key_in ks t ]
@@ -65,6 +68,7 @@ key_in (k ∷ ks) t = elim (bytes_eq t (key_text k)) [ true ↦ Some k | false �
 unfoldable pub key_of : Token → Option Key
 key_of t = key_in named_keys t
 
+-- the side of this name among these
 abbrev pub side_in : List Side → Token → Option Side
 side_in [] t = None
 side_in (s ∷ ss) t = elim (bytes_eq t (side_text s)) [ true ↦ Some s | false ↦ side_in ss t ]

@@ -58,18 +58,22 @@ abbrev pub if_it : {X : Type 0} → (X → Bool) → Cause → Result X Cause �
 if_it test cause (Err e) = Err e
 if_it test cause (Ok x) = elim (test x) [ true ↦ Ok x | false ↦ Err cause ]
 
+-- what is made of the value, or the cause
 abbrev pub then_make : {X Y : Type 0} → (X → Y) → Result X Cause → Result Y Cause
 then_make f (Err e) = Err e
 then_make f (Ok x) = Ok (f x)
 
+-- whether a number is among these
 abbrev pub among : List ℕ → ℕ → Bool
 among taken n = list_any (λ k. k == n) taken
 
 -- ---- numbers
 
+-- any number
 unfoldable pub number : Token → Result ℕ Cause
 number t = or_else Cause.Number (number_of t)
 
+-- a number from low to high
 unfoldable pub number_within : ℕ → ℕ → Token → Result ℕ Cause
 number_within low high t = if_it (λ n. nat_le low n && nat_le n high) Cause.Limit (number t)
 
@@ -89,6 +93,7 @@ processor count t = if_it (λ n. nat_lt n count) Cause.NoSuchProcessor (number t
 
 -- ---- registers, names and keys
 
+-- one of the sixteen registers
 unfoldable pub register : Token → Result ℕ Cause
 register t = or_else Cause.Name (register_of t)
 
@@ -96,15 +101,19 @@ register t = or_else Cause.Name (register_of t)
 unfoldable pub local : Token → Result ℕ Cause
 local t = if_it is_local Cause.Name (register t)
 
+-- the name of a label
 unfoldable pub label : Token → Result Token Cause
 label t = if_it is_good_name Cause.Name (Ok t)
 
+-- whether a label of this name has a place
 abbrev pub has_label : Places → Token → Bool
 has_label places name = list_any (λ (e : Token × ℕ). is_name e.0 name) places
 
+-- any key
 unfoldable pub key : Token → Result Key Cause
 key t = or_else Cause.Name (key_of t)
 
+-- any side
 unfoldable pub side : Token → Result Side Cause
 side t = or_else Cause.Name (side_of t)
 
@@ -126,6 +135,7 @@ closed t = elim (bytes_eq (drop (length t - 1) t) (codes "]")) [ true ↦ Some (
 unfoldable pub behind_word : Token → Token → Option Token
 behind_word word t = elim (bytes_eq (take (length word) t) word) [ true ↦ Some (drop (length word) t) | false ↦ None ]
 
+-- whether a character is `+` or `-`
 abbrev pub is_sign : ℕ → Bool
 is_sign c = c == 0x2b || c == 0x2d
 
@@ -133,6 +143,7 @@ is_sign c = c == 0x2b || c == 0x2d
 unfoldable pub parted : Token → Option (Token × Bool × Token)
 parted t = option_map (λ at. (take at t, slice_index t at == 0x2d, drop (at + 1) t)) (position is_sign t)
 
+-- a second step, where the first gives a value
 abbrev pub and_then : {X Y : Type 0} → (X → Option Y) → Option X → Option Y
 and_then f None = None
 and_then f (Some x) = f x
@@ -141,6 +152,7 @@ and_then f (Some x) = f x
 unfoldable pub memory_parts : Token → Option (Token × Bool × Token)
 memory_parts t = and_then parted (and_then closed (behind_word (codes "[") t))
 
+-- the number of an operand at the GS base with its brackets
 unfoldable pub gs_part : Token → Option Token
 gs_part t = and_then closed (behind_word (codes "gs:[") t)
 
@@ -153,6 +165,7 @@ based name negative number = beside (register name) (displacement negative numbe
     beside (Ok b) (Err e) = Err e
     beside (Ok b) (Ok z) = Ok (b, z)
 
+-- a memory operand at a register
 unfoldable pub memory : Token → Result (ℕ × ℤ) Cause
 memory t = of (memory_parts t)
   where
@@ -160,6 +173,7 @@ memory t = of (memory_parts t)
     of None = Err Cause.Word
     of (Some e) = based e.0 e.1 e.2
 
+-- a memory operand at the GS base
 unfoldable pub gs : Token → Result ℤ Cause
 gs t = of (gs_part t)
   where
@@ -169,6 +183,7 @@ gs t = of (gs_part t)
 
 -- ---- the value of a token at a place, or its cause
 
+-- the value of a token at this place, or its cause
 unfoldable pub value : (p : Place) → Token → Result (Value p) Cause
 value Register t = register t
 value Local t = local t

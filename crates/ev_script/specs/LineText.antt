@@ -11,5 +11,6 @@ line_words (Edge p n) = codes "edge" ∷ decimal p ∷ decimal n ∷ []
 line_words (Arrive p key) = codes "arrive" ∷ decimal p ∷ key_text key ∷ []
 line_words (Accept p) = codes "accept" ∷ decimal p ∷ []
 
+-- its words, with one space between them
 abbrev pub line_text : Line → Text
 line_text line = words (line_words line)

@@ -26,6 +26,7 @@ ends (t ∷ ts) = elim (bytes_eq t (codes "end")) [
   | false ↦ Ok false
 ]
 
+-- what a line says, by whether it is the line `end`
 abbrev pub said_by : Result Bool Cause → ℕ → Result Line Cause → Result (Option Line) Cause
 said_by (Err cause) count line = Err cause
 said_by (Ok true) count line = Ok None
@@ -39,10 +40,12 @@ said image count ts = said_by (ends ts) count (line_of_tokens image ts)
 pub data Standing : Type 0 where
   Open Ended : List Line → Standing
 
+-- what stands behind a script line or the end
 abbrev pub stands : List Line → Option Line → Standing
 stands script None = Ended script
 stands script (Some line) = Open (script ++ line ∷ [])
 
+-- the same, or the cause
 abbrev pub then_stands : List Line → Result (Option Line) Cause → Result Standing Cause
 then_stands script (Err cause) = Err cause
 then_stands script (Ok line) = Ok (stands script line)

@@ -32,6 +32,7 @@ forms_of_word processors keys (Some Word.Arrive) = form (Processor processors �
 forms_of_word processors keys (Some Word.Accept) = form (Processor processors ∷ []) (λ p. Line.Accept p) ∷ []
 forms_of_word processors keys None = []
 
+-- the forms of a line by its first token
 abbrev pub script_forms : (processors : ℕ) (keys : List ℕ) → Token → List (Form Line)
 script_forms processors keys t = forms_of_word processors keys (word_of t)
 
@@ -39,6 +40,7 @@ script_forms processors keys t = forms_of_word processors keys (word_of t)
 abbrev pub keys_with_bodies : KernelImage → List ℕ
 keys_with_bodies image = map (λ (b : Body). key_number b.key) image.bodies
 
+-- the script line that tokens say, or its cause
 unfoldable pub line_of_tokens : KernelImage → List Token → Result Line Cause
 line_of_tokens image ts = read_by (script_forms image.processors (keys_with_bodies image)) ts
 
