@@ -1,5 +1,5 @@
 -- The relation after a step of one processor: of that processor, of the others, and of the words that all share.
-use Rattle.std.proofs.Common.{◌≡◌, ◌⊎◌, inl, inr, ⊎_elim, ℕ, suc, ◌+◌, ◌-◌, ◌*◌, ◌%◌, ◌<◌, ◌≤◌, Bool, true, false, List, [], ◌∷◌, length, map, get_or, Some, refl, sym, ap, ◌∙◌, subst, arith}
+use Rattle.std.proofs.Common.{◌≡◌, ◌⊎◌, inl, inr, ⊎_elim, ℕ, ◌+◌, ◌*◌, ◌%◌, ◌<◌, ◌≤◌, Bool, true, false, List, [], ◌∷◌, length, map, get_or, Some, refl, sym, ap, ◌∙◌, subst, arith}
 use Rattle.std.specs.Prelude.{if◌then◌else◌, ◌==◌, ◌&&◌, ◌/◌, reverse}
 use Rattle.std.specs.List.{list_any}
 use Rattle.std.proofs.lemmas.Bool.Decides.{eqb_tells, leb_tells}
@@ -14,7 +14,7 @@ use Rattle.ev_mem.specs.Memory.{Memory, page_map}
 use Rattle.ev_state.specs.Processor.{Processor}
 use Rattle.ev_apic.specs.declared.apic.Apic.{Apic}
 use Rattle.ev_apic.specs.Vectors.{vectors_of}
-use Rattle.ev_listing.specs.AddressMap.{pcpu, slot_offset, record_address, cells_base, stack_top, stack_bytes}
+use Rattle.ev_listing.specs.AddressMap.{pcpu, slot_offset, record_address, cells_base}
 use Rattle.ev_abstract.specs.Boundary.{is_nmi_body}
 use Rattle.ev_abstract.specs.Context.{BodyContext, CallId}
 use Rattle.ev_abstract.specs.Machine.{Machine, processor, CallRecord, CallState, Free, Queued, Taken}
@@ -22,14 +22,14 @@ use Rattle.ev_abstract.specs.Machine as abstract
 use Rattle.ev_concrete.specs.Opening.{tasks_of}
 use Rattle.ev_concrete.specs.ConcreteRun.{System, Activation}
 use Rattle.ev_symbolic.specs.Agrees.{with_words}
-use Rattle.ev_activation.specs.Seat.{Seat, top_at}
+use Rattle.ev_activation.specs.Seat.{Seat}
 use Rattle.ev_refine.specs.Tasks.{IsTask, IsSaved, TssIs, CurrentIs}
 use Rattle.ev_refine.specs.Nmi.{Frame, Held, Layer, Plain, LatchIs, inner_edges}
-use Rattle.ev_refine.specs.Named.{Named, UserRsp, Top, Current, Mark, Port, Head, TssTop, Slot, RecordWord, CellAt, PageBit, UserWord, address_of, IsUserWord, IsName, Outside, NotNamed, Changes}
+use Rattle.ev_refine.specs.Named.{Named, UserRsp, Port, IsUserWord, Outside, NotNamed, Changes}
 use Rattle.ev_refine.specs.Domain.{IsInDomain}
 use Rattle.ev_refine.specs.Relation.{Chain, Runs, serves, StandsOn, RecordIs, Linked, Shares, Stands}
 use Rattle.ev_refine.proofs.Maps.{at_same}
-use Rattle.ev_refine.proofs.Words.{named_stays, fixed_stays, stack_stays, area_stays, stacks_stay, saved_stays}
+use Rattle.ev_refine.proofs.Words.{fixed_stays, stack_stays, stacks_stay, saved_stays}
 use Rattle.ev_refine.proofs.Standing.{Moves}
 use Rattle.ev_refine.proofs.Stays.{chain_stays, others_spared}
 
@@ -297,7 +297,8 @@ module _ (mode : Mode) (image : Image) where
         ∙ h.numbers q k lt l ∙ sym (ap (λ w. (w k).number) (component (λ y. y.records) p q m m' x a a.records));
     records = λ q k lt l. in_words (λ w. RecordIs w (record_address q k) ((processor m' q).records k) ((processor m' q).records k).state)
         (subst (λ r. RecordIs words (record_address q k) (r k) (r k).state) (sym (component (λ y. y.records) p q m m' x a a.records))
-        (record_is p σ hp hs s.memory.words words changes q k ((processor m q).records k) ((processor m q).records k).state (omega arith) l (h.records q k lt l)));
+        (record_is p σ hp hs s.memory.words words changes q k ((processor m q).records k) ((processor m q).records k).state (omega arith) l
+        (h.records q k lt l)));
     queues = λ q lt. in_words (λ w. Linked w (w (pcpu q + 0x30)) (reverse (processor m' q).queue))
         (subst (λ ks. Linked words (words (pcpu q + 0x30)) (reverse ks)) (sym (component (λ y. y.queue) p q m m' x a a.queue))
         (queue_is p σ hp hs s.memory.words words changes q (reverse (processor m q).queue) (omega arith) (h.queues q lt)));

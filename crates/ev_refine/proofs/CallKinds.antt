@@ -9,7 +9,7 @@ use Rattle.ev_body.specs.declared.image.Image.{Image}
 use Rattle.ev_body.specs.Bodies.{key_number}
 use Rattle.ev_abstract.specs.Boundary.{has_key, is_nmi_body}
 use Rattle.ev_abstract.specs.Context.{BodyContext}
-use Rattle.ev_activation.specs.Seat.{Kind, SystemCall, FromTask, FromBody, NmiFromTask, NmiFromBody, key_by, key_at, kind_from, kind_of}
+use Rattle.ev_activation.specs.Seat.{SystemCall, FromTask, FromBody, NmiFromTask, NmiFromBody, key_by, key_at, kind_from, kind_of}
 
 pub call_alone : (image : Image) (b : BodyContext) (below : List BodyContext) → kind_of image b below ≡ SystemCall → below ≡ []
 call_alone image b [] h = refl

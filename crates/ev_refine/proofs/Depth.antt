@@ -1,7 +1,7 @@
 -- How many bodies stand: as many as contexts, and as a step tells it.
-use Rattle.std.proofs.Common.{◌≡◌, ℕ, zero, suc, ◌+◌, ◌-◌, ◌%◌, ◌<◌, ◌≤◌, Bool, true, false, not, ◌&&◌, List, [], ◌∷◌, length, Option, Some, None, refl, sym, ap, ◌∙◌, subst, arith}
+use Rattle.std.proofs.Common.{◌≡◌, ℕ, suc, ◌+◌, ◌-◌, ◌%◌, ◌<◌, ◌≤◌, Bool, true, false, not, ◌&&◌, List, [], ◌∷◌, length, Option, Some, None, refl, sym, ap, ◌∙◌, arith}
 use Rattle.std.specs.Prelude.{if◌then◌else◌, ◌==◌, nat_lt, nat_le, filter, slice_get}
-use Rattle.std.proofs.lemmas.Bool.{eqb-true, ltb-true, le-leb}
+use Rattle.std.proofs.lemmas.Bool.{eqb-true, ltb-true}
 use Rattle.ev_isa.specs.Word.{NatMap}
 use Rattle.ev_isa.specs.Spelling.{spelling, four_bytes}
 use Rattle.ev_isa.specs.declared.instruction.Ins.{Ins}
@@ -12,13 +12,13 @@ use Rattle.ev_body.specs.declared.body.Body.{Body}
 use Rattle.ev_body.specs.declared.image.Image.{Image}
 use Rattle.ev_asm.specs.Assembly.{size, places, distance}
 use Rattle.ev_effect.specs.Task.{Task}
-use Rattle.ev_listing.specs.AddressMap.{nmi_entry, repeat_entry, nbody_entry, body_code}
+use Rattle.ev_listing.specs.AddressMap.{nmi_entry, repeat_entry, nbody_entry}
 use Rattle.ev_listing.specs.Expansion.{item_address}
 use Rattle.ev_listing.specs.FredCode.{fred_listings}
 use Rattle.ev_listing.specs.IdtCode.{idt_listings}
 use Rattle.ev_state.specs.Processor.{Processor, is_user, rsp}
 use Rattle.ev_mem.specs.Memory.{Memory}
-use Rattle.ev_proc.specs.ProcessorStep.{After, next_of, instruction_at}
+use Rattle.ev_proc.specs.ProcessorStep.{next_of, instruction_at}
 use Rattle.ev_abstract.specs.Context.{BodyContext}
 use Rattle.ev_abstract.specs.Machine as abstract
 use Rattle.ev_abstract.specs.Run.{item_at}
@@ -195,7 +195,8 @@ ends_a_body Idt i c rip hu hr =
 
 -- a step that ran an instruction
 told_ran : (s : System) (p : ℕ) (cpu : Processor) (words : NatMap ℕ) (i : Ins) → Runs s p cpu words → instruction_at s.memory.words (s.cpus p).rip ≡ Some i
-    → told_bodies s p ≡ (if ends_body (s.cpus p) (Some i) then bodies_on s p - 1 else (if begins_body (s.cpus p) (Some i) then suc (bodies_on s p) else bodies_on s p))
+    → told_bodies s p ≡ (if ends_body (s.cpus p) (Some i) then bodies_on s p - 1
+    else (if begins_body (s.cpus p) (Some i) then suc (bodies_on s p) else bodies_on s p))
 unfolding told_bodies
 told_ran s p cpu words i h hi =
     ap (λ r. bodies_after (bodies_on s p) (starts_inner s p (next_of (s.cpus p) (s.apics p) (s.latches p)))

@@ -1,5 +1,5 @@
 -- A step of a processor on which a body stands: an instruction of the kernel's code, an item, or the return.
-use Rattle.std.proofs.Common.{◌≡◌, ◌⊎◌, inl, inr, ℕ, suc, ◌+◌, ◌-◌, ◌%◌, ◌^◌, ◌<◌, ◌≤◌, Bool, true, false, not, ◌&&◌, ◌||◌, List, [], ◌∷◌, get_or, map, length, Option, Some, None, refl, sym, ap, ◌∙◌, subst, arith}
+use Rattle.std.proofs.Common.{◌≡◌, inl, inr, ℕ, suc, ◌+◌, ◌-◌, ◌%◌, ◌^◌, ◌<◌, ◌≤◌, Bool, true, false, not, ◌&&◌, ◌||◌, List, [], ◌∷◌, get_or, map, length, Some, refl, sym, ap, ◌∙◌, subst, arith}
 use Rattle.std.specs.Prelude.{pos, if◌then◌else◌, slice_get, nat_le, nat_lt}
 use Rattle.std.specs.List.{list_any}
 use Rattle.std.proofs.lemmas.Bool.{leb-true, leb-false}
@@ -15,7 +15,7 @@ use Rattle.ev_body.specs.declared.item.Item.TheVariants.{Log, Ret}
 use Rattle.ev_body.specs.declared.body.Body.{Body}
 use Rattle.ev_body.specs.declared.image.Image.{Image}
 use Rattle.ev_body.specs.WellFormed.{IsImage}
-use Rattle.ev_listing.specs.AddressMap.{stack_top, nmi_entry, repeat_entry, body_code}
+use Rattle.ev_listing.specs.AddressMap.{nmi_entry, repeat_entry, body_code}
 use Rattle.ev_listing.specs.Expansion.{item_address}
 use Rattle.ev_state.specs.Processor.{Processor, is_user}
 use Rattle.ev_apic.specs.declared.apic.Apic.{Apic}
@@ -47,12 +47,12 @@ use Rattle.ev_activation.specs.Activation.{Spot, AtEntry, AtItem, AtExit}
 use Rattle.ev_activation.specs.Seat.{Kind, SystemCall, FromTask, FromBody, NmiFromTask, NmiFromBody, Seat, kind_of, seat_by, seat_of, room_of}
 use Rattle.ev_table.specs.Table.{code_table, other_exit, body_jump, task_return, task_return_cell, RetCell}
 use Rattle.ev_refine.specs.Tasks.{RunsTask}
-use Rattle.ev_refine.specs.Nmi.{Frame, Leads, inner_edges}
+use Rattle.ev_refine.specs.Nmi.{Leads, inner_edges}
 use Rattle.ev_refine.specs.Named.{Changes}
 use Rattle.ev_refine.specs.Domain.{IsQuiet, AreQuiet, IsInDomain}
 use Rattle.ev_refine.specs.Active.{block_of, edges_of, item_place, address_of_item, here, IsKernelSs, InItem, Leaving, Enters, Means, Active}
 use Rattle.ev_refine.specs.Relation.{IsContext, Beneath, keeps_cr2, switches_at, chained, most_edges, Chain, serves, StandsOn, Stands}
-use Rattle.ev_refine.specs.Claims.{MakesEdge, MakesTurn, Simulated}
+use Rattle.ev_refine.specs.Claims.{Simulated}
 use Rattle.ev_concrete.specs.Shown.{shown_always}
 use Rattle.ev_refine.proofs.Facts.{Facts}
 use Rattle.ev_refine.proofs.Maps.{at_same, at_other}
@@ -62,7 +62,7 @@ use Rattle.ev_refine.proofs.Fits.{IsSeat, fits_at, opens_at, kernel_changes}
 use Rattle.ev_refine.proofs.Instructions.{stays_inside, jumped, jump_by_register, jump}
 use Rattle.ev_refine.proofs.Standing.{instruction_first, hidden, seen, after_ran, Runs, ran_step, ran_writes, ran_safe, ran_shown, ran_stays, ran_returns, Moves, step_moves}
 use Rattle.ev_refine.proofs.Stays.{over_any, means_again}
-use Rattle.ev_refine.proofs.After.{kernel_names, latch_parts, as_chain, returns_to, own_after, Alike, stands_after}
+use Rattle.ev_refine.proofs.After.{kernel_names, latch_parts, as_chain, returns_to, own_after, stands_after}
 use Rattle.ev_refine.proofs.CallKinds.{call_alone, call_no_nmi}
 use Rattle.ev_refine.proofs.Domains.{four_tasks, one_task_each, with_cr2, with_cr2_open}
 use Rattle.ev_refine.proofs.Return.{returns}
@@ -352,7 +352,8 @@ module _ (mode : Mode) (image : Image) (built : IsBuilt image) (good : IsImage i
 
     at_entry : (act : Stood on.own b c s.memory) (ss : ℕ) → IsKernelSs ss → (extra v : ℕ → ℕ) (f : Flags)
         → At code (block AtEntry) (block AtEntry).steps (env ss extra v f) c s.memory
-        → Enters mode image mode v w b × (extra 20 ≡ item_place mode image b.body b.place) → length c.regs ≡ 16 → edges_of mode AtEntry (block AtEntry).steps ≤ on.own
+        → Enters mode image mode v w b × (extra 20 ≡ item_place mode image b.body b.place) → length c.regs ≡ 16
+        → edges_of mode AtEntry (block AtEntry).steps ≤ on.own
         → (body : Body) → slice_get image.bodies b.body ≡ Some body → Result
     unfolding eval is_return
     at_entry act ss ss_is extra v f at means long enough body is =

@@ -11,7 +11,6 @@ use Rattle.ev_isa.specs.declared.mode.Mode.TheVariants.{Idt, Fred}
 use Rattle.ev_body.specs.declared.image.Image.{Image}
 use Rattle.ev_body.specs.declared.image.TaskSpec.{TaskSpec}
 use Rattle.ev_body.specs.WellFormed.{IsImage, is_task, is_text_place, is_word}
-use Rattle.ev_effect.specs.Task.{Task}
 use Rattle.ev_mem.specs.Memory.{page_map}
 use Rattle.ev_apic.specs.Vectors.{vectors_of}
 use Rattle.ev_listing.specs.AddressMap.{pcpu, slot_offset, record_address, user_table, kernel_table, idt_base, cells_base, task_words, stack_top, fred_page}
@@ -130,9 +129,17 @@ pcpu_zero o (inr (inl h)) = subst (λ k. pcpu_word 0 k ≡ 0) (sym h) refl
 pcpu_zero o (inr (inr h)) =
     let a : 0x200 ≤ o = h.0 in
     let b : o < 0x400 = h.1 in
-    rw (differs o 0 (inl (omega arith)), differs o 0x10 (inl (omega arith)), differs o 0x18 (inl (omega arith)), differs o 0x38 (inl (omega arith)),
-    differs o 0x408 (inr (omega arith)), differs o 0x428 (inr (omega arith)), differs o 0x430 (inr (omega arith)), differs o 0x468 (inr (omega arith)),
-    lt-leb 0x800 o (omega arith)) refl
+    rw (
+      differs o 0 (inl (omega arith)),
+      differs o 0x10 (inl (omega arith)),
+      differs o 0x18 (inl (omega arith)),
+      differs o 0x38 (inl (omega arith)),
+      differs o 0x408 (inr (omega arith)),
+      differs o 0x428 (inr (omega arith)),
+      differs o 0x430 (inr (omega arith)),
+      differs o 0x468 (inr (omega arith)),
+      lt-leb 0x800 o (omega arith),
+    ) refl
 
 -- a call record is free, and has the number 0
 record_zero : (k r : ℕ) → k < 8 → (r ≡ 0) ⊎ (r ≡ 0x28) → pcpu_word 0 (0x800 + 0x40 * k + r) ≡ 0
@@ -141,9 +148,19 @@ record_zero k r hk h =
     let o : ℕ = 0x800 + 0x40 * k + r in
     let small : r < 0x40 = ⊎_elim (λ (e : r ≡ 0). omega arith) (λ (e : r ≡ 0x28). omega arith) h in
     let part : o % 0x40 ≡ r = omega arith in
-    rw (differs o 0 (inl (omega arith)), differs o 0x10 (inl (omega arith)), differs o 0x18 (inl (omega arith)), differs o 0x38 (inl (omega arith)),
-    differs o 0x408 (inl (omega arith)), differs o 0x428 (inl (omega arith)), differs o 0x430 (inl (omega arith)), differs o 0x468 (inl (omega arith)),
-    le-leb 0x800 o (omega arith), lt-ltb o 0xa00 (omega arith), part) (zero_at h)
+    rw (
+      differs o 0 (inl (omega arith)),
+      differs o 0x10 (inl (omega arith)),
+      differs o 0x18 (inl (omega arith)),
+      differs o 0x38 (inl (omega arith)),
+      differs o 0x408 (inl (omega arith)),
+      differs o 0x428 (inl (omega arith)),
+      differs o 0x430 (inl (omega arith)),
+      differs o 0x468 (inl (omega arith)),
+      le-leb 0x800 o (omega arith),
+      lt-ltb o 0xa00 (omega arith),
+      part,
+    ) (zero_at h)
   where
     zero_at : (r ≡ 0) ⊎ (r ≡ 0x28) → (if r == 0x20 then 0 else (if r == 0x30 then (0x800 + 0x40 * k + r - 0x800) / 0x40 else 0)) ≡ 0
     zero_at (inl e) = ap (λ q. if q == 0x20 then 0 else (if q == 0x30 then (0x800 + 0x40 * k + r - 0x800) / 0x40 else 0)) e
@@ -251,9 +268,16 @@ module _ (mode : Mode) (image : Image) (built : IsBuilt image) (given : IsImage 
         service = λ class. none_served class (numbers_from 0 256);
         slots = λ k lt. ap (first_word mode image) (let e : pcpu 0 + slot_offset k ≡ pcpu 0 + (0x200 + 8 * k) = omega arith in e)
             ∙ word (0x200 + 8 * k) (omega arith) (omega arith) ∙ pcpu_zero (0x200 + 8 * k) (inr (inr (omega arith, omega arith)));
-        runs = (record { is = λ i. record (opening_cpu mode image 0) {
-          msrs = record ((opening_cpu mode image 0).msrs) { rsp = sym (level_first mode 0) i ∷ stack_top 0 6 ∷ stack_top 0 4 ∷ stack_top 0 5 ∷ [] };
-        }; task = task_good }, refl, refl);
+        runs = (
+          record {
+            is = λ i. record (opening_cpu mode image 0) {
+              msrs = record ((opening_cpu mode image 0).msrs) { rsp = sym (level_first mode 0) i ∷ stack_top 0 6 ∷ stack_top 0 4 ∷ stack_top 0 5 ∷ [] };
+            };
+            task = task_good;
+          },
+          refl,
+          refl,
+        );
       }
 
   only : (p : ℕ) → p < image.processors → 0 ≡ p

@@ -1,5 +1,5 @@
 -- The step theorem, put together: a processor runs its task or a body.
-use Rattle.std.proofs.Common.{◌≡◌, ℕ, ◌<◌, inr, List, [], ◌∷◌, refl, sym, subst, arith}
+use Rattle.std.proofs.Common.{◌≡◌, ℕ, ◌<◌, List, [], ◌∷◌, refl, arith}
 use Rattle.ev_isa.specs.Word.{NatMap}
 use Rattle.ev_isa.specs.declared.mode.Mode.{Mode}
 use Rattle.ev_body.specs.declared.image.Image.{Image}
@@ -40,14 +40,17 @@ pub keeps_settled : KeepsSettled
 keeps_settled mode image built h given left s m r p q lt lt' differ hidden = let one = built.one_processor in absurd (differ (omega arith))
 
 pub all_settle : AllSettle
-all_settle mode image built h given left s m r p lt = runs.settles mode image (refines mode image built h given) (keeps_settled mode image built h given) left s m r p lt
+all_settle mode image built h given left s m r p lt =
+    runs.settles mode image (refines mode image built h given) (keeps_settled mode image built h given) left s m r p lt
 
 pub turns_follow : TurnsFollow
-turns_follow mode image built h given left s m r p lt = runs.turn_follows mode image (refines mode image built h given) (keeps_settled mode image built h given) left s m r p lt
+turns_follow mode image built h given left s m r p lt =
+    runs.turn_follows mode image (refines mode image built h given) (keeps_settled mode image built h given) left s m r p lt
 
 pub runs_follow : RunsFollow
-runs_follow mode image built h given script i b = runs.lines_follow mode image (refines mode image built h given) (keeps_settled mode image built h given) script
-    (λ p. 0) _ _ (opens mode image built h given) i b
+runs_follow mode image built h given script i b =
+    runs.lines_follow mode image (refines mode image built h given) (keeps_settled mode image built h given) script (λ p. 0) _ _
+    (opens mode image built h given) i b
 
 pub ends_follow : EndsFollow
 ends_follow mode image built h given script i b q lt =

@@ -102,8 +102,8 @@ module _ (image : Image) where
 
   module _ (p : ℕ) (hp : p < 32) (q : ℕ) (t : Task) (hq : q ≡ 0) (w : Processor) (r : RunsTask Fred image p q t w) (kss : ℕ)
       (extra v : ℕ → ℕ) (f : Flags) (c : Processor) (m : Memory)
-      (a : Agrees (here Fred p SystemCall (record { stack = q; used = 0 }) kss w extra v f) fred_ground (fred.leave_end blocks.SystemCall) c m) (saved : Saved Fred image v w)
-      (hb : c.nmi_blocked ≡ false) where
+      (a : Agrees (here Fred p SystemCall (record { stack = q; used = 0 }) kss w extra v f) fred_ground (fred.leave_end blocks.SystemCall) c m)
+      (saved : Saved Fred image v w) (hb : c.nmi_blocked ≡ false) where
     abbrev e : Env
     e = here Fred p SystemCall (record { stack = q; used = 0 }) kss w extra v f
 
@@ -142,16 +142,20 @@ module _ (image : Image) where
         ∙ ap (λ o. or_else o None) (readable (below 24) refl)
 
     known : Known e fred_ground.known m.words (frame_words blocks.SystemCall)
-    known = all_found e fred_ground.known m.words (fred.leave_end blocks.SystemCall).words a.words (frame_words blocks.SystemCall) (fred_ends.leave_words blocks.SystemCall)
+    known =
+        all_found e fred_ground.known m.words (fred.leave_end blocks.SystemCall).words a.words (frame_words blocks.SystemCall)
+        (fred_ends.leave_words blocks.SystemCall)
 
     words : map m.words frame_places ≡ w.rip ∷ 0x33 ∷ v 19 ∷ v 20 ∷ 0x220700010002002b ∷ []
     unfolding eval
     words =
-        let rip : m.words (addr e (below 56)) ≡ w.rip = (found_ok e fred_ground.known m.words (below 56) (frame_words blocks.SystemCall) known).1 ∙ saved.framed.rip in
+        let rip : m.words (addr e (below 56)) ≡ w.rip =
+        (found_ok e fred_ground.known m.words (below 56) (frame_words blocks.SystemCall) known).1 ∙ saved.framed.rip in
         let cs : m.words (addr e (below 48)) ≡ 0x33 = (found_ok e fred_ground.known m.words (below 48) (frame_words blocks.SystemCall) known).1 in
         let flags : m.words (addr e (below 40)) ≡ v 19 = (found_ok e fred_ground.known m.words (below 40) (frame_words blocks.SystemCall) known).1 in
         let sp : m.words (addr e (below 32)) ≡ v 20 = (found_ok e fred_ground.known m.words (below 32) (frame_words blocks.SystemCall) known).1 in
-        let stack : m.words (addr e (below 24)) ≡ 0x220700010002002b = (found_ok e fred_ground.known m.words (below 24) (frame_words blocks.SystemCall) known).1 in
+        let stack : m.words (addr e (below 24)) ≡ 0x220700010002002b =
+        (found_ok e fred_ground.known m.words (below 24) (frame_words blocks.SystemCall) known).1 in
         λ i. rip i ∷ cs i ∷ flags i ∷ sp i ∷ stack i ∷ []
 
     abbrev by_frame : Processor
@@ -183,8 +187,8 @@ module _ (image : Image) where
 
   module _ (p : ℕ) (hp : p < 32) (q : ℕ) (t : Task) (hq : q ≡ 0) (w : Processor) (r : RunsTask Idt image p q t w) (kss : ℕ)
       (extra v : ℕ → ℕ) (f : Flags) (c : Processor) (m : Memory)
-      (a : Agrees (here Idt p SystemCall (record { stack = q; used = 0 }) kss w extra v f) idt_ground (idt.leave_end blocks.SystemCall) c m) (saved : Saved Idt image v w)
-      (hb : c.nmi_blocked ≡ false) where
+      (a : Agrees (here Idt p SystemCall (record { stack = q; used = 0 }) kss w extra v f) idt_ground (idt.leave_end blocks.SystemCall) c m)
+      (saved : Saved Idt image v w) (hb : c.nmi_blocked ≡ false) where
     abbrev env : Env
     env = here Idt p SystemCall (record { stack = q; used = 0 }) kss w extra v f
 
@@ -220,8 +224,8 @@ module _ (image : Image) where
 
   pub returns : (mode : Mode) (p : ℕ) → p < 32 → (q : ℕ) (t : Task) → q ≡ 0 → (w : Processor) → RunsTask mode image p q t w
       → (kss : ℕ) (extra v : ℕ → ℕ) (f : Flags) (c : Processor) (m : Memory)
-      → Agrees (here mode p SystemCall (record { stack = q; used = 0 }) kss w extra v f) (ground_of mode) (end_of mode AtExit) c m → Saved mode image v w → (next : ℕ)
-      → c.rip + length (spelling (task_return_cell mode).ins) ≡ next → c.nmi_blocked ≡ false
+      → Agrees (here mode p SystemCall (record { stack = q; used = 0 }) kss w extra v f) (ground_of mode) (end_of mode AtExit) c m → Saved mode image v w
+      → (next : ℕ) → c.rip + length (spelling (task_return_cell mode).ins) ≡ next → c.nmi_blocked ≡ false
       → (n : Apic) (nmi : Bool) → executed c n m nmi (Some (task_return_cell mode).ins) ≡ ran (record w { cr2 = c.cr2; nmi_blocked = false }) n m.words nmi
   unfolding exec special
   returns Fred p hp q t hq w r kss extra v f c m a saved next hn hb n nmi =

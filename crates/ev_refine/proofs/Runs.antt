@@ -17,7 +17,6 @@ use Rattle.ev_abstract.specs.declared.script_line.Line.TheVariants.{Turn, Edge, 
 use Rattle.ev_proc.specs.ProcessorStep.{After, step}
 use Rattle.ev_proc.specs.declared.stepped.Stepped.{Stepped}
 use Rattle.ev_concrete.specs.ConcreteRun.{System, Marks, marks_of, is_visible, acted, after_step, concrete_step, edges, with_frames, settled, all_settled, concrete_line, concrete_lines}
-use Rattle.ev_concrete.specs.LiveWords.{IsSafeStep}
 use Rattle.ev_built.specs.Built.{line_is_built}
 use Rattle.ev_refine.specs.Relation.{Stands}
 use Rattle.ev_refine.specs.Claims.{EdgeWrites, MakesEdge, MakesTurn, Simulated, Settles, Turns, SettledFirst}

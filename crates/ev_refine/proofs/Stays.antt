@@ -1,5 +1,5 @@
 -- The law of others for whole chains: who leaves a processor's windows and words alone leaves its contexts standing.
-use Rattle.std.proofs.Common.{◌≡◌, ◌⊎◌, inl, inr, ⊎_elim, ℕ, suc, ◌+◌, ◌-◌, ◌<◌, ◌≤◌, Bool, true, false, List, [], ◌∷◌, refl, sym, ap, ◌∙◌, subst, arith}
+use Rattle.std.proofs.Common.{◌≡◌, ◌⊎◌, inl, inr, ℕ, ◌+◌, ◌<◌, ◌≤◌, Bool, true, false, List, [], ◌∷◌, refl, sym, ap, ◌∙◌, arith}
 use Rattle.ev_isa.specs.Word.{NatMap}
 use Rattle.ev_isa.specs.Flags.{Flags}
 use Rattle.ev_isa.specs.declared.mode.Mode.{Mode}
@@ -8,7 +8,7 @@ use Rattle.ev_body.specs.declared.image.Image.{Image}
 use Rattle.ev_effect.specs.Task.{Task}
 use Rattle.ev_state.specs.Processor.{Processor}
 use Rattle.ev_mem.specs.Memory.{Memory}
-use Rattle.ev_listing.specs.AddressMap.{pcpu, user_table, stack_top}
+use Rattle.ev_listing.specs.AddressMap.{pcpu, user_table}
 use Rattle.ev_abstract.specs.Context.{BodyContext}
 use Rattle.ev_concrete.specs.ConcreteRun.{Activation}
 use Rattle.ev_symbolic.specs.State.{Ground, in_win}
@@ -20,10 +20,9 @@ use Rattle.ev_activation.specs.Seat.{Kind, SystemCall, FromTask, FromBody, NmiFr
 use Rattle.ev_table.specs.Table.{code_table}
 use Rattle.ev_refine.specs.Nmi.{Frame, Held, IfIdt, FrameIs, Leads}
 use Rattle.ev_refine.specs.Named.{Named, AreWritten, NoneOf, Changes}
-use Rattle.ev_refine.specs.Active.{block_of, here, IsAtSpot, Means, Active}
-use Rattle.ev_refine.specs.Relation.{IsFixed, InTables, most_edges, keeps_cr2, Beneath, chained, switches_at, Chain}
-use Rattle.ev_refine.proofs.ModeFacts.{is_fred}
-use Rattle.ev_refine.proofs.Spots.{ground_of, ground_is}
+use Rattle.ev_refine.specs.Active.{block_of, here, Means, Active}
+use Rattle.ev_refine.specs.Relation.{InTables, most_edges, keeps_cr2, Beneath, chained, switches_at, Chain}
+use Rattle.ev_refine.proofs.Spots.{ground_is}
 use Rattle.ev_refine.proofs.Fits.{IsSeat, stack_span, area_span, table_span, known_in}
 use Rattle.ev_refine.proofs.Words.{fixed_stays, area_stays, stacks_stay}
 

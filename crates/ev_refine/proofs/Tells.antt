@@ -19,7 +19,7 @@ use Rattle.ev_listing.specs.AddressMap.{pcpu, idt_base}
 use Rattle.ev_idt.specs.Tables.{HasTables}
 use Rattle.ev_tables.proofs.Stand.{stand}
 use Rattle.ev_symbolic.specs.Agrees.{untracked}
-use Rattle.ev_activation.specs.Seat.{Kind, SystemCall, FromTask, FromBody, NmiFromTask, NmiFromBody, Seat, kind_of, seat_of}
+use Rattle.ev_activation.specs.Seat.{Kind, SystemCall, FromTask, FromBody, NmiFromTask, NmiFromBody, Seat, kind_of}
 use Rattle.ev_refine.specs.Nmi.{Frame}
 use Rattle.ev_refine.specs.Active.{Active, rest_in}
 use Rattle.ev_refine.specs.Relation.{Stands, StandsOn, most_edges, keeps_cr2, chained, Chain, InTables}

@@ -1,5 +1,5 @@
 -- The turns of the task: a plain instruction, or a system call, which begins an activation.
-use Rattle.std.proofs.Common.{◌≡◌, ℕ, suc, ◌+◌, ◌<◌, ◌≤◌, Bool, true, false, List, [], ◌∷◌, set, length, Option, Some, None, refl, sym, ap, ◌∙◌, subst, arith, ◌⊎◌, inl, inr, ⊎_elim}
+use Rattle.std.proofs.Common.{◌≡◌, ℕ, suc, ◌+◌, ◌<◌, Bool, true, false, List, [], ◌∷◌, set, length, Option, Some, None, refl, sym, ap, ◌∙◌, subst, arith, inr, ⊎_elim}
 use Rattle.std.specs.Prelude.{if◌then◌else◌, slice_get, is_some}
 use Rattle.std.proofs.lemmas.List.{length-set}
 use Rattle.ev_isa.specs.Word.{NatMap, is_canonical}
@@ -36,8 +36,7 @@ use Rattle.ev_built.specs.Built.{IsBuilt}
 use Rattle.ev_built.specs.Program.{begins, leads_to}
 use Rattle.ev_symbolic.specs.Agrees.{with_words}
 use Rattle.ev_concrete.specs.Shown.{shown_by, saved_rip, key_of}
-use Rattle.ev_event.specs.declared.event.Event.{Event}
-use Rattle.ev_activation.specs.Seat.{Kind, SystemCall, kind_of, seat_by, seat_of, room_of}
+use Rattle.ev_activation.specs.Seat.{SystemCall, kind_of, seat_by, seat_of, room_of}
 use Rattle.ev_refine.specs.Tasks.{IsTask, RunsTask, CurrentIs}
 use Rattle.ev_refine.specs.Nmi.{Leads, inner_edges}
 use Rattle.ev_refine.specs.Domain.{IsInProgram}

@@ -36,13 +36,13 @@ use Rattle.ev_refine.specs.Domain.{first_start, IsInProgram, AreQuiet, IsInDomai
 use Rattle.ev_refine.specs.Relation.{Chain, serves, StandsOn, Stands}
 use Rattle.ev_refine.proofs.Maps.{at_same, at_other}
 use Rattle.ev_refine.proofs.Standing.{instruction_first, Moves, step_moves}
-use Rattle.ev_refine.proofs.After.{kernel_names, latch_parts, own_after, Alike, stands_after}
+use Rattle.ev_refine.proofs.After.{kernel_names, latch_parts, own_after, stands_after}
 use Rattle.ev_refine.proofs.Domains.{four_tasks}
 use Rattle.ev_refine.proofs.Depth.{stands_depth}
 use Rattle.ev_refine.proofs.Tells.{AtRest, at_rest}
 use Rattle.ev_refine.proofs.Facts.{Facts}
 use Rattle.ev_refine.proofs.UserText.{Reads, reads, task_canonical, first_program, leads_again}
-use Rattle.ev_refine.proofs.UserState.{put_same, TurnsTo}
+use Rattle.ev_refine.proofs.UserState.{TurnsTo}
 use Rattle.ev_refine.proofs.UserStep.{user_steps, task_turns, user_reads, Makes, plain_runs}
 
 module _ (mode : Mode) (image : Image) (formed : IsImage image) (built : IsBuilt image) (facts : Facts mode image) where

@@ -1,17 +1,15 @@
 -- A visible step, and the abstract machine's: what they come to together.
-use Rattle.std.proofs.Common.{◌≡◌, ℕ, ◌<◌, true, false, List, length, Option, Some, None, refl, sym, ap, ◌∙◌, subst, arith}
+use Rattle.std.proofs.Common.{◌≡◌, ℕ, true, false, List, refl, sym, ap, ◌∙◌, subst}
 use Rattle.std.specs.List.{list_any}
 use Rattle.std.proofs.lemmas.Bool.{eq-eqb}
 use Rattle.ev_isa.specs.Word.{NatMap, put_at}
 use Rattle.ev_isa.specs.declared.mode.Mode.{Mode}
-use Rattle.ev_event.specs.declared.event.Event.{Event}
 use Rattle.ev_body.specs.declared.image.Image.{Image}
 use Rattle.ev_abstract.specs.declared.entry.Entry.{Entry}
-use Rattle.ev_abstract.specs.Machine.{Machine, processor}
+use Rattle.ev_abstract.specs.Machine.{Machine}
 use Rattle.ev_abstract.specs.Run.{turn}
 use Rattle.ev_state.specs.Processor.{is_user}
 use Rattle.ev_proc.specs.ProcessorStep.{After, has_fred, next_of, step, instruction_at}
-use Rattle.ev_proc.specs.declared.stepped.Stepped.{Stepped}
 use Rattle.ev_concrete.specs.ConcreteRun.{System, marks_of, mark_at, is_visible, starts_inner, acted, after_step, concrete_step}
 use Rattle.ev_concrete.specs.Depth.{bodies_on, ends_body, begins_body, bodies_after, told_bodies}
 use Rattle.ev_concrete.specs.LiveWords.{overwrites, IsSafeStep}

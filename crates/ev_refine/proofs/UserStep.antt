@@ -38,8 +38,9 @@ use Rattle.ev_refine.specs.Tasks.{task_processor}
 -- ---- the boundary
 
 -- the step of user code at RIP
-pub user_steps : (c : Processor) (a : Apic) (m : Memory) (nmi : Bool) (i : Ins) → next_of c a nmi ≡ Instruction → is_user c ≡ true → page_fault m (record { user = true; write = false; fetch = true }) c.rip ≡ None
-    → instruction_at m.words c.rip ≡ Some i → step c a m nmi ≡ executed c a m nmi (Some i)
+pub user_steps : (c : Processor) (a : Apic) (m : Memory) (nmi : Bool) (i : Ins) → next_of c a nmi ≡ Instruction → is_user c ≡ true
+    → page_fault m (record { user = true; write = false; fetch = true }) c.rip ≡ None → instruction_at m.words c.rip ≡ Some i
+    → step c a m nmi ≡ executed c a m nmi (Some i)
 unfolding step
 user_steps c a m nmi i hn hu hp hi =
     ap (step_by c a m nmi) hn ∙ ap (λ b. fetched c a m nmi (page_fault m (record { user = b; write = false; fetch = true }) c.rip)) hu
@@ -142,8 +143,10 @@ pub task_at : (mode : Mode) (image : Image) (p running : ℕ) (t : Task) (cr2 : 
     → record (task_of (task_processor mode image p running t cr2 blocked)) { rip = next } ≡ record t { rip = next }
 task_at mode image p running t cr2 blocked next = ap (λ (f : Flags). record t { rip = next; flags = f }) (flags_of-flags_word t.flags)
 
-pub plain_runs : (mode : Mode) (image : Image) (p running : ℕ) (t : Task) (cr2 : ℕ) (blocked : Bool) (i : Ins) (k : Makes t i) (a : Apic) (m : Memory) (nmi : Bool)
-    → executed (task_processor mode image p running t cr2 blocked) a m nmi (Some i) ≡ ran (task_processor mode image p running k.task cr2 blocked) a m.words nmi
+pub plain_runs : (mode : Mode) (image : Image) (p running : ℕ) (t : Task) (cr2 : ℕ) (blocked : Bool) (i : Ins) (k : Makes t i) (a : Apic) (m : Memory)
+    (nmi : Bool)
+    → executed (task_processor mode image p running t cr2 blocked) a m nmi (Some i)
+    ≡ ran (task_processor mode image p running k.task cr2 blocked) a m.words nmi
 plain_runs mode image p running t cr2 blocked i k a m nmi =
     let c : Processor = task_processor mode image p running t cr2 blocked in
     let next : ℕ = t.rip + length (spelling i) in

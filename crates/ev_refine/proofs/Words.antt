@@ -1,5 +1,5 @@
 -- Words by their names: none lies on a stack or is fixed, those of other processors lie apart; and what stays where a step changes words of some names.
-use Rattle.std.proofs.Common.{◌≡◌, ◌≢◌, ◌⊎◌, inl, inr, ⊎_elim, ℕ, zero, suc, ◌+◌, ◌-◌, ◌*◌, ◌%◌, ◌^◌, ◌<◌, ◌≤◌, List, [], ◌∷◌, map, Some, None, refl, sym, ap, ◌∙◌, subst, arith}
+use Rattle.std.proofs.Common.{◌≡◌, ◌≢◌, ◌⊎◌, inl, inr, ⊎_elim, ℕ, zero, suc, ◌+◌, ◌-◌, ◌*◌, ◌^◌, ◌<◌, ◌≤◌, List, [], ◌∷◌, map, Some, refl, sym, ap, ◌∙◌, subst, arith}
 use Rattle.std.proofs.lemmas.Bool.Decides.{eqb_tells, leb_tells}
 use Rattle.ev_isa.specs.Word.{NatMap, wrap, bit}
 use Rattle.ev_state.specs.Processor.{selector}
@@ -11,7 +11,7 @@ use Rattle.ev_listing.specs.AddressMap.{pcpu, stack_top, stack_bytes}
 use Rattle.ev_activation.specs.Seat.{Seat, top_at}
 use Rattle.ev_refine.specs.Relation.{IsFixed, InText, InTables, InTasks, InCode}
 use Rattle.ev_refine.specs.Tasks.{IsSaved}
-use Rattle.ev_refine.specs.Named.{Named, UserRsp, Top, Current, Mark, Port, Head, TssTop, Slot, RecordWord, CellAt, PageBit, UserWord, address_of, owner, IsUserWord, IsName, IsWritten, Outside, NotNamed, AreWritten, NoneOf, Changes}
+use Rattle.ev_refine.specs.Named.{Named, UserRsp, Top, Current, Mark, Port, Head, TssTop, Slot, RecordWord, CellAt, PageBit, UserWord, address_of, owner, IsName, IsWritten, Outside, NotNamed, AreWritten, NoneOf, Changes}
 
 -- ---- no name lies on a stack
 

@@ -1,10 +1,9 @@
 -- Activations: at an instruction of a block, over the processor to which they will return; and what the variables of blocks are. Own.
-use Rattle.std.specs.Prelude.{◌≡◌, ◌⊎◌, ℕ, ◌≤◌, Bool, true, false, ◌==◌, if◌then◌else◌, List, [], ◌∷◌, length, slice_get, Option, Some, None}
+use Rattle.std.specs.Prelude.{◌≡◌, ◌⊎◌, ℕ, ◌≤◌, Bool, false, ◌==◌, if◌then◌else◌, List, [], ◌∷◌, length, slice_get, Option, Some, None}
 use Rattle.ev_isa.specs.Word.{NatMap}
 use Rattle.ev_isa.specs.Flags.{Flags}
 use Rattle.ev_isa.specs.declared.mode.Mode.{Mode}
 use Rattle.ev_isa.specs.declared.mode.Mode.TheVariants.{Idt, Fred}
-use Rattle.ev_body.specs.declared.item.Item.{Item}
 use Rattle.ev_body.specs.declared.item.Item.TheVariants.{Ret}
 use Rattle.ev_body.specs.declared.body.Body.{Body}
 use Rattle.ev_body.specs.declared.image.Image.{Image}
@@ -19,7 +18,7 @@ use Rattle.ev_symbolic.specs.State.{Block}
 use Rattle.ev_table.specs.Table.{code_table}
 use Rattle.ev_activation.specs.Activation as blocks
 use Rattle.ev_activation.specs.Activation.{Spot, AtEntry, AtItem, AtExit}
-use Rattle.ev_activation.specs.Seat.{Kind, SystemCall, FromTask, FromBody, NmiFromTask, NmiFromBody, Seat, top_at}
+use Rattle.ev_activation.specs.Seat.{Kind, SystemCall, NmiFromBody, Seat, top_at}
 use Rattle.ev_blocks_fred.specs.Blocks as fred
 use Rattle.ev_blocks_idt.specs.Blocks as idt
 use Rattle.ev_refine.specs.Nmi.{Frame, Knows}
@@ -154,7 +153,8 @@ module _ (mode : Mode) (image : Image) where
   -- ---- the activation of a context
 
   -- The activation of b, of this kind and in this seat, which runs on c and will return to w; `switching` says whether it changes the running task.
-  pub record Active (p left : ℕ) (κ : Kind) (σ : Seat) (f : Frame) (switching : Bool) (w : Processor) (b : BodyContext) (c : Processor) (m : Memory) : Type 0 where
+  pub record Active (p left : ℕ) (κ : Kind) (σ : Seat) (f : Frame) (switching : Bool) (w : Processor) (b : BodyContext) (c : Processor)
+      (m : Memory) : Type 0 where
     pub stands : IsAtSpot p left κ σ w c m
     pub switches : is_switching stands.spot ≡ switching
     pub knows : Knows mode κ (is_holding stands.spot) f

@@ -5,7 +5,7 @@ use Rattle.ev_isa.specs.Word.{no_numbers}
 use Rattle.ev_isa.specs.declared.instruction.Ins.{Ins}
 use Rattle.ev_body.specs.declared.image.Image.{Image}
 use Rattle.ev_abstract.specs.Context.{BodyContext}
-use Rattle.ev_abstract.specs.Machine.{Machine, Processor, processor, no_task}
+use Rattle.ev_abstract.specs.Machine.{Processor, no_task}
 use Rattle.ev_concrete.specs.Opening.{tasks_of}
 use Rattle.ev_built.specs.Program.{begins, IsProgram}
 

@@ -4,7 +4,7 @@ use Rattle.ev_isa.specs.Word.{NatMap}
 use Rattle.ev_isa.specs.declared.mode.Mode.{Mode}
 use Rattle.ev_isa.specs.declared.mode.Mode.TheVariants.{Idt, Fred}
 use Rattle.ev_state.specs.Processor.{Processor}
-use Rattle.ev_activation.specs.Seat.{Kind, SystemCall, FromTask, FromBody, NmiFromTask, NmiFromBody}
+use Rattle.ev_activation.specs.Seat.{Kind, NmiFromTask, NmiFromBody}
 
 -- where the frame's words are: in the NMI code's own block, and so they are where no NMI stands
 pub data Frame : Type 0 where
