@@ -1,0 +1,4 @@
+pub mod Tasks
+pub mod Sees
+pub mod Causes
+pub mod Claims
