@@ -1,3 +1,4 @@
 pub mod Places
 pub mod Zero
 pub mod Fetch
+pub mod Alike
