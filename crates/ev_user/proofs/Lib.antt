@@ -2,3 +2,5 @@ pub mod Places
 pub mod Zero
 pub mod Fetch
 pub mod Alike
+pub mod Writes
+pub mod Steps
