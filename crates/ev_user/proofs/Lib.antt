@@ -3,4 +3,4 @@ pub mod Zero
 pub mod Fetch
 pub mod Alike
 pub mod Writes
-pub mod Steps
+pub mod Follows

@@ -2,8 +2,8 @@
 use Rattle.std.proofs.Common.{◌≡◌, ℕ, ◌+◌, ◌-◌, ◌*◌, ◌/◌, ◌^◌, ◌<◌, ◌≤◌, Bool, true, false, ◌&&◌, not, Option, Some, None, refl, sym, ap, ◌∙◌, subst, arith, ◌⊎◌, inl, inr, ⊎_elim}
 use Rattle.std.specs.Prelude.{◌==◌, nat_lt, nat_le, if◌then◌else◌}
 use Rattle.std.proofs.lemmas.Bool.{leb-true, ltb-true, eqb-true, eqb-false}
-use Rattle.ev_isa.specs.Word.{NatMap, NatSet, put_at, is_aligned}
-use Rattle.ev_isa.specs.Pages.{Place, Text, Page, KernelWord, Lower, Upper, Access, fault_at, text_base, page_base, place_of, UserMemory}
+use Rattle.ev_isa.specs.Word.{NatMap, NatSet, put_at, is_aligned, bit_if}
+use Rattle.ev_isa.specs.Pages.{Place, Text, Page, KernelWord, Lower, Upper, Access, fault_code, fault_if, fault_at, text_base, page_base, place_of, UserMemory}
 use Rattle.ev_body.specs.declared.image.Image.{Image}
 use Rattle.ev_body.specs.WellFormed.{IsImage}
 use Rattle.ev_mem.specs.Memory.{Memory, page_map, view}
@@ -50,22 +50,28 @@ accessed present write a h =
     pick false false false w b hx hy e k = absurd (cc)
 
 -- error codes are small
-small_code : (present : NatSet) (write : Bool) (z : Place) (code : ℕ) → fault_at present (access write) z ≡ Some code → code < 32
+bit_small : (k : ℕ) (b : Bool) → bit_if k b ≤ 2 ^ k
+bit_small k true = omega arith
+bit_small k false = omega arith
+
+code_small : (x : Access) (b : Bool) → fault_code x b < 32
+code_small x b = omega (arith, bit_small 0 b, bit_small 1 x.write, bit_small 2 x.user, bit_small 4 x.fetch)
+
+if_small : (b : Bool) (n code : ℕ) → n < 32 → fault_if b n ≡ Some code → code < 32
+if_small true n code l h = let e : n ≡ code = cc in omega arith
+if_small false n code l h = absurd (cc)
+
+pub small_code : (present : NatSet) (x : Access) (z : Place) (code : ℕ) → fault_at present x z ≡ Some code → code < 32
 unfolding fault_at
-small_code present true Text code h = let e : 7 ≡ code = cc in omega arith
-small_code present false Text code h = absurd (cc)
-small_code present write (Page i) code h = pick write (present i) h
+small_code present x Text code h = if_small x.write (fault_code x true) code (code_small x true) h
+small_code present x (Page i) code h = pick (present i) h
   where
-    pick : (w b : Bool) → fault_at (λ k. b) (access w) (Page i) ≡ Some code → code < 32
-    pick w true k = absurd (cc)
-    pick true false k = let e : 6 ≡ code = cc in omega arith
-    pick false false k = let e : 4 ≡ code = cc in omega arith
-small_code present true KernelWord code h = let e : 7 ≡ code = cc in omega arith
-small_code present false KernelWord code h = let e : 5 ≡ code = cc in omega arith
-small_code present true Lower code h = let e : 6 ≡ code = cc in omega arith
-small_code present false Lower code h = let e : 4 ≡ code = cc in omega arith
-small_code present true Upper code h = let e : 7 ≡ code = cc in omega arith
-small_code present false Upper code h = let e : 5 ≡ code = cc in omega arith
+    pick : (b : Bool) → (if b then fault_if x.fetch (fault_code x true) else Some (fault_code x false)) ≡ Some code → code < 32
+    pick true k = if_small x.fetch (fault_code x true) code (code_small x true) k
+    pick false k = if_small true (fault_code x false) code (code_small x false) k
+small_code present x KernelWord code h = if_small x.user (fault_code x true) code (code_small x true) h
+small_code present x Lower code h = if_small true (fault_code x false) code (code_small x false) h
+small_code present x Upper code h = if_small true (fault_code x x.user) code (code_small x x.user) h
 
 user_word : (write b : Bool) (a : ℕ) → is_aligned a ≡ true → IsIn write a b → IsUserWord a
 user_word write b a h (inl k) = (h, inl k.0)
@@ -75,7 +81,7 @@ user_word write b a h (inr k) = (h, inr k.0)
 pub views_alike : (image : Image) (u : UserMemory) (m : Memory) → IsImage image → Sees image u m → AreAlike (user_view u) (view m true)
 views_alike image u m is s = record {
   faults = λ write a. sym (pages_fault_alike image u m is s write false a);
-  codes = λ write a code h. small_code u.present write (place_of a) code h;
+  codes = λ write a code h. small_code u.present (access write) (place_of a) code h;
   words = λ write a al h. sym (s.words a (user_word write (u.present ((a - page_base) / 0x1000)) a al (accessed u.present write a h)));
 }
 

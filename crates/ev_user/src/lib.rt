@@ -2,10 +2,18 @@
 //! machine's user code does.
 #![tactic(auto)]
 
-ghost use Rattle.ev_user.specs.Claims.{PagesFaultAlike, ReadsAlike};
+ghost use Rattle.ev_user.specs.Claims.{PagesFaultAlike, ReadsAlike, UserGoesOn, UserRaises};
 
 /// What user code reads at RIP: the page rules and the bytes are the same on both sides.
 pub fn reads()
     ensures faults { PagesFaultAlike }
     ensures text { ReadsAlike }
+{}
+
+/// One step of a processor that runs a task, where the boundary chooses the instruction. Where the
+/// abstract machine's user code goes on, the processor is that of the task after the step, and the
+/// same word is written, if any; where it raises an event, the step is the event's delivery.
+pub fn steps()
+    ensures goes { UserGoesOn }
+    ensures raises { UserRaises }
 {}

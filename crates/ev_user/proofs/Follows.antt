@@ -12,6 +12,7 @@ use Rattle.ev_isa.specs.declared.instruction.Ins.{Ins}
 use Rattle.ev_isa.specs.declared.instruction.Ins.TheVariants.{IntN, Int3, Int1, Syscall, Sti, Cli, Ud2, Sysretq, Iretq, Swapgs, Eretu, Erets, Lkgs, MovGs, ReadCr2, WriteCr2, Rdmsr, Wrmsr}
 use Rattle.ev_isa.specs.declared.mode.Mode.{Mode}
 use Rattle.ev_event.specs.declared.event.Event.{Event}
+use Rattle.ev_event.specs.declared.boundary.Next.TheVariants.{Instruction}
 use Rattle.ev_event.specs.declared.event.EventType.{EventType}
 use Rattle.ev_event.specs.declared.event.EventType.TheVariants.{SoftInt, Other}
 use Rattle.ev_event.specs.Event.{ud, gp, pf, software}
@@ -37,7 +38,7 @@ use Rattle.ev_user.proofs.Places.{pages_fault_alike}
 use Rattle.ev_user.proofs.Zero.{vector_byte}
 use Rattle.ev_user.proofs.Fetch.{InText, fetched_in_text, reads_alike, byte_small}
 use Rattle.ev_user.proofs.Alike.{AreAlike, Keeps, Did, Faults, Alike, effects}
-use Rattle.ev_user.proofs.Writes.{views_alike, is_write, others_stay, sees_again}
+use Rattle.ev_user.proofs.Writes.{small_code, views_alike, is_write, others_stay, sees_again}
 
 low_canonical : (a : ℕ) → a < 2 ^ 47 → is_canonical a ≡ true
 low_canonical a h = ap (λ b. b || (a / 2 ^ 47 == 2 ^ 17 - 1)) (eq-eqb (a / 2 ^ 47) 0 (let e : a / 140737488355328 ≡ 0 = omega arith in e))
@@ -167,3 +168,53 @@ module _ (mode : Mode) (image : Image) (p r : ℕ) (t : Task) (u : UserMemory) (
   instruction Rdmsr n h = faulted Undefined tt
   instruction Wrmsr n h = faulted Undefined tt
   instruction i n h = plain i i (t.rip + length (spelling i)) h
+
+  -- what was read at RIP
+  by_read : InText t.rip → (o : Option Ins) → reading (text_bytes u.text t.rip) ≡ o → Follows (read_step (user_view u) t o) (executed c a m nmi o)
+  by_read text None q = faulted Undefined tt
+  by_read text (Some i) q =
+      let hi : t.rip < 0x410000 = text.to in
+      instruction i
+      (λ n e. let byte : n ≡ get_or (text_bytes image.text t.rip) 1 0 = vector_byte (text_bytes u.text t.rip) n (q ∙ ap Some e)
+          ∙ ap (λ bytes. get_or (text_bytes bytes t.rip) 1 0) sees.text_is in
+      let small = byte_small image.text t.rip 1 (all_small image.text formed.text_bytes) (omega arith) in omega arith)
+      (low_canonical (t.rip + length (spelling i)) (let l : length (spelling i) ≤ 15 = spelling_length i in omega arith))
+
+  by_fetch : (o : Option ℕ) → fault_at u.present (record { user = true; write = false; fetch = true }) (place_of t.rip) ≡ o
+      → Follows (fetch_step u t o) (fetched c a m nmi o)
+  by_fetch None q =
+      subst (λ i. Follows (read_step (user_view u) t (reading (text_bytes u.text t.rip))) (executed c a m nmi i)) (sym (reads_alike image u m formed sees t.rip q))
+      (by_read (fetched_in_text u.present t.rip q) (reading (text_bytes u.text t.rip)) refl)
+  by_fetch (Some code) q =
+      faulted (Page code t.rip) (small_code u.present (record { user = true; write = false; fetch = true }) (place_of t.rip) code q, is_task.canonical)
+
+  -- a step, where the boundary chooses the instruction
+  pub follows : next_of c a nmi ≡ Instruction → Follows (user_step u t) (step c a m nmi)
+  unfolding step user_step
+  follows chosen =
+      subst (Follows (user_step u t))
+      (sym (ap (step_by c a m nmi) chosen ∙ ap (fetched c a m nmi) (pages_fault_alike image u m formed sees false true t.rip)))
+      (by_fetch (fault_at u.present (record { user = true; write = false; fetch = true }) (place_of t.rip)) refl)
+
+-- ---- any processor that runs the task
+
+module _ (mode : Mode) (image : Image) (p r : ℕ) (t : Task) (u : UserMemory) (c : Processor) (a : Apic) (m : Memory) (nmi : Bool)
+    (site : Site mode image p r t u c a m nmi) where
+  abbrev same : Processor
+  same = task_processor mode image p r t c.cr2 c.nmi_blocked
+
+  all_steps : (x : UserStep) → user_step u t ≡ x → Follows mode image p r t u c.cr2 c.nmi_blocked a m nmi site.formed site.runs.task site.sees x (step same a m nmi)
+  all_steps x h =
+      subst (λ y. Follows mode image p r t u c.cr2 c.nmi_blocked a m nmi site.formed site.runs.task site.sees y (step same a m nmi)) h
+      (follows mode image p r t u c.cr2 c.nmi_blocked a m nmi site.formed site.runs.task site.sees
+      (ap (λ z. next_of z a nmi) (sym site.runs.is) ∙ site.chosen))
+
+pub user_goes_on : UserGoesOn
+user_goes_on mode image p r t u c a m nmi site t' words h =
+    subst (λ z. GoesOn mode image p r t u z a m nmi t' words (step z a m nmi)) (sym site.runs.is)
+    (all_steps mode image p r t u c a m nmi site (Goes t' words) h)
+
+pub user_raises : UserRaises
+user_raises mode image p r t u c a m nmi site saved e h =
+    subst (λ z. Raised t z a m nmi saved e (step z a m nmi)) (sym site.runs.is)
+    (all_steps mode image p r t u c a m nmi site (Raises saved e) h)
