@@ -4,3 +4,4 @@ pub mod Fetch
 pub mod Alike
 pub mod Writes
 pub mod Follows
+pub mod Deliver

@@ -2,3 +2,4 @@ pub mod Tasks
 pub mod Sees
 pub mod Causes
 pub mod Claims
+pub mod Deliveries
