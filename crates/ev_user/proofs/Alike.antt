@@ -1,8 +1,8 @@
 -- The effect of an instruction over two views of memory that are alike where the code has access: the same task, the same write, or the same fault.
-use Rattle.std.proofs.Common.{◌≡◌, ℕ, ◌+◌, ◌-◌, ◌*◌, ◌^◌, ◌<◌, ◌≤◌, Bool, true, false, not, length, set, Option, Some, None, Result, Ok, Err, refl, sym, ap, ◌∙◌, subst, arith}
+use Rattle.std.proofs.Common.{◌≡◌, ℕ, ◌+◌, ◌-◌, ◌^◌, ◌<◌, Bool, true, false, not, length, set, Option, Some, None, Result, Ok, Err, refl, sym, ap, ◌∙◌, subst}
 use Rattle.std.specs.Prelude.{◌==◌, ◌||◌, if◌then◌else◌}
 use Rattle.std.proofs.lemmas.List.{length-set}
-use Rattle.ev_isa.specs.Word.{NatMap, put_at, wrap, sign_extend, displaced, is_canonical, is_aligned}
+use Rattle.ev_isa.specs.Word.{put_at, wrap, sign_extend, displaced, is_canonical, is_aligned}
 use Rattle.ev_isa.specs.Flags.{Status, sum, difference, alu, shift_left, shift_right, holds}
 use Rattle.ev_isa.specs.Pages.{View}
 use Rattle.ev_isa.specs.declared.instruction.Ins.{Ins}

@@ -1,22 +1,20 @@
 -- The events of user code as deliveries find them.
-use Rattle.std.proofs.Common.{◌≡◌, ◌≢◌, ℕ, suc, ◌+◌, ◌*◌, ◌^◌, ◌<◌, Bool, true, false, ◌&&◌, Some, None, refl, sym, ap, ◌∙◌, subst, arith}
-use Rattle.std.specs.Prelude.{nat_lt, if◌then◌else◌}
+use Rattle.std.proofs.Common.{◌≡◌, ℕ, ◌+◌, Bool, true, false, ◌&&◌, Some, None, refl, sym, ap, ◌∙◌, arith}
+use Rattle.std.specs.Prelude.{if◌then◌else◌}
 use Rattle.ev_isa.specs.Word.{NatMap}
 use Rattle.ev_event.specs.declared.event.Event.{Event}
-use Rattle.ev_event.specs.declared.double_fault.Combined.{Combined}
 use Rattle.ev_event.specs.declared.double_fault.Combined.TheVariants.{Serial}
 use Rattle.ev_event.specs.DoubleFault.{combine}
-use Rattle.ev_event.specs.Event.{gp, has_error_code}
 use Rattle.ev_state.specs.Processor.{Processor, is_user}
-use Rattle.ev_state.specs.Outcome.{Outcome, Went, Met}
+use Rattle.ev_state.specs.Outcome.{Went}
 use Rattle.ev_apic.specs.declared.apic.Apic.{Apic}
 use Rattle.ev_mem.specs.Memory.{Memory}
 use Rattle.ev_proc.specs.Conditions.{IsDeliverable}
-use Rattle.ev_proc.specs.ProcessorStep.{After, Arrival, has_fred, try, after_arrival, deliveries, delivering}
+use Rattle.ev_proc.specs.ProcessorStep.{After, try, after_arrival, delivering}
 use Rattle.ev_proc.specs.declared.stepped.Stepped.{Stepped}
 use Rattle.ev_idt.specs.IdtDelivery.{syscall_idt}
 use Rattle.ev_proc.proofs.Tries.{went, serial}
-use Rattle.ev_user.specs.Causes.{Fault, Undefined, Protection, Page, Cause, Faulted, Debug, Breakpoint, Three, Refused, Call, IsCause, own_event, raised_event, raising}
+use Rattle.ev_user.specs.Causes.{Fault, Undefined, Protection, Page, Faulted, Debug, Breakpoint, Three, Refused, Call, own_event, raised_event}
 use Rattle.ev_user.specs.Deliveries.{IsOwn, Passes, EventsAreOwn, EventsPass, EventsAreDeliverable, ArrivesAtOnce, CallArrives, RefusalArrives, saving}
 
 fault_own : (f : Fault) → IsOwn (own_event (Faulted f))

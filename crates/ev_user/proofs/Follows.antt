@@ -1,10 +1,10 @@
 -- A step of user code: the processor's is the task's, or the delivery of what the task raises.
-use Rattle.std.proofs.Common.{◌≡◌, ◌≢◌, ℕ, ◌+◌, ◌-◌, ◌*◌, ◌/◌, ◌^◌, ◌<◌, ◌≤◌, Bool, true, false, ◌&&◌, not, List, length, get_or, Option, Some, None, Result, Ok, Err, refl, sym, ap, ◌∙◌, subst, arith}
+use Rattle.std.proofs.Common.{◌≡◌, ℕ, ◌+◌, ◌-◌, ◌*◌, ◌/◌, ◌^◌, ◌<◌, ◌≤◌, Bool, true, false, length, get_or, Option, Some, None, Result, Ok, Err, refl, sym, ap, ◌∙◌, subst, arith}
 use Rattle.std.specs.Prelude.{◌==◌, ◌||◌, if◌then◌else◌}
 use Rattle.std.proofs.lemmas.Bool.{eq-eqb, eqb-true, eqb-false}
-use Rattle.ev_isa.specs.Word.{NatMap, is_canonical}
-use Rattle.ev_isa.specs.Flags.{Flags, flags_word}
-use Rattle.ev_isa.specs.Pages.{View, UserMemory, fault_at, place_of}
+use Rattle.ev_isa.specs.Word.{is_canonical}
+use Rattle.ev_isa.specs.Flags.{Flags}
+use Rattle.ev_isa.specs.Pages.{UserMemory, fault_at, place_of}
 use Rattle.ev_isa.specs.Instruction.{user_may}
 use Rattle.ev_isa.specs.Spelling.{spelling}
 use Rattle.ev_isa.specs.Reading.{reading}
@@ -13,9 +13,8 @@ use Rattle.ev_isa.specs.declared.instruction.Ins.TheVariants.{IntN, Int3, Int1, 
 use Rattle.ev_isa.specs.declared.mode.Mode.{Mode}
 use Rattle.ev_event.specs.declared.event.Event.{Event}
 use Rattle.ev_event.specs.declared.boundary.Next.TheVariants.{Instruction}
-use Rattle.ev_event.specs.declared.event.EventType.{EventType}
-use Rattle.ev_event.specs.declared.event.EventType.TheVariants.{SoftInt, Other}
-use Rattle.ev_event.specs.Event.{ud, gp, pf, software}
+use Rattle.ev_event.specs.declared.event.EventType.TheVariants.{SoftInt}
+use Rattle.ev_event.specs.Event.{gp, software}
 use Rattle.ev_body.specs.declared.image.Image.{Image}
 use Rattle.ev_body.specs.WellFormed.{IsImage}
 use Rattle.ev_effect.specs.Task.{Task}
@@ -23,21 +22,21 @@ use Rattle.ev_effect.specs.Effect.{Changed, effect}
 use Rattle.ev_state.specs.Processor.{Processor, task_of, with_effect}
 use Rattle.ev_state.proofs.FlagLaws.{flags_of-flags_word}
 use Rattle.ev_apic.specs.declared.apic.Apic.{Apic}
-use Rattle.ev_mem.specs.Memory.{Memory, view, page_fault}
-use Rattle.ev_exec.specs.Exec.{Executed, exec, changed, completed}
-use Rattle.ev_proc.specs.ProcessorStep.{After, step, step_by, fetched, executed, after_exec, special, fault, ran, delivering, next_of, instruction_at}
+use Rattle.ev_mem.specs.Memory.{Memory, view}
+use Rattle.ev_exec.specs.Exec.{exec, changed, completed}
+use Rattle.ev_proc.specs.ProcessorStep.{After, step, step_by, fetched, executed, after_exec, special, fault, ran, delivering, next_of}
 use Rattle.ev_code.proofs.Spelled.{spelling_length}
 use Rattle.ev_abstract.specs.UserCode.{UserStep, Goes, Raises, step_of, user_step, fetch_step, read_step, user_view, text_bytes}
 use Rattle.ev_abstract.specs.UserCode as user
 use Rattle.ev_fetch.proofs.Regions.{all_small}
-use Rattle.ev_user.specs.Tasks.{IsTask, RunsTask, task_processor}
+use Rattle.ev_user.specs.Tasks.{IsTask, task_processor}
 use Rattle.ev_user.specs.Sees.{Sees, with_write}
-use Rattle.ev_user.specs.Causes.{Fault, Undefined, Protection, Page, Cause, Faulted, Debug, Breakpoint, Three, Refused, Call, IsCause, fault_event, raised_event, raising}
+use Rattle.ev_user.specs.Causes.{Fault, Undefined, Protection, Page, Faulted, Debug, Breakpoint, Three, Refused, Call, IsCause, fault_event}
 use Rattle.ev_user.specs.Claims.{Site, GoesOn, Raised, UserGoesOn, UserRaises}
 use Rattle.ev_user.proofs.Places.{pages_fault_alike}
 use Rattle.ev_user.proofs.Zero.{vector_byte}
 use Rattle.ev_user.proofs.Fetch.{InText, fetched_in_text, reads_alike, byte_small}
-use Rattle.ev_user.proofs.Alike.{AreAlike, Keeps, Did, Faults, Alike, effects}
+use Rattle.ev_user.proofs.Alike.{Keeps, Did, Alike, effects}
 use Rattle.ev_user.proofs.Writes.{small_code, views_alike, is_write, others_stay, sees_again}
 
 low_canonical : (a : ℕ) → a < 2 ^ 47 → is_canonical a ≡ true
@@ -176,7 +175,7 @@ module _ (mode : Mode) (image : Image) (p r : ℕ) (t : Task) (u : UserMemory) (
       let hi : t.rip < 0x410000 = text.to in
       instruction i
       (λ n e. let byte : n ≡ get_or (text_bytes image.text t.rip) 1 0 = vector_byte (text_bytes u.text t.rip) n (q ∙ ap Some e)
-          ∙ ap (λ bytes. get_or (text_bytes bytes t.rip) 1 0) sees.text_is in
+      ∙ ap (λ bytes. get_or (text_bytes bytes t.rip) 1 0) sees.text_is in
       let small = byte_small image.text t.rip 1 (all_small image.text formed.text_bytes) (omega arith) in omega arith)
       (low_canonical (t.rip + length (spelling i)) (let l : length (spelling i) ≤ 15 = spelling_length i in omega arith))
 

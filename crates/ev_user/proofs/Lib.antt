@@ -5,3 +5,4 @@ pub mod Alike
 pub mod Writes
 pub mod Follows
 pub mod Deliver
+pub mod Examples

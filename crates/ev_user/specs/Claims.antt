@@ -1,5 +1,5 @@
 -- The laws of user code, as the contract of this crate states them. Own.
-use Rattle.std.specs.Prelude.{◌≡◌, ◌≢◌, ℕ, ◌+◌, ◌*◌, ◌^◌, ◌<◌, Bool, true, false, ◌&&◌, nat_lt, Option, None}
+use Rattle.std.specs.Prelude.{◌≡◌, ℕ, ◌+◌, Bool, true, false, Option, None}
 use Rattle.ev_isa.specs.Word.{NatMap}
 use Rattle.ev_isa.specs.Reading.{reading}
 use Rattle.ev_isa.specs.Pages.{place_of, UserMemory, fault_at}

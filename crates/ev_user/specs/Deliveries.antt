@@ -1,9 +1,9 @@
 -- What deliveries find of the events of user code, as the contract of this crate states it. Own.
-use Rattle.std.specs.Prelude.{◌≡◌, ◌≢◌, ℕ, ◌+◌, ◌*◌, ◌^◌, ◌<◌, Bool, true, false, ◌&&◌, nat_lt, Some}
+use Rattle.std.specs.Prelude.{◌≡◌, ◌≢◌, ℕ, ◌+◌, ◌^◌, ◌<◌, Bool, true, false, ◌&&◌, nat_lt, Some}
 use Rattle.ev_isa.specs.Word.{NatMap}
 use Rattle.ev_event.specs.declared.event.Event.{Event}
 use Rattle.ev_event.specs.declared.event.EventType.TheVariants.{External, Nmi}
-use Rattle.ev_event.specs.Event.{gp, has_error_code, is_hardware}
+use Rattle.ev_event.specs.Event.{has_error_code, is_hardware}
 use Rattle.ev_state.specs.Processor.{Processor, is_user}
 use Rattle.ev_state.specs.Outcome.{Went, Met}
 use Rattle.ev_apic.specs.declared.apic.Apic.{Apic}
