@@ -1,0 +1,57 @@
+-- Odd steps of user code, computed: at the end of the text and behind it, at addresses of the kernel and of pages, across the text's end, and accesses that fault.
+use Rattle.std.specs.Prelude.{◌≡◌, refl, ℕ, ◌==◌, Bool, true, false, pos, List, [], ◌∷◌, ◌++◌, replicate, Option, Some, None}
+use Rattle.ev_isa.specs.Word.{is_aligned}
+use Rattle.ev_isa.specs.Flags.{start_flags}
+use Rattle.ev_isa.specs.Pages.{UserMemory, place_of, fault_at}
+use Rattle.ev_isa.specs.Instruction.{user_may, is_instruction}
+use Rattle.ev_isa.specs.Spelling.{spelling, four_bytes}
+use Rattle.ev_isa.specs.Reading.{reading, forms, plain_forms, wide_forms, prefixed_forms, narrow_forms, signed_at, reg_at, rm_at, behind}
+use Rattle.ev_isa.specs.declared.instruction.Ins.{Ins}
+use Rattle.ev_isa.specs.declared.instruction.Ins.TheVariants.{Jmp, Load, Store, IntN, Swapgs}
+use Rattle.ev_event.specs.declared.event.EventType.TheVariants.{SoftInt}
+use Rattle.ev_event.specs.Event.{ud, gp, ss, pf, ac, software}
+use Rattle.ev_effect.specs.Task.{Task}
+use Rattle.ev_effect.specs.Effect.{effect, access_event}
+use Rattle.ev_abstract.specs.UserCode.{UserStep, Goes, Raises, user_step, executed}
+
+-- user memory with this text, where page 3 alone is present, and a task with these RAX and RSP
+abbrev memory : List ℕ → UserMemory
+memory text = record { text = text; present = λ i. i == 3; words = λ a. 0 }
+
+abbrev task : (rip rax rsp : ℕ) → Task
+task rip rax rsp = record { regs = rax ∷ 0 ∷ 0 ∷ 0 ∷ rsp ∷ replicate 11 0; rip = rip; flags = start_flags; gs = 0 }
+
+-- the step at an address, and that of one instruction with RAX or RSP
+abbrev at : List ℕ → ℕ → UserStep
+at text rip = user_step (memory text) (task rip 0 0)
+
+abbrev does : Ins → (rax rsp : ℕ) → UserStep
+does i rax rsp = user_step (memory (spelling i)) (task 0x400000 rax rsp)
+
+-- ---- RIP
+
+-- at the last byte of the text's region stands 0
+last_byte : at [] 0x40ffff ≡ Raises 0x40ffff ud
+unfolding user_step place_of fault_at reading forms plain_forms wide_forms prefixed_forms narrow_forms signed_at reg_at rm_at behind spelling four_bytes is_instruction
+last_byte = refl
+
+behind_text : at [] 0x410000 ≡ Raises 0x410000 (pf 0x14 0x410000)
+unfolding user_step place_of fault_at
+behind_text = refl
+
+absent_page : at [] 0x10000000 ≡ Raises 0x10000000 (pf 0x14 0x10000000)
+unfolding user_step place_of fault_at
+absent_page = refl
+
+present_page : at [] 0x10003008 ≡ Raises 0x10003008 (pf 0x15 0x10003008)
+unfolding user_step place_of fault_at
+present_page = refl
+
+kernel_code : at [] 0xffffffff81000000 ≡ Raises 0xffffffff81000000 (pf 0x15 0xffffffff81000000)
+unfolding user_step place_of fault_at
+kernel_code = refl
+
+-- a jump whose displacement is the zeros behind the text
+across_the_end : at (0xe9 ∷ []) 0x400000 ≡ Goes (task 0x400005 0 0) (λ a. 0)
+unfolding user_step place_of fault_at reading forms plain_forms wide_forms prefixed_forms narrow_forms signed_at reg_at rm_at behind spelling four_bytes is_instruction executed user_may effect
+across_the_end = refl

@@ -1,0 +1,6 @@
+use Rattle.ev_user.proofs.Places.{pages_fault_alike}
+use Rattle.ev_user.proofs.Fetch.{reads_alike}
+use Rattle.ev_user.proofs.reads.Goals as goal
+
+pub returns : goal.returns
+returns c = record { faults = pages_fault_alike; text = reads_alike }

@@ -1,0 +1,5 @@
+pub mod Tasks
+pub mod Sees
+pub mod Causes
+pub mod Claims
+pub mod Deliveries

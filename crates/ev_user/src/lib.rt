@@ -1,0 +1,34 @@
+//! Laws of user code: what a processor fetches, does and raises in a task is what the abstract
+//! machine's user code does.
+#![tactic(auto)]
+
+ghost use Rattle.ev_user.specs.Claims.{PagesFaultAlike, ReadsAlike, UserGoesOn, UserRaises};
+ghost use Rattle.ev_user.specs.Deliveries.{EventsAreOwn, EventsPass, EventsAreDeliverable};
+ghost use Rattle.ev_user.specs.Deliveries.{ArrivesAtOnce, CallArrives, RefusalArrives};
+
+/// What user code reads at RIP: the page rules and the bytes are the same on both sides.
+pub fn reads()
+    ensures faults { PagesFaultAlike }
+    ensures text { ReadsAlike }
+{}
+
+/// One step of a processor that runs a task, where the boundary chooses the instruction. Where the
+/// abstract machine's user code goes on, the processor is that of the task after the step, and the
+/// same word is written, if any; where it raises an event, the step is the event's delivery.
+pub fn steps()
+    ensures goes { UserGoesOn }
+    ensures raises { UserRaises }
+{}
+
+/// The events that user code raises, as their deliveries find them: none is an NMI or an interrupt,
+/// each can be delivered, and the kernel's gates are open to them. Where the first try goes on, the
+/// step is the event's arrival; where INT n meets a closed gate, that of its general protection
+/// fault, which saves RIP of the instruction.
+pub fn deliveries()
+    ensures own { EventsAreOwn }
+    ensures gates { EventsPass }
+    ensures deliverable { EventsAreDeliverable }
+    ensures arrives { ArrivesAtOnce }
+    ensures call { CallArrives }
+    ensures refusal { RefusalArrives }
+{}
