@@ -1,0 +1,5 @@
+pub mod Ranges
+pub mod Choosing
+pub mod Surplus
+pub mod LabelLaws
+pub mod TextLaws
