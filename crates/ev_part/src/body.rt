@@ -15,7 +15,7 @@ use ev_text::Stop;
 use std::alloc::{AllocError, Global};
 
 /// The lines of a body that stand so far. Own.
-#[derive(Drop)]
+#[derive(Debug, Drop)]
 pub struct BodyLines {
     pub key: Key,
     pub side: Side,

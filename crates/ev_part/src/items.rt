@@ -11,7 +11,12 @@ use ev_line::Cause;
 use ev_text::Labels;
 
 /// What the tokens behind a word say.
-fn behind(text: &Labels, is_main: bool, word: ItemWord, operands: &[&[u8]]) -> Result<BodyLine, Cause>
+fn behind(
+    text: &Labels,
+    is_main: bool,
+    word: ItemWord,
+    operands: &[&[u8]],
+) -> Result<BodyLine, Cause>
     ensures { result ≡ read_forms (item_forms text.now is_main word) (map (λ t. t.now) operands.now) }
 {
     match word {

@@ -12,4 +12,8 @@ mod words;
 pub use body::BodyLines;
 pub use items::item;
 pub use line::BodyLine;
+pub use operands::text_label;
 pub use part::PartLines;
+
+#[cfg(test)]
+mod tests;

@@ -19,7 +19,7 @@ const ITEM_LIMIT: u64 = 256;
 
 /// The lines of a part that stand so far, with the number of its function (none for the main part) and
 /// the number of its first item. No label is given twice, and no item has a number above 255. Own.
-#[derive(Drop)]
+#[derive(Debug, Drop)]
 pub struct PartLines {
     func: Option<u64>,
     first: u64,
@@ -50,7 +50,12 @@ fn is_given(labels: &Labels, line: &BodyLine) -> bool
 }
 
 /// The labels with the one that the line gives.
-fn with_label(labels: Labels, alloc: Global, line: &BodyLine, next: u64) -> Result<Labels, AllocError>
+fn with_label(
+    labels: Labels,
+    alloc: Global,
+    line: &BodyLine,
+    next: u64,
+) -> Result<Labels, AllocError>
     requires { gives_again labels line.now ≡ false }
     ensures { IfOk result (λ l. l ≡ labels ++ label_given next line.now) }
 {

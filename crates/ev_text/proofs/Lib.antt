@@ -3,3 +3,5 @@ pub mod Choosing
 pub mod Surplus
 pub mod LabelLaws
 pub mod TextLaws
+pub mod Gives
+pub mod Encoded

@@ -1,7 +1,6 @@
 -- A number that is read within bounds is within them.
-use Rattle.std.proofs.Common.{◌≡◌, ℕ, ◌≤◌, Bool, true, false, ◌&&◌, List, Option, Some, None, Result, Ok, Err, arith, nat_le, refl}
+use Rattle.std.proofs.Common.{◌≡◌, ℕ, ◌≤◌, Bool, true, false, ◌&&◌, List, Result, Ok, Err, arith, nat_le, refl}
 use Rattle.ev_io.specs.declared.cause.Cause.{Cause}
-use Rattle.ev_io.specs.declared.cause.Cause.TheVariants as Cause
 use Rattle.ev_line.specs.Operands.{if_it, number, number_within}
 
 between : (low high n : ℕ) (r : Result ℕ Cause) → Ok n ≡ if_it (λ k. nat_le low k && nat_le k high) Cause.Limit r → (low ≤ n) × (n ≤ high)

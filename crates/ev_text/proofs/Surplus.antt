@@ -1,13 +1,10 @@
 -- Lines of words with several forms that have a token too many.
-use Rattle.std.proofs.Common.{◌≡◌, ℕ, ◌<◌, true, false, List, [], ◌∷◌, length, map, Bor, Result, Err, refl, sym, ap, ◌∙◌, subst, arith}
+use Rattle.std.proofs.Common.{◌≡◌, ◌<◌, true, false, List, [], ◌∷◌, length, map, Bor, Err, refl, sym, ap, ◌∙◌, subst, arith}
 use Rattle.std.specs.Prelude.{◌==◌}
 use Rattle.ev_io.specs.declared.cause.Cause.{Cause}
-use Rattle.ev_io.specs.declared.cause.Cause.TheVariants as Cause
 use Rattle.ev_io.specs.Tokens.{Token}
 use Rattle.ev_isa.specs.declared.instruction.AluOp.{AluOp}
-use Rattle.ev_asm.specs.declared.statement.Stmt.{Stmt}
 use Rattle.ev_line.specs.declared.kind.Kind.{Kind}
-use Rattle.ev_line.specs.declared.kind.Kind.TheVariants as Kind
 use Rattle.ev_line.specs.Forms.{is_shaped, kind_by_start, read_forms}
 use Rattle.ev_text.specs.declared.words.TextWord.TheVariants as Word
 use Rattle.ev_text.specs.TextForms.{text_forms}

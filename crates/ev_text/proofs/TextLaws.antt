@@ -1,17 +1,16 @@
 -- A text with a statement more: its labels, its size, and what is refused.
-use Rattle.std.proofs.Common.{◌≡◌, ℕ, ◌+◌, ◌<◌, ◌≤◌, Bool, true, false, not, ◌&&◌, List, [], ◌∷◌, ◌++◌, Option, Some, None, Result, Ok, Err, refl, sym, ap, ◌∙◌, subst, arith, nat_lt, ◌⊎◌, inl, inr}
+use Rattle.std.proofs.Common.{◌≡◌, ℕ, ◌+◌, ◌<◌, ◌≤◌, Bool, true, false, not, ◌&&◌, List, [], ◌∷◌, ◌++◌, Option, Some, Result, Ok, Err, refl, sym, ap, ◌∙◌, arith, nat_lt, ◌⊎◌, inl, inr}
 use Rattle.std.specs.Prelude.{is_some, ◌||◌}
-use Rattle.std.specs.List.{list_any, list_all}
+use Rattle.std.specs.List.{list_any}
 use Rattle.ev_isa.specs.Pages.{text_base}
 use Rattle.ev_io.specs.declared.cause.Cause.{Cause}
-use Rattle.ev_io.specs.declared.cause.Cause.TheVariants as Cause
 use Rattle.ev_asm.specs.declared.statement.Stmt.{Stmt}
 use Rattle.ev_asm.specs.declared.statement.Stmt.TheVariants.{Label, Plain, Jump}
 use Rattle.ev_asm.specs.Assembly.{Places, Name, is_name, size, total_size, places}
 use Rattle.ev_asm.specs.Assembled.{stmt_labels, is_new_name, is_second_label, is_encoded, are_instructions, assembled}
 use Rattle.ev_text.specs.LabelTable.{found}
 use Rattle.ev_text.specs.TextStands.{IsText, gives_again, label_given, stop_of}
-use Rattle.ev_text.specs.UserText.{unless, text_grown, text_ended, fault_cause, Comes}
+use Rattle.ev_text.specs.UserText.{text_grown, text_ended, fault_cause, Comes}
 use Rattle.ev_asm.specs.declared.text.Text.{Text}
 use Rattle.ev_asm.specs.declared.fault.AsmFault.{AsmFault}
 use Rattle.ev_asm.specs.declared.fault.AsmFault.TheVariants.{DoubleLabel, NoLabel, TooLarge, NoMemory}

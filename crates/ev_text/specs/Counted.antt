@@ -1,10 +1,8 @@
 -- Lines with a fixed number of operands. Own.
 use Rattle.std.specs.Prelude.{true, false, List, [], ◌∷◌, Result, Ok, Err}
 use Rattle.ev_io.specs.declared.cause.Cause.{Cause}
-use Rattle.ev_io.specs.declared.cause.Cause.TheVariants as Cause
 use Rattle.ev_io.specs.Tokens.{Token}
 use Rattle.ev_line.specs.declared.kind.Kind.{Kind}
-use Rattle.ev_line.specs.declared.kind.Kind.TheVariants as Kind
 use Rattle.ev_line.specs.Forms.{is_shaped}
 
 -- no operand

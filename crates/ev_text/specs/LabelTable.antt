@@ -1,5 +1,5 @@
 -- Labels with their places. Own.
-use Rattle.std.specs.Prelude.{ℕ, true, false, List, [], ◌∷◌, Option, Some, None}
+use Rattle.std.specs.Prelude.{ℕ, true, false, [], ◌∷◌, Option, Some, None}
 use Rattle.ev_asm.specs.Assembly.{Places, Name, is_name}
 
 -- the place of a name, if one of the labels has it

@@ -1,7 +1,6 @@
 -- The statements of user text: which operands stand behind each word. Own.
-use Rattle.std.specs.Prelude.{List, [], ◌∷◌, Option, Some, None, Result}
+use Rattle.std.specs.Prelude.{List, [], ◌∷◌, Some, None, Result}
 use Rattle.ev_isa.specs.declared.instruction.Ins.{Ins}
-use Rattle.ev_isa.specs.declared.instruction.Ins.TheVariants as Ins
 use Rattle.ev_io.specs.declared.cause.Cause.{Cause}
 use Rattle.ev_asm.specs.declared.statement.Stmt.{Stmt}
 use Rattle.ev_asm.specs.declared.statement.Stmt.TheVariants.{Plain, Jump}
@@ -9,7 +8,7 @@ use Rattle.ev_text.specs.declared.words.TextWord.{TextWord}
 use Rattle.ev_text.specs.declared.words.TextWord.TheVariants.{Mov, Push, Pop, Alu, Shl, Shr, Xchg, CmpXchg, Xadd, Jmp, Jcc, Int, Alone}
 use Rattle.ev_io.specs.Tokens.{Token}
 use Rattle.ev_line.specs.Operands.{Place, Register, Number, Signed, Memory, Gs, Label, Within}
-use Rattle.ev_line.specs.Forms.{Maker, Form, form, read_forms, read_by}
+use Rattle.ev_line.specs.Forms.{Maker, Form, form, read_by}
 use Rattle.ev_text.specs.Words.{text_word}
 
 -- a statement with these places

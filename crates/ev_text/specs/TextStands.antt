@@ -9,7 +9,6 @@ use Rattle.ev_asm.specs.declared.fault.AsmFault.{AsmFault}
 use Rattle.ev_asm.specs.declared.fault.AsmFault.TheVariants.{DoubleLabel, NoLabel, TooLarge, NoMemory}
 use Rattle.ev_io.specs.declared.cause.Cause.TheVariants as Cause
 use Rattle.ev_text.specs.declared.stop.Stop.{Stop}
-use Rattle.ev_text.specs.declared.stop.Stop.TheVariants as Stop
 use Rattle.ev_text.specs.LabelTable.{found}
 
 -- the labels are those of the text, and the size is that of its bytes

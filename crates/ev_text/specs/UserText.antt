@@ -2,7 +2,6 @@
 use Rattle.std.specs.Prelude.{◌≡◌, ℕ, Bool, true, false, nat_lt, List, [], ◌∷◌, ◌++◌, Result, Ok, Err}
 use Rattle.ev_isa.specs.Pages.{text_base}
 use Rattle.ev_io.specs.declared.cause.Cause.{Cause}
-use Rattle.ev_io.specs.declared.cause.Cause.TheVariants as Cause
 use Rattle.ev_asm.specs.declared.statement.Stmt.{Stmt}
 use Rattle.ev_asm.specs.declared.fault.AsmFault.{AsmFault}
 use Rattle.ev_asm.specs.declared.fault.AsmFault.TheVariants.{DoubleLabel, NoLabel, TooLarge, NoMemory}
@@ -10,7 +9,6 @@ use Rattle.ev_asm.specs.Assembly.{total_size, places}
 use Rattle.ev_asm.specs.Assembled.{is_second_label, assembled}
 use Rattle.ev_text.specs.declared.text.WholeText.{WholeText}
 use Rattle.ev_text.specs.declared.stop.Stop.{Stop}
-use Rattle.ev_text.specs.declared.stop.Stop.TheVariants as Stop
 
 -- the bytes of a user text are at most so many
 abbrev pub most_text : ℕ

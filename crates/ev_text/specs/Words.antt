@@ -26,22 +26,40 @@ unfoldable pub jump_word : Token → Option Cond
 jump_word t = named_in ((codes "jz", Z) ∷ (codes "jnz", Nz) ∷ (codes "jc", C) ∷ (codes "jnc", Nc) ∷ (codes "js", S) ∷ (codes "jns", Ns) ∷ []) t
 
 -- the instructions without operands
+abbrev pub lone_words : List (Token × Ins)
+lone_words =
+    (codes "nop", Nop) ∷ (codes "int3", Int3) ∷ (codes "int1", Int1) ∷ (codes "ud2", Ud2) ∷ (codes "sti", Sti) ∷ (codes "cli", Cli) ∷ []
+
+-- the instruction without operands that a token names
 unfoldable pub lone_word : Token → Option Ins
-lone_word t =
-    named_in ((codes "nop", Nop) ∷ (codes "int3", Int3) ∷ (codes "int1", Int1) ∷ (codes "ud2", Ud2) ∷ (codes "sti", Sti) ∷ (codes "cli", Cli) ∷ []) t
+lone_word t = named_in lone_words t
 
 -- the words of seven letters
+abbrev pub long_words : List (Token × TextWord)
+long_words =
+    (codes "syscall", Alone Syscall) ∷ (codes "cmpxchg", CmpXchg) ∷ []
+
+-- the word of these that a token is
 unfoldable pub long_word : Token → Option TextWord
-long_word t = named_in ((codes "syscall", Alone Syscall) ∷ (codes "cmpxchg", CmpXchg) ∷ []) t
+long_word t = named_in long_words t
 
 -- words with operands at registers
+abbrev pub move_words : List (Token × TextWord)
+move_words =
+    (codes "mov", Mov) ∷ (codes "push", Push) ∷ (codes "pop", Pop) ∷ (codes "xchg", Xchg) ∷ (codes "xadd", Xadd) ∷ []
+
+-- the word of these that a token is
 unfoldable pub move_word : Token → Option TextWord
-move_word t = named_in ((codes "mov", Mov) ∷ (codes "push", Push) ∷ (codes "pop", Pop) ∷ (codes "xchg", Xchg) ∷ (codes "xadd", Xadd) ∷ []) t
+move_word t = named_in move_words t
 
 -- the other words
+abbrev pub other_words : List (Token × TextWord)
+other_words =
+    (codes "shl", Shl) ∷ (codes "shr", Shr) ∷ (codes "jmp", Jmp) ∷ (codes "int", Int) ∷ []
+
+-- the word of these that a token is
 unfoldable pub other_word : Token → Option TextWord
-other_word t =
-    named_in ((codes "shl", Shl) ∷ (codes "shr", Shr) ∷ (codes "jmp", Jmp) ∷ (codes "int", Int) ∷ []) t
+other_word t = named_in other_words t
 
 -- the first of two answers that is one
 abbrev pub or_then : {X : Type 0} → Option X → Option X → Option X

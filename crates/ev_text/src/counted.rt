@@ -4,9 +4,8 @@ ghost use Rattle.std.specs.Prelude.{◌≡◌, map};
 ghost use Rattle.ev_line.specs.Operands.{then_make};
 ghost use Rattle.ev_text.specs.Counted.{four_in, memory_first, none_in, one_in, surplus_move, surplus_push, surplus_store, two_in};
 
-use ev_line::{Kind, is_shaped};
 use ev_io::Cause;
-
+use ev_line::{Kind, is_shaped};
 
 /// No operand, else Count. Own.
 pub fn none(operands: &[&[u8]]) -> Result<(), Cause>
@@ -56,9 +55,7 @@ pub fn memory_first<'a>(operands: &[&'a [u8]]) -> Result<(&'a [u8], &'a [u8]), C
 }
 
 /// Four operands and no more, else Count. Own.
-pub fn four<'a>(
-    operands: &[&'a [u8]],
-) -> Result<(&'a [u8], &'a [u8], &'a [u8], &'a [u8]), Cause>
+pub fn four<'a>(operands: &[&'a [u8]]) -> Result<(&'a [u8], &'a [u8], &'a [u8], &'a [u8]), Cause>
     ensures { then_make (λ p. (p.0.now, p.1.now, p.2.now, p.3.now)) result ≡ four_in (map (λ t. t.now) operands.now) }
 {
     match operands {

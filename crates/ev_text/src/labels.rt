@@ -10,7 +10,7 @@ use std::marker::Model;
 
 /// Labels with their places, each name once. Contracts see them in the order in which they were
 /// given; a label is found by an index of names. Own.
-#[derive(Drop)]
+#[derive(Debug, Drop)]
 pub struct Labels {
     given: Vec<(Name, u64)>,
     index: BTreeMap<String, u64>,

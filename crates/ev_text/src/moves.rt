@@ -8,11 +8,10 @@ ghost use Rattle.ev_text.specs.declared.words.TextWord.TheVariants as Word;
 ghost use Rattle.ev_text.specs.TextForms.{text_forms};
 
 use crate::counted::{one, surplus_move, surplus_push, surplus_store};
-use ev_line::{Kind, gs, is_shaped, kind_by_start, memory, number, register, signed};
 use ev_asm::Stmt;
 use ev_io::Cause;
 use ev_isa::Ins;
-
+use ev_line::{Kind, gs, is_shaped, kind_by_start, memory, number, register, signed};
 
 /// `mov d N`, `mov d s`, `mov d [b+N]` or `mov d gs:[N]`
 fn register_from(d: &[u8], s: &[u8]) -> Result<Stmt, Cause>

@@ -1,19 +1,19 @@
 // Statements of user text.
 #![tactic(auto, unfolding(crate::proofs::Choosing::choosing))]
 
-ghost use Rattle.std.specs.Prelude.{◌≡◌, map, ◌∷◌, [], Some};
+ghost use Rattle.std.specs.Prelude.{◌≡◌, map, ◌∷◌, [], Some, true, IfOk};
+ghost use Rattle.ev_asm.specs.Assembled.{is_encoded};
 ghost use Rattle.ev_line.specs.Forms.{read_forms};
 ghost use Rattle.ev_text.specs.declared.words.TextWord.TheVariants as Word;
 ghost use Rattle.ev_text.specs.TextForms.{text_forms, statement_of};
 
 use crate::counted::{memory_first, none, one, surplus_store, two};
 use crate::moves::{mov, push};
-use ev_line::{Kind, kind_by_start, label, memory, number_within, register, signed};
 use crate::words::{TextWord, text_word};
 use ev_asm::Stmt;
 use ev_io::Cause;
 use ev_isa::{AluOp, Cond, Ins};
-
+use ev_line::{Kind, kind_by_start, label, memory, number_within, register, signed};
 
 /// `shl d N`
 #[tactic(auto, unfolding(crate::proofs::Choosing::choosing), using(crate::proofs::Ranges::number_at_most))]
@@ -160,7 +160,8 @@ fn behind(word: TextWord, operands: &[&[u8]]) -> Result<Stmt, Cause>
 /// The statement
 #[tactic(auto, unfolding(crate::specs::TextForms::statement_forms, ev_line::specs::Forms::read_by), using(crate::proofs::Choosing::no_forms))]
 pub fn statement(tokens: &[&[u8]]) -> Result<Stmt, Cause>
-    ensures { result ≡ statement_of (map (λ t. t.now) tokens.now) }
+    ensures value { result ≡ statement_of (map (λ t. t.now) tokens.now) }
+    ensures encoded { IfOk result (λ s. is_encoded s ≡ true) }
 {
     let Some((word, operands)) = tokens.split_first() else {
         return Err(Cause::Word);

@@ -20,7 +20,7 @@ const TEXT_LIMIT: usize = 65_520;
 
 /// The statements of a user text that stand so far, which contracts see as their list: no label is
 /// given twice, and their bytes are at most 65,520. Own.
-#[derive(Drop)]
+#[derive(Debug, Drop)]
 pub struct UserText {
     stmts: Vec<Stmt>,
     labels: Labels,
@@ -40,7 +40,7 @@ impl Model for UserText {
 }
 
 /// A user text that is assembled. Own.
-#[derive(Drop)]
+#[derive(Debug, Drop)]
 pub struct WholeText {
     /// The bytes.
     pub bytes: Many<u8>,
@@ -98,7 +98,11 @@ impl UserText {
         requires { is_encoded s ≡ true }
         ensures { Comes (text_grown self s) result }
     {
-        let UserText { mut stmts, labels, size } = self;
+        let UserText {
+            mut stmts,
+            labels,
+            size,
+        } = self;
         if is_given(&labels, &s) {
             return Err(Stop::Because(Cause::Double));
         }
@@ -110,7 +114,11 @@ impl UserText {
             return Err(Stop::NoMemory);
         };
         match stmts.push(s) {
-            Ok(()) => Ok(UserText { stmts, labels, size: end }),
+            Ok(()) => Ok(UserText {
+                stmts,
+                labels,
+                size: end,
+            }),
             Err(_) => Err(Stop::NoMemory),
         }
     }

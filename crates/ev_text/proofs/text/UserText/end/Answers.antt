@@ -1,7 +1,5 @@
-use Rattle.std.proofs.Common.{◌≡◌, ◌⊎◌, Err, List, Result, sym, ap, ◌∙◌, subst}
+use Rattle.std.proofs.Common.{◌≡◌, ◌⊎◌, Err, List, sym, subst}
 use Rattle.ev_asm.specs.declared.statement.Stmt.{Stmt}
-use Rattle.ev_asm.specs.declared.text.Text.{Text}
-use Rattle.ev_asm.specs.declared.fault.AsmFault.{AsmFault}
 use Rattle.ev_asm.specs.declared.fault.AsmFault.TheVariants.{NoMemory}
 use Rattle.ev_asm.specs.Assembled.{assembled}
 use Rattle.ev_text.specs.declared.stop.Stop.{Stop}

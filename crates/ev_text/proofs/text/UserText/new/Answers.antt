@@ -1,4 +1,3 @@
-use Rattle.std.proofs.Common.{sym, subst, List, [], ◌≡◌}
 use Rattle.ev_text.proofs.TextLaws.{nothing_is_text}
 use Rattle.ev_text.proofs.text.UserText.new.Goals as goal
 

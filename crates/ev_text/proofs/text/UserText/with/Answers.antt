@@ -1,8 +1,5 @@
-use Rattle.std.proofs.Common.{◌≡◌, ◌<◌, ◌≤◌, ◌+◌, ◌++◌, ◌∷◌, [], List, Ok, Err, sym, ap, ◌∙◌, subst, arith}
-use Rattle.ev_asm.specs.declared.statement.Stmt.{Stmt}
+use Rattle.std.proofs.Common.{◌<◌, ◌≤◌, ◌+◌, sym, arith}
 use Rattle.ev_asm.specs.Assembly.{size}
-use Rattle.ev_text.specs.UserText.{text_grown}
-use Rattle.ev_text.specs.TextStands.{IsText}
 use Rattle.ev_text.proofs.TextLaws.{twice, too_large, grown, stands}
 use Rattle.ev_text.proofs.text.UserText.with.Goals as goal
 
