@@ -1,0 +1,4 @@
+pub mod Opening
+pub mod Given
+pub mod Filling
+pub mod Examples

@@ -1,0 +1,4 @@
+pub mod LabelLine
+pub mod Sections
+pub mod Head
+pub mod Reads
