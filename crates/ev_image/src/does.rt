@@ -82,7 +82,7 @@ fn new_task(alloc: Global, processor: u64, start: u64, gs: u64) -> TaskLine
 }
 
 /// What a `task` line does.
-fn task_begun(
+pub fn task_begun(
     alloc: Global,
     kernel: Kernel,
     processor: u64,
@@ -136,7 +136,7 @@ fn with_register(task: TaskLine, r: Reg, n: u64) -> Result<TaskLine, AllocError>
 }
 
 /// What a `reg` line does.
-fn register_given(kernel: Kernel, r: Reg, n: u64) -> Result<Head, Stop>
+pub fn register_given(kernel: Kernel, r: Reg, n: u64) -> Result<Head, Stop>
     ensures { Comes (register_given kernel kernel.last r n) result }
 {
     let Kernel {
@@ -229,7 +229,7 @@ fn are_apart(bodies: &[Body], key: Key, side: Side) -> bool
 }
 
 /// What a `body` line does.
-fn body_does(alloc: Global, kernel: Kernel, key: Key, side: Side) -> Result<Head, Stop>
+pub fn body_does(alloc: Global, kernel: Kernel, key: Key, side: Side) -> Result<Head, Stop>
     ensures { Comes (body_does kernel key side) result }
 {
     if is_user_only(key) && !is_user_side(side) {
@@ -278,7 +278,7 @@ fn each_has_one(rows: &[Many<TaskSpec>]) -> bool
 }
 
 /// What the line `script` does.
-fn script_does(alloc: Global, kernel: Kernel) -> Result<Head, Stop>
+pub fn script_does(alloc: Global, kernel: Kernel) -> Result<Head, Stop>
     requires { each_has_one (tasks_by (every_task kernel) kernel.start.processors) ≡ true → IsImage (image_with kernel (tasks_by (every_task kernel) kernel.start.processors)) }
     ensures { Comes (script_does kernel (tasks_by (every_task kernel) kernel.start.processors)) result }
 {
@@ -394,7 +394,7 @@ fn filled(alloc: Global, bodies: Many<Body>) -> Result<Many<Body>, AllocError>
 }
 
 /// What the line `fill` does.
-fn fill_does(alloc: Global, kernel: Kernel) -> Result<Head, Stop>
+pub fn fill_does(alloc: Global, kernel: Kernel) -> Result<Head, Stop>
     ensures { Comes (fill_does kernel) result }
 {
     let Kernel {

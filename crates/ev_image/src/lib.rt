@@ -2,6 +2,7 @@
 #![tactic(auto)]
 
 mod does;
+mod follow;
 mod head;
 mod kernel;
 mod lines;

@@ -1,9 +1,10 @@
 // What the lines of each section say.
 #![tactic(auto, unfolding(crate::proofs::Opening::opening))]
 
-ghost use Rattle.std.specs.Prelude.{◌≡◌, ◌∷◌, [], map, ◌==◌, true, Some};
+ghost use Rattle.std.specs.Prelude.{◌≡◌, ◌∷◌, [], map, ◌==◌, true, Some, IfOk};
 ghost use Rattle.std.specs.List.{list_any};
 ghost use Rattle.std.specs.Option.{option_map};
+ghost use Rattle.ev_asm.specs.Assembled.{is_encoded};
 ghost use Rattle.ev_body.specs.Bodies.{key_number};
 ghost use Rattle.ev_line.specs.Operands.{Within, among, then_make};
 ghost use Rattle.ev_line.specs.Forms.{form, read_by, read_forms};
@@ -193,9 +194,10 @@ fn label_name(token: &[u8]) -> Option<&[u8]>
 }
 
 /// A line of the text: a label or a statement.
-#[tactic(auto, unfolding(crate::specs::Sections::text_said))]
+#[tactic(auto, unfolding(crate::specs::Sections::text_said, ev_asm::specs::Assembled::is_encoded))]
 pub fn text_said(tokens: &[&[u8]]) -> Result<Stmt, Cause>
-    ensures { result ≡ text_said (map (λ t. t.now) tokens.now) }
+    ensures value { result ≡ text_said (map (λ t. t.now) tokens.now) }
+    ensures encoded { IfOk result (λ s. is_encoded s ≡ true) }
 {
     let Some((word, operands)) = tokens.split_first() else {
         return Err(Cause::Word);
