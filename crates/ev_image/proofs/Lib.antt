@@ -2,3 +2,4 @@ pub mod Opening
 pub mod Given
 pub mod Filling
 pub mod Examples
+pub mod Functions

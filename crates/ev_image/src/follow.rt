@@ -1,24 +1,28 @@
 // A line that isn't passed over, and what stands behind it.
 
-ghost use Rattle.std.specs.Prelude.{map};
-ghost use Rattle.ev_line.specs.Operands.{then_make};
+ghost use Rattle.std.specs.Prelude.{◌≡◌, ◌==◌, ◌||◌, ◌++◌, map};
+ghost use Rattle.std.specs.List.{list_any};
+ghost use Rattle.ev_body.specs.WellFormed.{functions_of};
+ghost use Rattle.ev_line.specs.Operands.{among, then_make};
 ghost use Rattle.ev_line.specs.Forms.{read_by};
-ghost use Rattle.ev_part.specs.BodyParts.{body_grown};
+ghost use Rattle.ev_part.specs.BodyParts.{all_parts, body_grown};
+ghost use Rattle.ev_part.specs.PartItems.{is_ended};
 ghost use Rattle.ev_text.specs.UserText.{Comes, text_ended, text_grown};
-ghost use Rattle.ev_image.specs.Head.{and_then, is_main, kernel_does, no_bodies, part_end_does, start_does, text_does};
-ghost use Rattle.ev_image.specs.Opens.{OpensImage};
-ghost use Rattle.ev_image.specs.Sections.{between_forms, end_forms, filled_forms, part_said, start_forms, task_forms, text_said};
+ghost use Rattle.ev_image.specs.Head.{and_then, body_follows, function_of, functions_in, head_follows, is_main, kernel_does, no_bodies, nothing_given, part_end_does, start_does, text_does};
+ghost use Rattle.ev_image.specs.Opens.{HeadOpens, OpensImage};
+ghost use Rattle.ev_image.specs.Sections.{behind_forms, between_forms, end_forms, filled_forms, nest_forms, part_said, processors_forms, start_forms, task_forms, text_said, version_forms};
 ghost use Rattle.ev_image.specs.declared.head.Head.TheVariants as Head;
 ghost use Rattle.ev_image.specs.declared.lines.PartEnd.TheVariants as PartEnd;
 
 use crate::does::{body_does, fill_does, register_given, script_does, start_does, task_begun};
 use crate::head::Head;
 use crate::kernel::{Kernel, Start};
-use crate::lines::KernelLine;
+use crate::lines::{KernelLine, PartEnd};
 use crate::said::*;
+use ev_body::Body;
 use ev_io::Cause;
 use ev_isa::Many;
-use ev_part::BodyLines;
+use ev_part::{BodyLines, PartLines};
 use ev_text::{Stop, UserText};
 use std::alloc::Global;
 
@@ -167,5 +171,146 @@ fn body_ends(alloc: Global, kernel: Kernel, body: BodyLines) -> Result<Head, Sto
                 })),
             }
         }
+    }
+}
+
+/// Whether the function is one of the body's.
+fn has_function(body: &Body, func: u64) -> bool
+    ensures { result ≡ list_any (λ part. part.func == func) body.now.parts }
+{
+    body.parts.as_slice().iter().any(|part| part.func == func)
+}
+
+/// Whether the function is one of a body that stands.
+fn is_declared(bodies: &[Body], func: u64) -> bool
+    ensures { result ≡ list_any (λ b. list_any (λ part. part.func == func) b.parts) bodies.now }
+{
+    bodies.iter().any(|body| has_function(body, func))
+}
+
+/// Whether a part is that of the function.
+fn is_part_of(part: &PartLines, func: u64) -> bool
+    ensures { result ≡ among (function_of part.now) func }
+{
+    part.func() == Some(func)
+}
+
+/// Whether one of the parts is that of the function.
+fn are_parts_of(parts: &[PartLines], func: u64) -> bool
+    ensures { result ≡ list_any (λ p. among (function_of p) func) parts.now }
+{
+    parts.iter().any(|part| is_part_of(part, func))
+}
+
+/// Whether one of three facts holds.
+fn any_of(a: bool, b: bool, c: bool) -> bool
+    ensures { result ≡ (a || b) || c }
+{
+    a || b || c
+}
+
+/// Whether the function stands in a body, or in the one that is being read.
+fn is_function(bodies: &[Body], body: &BodyLines, func: u64) -> bool
+    ensures { result ≡ among (functions_of bodies.now ++ functions_in (all_parts body.now)) func }
+{
+    any_of(
+        is_declared(bodies, func),
+        are_parts_of(body.finished.as_slice(), func),
+        is_part_of(&body.part, func),
+    )
+}
+
+/// The body with a function part that begins.
+fn function_begins(alloc: Global, kernel: Kernel, body: BodyLines, func: u64) -> Result<Head, Stop>
+    ensures { Comes (part_end_does kernel body (PartEnd.Function func)) result }
+{
+    if is_function(kernel.bodies.as_slice(), &body, func) {
+        return Err(Stop::Because(Cause::Double));
+    }
+    match body.function(alloc, func) {
+        Err(_) => Err(Stop::NoMemory),
+        Ok(body) => Ok(Head::Body(kernel, body)),
+    }
+}
+
+/// A line behind the end of a part.
+fn part_ends(alloc: Global, kernel: Kernel, body: BodyLines, tokens: &[&[u8]]) -> Result<Head, Stop>
+    ensures { Comes (and_then (part_end_does kernel body) (read_by (behind_forms body.key) (map (λ t. t.now) tokens.now))) result }
+{
+    match behind_said(body.key, tokens) {
+        Err(cause) => Err(Stop::Because(cause)),
+        Ok(PartEnd::Body) => body_ends(alloc, kernel, body),
+        Ok(PartEnd::Function(func)) => function_begins(alloc, kernel, body, func),
+    }
+}
+
+/// A line of a body.
+fn body_follows(
+    alloc: Global,
+    kernel: Kernel,
+    body: BodyLines,
+    tokens: &[&[u8]],
+) -> Result<Head, Stop>
+    ensures { Comes (body_follows kernel body (map (λ t. t.now) tokens.now) (is_ended body.part.lines)) result }
+{
+    if body.part.is_ended() {
+        part_ends(alloc, kernel, body, tokens)
+    } else {
+        body_grows(alloc, kernel, body, tokens)
+    }
+}
+
+/// The line `image`.
+fn version_follows(tokens: &[&[u8]]) -> Result<Head, Stop>
+    ensures { Comes (then_make (λ n. Head.Processors) (read_by version_forms (map (λ t. t.now) tokens.now))) result }
+{
+    match version_said(tokens) {
+        Err(cause) => Err(Stop::Because(cause)),
+        Ok(_) => Ok(Head::Processors),
+    }
+}
+
+/// The line `processors`.
+fn processors_follow(tokens: &[&[u8]]) -> Result<Head, Stop>
+    ensures { Comes (then_make (λ n. Head.Nest n) (read_by processors_forms (map (λ t. t.now) tokens.now))) result }
+{
+    match processors_said(tokens) {
+        Err(cause) => Err(Stop::Because(cause)),
+        Ok(n) => Ok(Head::Nest(n as u8)),
+    }
+}
+
+/// The line `nest`.
+fn nest_follows(alloc: Global, processors: u8, tokens: &[&[u8]]) -> Result<Head, Stop>
+    ensures { Comes (then_make (λ n. Head.Start (nothing_given processors n)) (read_by nest_forms (map (λ t. t.now) tokens.now))) result }
+{
+    match nest_said(tokens) {
+        Err(cause) => Err(Stop::Because(cause)),
+        Ok(n) => Ok(Head::Start(Start {
+            processors,
+            nest: n as u8,
+            pages: Many::new(alloc),
+            cells: Many::new(alloc),
+        })),
+    }
+}
+
+/// What a line that isn't passed over does to what stands: what stands then, or the line's one cause.
+#[tactic(auto, unfolding(crate::specs::Head::head_follows))]
+pub fn follow(alloc: Global, head: Head, tokens: &[&[u8]]) -> Result<Head, Stop>
+    requires { HeadOpens head }
+    ensures { Comes (head_follows head (map (λ t. t.now) tokens.now)) result }
+{
+    match head {
+        Head::Image => version_follows(tokens),
+        Head::Processors => processors_follow(tokens),
+        Head::Nest(processors) => nest_follows(alloc, processors, tokens),
+        Head::Start(start) => start_follows(alloc, start, tokens),
+        Head::Text(start, text) => text_follows(alloc, start, text, tokens),
+        Head::Tasks(kernel) => tasks_follow(alloc, kernel, tokens),
+        Head::Body(kernel, body) => body_follows(alloc, kernel, body, tokens),
+        Head::Bodies(kernel) => bodies_follow(alloc, kernel, tokens),
+        Head::Filled(kernel) => filled_follow(alloc, kernel, tokens),
+        Head::Opened(_) => Err(Stop::Because(Cause::Word)),
     }
 }

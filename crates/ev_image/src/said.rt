@@ -1,7 +1,7 @@
 // What the lines of each section say.
 #![tactic(auto, unfolding(crate::proofs::Opening::opening))]
 
-ghost use Rattle.std.specs.Prelude.{◌≡◌, ◌∷◌, [], map, ◌==◌, true, Some, IfOk};
+ghost use Rattle.std.specs.Prelude.{◌≡◌, ◌∷◌, [], map, ◌==◌, ◌≤◌, true, Some, IfOk};
 ghost use Rattle.std.specs.List.{list_any};
 ghost use Rattle.std.specs.Option.{option_map};
 ghost use Rattle.ev_asm.specs.Assembled.{is_encoded};
@@ -47,7 +47,8 @@ pub fn version_said(tokens: &[&[u8]]) -> Result<u64, Cause>
 
 /// The number of processors.
 fn processors_number(operands: &[&[u8]]) -> Result<u64, Cause>
-    ensures { result ≡ read_forms (form (Within 1 8 ∷ []) (λ n. n) ∷ []) (map (λ t. t.now) operands.now) }
+    ensures small { IfOk result (λ n. n ≤ 8) }
+    ensures value { result ≡ read_forms (form (Within 1 8 ∷ []) (λ n. n) ∷ []) (map (λ t. t.now) operands.now) }
 {
     number_within(1, 8, one(operands)?)
 }
@@ -55,7 +56,8 @@ fn processors_number(operands: &[&[u8]]) -> Result<u64, Cause>
 /// The number of processors. Word where another word stands.
 #[tactic(auto, unfolding(crate::proofs::Opening::words), using(crate::proofs::Opening::no_forms))]
 pub fn processors_said(tokens: &[&[u8]]) -> Result<u64, Cause>
-    ensures { result ≡ read_by processors_forms (map (λ t. t.now) tokens.now) }
+    ensures small { IfOk result (λ n. n ≤ 8) }
+    ensures value { result ≡ read_by processors_forms (map (λ t. t.now) tokens.now) }
 {
     let Some((word, operands)) = tokens.split_first() else {
         return Err(Cause::Word);
@@ -68,7 +70,8 @@ pub fn processors_said(tokens: &[&[u8]]) -> Result<u64, Cause>
 
 /// The number of bodies that may stand on one another.
 fn nest_number(operands: &[&[u8]]) -> Result<u64, Cause>
-    ensures { result ≡ read_forms (form (Within 1 32 ∷ []) (λ n. n) ∷ []) (map (λ t. t.now) operands.now) }
+    ensures small { IfOk result (λ n. n ≤ 32) }
+    ensures value { result ≡ read_forms (form (Within 1 32 ∷ []) (λ n. n) ∷ []) (map (λ t. t.now) operands.now) }
 {
     number_within(1, 32, one(operands)?)
 }
@@ -76,7 +79,8 @@ fn nest_number(operands: &[&[u8]]) -> Result<u64, Cause>
 /// The number of bodies that may stand on one another. Word where another word stands.
 #[tactic(auto, unfolding(crate::proofs::Opening::words), using(crate::proofs::Opening::no_forms))]
 pub fn nest_said(tokens: &[&[u8]]) -> Result<u64, Cause>
-    ensures { result ≡ read_by nest_forms (map (λ t. t.now) tokens.now) }
+    ensures small { IfOk result (λ n. n ≤ 32) }
+    ensures value { result ≡ read_by nest_forms (map (λ t. t.now) tokens.now) }
 {
     let Some((word, operands)) = tokens.split_first() else {
         return Err(Cause::Word);
