@@ -2,7 +2,6 @@
 use Rattle.std.specs.Prelude.{◌≡◌, refl, ℕ, List, [], ◌∷◌, ◌++◌, length, codes, Option, Some, None, Result, Ok, Err}
 use Rattle.ev_io.specs.declared.cause.Cause.{Cause}
 use Rattle.ev_io.specs.declared.cause.Cause.TheVariants as Cause
-use Rattle.ev_body.specs.KernelImage.{KernelImage}
 use Rattle.ev_io.specs.Follow.{tokens_follow, line_follows, read}
 use Rattle.ev_io.specs.InputLines.{lines_of, text_of, byte_fault, fault_from}
 use Rattle.ev_io.specs.Number.{digit, is_digits, is_decimal, is_hexadecimal, value as digits_value, below_word, number_of}
@@ -19,7 +18,8 @@ use Rattle.ev_part.specs.ItemWords.{lone_item, jump_item, local_item, shared_ite
 use Rattle.ev_part.specs.PartItems.{is_end, ends_part, leads, item_at, is_second_here, part_grown}
 use Rattle.ev_image.specs.Head.{tasks_by, kernel_does, head_follows}
 use Rattle.ev_image.specs.LabelLine.{label_name}
-use Rattle.ev_image.specs.Reads.{read_image}
+use Rattle.ev_image.specs.declared.head.Head.TheVariants as Head
+use Rattle.ev_image.specs.Reads.{Opened, opened}
 use Rattle.ev_image.specs.Sections.{version_forms, processors_forms, nest_forms, start_forms, end_forms, text_said, task_forms, between_forms, filled_forms, part_said, behind_forms}
 use Rattle.ev_asm.specs.Assembled.{is_second_label, first_at, leads_nowhere, first_too_large, addresses_of, assembled}
 use Rattle.ev_asm.specs.Assembly.{size, places, distance, stmt_bytes, code}
@@ -29,24 +29,24 @@ use Rattle.ev_body.specs.WellFormed.{is_user_only, is_user_side}
 use Rattle.ev_abstract.specs.EntryText.{key_text, side_text}
 
 unfoldable computing : Unit {0}
-unfolding tokens_follow line_follows read lines_of text_of byte_fault fault_from digit is_digits is_decimal is_hexadecimal digits_value below_word number_of pieces tokens_of is_passed_over same_kind kind_of kind_by_start kind_among takes kind_here is_shaped fitting read_places read_form read_fitting read_forms read_by is_good_name register_of low_digit interrupt_key key_of side_of number number_within displacement signed processor register local label key side sent_key closed behind_word parted memory_parts gs_part based memory gs value text_forms statement_forms text_grown text_ended alu_word jump_word lone_word long_word move_word other_word text_word function_part body_ended item_forms part_forms lone_item jump_item local_item shared_item call_item long_item operand_item item_word is_end ends_part leads item_at is_second_here part_grown tasks_by kernel_does head_follows label_name read_image version_forms processors_forms nest_forms start_forms end_forms text_said task_forms between_forms filled_forms part_said behind_forms is_second_label first_at leads_nowhere first_too_large addresses_of assembled size places distance stmt_bytes code four_bytes spelling key_number covers is_user_only is_user_side key_text side_text
+unfolding tokens_follow line_follows read lines_of text_of byte_fault fault_from digit is_digits is_decimal is_hexadecimal digits_value below_word number_of pieces tokens_of is_passed_over same_kind kind_of kind_by_start kind_among takes kind_here is_shaped fitting read_places read_form read_fitting read_forms read_by is_good_name register_of low_digit interrupt_key key_of side_of number number_within displacement signed processor register local label key side sent_key closed behind_word parted memory_parts gs_part based memory gs value text_forms statement_forms text_grown text_ended alu_word jump_word lone_word long_word move_word other_word text_word function_part body_ended item_forms part_forms lone_item jump_item local_item shared_item call_item long_item operand_item item_word is_end ends_part leads item_at is_second_here part_grown tasks_by kernel_does head_follows label_name opened version_forms processors_forms nest_forms start_forms end_forms text_said task_forms between_forms filled_forms part_said behind_forms is_second_label first_at leads_nowhere first_too_large addresses_of assembled size places distance stmt_bytes code four_bytes spelling key_number covers is_user_only is_user_side key_text side_text
 computing = tt
 
 -- the first line that doesn't follow, with its cause
-abbrev refusal_of : Result KernelImage (ℕ × Cause) → Option (ℕ × Cause)
-refusal_of (Ok image) = None
+abbrev refusal_of : Result Opened (ℕ × Cause) → Option (ℕ × Cause)
+refusal_of (Ok o) = None
 refusal_of (Err e) = Some e
 
 abbrev refusal : List ℕ → Option (ℕ × Cause)
-refusal bytes = refusal_of (read_image 0 0 (lines_of bytes))
+refusal bytes = refusal_of (opened 0 0 Head.Image (lines_of bytes))
 
 -- the numbers of processors, of bytes of text and of bodies
-abbrev sizes_of : Result KernelImage (ℕ × Cause) → Option (ℕ × ℕ × ℕ)
-sizes_of (Ok image) = Some (image.processors, length image.text, length image.bodies)
+abbrev sizes_of : Result Opened (ℕ × Cause) → Option (ℕ × ℕ × ℕ)
+sizes_of (Ok o) = Some (o.image.processors, length o.image.text, length o.image.bodies)
 sizes_of (Err e) = None
 
 abbrev sizes : List ℕ → Option (ℕ × ℕ × ℕ)
-sizes bytes = sizes_of (read_image 0 0 (lines_of bytes))
+sizes bytes = sizes_of (opened 0 0 Head.Image (lines_of bytes))
 
 -- the first lines of a document
 unfoldable head : List ℕ
@@ -140,3 +140,8 @@ second_function = refl
 function_elsewhere : refusal (head ++ codes "body sys user\nret\nfunc 0\n") ≡ Some (11, Cause.Word)
 unfolding computing head
 function_elsewhere = refl
+
+-- reading ends at the line `script`: what stands behind it is no part of the image
+behind_script : sizes (head ++ codes "script\nturn 0\nend\n") ≡ Some (1, 1, 0)
+unfolding computing head
+behind_script = refl
