@@ -29,7 +29,15 @@ use Rattle.ev_body.specs.WellFormed.{is_user_only, is_user_side}
 use Rattle.ev_abstract.specs.EntryText.{key_text, side_text}
 
 unfoldable computing : Unit {0}
-unfolding tokens_follow line_follows read lines_of text_of byte_fault fault_from digit is_digits is_decimal is_hexadecimal digits_value below_word number_of pieces tokens_of is_passed_over same_kind kind_of kind_by_start kind_among takes kind_here is_shaped fitting read_places read_form read_fitting read_forms read_by is_good_name register_of low_digit interrupt_key key_of side_of number number_within displacement signed processor register local label key side sent_key closed behind_word parted memory_parts gs_part based memory gs value text_forms statement_forms text_grown text_ended alu_word jump_word lone_word long_word move_word other_word text_word function_part body_ended item_forms part_forms lone_item jump_item local_item shared_item call_item long_item operand_item item_word is_end ends_part leads item_at is_second_here part_grown tasks_by kernel_does head_follows label_name opened version_forms processors_forms nest_forms start_forms end_forms text_said task_forms between_forms filled_forms part_said behind_forms is_second_label first_at leads_nowhere first_too_large addresses_of assembled size places distance stmt_bytes code four_bytes spelling key_number covers is_user_only is_user_side key_text side_text
+unfolding tokens_follow line_follows read lines_of text_of byte_fault fault_from digit is_digits is_decimal is_hexadecimal digits_value below_word number_of
+    pieces tokens_of is_passed_over same_kind kind_of kind_by_start kind_among takes kind_here is_shaped fitting read_places read_form read_fitting
+    read_forms read_by is_good_name register_of low_digit interrupt_key key_of side_of number number_within displacement signed processor register local
+    label key side sent_key closed behind_word parted memory_parts gs_part based memory gs value text_forms statement_forms text_grown text_ended alu_word
+    jump_word lone_word long_word move_word other_word text_word function_part body_ended item_forms part_forms lone_item jump_item local_item shared_item
+    call_item long_item operand_item item_word is_end ends_part leads item_at is_second_here part_grown tasks_by kernel_does head_follows label_name opened
+    version_forms processors_forms nest_forms start_forms end_forms text_said task_forms between_forms filled_forms part_said behind_forms is_second_label
+    first_at leads_nowhere first_too_large addresses_of assembled size places distance stmt_bytes code four_bytes spelling key_number covers is_user_only
+    is_user_side key_text side_text
 computing = tt
 
 -- the first line that doesn't follow, with its cause

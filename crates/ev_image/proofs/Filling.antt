@@ -19,7 +19,8 @@ first_lacks n (b ∷ bs) key = by (runs_user b key) (first_lacks (suc n) bs key)
 
 same_filter : (f g : Key → Bool) → ((k : Key) → f k ≡ g k) → (ks : List Key) → filter f ks ≡ filter g ks
 same_filter f g h [] = refl
-same_filter f g h (k ∷ ks) = ap (λ (b : Bool). if b then k ∷ filter f ks else filter f ks) (h k) ∙ ap (λ (l : List Key). if g k then k ∷ l else l) (same_filter f g h ks)
+same_filter f g h (k ∷ ks) = ap (λ (b : Bool). if b then k ∷ filter f ks else filter f ks) (h k) ∙ ap (λ (l : List Key). if g k then k ∷ l else l)
+    (same_filter f g h ks)
 
 pub filled_so : (bs : List Body) → bs ++ map plain_body (filter (λ key. not (list_any (λ b. runs_user b key) bs)) filled_keys) ≡ fill bs
 filled_so bs =

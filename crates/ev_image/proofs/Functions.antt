@@ -26,10 +26,12 @@ in_parts (p ∷ ps) n = ap (λ (b : Bool). (p.func == n) || b) (in_parts ps n)
 in_bodies : (bs : List Body) (n : ℕ) → list_any (λ (b : Body). list_any (λ (p : Part). p.func == n) b.parts) bs ≡ among (functions_of bs) n
 in_bodies [] n = refl
 in_bodies (b ∷ bs) n =
-    ap (λ (c : Bool). list_any (λ (p : Part). p.func == n) b.parts || c) (in_bodies bs n) ∙ ap (λ (c : Bool). c || among (functions_of bs) n) (in_parts b.parts n)
+    ap (λ (c : Bool). list_any (λ (p : Part). p.func == n) b.parts || c) (in_bodies bs n) ∙ ap (λ (c : Bool). c || among (functions_of bs) n)
+    (in_parts b.parts n)
     ∙ sym (among_append (map (λ (p : Part). p.func) b.parts) (functions_of bs) n)
 
-in_views : (ps : List PartView) (p : PartView) (n : ℕ) → list_any (λ (q : PartView). among (function_of q) n) ps || among (function_of p) n ≡ among (functions_in (ps ++ p ∷ [])) n
+in_views : (ps : List PartView) (p : PartView) (n : ℕ) → list_any (λ (q : PartView). among (function_of q) n) ps || among (function_of p) n ≡ among
+    (functions_in (ps ++ p ∷ [])) n
 in_views [] p n = sym (among_append (function_of p) [] n ∙ or_false (among (function_of p) n))
   where
     or_false : (b : Bool) → b || false ≡ b
@@ -41,9 +43,11 @@ in_views (q ∷ qs) p n =
 
 -- a function stands in a body, or in the one that is being read
 pub declared_so : (bs : List Body) (b : BodyLines) (n : ℕ) →
-    (list_any (λ (c : Body). list_any (λ (p : Part). p.func == n) c.parts) bs || list_any (λ (q : PartView). among (function_of q) n) b.finished) || among (function_of b.part) n
+    (list_any (λ (c : Body). list_any (λ (p : Part). p.func == n) c.parts) bs || list_any (λ (q : PartView). among (function_of q) n) b.finished) || among
+    (function_of b.part) n
     ≡ among (functions_of bs ++ functions_in (all_parts b)) n
 declared_so bs b n =
-    or_assoc (list_any (λ (c : Body). list_any (λ (p : Part). p.func == n) c.parts) bs) (list_any (λ (q : PartView). among (function_of q) n) b.finished) (among (function_of b.part) n)
+    or_assoc (list_any (λ (c : Body). list_any (λ (p : Part). p.func == n) c.parts) bs) (list_any (λ (q : PartView). among (function_of q) n) b.finished)
+    (among (function_of b.part) n)
     ∙ ap (λ (c : Bool). list_any (λ (d : Body). list_any (λ (p : Part). p.func == n) d.parts) bs || c) (in_views b.finished b.part n)
     ∙ ap (λ (c : Bool). c || among (functions_in (all_parts b)) n) (in_bodies bs n) ∙ sym (among_append (functions_of bs) (functions_in (all_parts b)) n)

@@ -24,7 +24,8 @@ abbrev pub image_in : Head → Option KernelImage
 image_in (Head.Opened image) = Some image
 image_in _ = None
 
--- The image of these lines, where n lines of so many bytes of the input stand before them and a head stands; or the first line that doesn't follow, with its cause; or NoEnd at the last line where no line is `script`. Reading ends at `script`.
+-- The image of these lines, where n lines of so many bytes of the input stand before them and a head stands; or the first line that doesn't follow,
+-- with its cause; or NoEnd at the last line where no line is `script`. Reading ends at `script`.
 unfoldable pub opened : (n before : ℕ) → Head → List (List ℕ) → Result Opened (ℕ × Cause)
 opened n before head [] = Err (n, Cause.NoEnd)
 opened n before head (line ∷ lines) = elim (line_follows head_follows before head line) [
@@ -35,7 +36,8 @@ opened n before head (line ∷ lines) = elim (line_follows head_follows before h
   ]
 ]
 
--- The answer of a reader that stood so before these bytes: the image, with its reader behind the line `script`; or the first refusal; or the source failed, and the lines before had none.
+-- The answer of a reader that stood so before these bytes: the image, with its reader behind the line `script`; or the first refusal; or the source
+-- failed, and the lines before had none.
 abbrev pub ReadsImage : Reading → List ℕ → Reading → Option (List ℕ) → Result KernelImage ImageFault → Type 0
 ReadsImage old bytes new rest (Ok image) = (left : List ℕ) × (rest ≡ Some left)
     × (opened old.number old.gone Head.Image (lines_of bytes) ≡ Ok (record { image = image; lines = new.number; bytes = new.gone; behind = lines_of left }))

@@ -279,8 +279,10 @@ fn each_has_one(rows: &[Many<TaskSpec>]) -> bool
 
 /// What the line `script` does.
 pub fn script_does(alloc: Global, kernel: Kernel) -> Result<Head, Stop>
-    requires { each_has_one (tasks_by (every_task kernel) kernel.start.processors) ≡ true → IsImage (image_with kernel (tasks_by (every_task kernel) kernel.start.processors)) }
-    ensures { Comes (script_does kernel (tasks_by (every_task kernel) kernel.start.processors)) result }
+    requires { each_has_one (tasks_by (every_task kernel) kernel.start.processors) ≡ true
+        → IsImage (image_with kernel (tasks_by (every_task kernel) kernel.start.processors)) }
+    ensures { Comes (script_does kernel (tasks_by (every_task kernel) kernel.start.processors))
+        result }
 {
     let Kernel {
         start,
@@ -350,7 +352,8 @@ fn lacks(bodies: &[Body], key: Key) -> bool
 
 /// The keys to be filled.
 fn lacking(alloc: Global, bodies: &[Body]) -> Result<Vec<Key>, AllocError>
-    ensures { IfOk result (λ v. v.items ≡ filter (λ key. not (list_any (λ b. runs_user b key) bodies.now)) filled_keys) }
+    ensures { IfOk result (λ v. v.items ≡ filter
+        (λ key. not (list_any (λ b. runs_user b key) bodies.now)) filled_keys) }
 {
     FILLED
         .iter()

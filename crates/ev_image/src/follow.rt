@@ -28,7 +28,8 @@ use std::alloc::Global;
 
 /// A line before the text.
 fn start_follows(alloc: Global, start: Start, tokens: &[&[u8]]) -> Result<Head, Stop>
-    ensures { Comes (and_then (start_does start) (read_by (start_forms start) (map (λ t. t.now) tokens.now))) result }
+    ensures { Comes (and_then (start_does start)
+        (read_by (start_forms start) (map (λ t. t.now) tokens.now))) result }
 {
     match start_said(&start, tokens) {
         Err(cause) => Err(Stop::Because(cause)),
@@ -41,7 +42,8 @@ fn start_follows(alloc: Global, start: Start, tokens: &[&[u8]]) -> Result<Head, 
 
 /// The text with a line more.
 fn text_grows(alloc: Global, start: Start, text: UserText, tokens: &[&[u8]]) -> Result<Head, Stop>
-    ensures { Comes (then_make (λ more. Head.Text start more) (and_then (text_grown text) (text_said (map (λ t. t.now) tokens.now)))) result }
+    ensures { Comes (then_make (λ more. Head.Text start more)
+        (and_then (text_grown text) (text_said (map (λ t. t.now) tokens.now)))) result }
 {
     match text_said(tokens) {
         Err(cause) => Err(Stop::Because(cause)),
@@ -54,7 +56,8 @@ fn text_grows(alloc: Global, start: Start, text: UserText, tokens: &[&[u8]]) -> 
 
 /// The text at its end.
 fn text_ends(alloc: Global, start: Start, text: UserText) -> Result<Head, Stop>
-    ensures { Comes (then_make (λ whole. Head.Tasks (no_bodies start whole)) (text_ended text)) result }
+    ensures { Comes (then_make (λ whole. Head.Tasks (no_bodies start whole)) (text_ended text))
+        result }
 {
     match text.end(alloc) {
         Err(stop) => Err(stop),
@@ -70,7 +73,8 @@ fn text_ends(alloc: Global, start: Start, text: UserText) -> Result<Head, Stop>
 
 /// A line of the text.
 fn text_follows(alloc: Global, start: Start, text: UserText, tokens: &[&[u8]]) -> Result<Head, Stop>
-    ensures { Comes (text_does start text (map (λ t. t.now) tokens.now) (read_by end_forms (map (λ t. t.now) tokens.now))) result }
+    ensures { Comes (text_does start text (map (λ t. t.now) tokens.now)
+        (read_by end_forms (map (λ t. t.now) tokens.now))) result }
 {
     match end_said(tokens) {
         Ok(()) => text_ends(alloc, start, text),
@@ -97,7 +101,8 @@ fn kernel_does(alloc: Global, kernel: Kernel, line: KernelLine) -> Result<Head, 
 /// A line behind the text, before any body.
 fn tasks_follow(alloc: Global, kernel: Kernel, tokens: &[&[u8]]) -> Result<Head, Stop>
     requires { OpensImage kernel }
-    ensures { Comes (and_then (kernel_does kernel) (read_by (task_forms kernel) (map (λ t. t.now) tokens.now))) result }
+    ensures { Comes (and_then (kernel_does kernel)
+        (read_by (task_forms kernel) (map (λ t. t.now) tokens.now))) result }
 {
     match task_said(&kernel, tokens) {
         Err(cause) => Err(Stop::Because(cause)),
@@ -108,7 +113,8 @@ fn tasks_follow(alloc: Global, kernel: Kernel, tokens: &[&[u8]]) -> Result<Head,
 /// A line behind a body.
 fn bodies_follow(alloc: Global, kernel: Kernel, tokens: &[&[u8]]) -> Result<Head, Stop>
     requires { OpensImage kernel }
-    ensures { Comes (and_then (kernel_does kernel) (read_by between_forms (map (λ t. t.now) tokens.now))) result }
+    ensures { Comes (and_then (kernel_does kernel)
+        (read_by between_forms (map (λ t. t.now) tokens.now))) result }
 {
     match between_said(tokens) {
         Err(cause) => Err(Stop::Because(cause)),
@@ -119,7 +125,8 @@ fn bodies_follow(alloc: Global, kernel: Kernel, tokens: &[&[u8]]) -> Result<Head
 /// A line behind `fill`.
 fn filled_follow(alloc: Global, kernel: Kernel, tokens: &[&[u8]]) -> Result<Head, Stop>
     requires { OpensImage kernel }
-    ensures { Comes (and_then (kernel_does kernel) (read_by filled_forms (map (λ t. t.now) tokens.now))) result }
+    ensures { Comes (and_then (kernel_does kernel)
+        (read_by filled_forms (map (λ t. t.now) tokens.now))) result }
 {
     match filled_said(tokens) {
         Err(cause) => Err(Stop::Because(cause)),
@@ -134,7 +141,9 @@ fn body_grows(
     body: BodyLines,
     tokens: &[&[u8]],
 ) -> Result<Head, Stop>
-    ensures { Comes (then_make (λ more. Head.Body kernel more) (and_then (body_grown body) (part_said kernel.text.labels (is_main body.part) (map (λ t. t.now) tokens.now)))) result }
+    ensures { Comes (then_make (λ more. Head.Body kernel more)
+        (and_then (body_grown body)
+        (part_said kernel.text.labels (is_main body.part) (map (λ t. t.now) tokens.now)))) result }
 {
     let is_main = body.part.func().is_none();
     match part_said(&kernel.text.labels, is_main, tokens) {
@@ -235,7 +244,8 @@ fn function_begins(alloc: Global, kernel: Kernel, body: BodyLines, func: u64) ->
 
 /// A line behind the end of a part.
 fn part_ends(alloc: Global, kernel: Kernel, body: BodyLines, tokens: &[&[u8]]) -> Result<Head, Stop>
-    ensures { Comes (and_then (part_end_does kernel body) (read_by (behind_forms body.key) (map (λ t. t.now) tokens.now))) result }
+    ensures { Comes (and_then (part_end_does kernel body)
+        (read_by (behind_forms body.key) (map (λ t. t.now) tokens.now))) result }
 {
     match behind_said(body.key, tokens) {
         Err(cause) => Err(Stop::Because(cause)),
@@ -251,7 +261,8 @@ fn body_follows(
     body: BodyLines,
     tokens: &[&[u8]],
 ) -> Result<Head, Stop>
-    ensures { Comes (body_follows kernel body (map (λ t. t.now) tokens.now) (is_ended body.part.lines)) result }
+    ensures { Comes (body_follows kernel body (map (λ t. t.now) tokens.now)
+        (is_ended body.part.lines)) result }
 {
     if body.part.is_ended() {
         part_ends(alloc, kernel, body, tokens)
@@ -262,7 +273,8 @@ fn body_follows(
 
 /// The line `image`.
 fn version_follows(tokens: &[&[u8]]) -> Result<Head, Stop>
-    ensures { Comes (then_make (λ n. Head.Processors) (read_by version_forms (map (λ t. t.now) tokens.now))) result }
+    ensures { Comes (then_make (λ n. Head.Processors)
+        (read_by version_forms (map (λ t. t.now) tokens.now))) result }
 {
     match version_said(tokens) {
         Err(cause) => Err(Stop::Because(cause)),
@@ -272,7 +284,8 @@ fn version_follows(tokens: &[&[u8]]) -> Result<Head, Stop>
 
 /// The line `processors`.
 fn processors_follow(tokens: &[&[u8]]) -> Result<Head, Stop>
-    ensures { Comes (then_make (λ n. Head.Nest n) (read_by processors_forms (map (λ t. t.now) tokens.now))) result }
+    ensures { Comes (then_make (λ n. Head.Nest n)
+        (read_by processors_forms (map (λ t. t.now) tokens.now))) result }
 {
     match processors_said(tokens) {
         Err(cause) => Err(Stop::Because(cause)),
@@ -282,7 +295,8 @@ fn processors_follow(tokens: &[&[u8]]) -> Result<Head, Stop>
 
 /// The line `nest`.
 fn nest_follows(alloc: Global, processors: u8, tokens: &[&[u8]]) -> Result<Head, Stop>
-    ensures { Comes (then_make (λ n. Head.Start (nothing_given processors n)) (read_by nest_forms (map (λ t. t.now) tokens.now))) result }
+    ensures { Comes (then_make (λ n. Head.Start (nothing_given processors n))
+        (read_by nest_forms (map (λ t. t.now) tokens.now))) result }
 {
     match nest_said(tokens) {
         Err(cause) => Err(Stop::Because(cause)),

@@ -26,7 +26,8 @@ use ev_text::{Labels, is, none, one, statement, two};
 
 /// The version of the document.
 fn version_number(operands: &[&[u8]]) -> Result<u64, Cause>
-    ensures { result ≡ read_forms (form (Within 1 1 ∷ []) (λ n. n) ∷ []) (map (λ t. t.now) operands.now) }
+    ensures { result ≡ read_forms (form (Within 1 1 ∷ []) (λ n. n) ∷ [])
+        (map (λ t. t.now) operands.now) }
 {
     number_within(1, 1, one(operands)?)
 }
@@ -48,7 +49,8 @@ pub fn version_said(tokens: &[&[u8]]) -> Result<u64, Cause>
 /// The number of processors.
 fn processors_number(operands: &[&[u8]]) -> Result<u64, Cause>
     ensures small { IfOk result (λ n. n ≤ 8) }
-    ensures value { result ≡ read_forms (form (Within 1 8 ∷ []) (λ n. n) ∷ []) (map (λ t. t.now) operands.now) }
+    ensures value { result ≡ read_forms (form (Within 1 8 ∷ []) (λ n. n) ∷ [])
+        (map (λ t. t.now) operands.now) }
 {
     number_within(1, 8, one(operands)?)
 }
@@ -71,7 +73,8 @@ pub fn processors_said(tokens: &[&[u8]]) -> Result<u64, Cause>
 /// The number of bodies that may stand on one another.
 fn nest_number(operands: &[&[u8]]) -> Result<u64, Cause>
     ensures small { IfOk result (λ n. n ≤ 32) }
-    ensures value { result ≡ read_forms (form (Within 1 32 ∷ []) (λ n. n) ∷ []) (map (λ t. t.now) operands.now) }
+    ensures value { result ≡ read_forms (form (Within 1 32 ∷ []) (λ n. n) ∷ [])
+        (map (λ t. t.now) operands.now) }
 {
     number_within(1, 32, one(operands)?)
 }
@@ -217,7 +220,8 @@ pub fn text_said(tokens: &[&[u8]]) -> Result<Stmt, Cause>
 
 /// Three operands and no more, else Count.
 fn three<'a>(operands: &[&'a [u8]]) -> Result<(&'a [u8], &'a [u8], &'a [u8]), Cause>
-    ensures { then_make (λ p. (p.0.now, p.1.now, p.2.now)) result ≡ three_in (map (λ t. t.now) operands.now) }
+    ensures { then_make (λ p. (p.0.now, p.1.now, p.2.now)) result ≡ three_in
+        (map (λ t. t.now) operands.now) }
 {
     match operands {
         [a, b, c] => Ok((*a, *b, *c)),

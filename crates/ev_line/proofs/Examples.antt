@@ -25,11 +25,13 @@ signed_numbers : signed (codes "-2147483648") ∷ signed (codes "2147483648") �
 unfolding reading_numbers
 signed_numbers = refl
 
-registers : register (codes "r15") ∷ register (codes "r16") ∷ local (codes "rdi") ∷ local (codes "rax") ∷ [] ≡ Ok 15 ∷ Err Cause.Name ∷ Ok 7 ∷ Err Cause.Name ∷ []
+registers : register (codes "r15") ∷ register (codes "r16") ∷ local (codes "rdi") ∷ local (codes "rax") ∷ [] ≡ Ok 15 ∷ Err Cause.Name ∷ Ok 7
+    ∷ Err Cause.Name ∷ []
 unfolding register local register_of
 registers = refl
 
-names : label (codes "a_1") ∷ label (codes "1a") ∷ label [] ∷ label (codes "a234567890123456789012345678901") ∷ label (codes "a2345678901234567890123456789012") ∷ []
+names : label (codes "a_1") ∷ label (codes "1a") ∷ label [] ∷ label (codes "a234567890123456789012345678901") ∷ label
+    (codes "a2345678901234567890123456789012") ∷ []
     ≡ Ok (codes "a_1") ∷ Err Cause.Name ∷ Err Cause.Name ∷ Ok (codes "a234567890123456789012345678901") ∷ Err Cause.Name ∷ []
 unfolding label is_good_name
 names = refl
@@ -43,7 +45,8 @@ sides : side (codes "both") ∷ side (codes "none") ∷ [] ≡ Ok Side.Both ∷ 
 unfolding side side_of side_text
 sides = refl
 
-memory_operands : memory (codes "[rbx+8]") ∷ memory (codes "[rbx-8]") ∷ memory (codes "[rbx8]") ∷ memory (codes "[rbx+8") ∷ memory (codes "[+x]") ∷ memory (codes "[rbx+]") ∷ []
+memory_operands : memory (codes "[rbx+8]") ∷ memory (codes "[rbx-8]") ∷ memory (codes "[rbx8]") ∷ memory (codes "[rbx+8") ∷ memory (codes "[+x]") ∷ memory
+    (codes "[rbx+]") ∷ []
     ≡ Ok (3, pos 8) ∷ Ok (3, negsuc 7) ∷ Err Cause.Word ∷ Err Cause.Word ∷ Err Cause.Name ∷ Err Cause.Number ∷ []
 unfolding reading_numbers memory memory_parts closed parted behind_word based register register_of
 memory_operands = refl

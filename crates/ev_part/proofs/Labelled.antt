@@ -19,15 +19,18 @@ found_place [] name = refl
 found_place (e ∷ es) name = by (is_name e.0 name) (found_place es name)
   where
     by : (b : Bool) → or_else Cause.NoLabel (found es name) ≡ placed (has_label es name) (place es name)
-        → or_else Cause.NoLabel (let o : Option ℕ = elim b [ true ↦ Some e.1 | false ↦ found es name ] in o) ≡ placed (b || has_label es name) (if b then e.1 else place es name)
+        → or_else Cause.NoLabel (let o : Option ℕ = elim b [ true ↦ Some e.1 | false ↦ found es name ] in o) ≡ placed (b || has_label es name)
+        (if b then e.1 else place es name)
     by true h = refl
     by false h = h
 
-made : (d : Bool) (f : Name → ℕ) (name : Name) → placed d (f name) ≡ then_make f (let r : Result Name Cause = elim d [ true ↦ Ok name | false ↦ Err Cause.NoLabel ] in r)
+made : (d : Bool) (f : Name → ℕ) (name : Name)
+    → placed d (f name) ≡ then_make f (let r : Result Name Cause = elim d [ true ↦ Ok name | false ↦ Err Cause.NoLabel ] in r)
 made true f name = refl
 made false f name = refl
 
 -- a token that is a name, and what the labels have of it
 pub label_said : (ls : Places) (t name : Token) (o : Option ℕ) → Ok name ≡ label t → o ≡ found ls name → or_else Cause.NoLabel o ≡ value (TextLabel ls) t
 unfolding value
-label_said ls t name o e f = ap (or_else Cause.NoLabel) f ∙ found_place ls name ∙ made (has_label ls name) (place ls) name ∙ ap (λ (r : Result Token Cause). then_make (place ls) (if_it (has_label ls) Cause.NoLabel r)) e
+label_said ls t name o e f = ap (or_else Cause.NoLabel) f ∙ found_place ls name ∙ made (has_label ls name) (place ls) name
+    ∙ ap (λ (r : Result Token Cause). then_make (place ls) (if_it (has_label ls) Cause.NoLabel r)) e

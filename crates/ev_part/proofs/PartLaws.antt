@@ -22,7 +22,8 @@ pub found_there : (labels : Places) (name : Name) → is_some (found labels name
 found_there [] name = refl
 found_there (e ∷ es) name = found_by (is_name e.0 name) e.1 (found es name) (has_label es name) (found_there es name)
 
-place_by : (b : Bool) (k n : ℕ) (o : Option ℕ) → (let u : Option ℕ = elim b [ true ↦ Some k | false ↦ o ] in u) ≡ Some n → (p : ℕ) → (o ≡ Some n → p ≡ n) → (if b then k else p) ≡ n
+place_by : (b : Bool) (k n : ℕ) (o : Option ℕ) → (let u : Option ℕ = elim b [ true ↦ Some k | false ↦ o ] in u) ≡ Some n → (p : ℕ) → (o ≡ Some n → p ≡ n)
+    → (if b then k else p) ≡ n
 place_by true k n o h p go = let g : k ≡ n = cc in g
 place_by false k n o h p go = go h
 
@@ -31,7 +32,8 @@ pub place_found : (labels : Places) (name : Name) (n : ℕ) → found labels nam
 place_found [] name n h = absurd cc
 place_found (e ∷ es) name n h = place_by (is_name e.0 name) e.1 n (found es name) h (place es name) (place_found es name n)
 
-lost_by : (b : Bool) (k : ℕ) (o : Option ℕ) → (let u : Option ℕ = elim b [ true ↦ Some k | false ↦ o ] in u) ≡ None → (p : ℕ) → (o ≡ None → p ≡ 0) → (if b then k else p) ≡ 0
+lost_by : (b : Bool) (k : ℕ) (o : Option ℕ) → (let u : Option ℕ = elim b [ true ↦ Some k | false ↦ o ] in u) ≡ None → (p : ℕ) → (o ≡ None → p ≡ 0)
+    → (if b then k else p) ≡ 0
 lost_by true k o h p go = absurd cc
 lost_by false k o h p go = go h
 
@@ -79,7 +81,8 @@ twice p labels n l t h =
 fresh : (p : PartView) (labels : Places) (n : ℕ) (l : BodyLine) → IsPart p labels n → false ≡ gives_again labels l → is_second_here p l ≡ false
 fresh p labels n l t h = sym (again p l) ∙ sym (h ∙ ap (λ (k : Places). gives_again k l) t.given)
 
-pub too_many : (p : PartView) (labels : Places) (n : ℕ) (l : BodyLine) → IsPart p labels n → false ≡ gives_again labels l → 256 < n + item_count l → part_grown p l ≡ Err Cause.Limit
+pub too_many : (p : PartView) (labels : Places) (n : ℕ) (l : BodyLine) → IsPart p labels n → false ≡ gives_again labels l → 256 < n + item_count l
+    → part_grown p l ≡ Err Cause.Limit
 unfolding part_grown
 too_many p labels n l t h k =
     let e = fresh p labels n l t h in

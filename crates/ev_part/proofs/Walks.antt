@@ -4,11 +4,13 @@ use Rattle.ev_part.specs.declared.line.BodyLine.{BodyLine}
 use Rattle.ev_part.specs.PartItems.{ends_part, is_ended}
 
 -- a line that gives something more
-pub with_item : {X Y : Type 0} → (f : X → Option Y) (xs : List X) (i : ℕ) (x : X) (y : Y) (done more W : List Y) → i < length xs → x ≡ get_or xs i x → Some y ≡ f x → more ≡ done ++ y ∷ [] →
+pub with_item : {X Y : Type 0} → (f : X → Option Y) (xs : List X) (i : ℕ) (x : X) (y : Y) (done more W : List Y) → i < length xs → x ≡ get_or xs i x
+    → Some y ≡ f x → more ≡ done ++ y ∷ [] →
     done ++ filter_map f (drop i xs) ≡ W → more ++ filter_map f (drop (i + 1) xs) ≡ W
 with_item {X} {Y} f xs i x y done more W l g h m w =
     rw (m, add-one i, append_assoc done (y ∷ []) (filter_map f (drop (suc i) xs)))
-    (ap (λ (zs : List Y). done ++ zs) (first (f x) h ∙ ap (λ (zs : List X). filter_map f zs) (sym (drop-cons xs i x l ∙ ap (λ (z : X). z ∷ drop (suc i) xs) (sym g)))) ∙ w)
+    (ap (λ (zs : List Y). done ++ zs)
+    (first (f x) h ∙ ap (λ (zs : List X). filter_map f zs) (sym (drop-cons xs i x l ∙ ap (λ (z : X). z ∷ drop (suc i) xs) (sym g)))) ∙ w)
   where
     first : (o : Option Y) → Some y ≡ f x → y ∷ filter_map f (drop (suc i) xs) ≡ filter_map f (x ∷ drop (suc i) xs)
     first o e = rw (sym e) refl
@@ -18,7 +20,8 @@ pub without_item : {X Y : Type 0} → (f : X → Option Y) (xs : List X) (i : �
     done ++ filter_map f (drop i xs) ≡ W → done ++ filter_map f (drop (i + 1) xs) ≡ W
 without_item {X} {Y} f xs i x done W l g h w =
     rw (add-one i)
-    (ap (λ (zs : List Y). done ++ zs) (first h ∙ ap (λ (zs : List X). filter_map f zs) (sym (drop-cons xs i x l ∙ ap (λ (z : X). z ∷ drop (suc i) xs) (sym g)))) ∙ w)
+    (ap (λ (zs : List Y). done ++ zs)
+    (first h ∙ ap (λ (zs : List X). filter_map f zs) (sym (drop-cons xs i x l ∙ ap (λ (z : X). z ∷ drop (suc i) xs) (sym g)))) ∙ w)
   where
     first : None ≡ f x → filter_map f (drop (suc i) xs) ≡ filter_map f (x ∷ drop (suc i) xs)
     first e = rw (sym e) refl

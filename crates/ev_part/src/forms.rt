@@ -16,7 +16,8 @@ use ev_text::{Labels, four, none, one, two};
 
 /// `set d N`
 pub fn set(operands: &[&[u8]]) -> Result<BodyLine, Cause>
-    ensures { (text : Places) (is_main : Bool) → result ≡ read_forms (item_forms text is_main Word.Set) (map (λ t. t.now) operands.now) }
+    ensures { (text : Places) (is_main : Bool)
+        → result ≡ read_forms (item_forms text is_main Word.Set) (map (λ t. t.now) operands.now) }
 {
     let (d, n) = two(operands)?;
     let d = local(d)?;
@@ -26,7 +27,8 @@ pub fn set(operands: &[&[u8]]) -> Result<BodyLine, Cause>
 
 /// `copy d s`
 pub fn copy(operands: &[&[u8]]) -> Result<BodyLine, Cause>
-    ensures { (text : Places) (is_main : Bool) → result ≡ read_forms (item_forms text is_main Word.Copy) (map (λ t. t.now) operands.now) }
+    ensures { (text : Places) (is_main : Bool)
+        → result ≡ read_forms (item_forms text is_main Word.Copy) (map (λ t. t.now) operands.now) }
 {
     let (d, s) = two(operands)?;
     let d = local(d)?;
@@ -36,7 +38,9 @@ pub fn copy(operands: &[&[u8]]) -> Result<BodyLine, Cause>
 
 /// Arithmetic, as `add d s`
 pub fn arithmetic(operation: AluOp, operands: &[&[u8]]) -> Result<BodyLine, Cause>
-    ensures { (text : Places) (is_main : Bool) → result ≡ read_forms (item_forms text is_main (Word.Alu operation)) (map (λ t. t.now) operands.now) }
+    ensures { (text : Places) (is_main : Bool)
+        → result ≡ read_forms (item_forms text is_main (Word.Alu operation))
+        (map (λ t. t.now) operands.now) }
 {
     let (d, s) = two(operands)?;
     let d = local(d)?;
@@ -46,14 +50,17 @@ pub fn arithmetic(operation: AluOp, operands: &[&[u8]]) -> Result<BodyLine, Caus
 
 /// A jump, as `jz L` or `goto L`
 pub fn jump(condition: Option<Cond>, operands: &[&[u8]]) -> Result<BodyLine, Cause>
-    ensures { (text : Places) (is_main : Bool) → result ≡ read_forms (item_forms text is_main (Word.Jump condition)) (map (λ t. t.now) operands.now) }
+    ensures { (text : Places) (is_main : Bool)
+        → result ≡ read_forms (item_forms text is_main (Word.Jump condition))
+        (map (λ t. t.now) operands.now) }
 {
     Ok(BodyLine::Jumps(condition, label(one(operands)?)?))
 }
 
 /// `log s`
 pub fn log(operands: &[&[u8]]) -> Result<BodyLine, Cause>
-    ensures { (text : Places) (is_main : Bool) → result ≡ read_forms (item_forms text is_main Word.Log) (map (λ t. t.now) operands.now) }
+    ensures { (text : Places) (is_main : Bool)
+        → result ≡ read_forms (item_forms text is_main Word.Log) (map (λ t. t.now) operands.now) }
 {
     let s = local(one(operands)?)?;
     Ok(BodyLine::Does(Item::Log(s)))
@@ -61,7 +68,8 @@ pub fn log(operands: &[&[u8]]) -> Result<BodyLine, Cause>
 
 /// `cpu d`
 pub fn cpu(operands: &[&[u8]]) -> Result<BodyLine, Cause>
-    ensures { (text : Places) (is_main : Bool) → result ≡ read_forms (item_forms text is_main Word.Cpu) (map (λ t. t.now) operands.now) }
+    ensures { (text : Places) (is_main : Bool)
+        → result ≡ read_forms (item_forms text is_main Word.Cpu) (map (λ t. t.now) operands.now) }
 {
     let d = local(one(operands)?)?;
     Ok(BodyLine::Does(Item::Cpu(d)))
@@ -69,7 +77,8 @@ pub fn cpu(operands: &[&[u8]]) -> Result<BodyLine, Cause>
 
 /// `slot d K`
 pub fn slot(operands: &[&[u8]]) -> Result<BodyLine, Cause>
-    ensures { (text : Places) (is_main : Bool) → result ≡ read_forms (item_forms text is_main Word.Slot) (map (λ t. t.now) operands.now) }
+    ensures { (text : Places) (is_main : Bool)
+        → result ≡ read_forms (item_forms text is_main Word.Slot) (map (λ t. t.now) operands.now) }
 {
     let (d, k) = two(operands)?;
     let d = local(d)?;
@@ -79,7 +88,8 @@ pub fn slot(operands: &[&[u8]]) -> Result<BodyLine, Cause>
 
 /// `put K s`
 pub fn put(operands: &[&[u8]]) -> Result<BodyLine, Cause>
-    ensures { (text : Places) (is_main : Bool) → result ≡ read_forms (item_forms text is_main Word.Put) (map (λ t. t.now) operands.now) }
+    ensures { (text : Places) (is_main : Bool)
+        → result ≡ read_forms (item_forms text is_main Word.Put) (map (λ t. t.now) operands.now) }
 {
     let (k, s) = two(operands)?;
     let k = number(k)?;
@@ -89,7 +99,8 @@ pub fn put(operands: &[&[u8]]) -> Result<BodyLine, Cause>
 
 /// `cell d K`
 pub fn cell(operands: &[&[u8]]) -> Result<BodyLine, Cause>
-    ensures { (text : Places) (is_main : Bool) → result ≡ read_forms (item_forms text is_main Word.Cell) (map (λ t. t.now) operands.now) }
+    ensures { (text : Places) (is_main : Bool)
+        → result ≡ read_forms (item_forms text is_main Word.Cell) (map (λ t. t.now) operands.now) }
 {
     let (d, k) = two(operands)?;
     let d = local(d)?;
@@ -99,7 +110,9 @@ pub fn cell(operands: &[&[u8]]) -> Result<BodyLine, Cause>
 
 /// `setcell K s`
 pub fn set_cell(operands: &[&[u8]]) -> Result<BodyLine, Cause>
-    ensures { (text : Places) (is_main : Bool) → result ≡ read_forms (item_forms text is_main Word.SetCell) (map (λ t. t.now) operands.now) }
+    ensures { (text : Places) (is_main : Bool)
+        → result ≡ read_forms (item_forms text is_main Word.SetCell)
+        (map (λ t. t.now) operands.now) }
 {
     let (k, s) = two(operands)?;
     let k = number(k)?;
@@ -109,7 +122,9 @@ pub fn set_cell(operands: &[&[u8]]) -> Result<BodyLine, Cause>
 
 /// `addcell K d`
 pub fn add_cell(operands: &[&[u8]]) -> Result<BodyLine, Cause>
-    ensures { (text : Places) (is_main : Bool) → result ≡ read_forms (item_forms text is_main Word.AddCell) (map (λ t. t.now) operands.now) }
+    ensures { (text : Places) (is_main : Bool)
+        → result ≡ read_forms (item_forms text is_main Word.AddCell)
+        (map (λ t. t.now) operands.now) }
 {
     let (k, d) = two(operands)?;
     let k = number(k)?;
@@ -119,7 +134,9 @@ pub fn add_cell(operands: &[&[u8]]) -> Result<BodyLine, Cause>
 
 /// `swapcell K d`
 pub fn swap_cell(operands: &[&[u8]]) -> Result<BodyLine, Cause>
-    ensures { (text : Places) (is_main : Bool) → result ≡ read_forms (item_forms text is_main Word.SwapCell) (map (λ t. t.now) operands.now) }
+    ensures { (text : Places) (is_main : Bool)
+        → result ≡ read_forms (item_forms text is_main Word.SwapCell)
+        (map (λ t. t.now) operands.now) }
 {
     let (k, d) = two(operands)?;
     let k = number(k)?;
@@ -129,7 +146,8 @@ pub fn swap_cell(operands: &[&[u8]]) -> Result<BodyLine, Cause>
 
 /// `uget d s`
 pub fn user_get(operands: &[&[u8]]) -> Result<BodyLine, Cause>
-    ensures { (text : Places) (is_main : Bool) → result ≡ read_forms (item_forms text is_main Word.Uget) (map (λ t. t.now) operands.now) }
+    ensures { (text : Places) (is_main : Bool)
+        → result ≡ read_forms (item_forms text is_main Word.Uget) (map (λ t. t.now) operands.now) }
 {
     let (d, s) = two(operands)?;
     let d = local(d)?;
@@ -139,7 +157,8 @@ pub fn user_get(operands: &[&[u8]]) -> Result<BodyLine, Cause>
 
 /// `uput s t`
 pub fn user_put(operands: &[&[u8]]) -> Result<BodyLine, Cause>
-    ensures { (text : Places) (is_main : Bool) → result ≡ read_forms (item_forms text is_main Word.Uput) (map (λ t. t.now) operands.now) }
+    ensures { (text : Places) (is_main : Bool)
+        → result ≡ read_forms (item_forms text is_main Word.Uput) (map (λ t. t.now) operands.now) }
 {
     let (s, t) = two(operands)?;
     let s = local(s)?;
@@ -149,7 +168,9 @@ pub fn user_put(operands: &[&[u8]]) -> Result<BodyLine, Cause>
 
 /// `getreg d R`
 pub fn get_register(operands: &[&[u8]]) -> Result<BodyLine, Cause>
-    ensures { (text : Places) (is_main : Bool) → result ≡ read_forms (item_forms text is_main Word.GetReg) (map (λ t. t.now) operands.now) }
+    ensures { (text : Places) (is_main : Bool)
+        → result ≡ read_forms (item_forms text is_main Word.GetReg)
+        (map (λ t. t.now) operands.now) }
 {
     let (d, r) = two(operands)?;
     let d = local(d)?;
@@ -159,7 +180,9 @@ pub fn get_register(operands: &[&[u8]]) -> Result<BodyLine, Cause>
 
 /// `setreg R s`
 pub fn set_register(operands: &[&[u8]]) -> Result<BodyLine, Cause>
-    ensures { (text : Places) (is_main : Bool) → result ≡ read_forms (item_forms text is_main Word.SetReg) (map (λ t. t.now) operands.now) }
+    ensures { (text : Places) (is_main : Bool)
+        → result ≡ read_forms (item_forms text is_main Word.SetReg)
+        (map (λ t. t.now) operands.now) }
 {
     let (r, s) = two(operands)?;
     let r = register(r)?;
@@ -169,7 +192,9 @@ pub fn set_register(operands: &[&[u8]]) -> Result<BodyLine, Cause>
 
 /// `setrip L`, where the text has these labels
 pub fn set_rip(text: &Labels, operands: &[&[u8]]) -> Result<BodyLine, Cause>
-    ensures { (is_main : Bool) → result ≡ read_forms (item_forms text.now is_main Word.SetRip) (map (λ t. t.now) operands.now) }
+    ensures { (is_main : Bool)
+        → result ≡ read_forms (item_forms text.now is_main Word.SetRip)
+        (map (λ t. t.now) operands.now) }
 {
     let address = text_label(text, one(operands)?)?;
     Ok(BodyLine::Does(Item::SetRip(address)))
@@ -177,7 +202,8 @@ pub fn set_rip(text: &Labels, operands: &[&[u8]]) -> Result<BodyLine, Cause>
 
 /// `map s`
 pub fn map(operands: &[&[u8]]) -> Result<BodyLine, Cause>
-    ensures { (text : Places) (is_main : Bool) → result ≡ read_forms (item_forms text is_main Word.Map) (map (λ t. t.now) operands.now) }
+    ensures { (text : Places) (is_main : Bool)
+        → result ≡ read_forms (item_forms text is_main Word.Map) (map (λ t. t.now) operands.now) }
 {
     let s = local(one(operands)?)?;
     Ok(BodyLine::Does(Item::Map(s)))
@@ -185,7 +211,8 @@ pub fn map(operands: &[&[u8]]) -> Result<BodyLine, Cause>
 
 /// `unmap s`
 pub fn unmap(operands: &[&[u8]]) -> Result<BodyLine, Cause>
-    ensures { (text : Places) (is_main : Bool) → result ≡ read_forms (item_forms text is_main Word.Unmap) (map (λ t. t.now) operands.now) }
+    ensures { (text : Places) (is_main : Bool)
+        → result ≡ read_forms (item_forms text is_main Word.Unmap) (map (λ t. t.now) operands.now) }
 {
     let s = local(one(operands)?)?;
     Ok(BodyLine::Does(Item::Unmap(s)))
@@ -193,7 +220,8 @@ pub fn unmap(operands: &[&[u8]]) -> Result<BodyLine, Cause>
 
 /// `send P KEY`
 pub fn send(operands: &[&[u8]]) -> Result<BodyLine, Cause>
-    ensures { (text : Places) (is_main : Bool) → result ≡ read_forms (item_forms text is_main Word.Send) (map (λ t. t.now) operands.now) }
+    ensures { (text : Places) (is_main : Bool)
+        → result ≡ read_forms (item_forms text is_main Word.Send) (map (λ t. t.now) operands.now) }
 {
     let (p, key) = two(operands)?;
     let p = number(p)?;
@@ -203,7 +231,8 @@ pub fn send(operands: &[&[u8]]) -> Result<BodyLine, Cause>
 
 /// `call K P F s`
 pub fn call(operands: &[&[u8]]) -> Result<BodyLine, Cause>
-    ensures { (text : Places) (is_main : Bool) → result ≡ read_forms (item_forms text is_main Word.Call) (map (λ t. t.now) operands.now) }
+    ensures { (text : Places) (is_main : Bool)
+        → result ≡ read_forms (item_forms text is_main Word.Call) (map (λ t. t.now) operands.now) }
 {
     let (site, to, func, s) = four(operands)?;
     let site = number(site)?;
@@ -215,7 +244,8 @@ pub fn call(operands: &[&[u8]]) -> Result<BodyLine, Cause>
 
 /// `kick P s`
 pub fn kick(operands: &[&[u8]]) -> Result<BodyLine, Cause>
-    ensures { (text : Places) (is_main : Bool) → result ≡ read_forms (item_forms text is_main Word.Kick) (map (λ t. t.now) operands.now) }
+    ensures { (text : Places) (is_main : Bool)
+        → result ≡ read_forms (item_forms text is_main Word.Kick) (map (λ t. t.now) operands.now) }
 {
     let (p, s) = two(operands)?;
     let p = number(p)?;
@@ -225,7 +255,8 @@ pub fn kick(operands: &[&[u8]]) -> Result<BodyLine, Cause>
 
 /// `wait K`
 pub fn wait(operands: &[&[u8]]) -> Result<BodyLine, Cause>
-    ensures { (text : Places) (is_main : Bool) → result ≡ read_forms (item_forms text is_main Word.Wait) (map (λ t. t.now) operands.now) }
+    ensures { (text : Places) (is_main : Bool)
+        → result ≡ read_forms (item_forms text is_main Word.Wait) (map (λ t. t.now) operands.now) }
 {
     let k = number(one(operands)?)?;
     Ok(BodyLine::Does(Item::Wait(k)))
@@ -233,7 +264,9 @@ pub fn wait(operands: &[&[u8]]) -> Result<BodyLine, Cause>
 
 /// An item without operands.
 pub fn lone(item: Item, operands: &[&[u8]]) -> Result<BodyLine, Cause>
-    ensures { (text : Places) (is_main : Bool) → result ≡ read_forms (item_forms text is_main (Word.Alone item)) (map (λ t. t.now) operands.now) }
+    ensures { (text : Places) (is_main : Bool)
+        → result ≡ read_forms (item_forms text is_main (Word.Alone item))
+        (map (λ t. t.now) operands.now) }
 {
     none(operands)?;
     Ok(BodyLine::Does(item))
@@ -241,7 +274,8 @@ pub fn lone(item: Item, operands: &[&[u8]]) -> Result<BodyLine, Cause>
 
 /// `ret`, which ends a main part
 pub fn ret(is_main: bool, operands: &[&[u8]]) -> Result<BodyLine, Cause>
-    ensures { (text : Places) → result ≡ read_forms (item_forms text is_main Word.Ret) (map (λ t. t.now) operands.now) }
+    ensures { (text : Places) → result ≡ read_forms (item_forms text is_main Word.Ret)
+        (map (λ t. t.now) operands.now) }
 {
     if !is_main {
         return Err(Cause::Word);
@@ -252,7 +286,8 @@ pub fn ret(is_main: bool, operands: &[&[u8]]) -> Result<BodyLine, Cause>
 
 /// `finish`, which ends a function part
 pub fn finish(is_main: bool, operands: &[&[u8]]) -> Result<BodyLine, Cause>
-    ensures { (text : Places) → result ≡ read_forms (item_forms text is_main Word.Finish) (map (λ t. t.now) operands.now) }
+    ensures { (text : Places) → result ≡ read_forms (item_forms text is_main Word.Finish)
+        (map (λ t. t.now) operands.now) }
 {
     if is_main {
         return Err(Cause::Word);

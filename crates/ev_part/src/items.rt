@@ -17,7 +17,8 @@ fn behind(
     word: ItemWord,
     operands: &[&[u8]],
 ) -> Result<BodyLine, Cause>
-    ensures { result ≡ read_forms (item_forms text.now is_main word) (map (λ t. t.now) operands.now) }
+    ensures { result ≡ read_forms (item_forms text.now is_main word)
+        (map (λ t. t.now) operands.now) }
 {
     match word {
         ItemWord::Set => set(operands),

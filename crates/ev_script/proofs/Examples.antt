@@ -29,11 +29,18 @@ image = record {
   text = [];
   tasks = [];
   bodies =
-      record { key = Key.Nmi; side = Side.Both; items = Item.Ret ∷ []; parts = [] } ∷ record { key = Key.Irq 0x31; side = Side.Both; items = Item.Ret ∷ []; parts = [] } ∷ [];
+      record { key = Key.Nmi; side = Side.Both; items = Item.Ret ∷ []; parts = [] } ∷ record {
+        key = Key.Irq 0x31;
+        side = Side.Both;
+        items =
+            Item.Ret ∷ [];
+        parts = [];
+      } ∷ [];
 }
 
 unfoldable reading_lines : List ℕ
-unfolding number_of is_decimal is_hexadecimal is_digits digit value below_word pieces tokens_of key_text key_number low_digit interrupt_key key_of operand.value number number_within processor key sent_key key_of_body
+unfolding number_of is_decimal is_hexadecimal is_digits digit value below_word pieces tokens_of key_text key_number low_digit interrupt_key key_of
+    operand.value number number_within processor key sent_key key_of_body
     same_kind kind_of kind_among takes kind_here is_shaped fitting read_places read_form read_fitting read_forms read_by word_of forms_of_word line_of_tokens
 reading_lines = []
 
@@ -46,8 +53,10 @@ good_lines : said_by (codes "turn 1" ∷ codes " edge  0 0x1000 " ∷ codes "arr
 unfolding reading_lines
 good_lines = refl
 
-bad_lines : said_by (codes "jump 1" ∷ codes "turn" ∷ codes "turn x y" ∷ codes "turn 01" ∷ codes "turn 2" ∷ codes "edge 0 0" ∷ codes "edge 2 0" ∷ codes "arrive 0 pf" ∷ codes "arrive 0 irq32" ∷ [])
-    ≡ Err Cause.Word ∷ Err Cause.Count ∷ Err Cause.Count ∷ Err Cause.Number ∷ Err Cause.NoSuchProcessor ∷ Err Cause.Limit ∷ Err Cause.NoSuchProcessor ∷ Err Cause.Name ∷ Err Cause.NoBody ∷ []
+bad_lines : said_by (codes "jump 1" ∷ codes "turn" ∷ codes "turn x y" ∷ codes "turn 01" ∷ codes "turn 2" ∷ codes "edge 0 0" ∷ codes "edge 2 0"
+    ∷ codes "arrive 0 pf" ∷ codes "arrive 0 irq32" ∷ [])
+    ≡ Err Cause.Word ∷ Err Cause.Count ∷ Err Cause.Count ∷ Err Cause.Number ∷ Err Cause.NoSuchProcessor ∷ Err Cause.Limit ∷ Err Cause.NoSuchProcessor
+    ∷ Err Cause.Name ∷ Err Cause.NoBody ∷ []
 unfolding reading_lines
 bad_lines = refl
 

@@ -94,7 +94,8 @@ fn one_processor(image: &Image, operands: &[&[u8]]) -> Result<u32, Cause>
 
 /// The line of the operands of `turn`.
 fn turn(image: &Image, operands: &[&[u8]]) -> Result<Line, Cause>
-    ensures value { result ≡ then_make Line.Turn (read_only (form (Processor image.now.processors ∷ []) (λ p. p))
+    ensures value { result ≡ then_make Line.Turn
+        (read_only (form (Processor image.now.processors ∷ []) (λ p. p))
         (map (λ t. t.now) operands.now)) }
     ensures formed { IfOk result (λ line. is_line image.now line ≡ true) }
 {
@@ -103,7 +104,8 @@ fn turn(image: &Image, operands: &[&[u8]]) -> Result<Line, Cause>
 
 /// The line of the operands of `accept`.
 fn accept(image: &Image, operands: &[&[u8]]) -> Result<Line, Cause>
-    ensures value { result ≡ then_make Line.Accept (read_only (form (Processor image.now.processors ∷ []) (λ p. p))
+    ensures value { result ≡ then_make Line.Accept
+        (read_only (form (Processor image.now.processors ∷ []) (λ p. p))
         (map (λ t. t.now) operands.now)) }
     ensures formed { IfOk result (λ line. is_line image.now line ≡ true) }
 {

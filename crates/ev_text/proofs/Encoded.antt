@@ -37,7 +37,8 @@ named_fits {X} P (e ∷ es) t x g h = by (bytes_eq t e.0) h (named_fits P es t x
     by true h go = let k : e.1 ≡ x = cc in subst P k g.0
     by false h go = go h
 
-either_fits : (o q : Option TextWord) (w : TextWord) → ((v : TextWord) → o ≡ Some v → IsFit v) → ((v : TextWord) → q ≡ Some v → IsFit v) → or_then o q ≡ Some w → IsFit w
+either_fits : (o q : Option TextWord) (w : TextWord) → ((v : TextWord) → o ≡ Some v → IsFit v) → ((v : TextWord) → q ≡ Some v → IsFit v)
+    → or_then o q ≡ Some w → IsFit w
 either_fits None q w f g h = g w h
 either_fits (Some v) q w f g h = f w h
 
@@ -58,7 +59,8 @@ unfolding text_word lone_word move_word long_word other_word is_instruction
 word_fits t w h =
     either_fits _ _ w (λ v. alu_fits (alu_word t) v)
     (λ v. either_fits _ _ v (λ u. jump_fits (jump_word t) u)
-    (λ u. either_fits _ _ u (λ x. lone_fits (lone_word t) x (λ i. named_fits (λ j. is_instruction j ≡ true) lone_words t i (refl, (refl, (refl, (refl, (refl, (refl, tt))))))))
+    (λ u. either_fits _ _ u (λ x. lone_fits (lone_word t) x
+    (λ i. named_fits (λ j. is_instruction j ≡ true) lone_words t i (refl, (refl, (refl, (refl, (refl, (refl, tt))))))))
     (λ x. either_fits _ _ x (λ y. named_fits IsFit move_words t y (tt, (tt, (tt, (tt, (tt, tt))))))
     (λ y. either_fits _ _ y (λ z. named_fits IsFit long_words t z (refl, (tt, tt)))
     (λ z. named_fits IsFit other_words t z (tt, (tt, (tt, (tt, tt)))))))))
@@ -84,6 +86,7 @@ forms_fit Int f = (λ n _. refl, tt)
 forms_fit (Alone i) f = (f, tt)
 
 -- a statement that is read is encoded
-pub statement_encoded : (t : Token) (w : TextWord) (ts : List Token) (r : Result Stmt Cause) → text_word t ≡ Some w → r ≡ read_forms (text_forms w) ts → IfOk r IsEncoded
+pub statement_encoded : (t : Token) (w : TextWord) (ts : List Token) (r : Result Stmt Cause) → text_word t ≡ Some w → r ≡ read_forms (text_forms w) ts
+    → IfOk r IsEncoded
 statement_encoded t w ts (Err cause) e h = tt
 statement_encoded t w ts (Ok s) e h = forms_give IsEncoded (text_forms w) ts s (forms_fit w (word_fits t w e)) (sym h)

@@ -43,7 +43,8 @@ tested : {X : Type 0} → (test : X → Bool) (cause : Cause) (r : Result X Caus
 tested {X} test cause (Err e) v h = absurd cc
 tested {X} test cause (Ok x) v h = by (test x) refl h
   where
-    by : (b : Bool) → test x ≡ b → (let r : Result X Cause = elim b [ true ↦ Ok x | false ↦ Err cause ] in r) ≡ Ok v → ◌≡◌ {A = Result X Cause} (Ok x) (Ok v) × (test v ≡ true)
+    by : (b : Bool) → test x ≡ b → (let r : Result X Cause = elim b [ true ↦ Ok x | false ↦ Err cause ] in r) ≡ Ok v
+        → ◌≡◌ {A = Result X Cause} (Ok x) (Ok v) × (test v ≡ true)
     by true e h = let g : x ≡ v = cc in (h, rw (sym g) e)
     by false e h = absurd cc
 
@@ -51,7 +52,8 @@ named_below : (n : ℕ) (ws : List Token) (t : Token) (k : ℕ) → place_from n
 named_below n [] t k h = absurd cc
 named_below n (w ∷ ws) t k h = by (bytes_eq t w) h (named_below (suc n) ws t k)
   where
-    by : (b : Bool) → (let o : Option ℕ = elim b [ true ↦ Some n | false ↦ place_from (suc n) ws t ] in o) ≡ Some k → (place_from (suc n) ws t ≡ Some k → k < suc n + length ws) → k < n + length (w ∷ ws)
+    by : (b : Bool) → (let o : Option ℕ = elim b [ true ↦ Some n | false ↦ place_from (suc n) ws t ] in o) ≡ Some k
+        → (place_from (suc n) ws t ≡ Some k → k < suc n + length ws) → k < n + length (w ∷ ws)
     by true h go = let e : n ≡ k = cc in omega arith
     by false h go = let l = go h in omega arith
 
@@ -75,7 +77,8 @@ number_in : (t : Token) (v : ℕ) → number t ≡ Ok v → is_word v ≡ true
 unfolding number number_of
 number_in t v h = by (is_decimal t) (is_hexadecimal t) (there Cause.Number _ v h)
   where
-    by : (a b : Bool) → (if a then below_word (digits_value 10 t) else (if b then below_word (digits_value 16 (drop 2 t)) else None)) ≡ Some v → is_word v ≡ true
+    by : (a b : Bool) → (if a then below_word (digits_value 10 t) else (if b then below_word (digits_value 16 (drop 2 t)) else None)) ≡ Some v
+        → is_word v ≡ true
     by true b e = below _ v e
     by false true e = below _ v e
     by false false e = absurd cc
@@ -142,7 +145,9 @@ chosen P test (f ∷ fs) g = by (test f) (chosen P test fs g.1)
 fitting_give : {X : Type 0} → (P : X → Type 0) (n : ℕ) (ts : List Token) (forms : List (Form X)) → AllGive P forms → AllGive P (fitting n ts forms)
 unfolding fitting
 fitting_give P n [] forms g = g
-fitting_give {X} P n (t ∷ ts) forms g = by (kind_here (filter_map (kind_at n) forms) t) (λ k. fitting_give P (suc n) ts (filter (λ f. takes k (slice_get f.places n)) forms) (chosen P (λ f. takes k (slice_get f.places n)) forms g))
+fitting_give {X} P n (t ∷ ts) forms g =
+    by (kind_here (filter_map (kind_at n) forms) t)
+    (λ k. fitting_give P (suc n) ts (filter (λ f. takes k (slice_get f.places n)) forms) (chosen P (λ f. takes k (slice_get f.places n)) forms g))
   where
     shaped : (k : Kind) (b : Bool) → AllGive P (fitting (suc n) ts (filter (λ f. takes k (slice_get f.places n)) forms))
         → AllGive P (let fs : List (Form X) = elim b [ true ↦ fitting (suc n) ts (filter (λ f. takes k (slice_get f.places n)) forms) | false ↦ [] ] in fs)
@@ -157,7 +162,8 @@ fitting_give {X} P n (t ∷ ts) forms g = by (kind_here (filter_map (kind_at n) 
     by None go = g
     by (Some k) go = shaped k (is_shaped k t) (go k)
 
-found_gives : {X : Type 0} → (P : X → Type 0) (ts : List Token) (test : Form X → Bool) (forms : List (Form X)) (x : X) → AllGive P forms → read_form ts (find test forms) ≡ Ok x → P x
+found_gives : {X : Type 0} → (P : X → Type 0) (ts : List Token) (test : Form X → Bool) (forms : List (Form X)) (x : X) → AllGive P forms
+    → read_form ts (find test forms) ≡ Ok x → P x
 unfolding read_form
 found_gives P ts test [] x g h = absurd cc
 found_gives P ts test (f ∷ fs) x g h = by (test f) h (found_gives P ts test fs x g.1)

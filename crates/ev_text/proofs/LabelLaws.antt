@@ -40,7 +40,8 @@ found_more (e ∷ es) n a q h = by (is_name e.0 q) refl (is_name e.0 n) refl h (
   where
     by : (p : Bool) → is_name e.0 q ≡ p → (r : Bool) → is_name e.0 n ≡ r → ◌≡◌ {A = Option ℕ} (elim r [ true ↦ Some e.1 | false ↦ found es n ]) None
         → (found es n ≡ None → found (es ++ (n, a) ∷ []) q ≡ cond (bytes_eq n q) (Some a) (found es q))
-        → ◌≡◌ {A = Option ℕ} (elim p [ true ↦ Some e.1 | false ↦ found (es ++ (n, a) ∷ []) q ]) (cond (bytes_eq n q) (Some a) (elim p [ true ↦ Some e.1 | false ↦ found es q ]))
+        → ◌≡◌ {A = Option ℕ} (elim p [ true ↦ Some e.1 | false ↦ found (es ++ (n, a) ∷ []) q ])
+        (cond (bytes_eq n q) (Some a) (elim p [ true ↦ Some e.1 | false ↦ found es q ]))
     by p i true j h go = absurd cc
     by false i false j h go = go h
     by true i false j h go = apart (bytes_eq n q) refl

@@ -7,7 +7,8 @@ between : (low high n : ℕ) (r : Result ℕ Cause) → Ok n ≡ if_it (λ k. na
 between low high n (Err cause) e = absurd cc
 between low high n (Ok k) e = by (nat_le low k) refl (nat_le k high) refl e
   where
-    by : (a : Bool) → nat_le low k ≡ a → (b : Bool) → nat_le k high ≡ b → ◌≡◌ {A = Result ℕ Cause} (Ok n) (elim (a && b) [ true ↦ Ok k | false ↦ Err Cause.Limit ]) → (low ≤ n) × (n ≤ high)
+    by : (a : Bool) → nat_le low k ≡ a → (b : Bool) → nat_le k high ≡ b
+        → ◌≡◌ {A = Result ℕ Cause} (Ok n) (elim (a && b) [ true ↦ Ok k | false ↦ Err Cause.Limit ]) → (low ≤ n) × (n ≤ high)
     by true p true q e = (grind arith, grind arith)
     by true p false q e = absurd cc
     by false p b q e = absurd cc

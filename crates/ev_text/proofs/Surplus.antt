@@ -66,7 +66,8 @@ unfolding choosing
 unshaped_mov d ts h = grind arith
 
 -- `push`
-push_two : (k : Kind) (s t : Token) (ts : List Token) → kind_by_start s ≡ k → is_shaped k s ≡ true → read_forms (text_forms Word.Push) (s ∷ t ∷ ts) ≡ Err (surplus_push k)
+push_two : (k : Kind) (s t : Token) (ts : List Token) → kind_by_start s ≡ k → is_shaped k s ≡ true
+    → read_forms (text_forms Word.Push) (s ∷ t ∷ ts) ≡ Err (surplus_push k)
 unfolding choosing
 push_two Kind.Memory s t ts hs h = grind arith
 push_two Kind.GsMemory s t ts hs h = grind arith
@@ -80,7 +81,8 @@ push_surplus s [] l h = absurd (omega arith)
 push_surplus s (t ∷ ts) l h = push_two (kind_by_start s) s t ts refl h
 
 -- arithmetic
-alu_three : (k : Kind) (op : AluOp) (d s t : Token) (ts : List Token) → kind_by_start s ≡ k → read_forms (text_forms (Word.Alu op)) (d ∷ s ∷ t ∷ ts) ≡ Err (surplus_store k)
+alu_three : (k : Kind) (op : AluOp) (d s t : Token) (ts : List Token) → kind_by_start s ≡ k
+    → read_forms (text_forms (Word.Alu op)) (d ∷ s ∷ t ∷ ts) ≡ Err (surplus_store k)
 unfolding choosing
 alu_three Kind.Memory op d s t ts hs = grind arith
 alu_three Kind.GsMemory op d s t ts hs = grind arith
@@ -88,7 +90,8 @@ alu_three Kind.Number op d s t ts hs = grind arith
 alu_three Kind.Word op d s t ts hs = grind arith
 alu_three Kind.Register op d s t ts hs = grind arith
 
-pub alu_surplus : (op : AluOp) (d s : Token) (more : List Token) → 0 < length more → read_forms (text_forms (Word.Alu op)) (d ∷ s ∷ more) ≡ Err (surplus_store (kind_by_start s))
+pub alu_surplus : (op : AluOp) (d s : Token) (more : List Token) → 0 < length more
+    → read_forms (text_forms (Word.Alu op)) (d ∷ s ∷ more) ≡ Err (surplus_store (kind_by_start s))
 alu_surplus op d s [] l = absurd (omega arith)
 alu_surplus op d s (t ∷ ts) l = alu_three (kind_by_start s) op d s t ts refl
 
@@ -108,7 +111,8 @@ pub mov_register_alone : (d : Token) → kind_by_start d ≡ Kind.Register → r
 unfolding choosing
 mov_register_alone d h = grind arith
 
-pub mov_memory_alone : (d : Token) → kind_by_start d ≡ Kind.Memory → is_shaped Kind.Memory d ≡ true → read_forms (text_forms Word.Mov) (d ∷ []) ≡ Err Cause.Count
+pub mov_memory_alone : (d : Token) → kind_by_start d ≡ Kind.Memory → is_shaped Kind.Memory d ≡ true
+    → read_forms (text_forms Word.Mov) (d ∷ []) ≡ Err Cause.Count
 unfolding choosing
 mov_memory_alone d h g = grind arith
 
@@ -133,15 +137,18 @@ mov_nothing xs h = rw (nothing xs h) (sym mov_none)
 pub push_nothing : (xs : List (Bor Token)) → length xs ≡ 0 → Err Cause.Count ≡ read_forms (text_forms Word.Push) (texts xs)
 push_nothing xs h = rw (nothing xs h) (sym push_none)
 
-pub register_nothing : (d : Token) (xs : List (Bor Token)) → length xs ≡ 0 → kind_by_start d ≡ Kind.Register → Err Cause.Count ≡ read_forms (text_forms Word.Mov) (d ∷ texts xs)
+pub register_nothing : (d : Token) (xs : List (Bor Token)) → length xs ≡ 0 → kind_by_start d ≡ Kind.Register
+    → Err Cause.Count ≡ read_forms (text_forms Word.Mov) (d ∷ texts xs)
 register_nothing d xs h k = rw (nothing xs h) (sym (mov_register_alone d k))
 
 pub memory_nothing : (d : Token) (xs : List (Bor Token)) → length xs ≡ 0 → kind_by_start d ≡ Kind.Memory → is_shaped Kind.Memory d ≡ true →
     Err Cause.Count ≡ read_forms (text_forms Word.Mov) (d ∷ texts xs)
 memory_nothing d xs h k g = rw (nothing xs h) (sym (mov_memory_alone d k g))
 
-pub register_many : (d : Token) (rest : List (Bor Token)) (s : Bor Token) (more : List (Bor Token)) (k : Kind) (e : Cause) → rest ≡ s ∷ more → false ≡ (length more == 0) →
-    kind_by_start d ≡ Kind.Register → k ≡ kind_by_start s.now → is_shaped k s.now ≡ true → e ≡ surplus_move k → Err e ≡ read_forms (text_forms Word.Mov) (d ∷ texts rest)
+pub register_many : (d : Token) (rest : List (Bor Token)) (s : Bor Token) (more : List (Bor Token)) (k : Kind) (e : Cause) → rest ≡ s ∷ more
+    → false ≡ (length more == 0) →
+    kind_by_start d ≡ Kind.Register → k ≡ kind_by_start s.now → is_shaped k s.now ≡ true → e ≡ surplus_move k
+    → Err e ≡ read_forms (text_forms Word.Mov) (d ∷ texts rest)
 register_many d rest s more k e is l hd hk h he =
     rw is (ap Err (he ∙ ap surplus_move hk) ∙ sym (register_surplus d s.now (texts more) (some more l) hd (subst (λ j. is_shaped j s.now ≡ true) hk h)))
 
@@ -150,7 +157,8 @@ pub register_bad : (d : Token) (rest : List (Bor Token)) (s : Bor Token) (more :
 register_bad d rest s more k is hd hk h = rw is (sym (register_unshaped d s.now (texts more) hd (subst (λ j. is_shaped j s.now ≡ false) hk h)))
 
 pub memory_many : (m : Token) (rest : List (Bor Token)) (s : Bor Token) (more : List (Bor Token)) (e : Cause) → rest ≡ s ∷ more → false ≡ (length more == 0) →
-    kind_by_start m ≡ Kind.Memory → is_shaped Kind.Memory m ≡ true → e ≡ surplus_store (kind_by_start s.now) → Err e ≡ read_forms (text_forms Word.Mov) (m ∷ texts rest)
+    kind_by_start m ≡ Kind.Memory → is_shaped Kind.Memory m ≡ true → e ≡ surplus_store (kind_by_start s.now)
+    → Err e ≡ read_forms (text_forms Word.Mov) (m ∷ texts rest)
 memory_many m rest s more e is l hm g he = rw is (ap Err he ∙ sym (memory_surplus m s.now (texts more) (some more l) hm g))
 
 pub push_many : (rest : List (Bor Token)) (s : Bor Token) (more : List (Bor Token)) (k : Kind) (e : Cause) → rest ≡ s ∷ more → false ≡ (length more == 0) →
@@ -165,9 +173,11 @@ push_bad rest s more k is hk h = rw is (sym (unshaped_push s.now (texts more) (s
 pub alu_nothing : (op : AluOp) (xs : List (Bor Token)) → length xs ≡ 0 → Err Cause.Count ≡ read_forms (text_forms (Word.Alu op)) (texts xs)
 alu_nothing op xs h = rw (nothing xs h) (sym (alu_none op))
 
-pub alu_alone : (op : AluOp) (xs : List (Bor Token)) (d : Bor Token) (rest : List (Bor Token)) → xs ≡ d ∷ rest → length rest ≡ 0 → Err Cause.Count ≡ read_forms (text_forms (Word.Alu op)) (texts xs)
+pub alu_alone : (op : AluOp) (xs : List (Bor Token)) (d : Bor Token) (rest : List (Bor Token)) → xs ≡ d ∷ rest → length rest ≡ 0
+    → Err Cause.Count ≡ read_forms (text_forms (Word.Alu op)) (texts xs)
 alu_alone op xs d rest is h = rw (is, nothing rest h) (sym (alu_one op d.now))
 
-pub alu_many : (op : AluOp) (xs : List (Bor Token)) (d : Bor Token) (rest : List (Bor Token)) (s : Bor Token) (more : List (Bor Token)) (e : Cause) → xs ≡ d ∷ rest → rest ≡ s ∷ more →
+pub alu_many : (op : AluOp) (xs : List (Bor Token)) (d : Bor Token) (rest : List (Bor Token)) (s : Bor Token) (more : List (Bor Token)) (e : Cause)
+    → xs ≡ d ∷ rest → rest ≡ s ∷ more →
     false ≡ (length more == 0) → e ≡ surplus_store (kind_by_start s.now) → Err e ≡ read_forms (text_forms (Word.Alu op)) (texts xs)
 alu_many op xs d rest s more e is js l he = rw (is, js) (ap Err he ∙ sym (alu_surplus op d.now s.now (texts more) (some more l)))

@@ -15,7 +15,8 @@ use Rattle.ev_asm.specs.declared.text.Text.{Text}
 use Rattle.ev_asm.specs.declared.fault.AsmFault.{AsmFault}
 use Rattle.ev_asm.specs.declared.fault.AsmFault.TheVariants.{DoubleLabel, NoLabel, TooLarge, NoMemory}
 
-named_by : (b : Bool) (e : ℕ) (o : Option ℕ) (r : Bool) → is_some o ≡ not (not r) → is_some (let u : Option ℕ = elim b [ true ↦ Some e | false ↦ o ] in u) ≡ not (not (b || r))
+named_by : (b : Bool) (e : ℕ) (o : Option ℕ) (r : Bool) → is_some o ≡ not (not r) → is_some (let u : Option ℕ = elim b [ true ↦ Some e | false ↦ o ] in u)
+    ≡ not (not (b || r))
 named_by true e o r h = refl
 named_by false e o r h = h
 
@@ -23,7 +24,8 @@ named_by false e o r h = h
 pub found_in_text : (ss : List Stmt) (a : ℕ) (name : Name) → is_some (found (places a ss) name) ≡ not (is_new_name (stmt_labels ss) name)
 unfolding places
 found_in_text [] a name = refl
-found_in_text (Label n ∷ ss) a name = named_by (is_name n name) a (found (places a ss) name) (list_any (λ m. is_name m name) (stmt_labels ss)) (found_in_text ss a name)
+found_in_text (Label n ∷ ss) a name = named_by (is_name n name) a (found (places a ss) name) (list_any (λ m. is_name m name) (stmt_labels ss))
+    (found_in_text ss a name)
 found_in_text (Plain i ∷ ss) a name = found_in_text ss (a + size (Plain i)) name
 found_in_text (Jump cond n ∷ ss) a name = found_in_text ss (a + size (Jump cond n)) name
 
@@ -56,7 +58,8 @@ encoded_more : (ss : List Stmt) (s : Stmt) → are_instructions ss ≡ true → 
 encoded_more [] s h e = rw e refl
 encoded_more (x ∷ xs) s h e = by (is_encoded x) refl (are_instructions xs) refl h (λ g. encoded_more xs s g e)
   where
-    by : (p : Bool) → is_encoded x ≡ p → (q : Bool) → are_instructions xs ≡ q → (p && q) ≡ true → (are_instructions xs ≡ true → are_instructions (xs ++ s ∷ []) ≡ true)
+    by : (p : Bool) → is_encoded x ≡ p → (q : Bool) → are_instructions xs ≡ q → (p && q) ≡ true
+        → (are_instructions xs ≡ true → are_instructions (xs ++ s ∷ []) ≡ true)
         → (p && are_instructions (xs ++ s ∷ [])) ≡ true
     by true d true f h go = go f
     by true d false f h go = absurd cc
@@ -75,18 +78,22 @@ twice ss labels n s t h =
 fresh : (ss : List Stmt) (labels : Places) (n : ℕ) (s : Stmt) → IsText ss labels n → false ≡ gives_again labels s → is_second_label ss s ≡ false
 fresh ss labels n s t h = sym (again ss s) ∙ sym (h ∙ ap (λ (l : Places). gives_again l s) t.given)
 
-pub too_large : (ss : List Stmt) (labels : Places) (n : ℕ) (s : Stmt) → IsText ss labels n → false ≡ gives_again labels s → 65520 < n + size s → text_grown ss s ≡ Err Cause.Limit
+pub too_large : (ss : List Stmt) (labels : Places) (n : ℕ) (s : Stmt) → IsText ss labels n → false ≡ gives_again labels s → 65520 < n + size s
+    → text_grown ss s ≡ Err Cause.Limit
 unfolding text_grown
 too_large ss labels n s t h l =
     let e = fresh ss labels n s t h in
-    let g : nat_lt 65520 (total_size (ss ++ s ∷ [])) ≡ true = let k : 65520 < total_size (ss ++ s ∷ []) = omega (arith, total_more ss s, t.sum) in grind arith in
+    let g : nat_lt 65520 (total_size (ss ++ s ∷ [])) ≡ true = let k : 65520 < total_size (ss ++ s ∷ []) = omega (arith, total_more ss s, t.sum) in
+    grind arith in
     rw (e, g) refl
 
-pub grown : (ss : List Stmt) (labels : Places) (n : ℕ) (s : Stmt) → IsText ss labels n → false ≡ gives_again labels s → n + size s ≤ 65520 → text_grown ss s ≡ Ok (ss ++ s ∷ [])
+pub grown : (ss : List Stmt) (labels : Places) (n : ℕ) (s : Stmt) → IsText ss labels n → false ≡ gives_again labels s → n + size s ≤ 65520
+    → text_grown ss s ≡ Ok (ss ++ s ∷ [])
 unfolding text_grown
 grown ss labels n s t h l =
     let e = fresh ss labels n s t h in
-    let g : nat_lt 65520 (total_size (ss ++ s ∷ [])) ≡ false = let k : total_size (ss ++ s ∷ []) ≤ 65520 = omega (arith, total_more ss s, t.sum) in grind arith in
+    let g : nat_lt 65520 (total_size (ss ++ s ∷ [])) ≡ false = let k : total_size (ss ++ s ∷ []) ≤ 65520 = omega (arith, total_more ss s, t.sum) in
+    grind arith in
     rw (e, g) refl
 
 pub stands : (ss : List Stmt) (labels : Places) (n : ℕ) (s : Stmt) → IsText ss labels n → is_encoded s ≡ true → n + size s ≤ 65520 →
@@ -100,11 +107,13 @@ stands ss labels n s t e l = record {
 
 -- ---- the end of a text
 
-at_good : (ss : List Stmt) (labels : Places) (text : Text) → assembled ss text_base 65520 ≡ Ok text → labels ≡ places text_base ss → text_ended ss ≡ Ok (record { bytes = text.bytes; labels = labels })
+at_good : (ss : List Stmt) (labels : Places) (text : Text) → assembled ss text_base 65520 ≡ Ok text → labels ≡ places text_base ss
+    → text_ended ss ≡ Ok (record { bytes = text.bytes; labels = labels })
 unfolding text_ended
 at_good ss labels text k g = rw (text_ended, k, g) refl
 
-pub ended_good : (ss : List Stmt) (labels : Places) (n : ℕ) (r : Result Text AsmFault) (text : Text) → IsText ss labels n → r ≡ Ok text → (r ≡ Err NoMemory) ⊎ (r ≡ assembled ss text_base 65520)
+pub ended_good : (ss : List Stmt) (labels : Places) (n : ℕ) (r : Result Text AsmFault) (text : Text) → IsText ss labels n → r ≡ Ok text
+    → (r ≡ Err NoMemory) ⊎ (r ≡ assembled ss text_base 65520)
     → text_ended ss ≡ Ok (record { bytes = text.bytes; labels = labels })
 ended_good ss labels n r text t e (inl h) = absurd cc
 ended_good ss labels n r text t e (inr h) = at_good ss labels text (sym h ∙ e) t.given
@@ -119,6 +128,7 @@ bad_by ss (NoLabel n) h = h
 bad_by ss (TooLarge n) h = h
 bad_by ss NoMemory h = tt
 
-pub ended_bad : (ss : List Stmt) (r : Result Text AsmFault) (f : AsmFault) → r ≡ Err f → (r ≡ Err NoMemory) ⊎ (r ≡ assembled ss text_base 65520) → Comes (text_ended ss) (Err (stop_of f))
+pub ended_bad : (ss : List Stmt) (r : Result Text AsmFault) (f : AsmFault) → r ≡ Err f → (r ≡ Err NoMemory) ⊎ (r ≡ assembled ss text_base 65520)
+    → Comes (text_ended ss) (Err (stop_of f))
 ended_bad ss r f e (inl h) = let g : f ≡ NoMemory = let k : Err f ≡ Err NoMemory = sym e ∙ h in cc in rw g tt
 ended_bad ss r f e (inr h) = bad_by ss f (at_bad ss f (sym h ∙ e))

@@ -40,7 +40,8 @@ pub fn two<'a>(operands: &[&'a [u8]]) -> Result<(&'a [u8], &'a [u8]), Cause>
 /// Two operands and no more, of which the first has the shape of a memory operand: else Word where it
 /// has not, and then Count. Own.
 pub fn memory_first<'a>(operands: &[&'a [u8]]) -> Result<(&'a [u8], &'a [u8]), Cause>
-    ensures { then_make (λ p. (p.0.now, p.1.now)) result ≡ memory_first (map (λ t. t.now) operands.now) }
+    ensures { then_make (λ p. (p.0.now, p.1.now)) result ≡ memory_first
+        (map (λ t. t.now) operands.now) }
 {
     match operands.first() {
         None => Err(Cause::Count),
@@ -56,7 +57,8 @@ pub fn memory_first<'a>(operands: &[&'a [u8]]) -> Result<(&'a [u8], &'a [u8]), C
 
 /// Four operands and no more, else Count. Own.
 pub fn four<'a>(operands: &[&'a [u8]]) -> Result<(&'a [u8], &'a [u8], &'a [u8], &'a [u8]), Cause>
-    ensures { then_make (λ p. (p.0.now, p.1.now, p.2.now, p.3.now)) result ≡ four_in (map (λ t. t.now) operands.now) }
+    ensures { then_make (λ p. (p.0.now, p.1.now, p.2.now, p.3.now)) result ≡ four_in
+        (map (λ t. t.now) operands.now) }
 {
     match operands {
         [a, b, c, d] => Ok((*a, *b, *c, *d)),

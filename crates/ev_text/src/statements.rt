@@ -94,14 +94,16 @@ fn jump(operands: &[&[u8]]) -> Result<Stmt, Cause>
 
 /// `jz L` and the other conditional jumps
 fn conditional_jump(condition: Cond, operands: &[&[u8]]) -> Result<Stmt, Cause>
-    ensures { result ≡ read_forms (text_forms (Word.Jcc condition)) (map (λ t. t.now) operands.now) }
+    ensures { result ≡ read_forms (text_forms (Word.Jcc condition))
+        (map (λ t. t.now) operands.now) }
 {
     Ok(Stmt::Jump(Some(condition), label(one(operands)?)?))
 }
 
 /// An instruction without operands.
 fn lone(instruction: Ins, operands: &[&[u8]]) -> Result<Stmt, Cause>
-    ensures { result ≡ read_forms (text_forms (Word.Alone instruction)) (map (λ t. t.now) operands.now) }
+    ensures { result ≡ read_forms (text_forms (Word.Alone instruction))
+        (map (λ t. t.now) operands.now) }
 {
     none(operands)?;
     Ok(Stmt::Plain(instruction))
@@ -121,7 +123,8 @@ fn arithmetic_two(operation: AluOp, d: &[u8], s: &[u8]) -> Result<Stmt, Cause>
 /// The operands of arithmetic.
 #[tactic(auto)]
 fn arithmetic(operation: AluOp, operands: &[&[u8]]) -> Result<Stmt, Cause>
-    ensures { result ≡ read_forms (text_forms (Word.Alu operation)) (map (λ t. t.now) operands.now) }
+    ensures { result ≡ read_forms (text_forms (Word.Alu operation))
+        (map (λ t. t.now) operands.now) }
 {
     let Some((d, rest)) = operands.split_first() else {
         return Err(Cause::Count);

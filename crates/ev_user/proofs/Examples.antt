@@ -1,4 +1,5 @@
--- Odd steps of user code, computed: at the end of the text and behind it, at addresses of the kernel and of pages, across the text's end, and accesses that fault.
+-- Odd steps of user code, computed: at the end of the text and behind it, at addresses of the kernel and of pages, across the text's end, and
+-- accesses that fault.
 use Rattle.std.specs.Prelude.{◌≡◌, refl, ℕ, ◌==◌, Bool, true, false, pos, List, [], ◌∷◌, ◌++◌, replicate, Option, Some, None}
 use Rattle.ev_isa.specs.Word.{is_aligned}
 use Rattle.ev_isa.specs.Flags.{start_flags}
@@ -32,7 +33,8 @@ does i rax rsp = user_step (memory (spelling i)) (task 0x400000 rax rsp)
 
 -- at the last byte of the text's region stands 0
 last_byte : at [] 0x40ffff ≡ Raises 0x40ffff ud
-unfolding user_step place_of fault_at reading forms plain_forms wide_forms prefixed_forms narrow_forms signed_at reg_at rm_at behind spelling four_bytes is_instruction
+unfolding user_step place_of fault_at reading forms plain_forms wide_forms prefixed_forms narrow_forms signed_at reg_at rm_at behind spelling four_bytes
+    is_instruction
 last_byte = refl
 
 behind_text : at [] 0x410000 ≡ Raises 0x410000 (pf 0x14 0x410000)
@@ -53,5 +55,6 @@ kernel_code = refl
 
 -- a jump whose displacement is the zeros behind the text
 across_the_end : at (0xe9 ∷ []) 0x400000 ≡ Goes (task 0x400005 0 0) (λ a. 0)
-unfolding user_step place_of fault_at reading forms plain_forms wide_forms prefixed_forms narrow_forms signed_at reg_at rm_at behind spelling four_bytes is_instruction executed user_may effect
+unfolding user_step place_of fault_at reading forms plain_forms wide_forms prefixed_forms narrow_forms signed_at reg_at rm_at behind spelling four_bytes
+    is_instruction executed user_may effect
 across_the_end = refl

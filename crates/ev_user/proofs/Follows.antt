@@ -63,9 +63,30 @@ module _ (mode : Mode) (image : Image) (p r : ℕ) (t : Task) (u : UserMemory) (
       none = omega arith
 
       pick : (f : Fault) → IsCause (Faulted f) → Follows (Raises t.rip (fault_event f)) (fault c a m nmi (fault_event f))
-      pick Undefined h = record { cause = Faulted Undefined; is = h; event = refl; saved_is = none; step_is = ap (delivering c a m nmi (fault_event Undefined)) none }
-      pick Fault.Stack h = record { cause = Faulted Fault.Stack; is = h; event = refl; saved_is = none; step_is = ap (delivering c a m nmi (fault_event Fault.Stack)) none }
-      pick Protection h = record { cause = Faulted Protection; is = h; event = refl; saved_is = none; step_is = ap (delivering c a m nmi (fault_event Protection)) none }
+      pick Undefined h = record {
+        cause = Faulted Undefined;
+        is = h;
+        event = refl;
+        saved_is = none;
+        step_is =
+            ap (delivering c a m nmi (fault_event Undefined)) none;
+      }
+      pick Fault.Stack h = record {
+        cause = Faulted Fault.Stack;
+        is = h;
+        event = refl;
+        saved_is = none;
+        step_is =
+            ap (delivering c a m nmi (fault_event Fault.Stack)) none;
+      }
+      pick Protection h = record {
+        cause = Faulted Protection;
+        is = h;
+        event = refl;
+        saved_is = none;
+        step_is =
+            ap (delivering c a m nmi (fault_event Protection)) none;
+      }
       pick (Page code x) h = record {
         cause = Faulted (Page code x);
         is = h;
@@ -73,7 +94,14 @@ module _ (mode : Mode) (image : Image) (p r : ℕ) (t : Task) (u : UserMemory) (
         saved_is = none;
         step_is = ap (delivering c a m nmi (fault_event (Page code x))) none;
       }
-      pick Fault.Alignment h = record { cause = Faulted Fault.Alignment; is = h; event = refl; saved_is = none; step_is = ap (delivering c a m nmi (fault_event Fault.Alignment)) none }
+      pick Fault.Alignment h = record {
+        cause = Faulted Fault.Alignment;
+        is = h;
+        event = refl;
+        saved_is = none;
+        step_is =
+            ap (delivering c a m nmi (fault_event Fault.Alignment)) none;
+      }
 
   -- the processor after an effect is that of the task after it
   processor_after : (x : Task) → x.gs ≡ t.gs → with_effect (completed c) x ≡ cpu x
@@ -84,9 +112,11 @@ module _ (mode : Mode) (image : Image) (p r : ℕ) (t : Task) (u : UserMemory) (
 
   -- a plain instruction, whose effect is the same over both views
   plain : (i j : Ins) (next : ℕ) → is_canonical next ≡ true
-      → Follows (step_of t (effect (user_view u) (record t { rip = next }) i)) (after_exec c a m nmi next j (changed c (effect (view m true) (record (task_of c) { rip = next }) i)))
+      → Follows (step_of t (effect (user_view u) (record t { rip = next }) i))
+      (after_exec c a m nmi next j (changed c (effect (view m true) (record (task_of c) { rip = next }) i)))
   plain i j next h =
-      subst (λ (x : Task). Follows (step_of t (effect (user_view u) at i)) (after_exec c a m nmi next j (changed c (effect (view m true) x i)))) (sym (task_at next))
+      subst (λ (x : Task). Follows (step_of t (effect (user_view u) at i)) (after_exec c a m nmi next j (changed c (effect (view m true) x i))))
+      (sym (task_at next))
       (pick (effect (user_view u) at i) (effect (view m true) at i) (effects (user_view u) (view m true) (views_alike image u m formed sees) at i))
     where
       at : Task
@@ -145,7 +175,8 @@ module _ (mode : Mode) (image : Image) (p r : ℕ) (t : Task) (u : UserMemory) (
       }
 
   -- every instruction
-  instruction : (i : Ins) → ((n : ℕ) → i ≡ IntN n → n < 2 ^ 8) → is_canonical (t.rip + length (spelling i)) ≡ true → Follows (user.executed (user_view u) t (t.rip + length (spelling i)) i)
+  instruction : (i : Ins) → ((n : ℕ) → i ≡ IntN n → n < 2 ^ 8) → is_canonical (t.rip + length (spelling i)) ≡ true
+      → Follows (user.executed (user_view u) t (t.rip + length (spelling i)) i)
       (executed c a m nmi (Some i))
   unfolding user.executed exec special user_may spelling
   instruction Int1 n h = record { cause = Debug; is = tt; event = refl; saved_is = refl; step_is = refl }
@@ -182,7 +213,8 @@ module _ (mode : Mode) (image : Image) (p r : ℕ) (t : Task) (u : UserMemory) (
   by_fetch : (o : Option ℕ) → fault_at u.present (record { user = true; write = false; fetch = true }) (place_of t.rip) ≡ o
       → Follows (fetch_step u t o) (fetched c a m nmi o)
   by_fetch None q =
-      subst (λ i. Follows (read_step (user_view u) t (reading (text_bytes u.text t.rip))) (executed c a m nmi i)) (sym (reads_alike image u m formed sees t.rip q))
+      subst (λ i. Follows (read_step (user_view u) t (reading (text_bytes u.text t.rip))) (executed c a m nmi i))
+      (sym (reads_alike image u m formed sees t.rip q))
       (by_read (fetched_in_text u.present t.rip q) (reading (text_bytes u.text t.rip)) refl)
   by_fetch (Some code) q =
       faulted (Page code t.rip) (small_code u.present (record { user = true; write = false; fetch = true }) (place_of t.rip) code q, is_task.canonical)
@@ -202,7 +234,8 @@ module _ (mode : Mode) (image : Image) (p r : ℕ) (t : Task) (u : UserMemory) (
   abbrev same : Processor
   same = task_processor mode image p r t c.cr2 c.nmi_blocked
 
-  all_steps : (x : UserStep) → user_step u t ≡ x → Follows mode image p r t u c.cr2 c.nmi_blocked a m nmi site.formed site.runs.task site.sees x (step same a m nmi)
+  all_steps : (x : UserStep) → user_step u t ≡ x → Follows mode image p r t u c.cr2 c.nmi_blocked a m nmi site.formed site.runs.task site.sees x
+      (step same a m nmi)
   all_steps x h =
       subst (λ y. Follows mode image p r t u c.cr2 c.nmi_blocked a m nmi site.formed site.runs.task site.sees y (step same a m nmi)) h
       (follows mode image p r t u c.cr2 c.nmi_blocked a m nmi site.formed site.runs.task site.sees

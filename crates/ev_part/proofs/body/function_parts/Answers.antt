@@ -7,7 +7,8 @@ use Rattle.ev_part.proofs.body.function_parts.Goals.{in-Some+in_ok-push, in_defa
 pub loop-part-preserved : goal.loop-part-preserved
 loop-part-preserved c = let l : c.loop-part.part-index < length c.args.parts.now = omega arith in elim c.match-branch-2.branch [
   | in-Some+in_ok-push w ↦
-      with_item function_part c.args.parts.now c.loop-part.part-index c.part-item.result w.in-Some.function c.loop-part.functions.items c.match-branch-2.functions.items _ l
+      with_item function_part c.args.parts.now c.loop-part.part-index c.part-item.result w.in-Some.function c.loop-part.functions.items
+      c.match-branch-2.functions.items _ l
       c.part-item.is (sym w.in-Some.is ∙ c.in_ok-function.ensures) (rw w.functions-is w.in_ok-push.ensures.items) c.loop-part.invariant
   | in_default w ↦
       rw w.functions-is

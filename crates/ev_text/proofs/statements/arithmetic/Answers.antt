@@ -11,5 +11,6 @@ returns-in_default-split_first c =
 
 pub returns : goal.returns
 returns c =
-    alu_many c.args.operation c.args.operands.now c.in-Some.d.now c.in-Some.rest.now c.in-Some-split_first.s.now c.in-Some-split_first.more.now c.surplus_store.result
+    alu_many c.args.operation c.args.operands.now c.in-Some.d.now c.in-Some.rest.now c.in-Some-split_first.s.now c.in-Some-split_first.more.now
+    c.surplus_store.result
     c.in-Some.ensures.cases.0 c.in-Some-split_first.ensures.cases.0 c.if-is_empty.ensures (rw (sym c.kind_by_start.ensures) c.surplus_store.ensures)

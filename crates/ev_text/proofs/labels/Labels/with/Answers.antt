@@ -11,7 +11,8 @@ use Rattle.ev_text.proofs.labels.Labels.with.Goals as goal
 
 pub invariant_of-result : goal.invariant_of-result
 invariant_of-result c = λ q.
-    let key : string_bytes c.in_ok-key.key ≡ c.args.name = IfOk-at_ok (λ s. string_bytes s ≡ c.as_str.result.now) c.in_ok-key.was c.from_str.ensures.ok ∙ c.as_str.ensures.value in
+    let key : string_bytes c.in_ok-key.key ≡ c.args.name = IfOk-at_ok (λ s. string_bytes s ≡ c.as_str.result.now) c.in_ok-key.was c.from_str.ensures.ok
+    ∙ c.as_str.ensures.value in
     let sets = btree_map_updates_text (string_bytes c.in_ok-key.key) c.self.inside.index c.insert.new.self _ c.in_ok-insert.ensures.updates q in
     let absent : found c.self.inside.given.items c.args.name ≡ None = subst (λ (l : Places). found l c.args.name ≡ None) (sym c.self.view_is) c.requires in
     let more = found_more c.self.inside.given.items c.args.name c.args.place q absent in
