@@ -1,7 +1,6 @@
 -- Documents read by computing the definitions: an image, and a refusal of each cause with its line.
 use Rattle.std.specs.Prelude.{◌≡◌, refl, ℕ, List, [], ◌∷◌, ◌++◌, length, codes, Option, Some, None, Result, Ok, Err}
 use Rattle.ev_io.specs.declared.cause.Cause.{Cause}
-use Rattle.ev_io.specs.declared.cause.Cause.TheVariants as Cause
 use Rattle.ev_io.specs.Follow.{tokens_follow, line_follows, read}
 use Rattle.ev_io.specs.InputLines.{lines_of, text_of, byte_fault, fault_from}
 use Rattle.ev_io.specs.Number.{digit, is_digits, is_decimal, is_hexadecimal, value as digits_value, below_word, number_of}

@@ -1,8 +1,8 @@
 -- What `fill` adds, by the bodies that run on the user side of a key.
-use Rattle.std.proofs.Common.{◌≡◌, ℕ, suc, Bool, true, false, not, ◌&&◌, List, [], ◌∷◌, ◌++◌, Option, Some, None, filter, map, refl, sym, ap, ◌∙◌}
-use Rattle.std.specs.Prelude.{◌==◌, ◌||◌, is_none, if◌then◌else◌}
+use Rattle.std.proofs.Common.{◌≡◌, ℕ, suc, Bool, true, false, not, List, [], ◌∷◌, ◌++◌, Some, filter, map, refl, ap, ◌∙◌}
+use Rattle.std.specs.Prelude.{◌||◌, is_none, if◌then◌else◌}
 use Rattle.std.specs.List.{list_any}
-use Rattle.ev_body.specs.Bodies.{key_number, covers, first_body, filled_keys, fill}
+use Rattle.ev_body.specs.Bodies.{key_number, first_body, filled_keys, fill}
 use Rattle.ev_body.specs.declared.key.Key.{Key}
 use Rattle.ev_body.specs.declared.key.Side.TheVariants.{User}
 use Rattle.ev_body.specs.declared.body.Body.{Body}

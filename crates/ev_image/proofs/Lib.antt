@@ -3,3 +3,5 @@ pub mod Given
 pub mod Filling
 pub mod Examples
 pub mod Functions
+pub mod SixTokens
+pub mod ReadLaws

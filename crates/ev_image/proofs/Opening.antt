@@ -1,5 +1,5 @@
 -- What proofs open to see what a line of a section says.
-use Rattle.std.proofs.Common.{◌≡◌, List, [], ◌∷◌, Result, Err, refl}
+use Rattle.std.proofs.Common.{◌≡◌, List, [], ◌∷◌, Err, refl}
 use Rattle.ev_io.specs.declared.cause.Cause.TheVariants as Cause
 use Rattle.ev_io.specs.Tokens.{Token}
 use Rattle.ev_line.specs.Operands.{value}

@@ -1,5 +1,5 @@
 -- A document up to its line `script`: what stands, and what each line does to it. Own.
-use Rattle.std.specs.Prelude.{ℕ, zero, suc, ◌+◌, Bool, true, false, not, ◌&&◌, nat_lt, nat_le, ◌==◌, List, [], ◌∷◌, ◌++◌, map, filter, length, replicate, set, is_none, Option, Some, None, Result, Ok, Err}
+use Rattle.std.specs.Prelude.{ℕ, zero, suc, Bool, true, false, not, ◌&&◌, nat_lt, nat_le, ◌==◌, List, [], ◌∷◌, ◌++◌, map, filter, length, replicate, set, is_none, Option, Some, None, Result, Ok, Err}
 use Rattle.std.specs.List.{list_all}
 use Rattle.ev_body.specs.Bodies.{fill, covers, key_number}
 use Rattle.ev_body.specs.WellFormed.{is_user_only, is_user_side, is_apart, functions_of}
@@ -11,7 +11,6 @@ use Rattle.ev_body.specs.declared.item.Item.TheVariants.{Ret}
 use Rattle.ev_body.specs.declared.body.Body.{Body}
 use Rattle.ev_body.specs.declared.image.TaskSpec.{TaskSpec}
 use Rattle.ev_io.specs.declared.cause.Cause.{Cause}
-use Rattle.ev_io.specs.declared.cause.Cause.TheVariants as Cause
 use Rattle.ev_io.specs.Tokens.{Token}
 use Rattle.ev_asm.specs.declared.statement.Stmt.{Stmt}
 use Rattle.ev_line.specs.Operands.{then_make, among}
@@ -19,17 +18,12 @@ use Rattle.ev_line.specs.Forms.{read_by}
 use Rattle.ev_text.specs.UserText.{unless, text_grown, text_ended}
 use Rattle.ev_text.specs.declared.text.WholeText.{WholeText}
 use Rattle.ev_part.specs.declared.body.BodyLines.{BodyLines}
-use Rattle.ev_part.specs.declared.line.BodyLine.{BodyLine}
 use Rattle.ev_part.specs.PartItems.{PartView, is_ended}
 use Rattle.ev_part.specs.BodyParts.{all_parts, body_begun, body_grown, body_ended, function_begun}
 use Rattle.ev_image.specs.declared.head.Head.{Head}
-use Rattle.ev_image.specs.declared.head.Head.TheVariants as Head
 use Rattle.ev_image.specs.declared.lines.StartLine.{StartLine}
-use Rattle.ev_image.specs.declared.lines.StartLine.TheVariants as StartLine
 use Rattle.ev_image.specs.declared.lines.KernelLine.{KernelLine}
-use Rattle.ev_image.specs.declared.lines.KernelLine.TheVariants as KernelLine
 use Rattle.ev_image.specs.declared.lines.PartEnd.{PartEnd}
-use Rattle.ev_image.specs.declared.lines.PartEnd.TheVariants as PartEnd
 use Rattle.ev_image.specs.declared.kernel.Start.{Start}
 use Rattle.ev_image.specs.declared.kernel.Kernel.{Kernel}
 use Rattle.ev_image.specs.declared.kernel.TaskLine.{TaskLine}

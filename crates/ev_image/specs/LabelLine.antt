@@ -2,7 +2,6 @@
 use Rattle.std.specs.Prelude.{◌-◌, true, false, List, [], ◌∷◌, length, take, drop, codes, Option, Some, None, Result, Ok, Err}
 use Rattle.std.specs.Str.{bytes_eq}
 use Rattle.ev_io.specs.declared.cause.Cause.{Cause}
-use Rattle.ev_io.specs.declared.cause.Cause.TheVariants as Cause
 use Rattle.ev_io.specs.Tokens.{Token}
 use Rattle.ev_line.specs.Operands.{label}
 

@@ -2,4 +2,3 @@ pub mod LabelLine
 pub mod Sections
 pub mod Head
 pub mod Reads
-pub mod Opens

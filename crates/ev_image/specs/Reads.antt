@@ -2,14 +2,13 @@
 use Rattle.std.specs.Prelude.{◌≡◌, ℕ, ◌+◌, List, [], ◌∷◌, length, Option, Some, None, Result, Ok, Err}
 use Rattle.ev_body.specs.KernelImage.{KernelImage}
 use Rattle.ev_io.specs.declared.cause.Cause.{Cause}
-use Rattle.ev_io.specs.declared.cause.Cause.TheVariants as Cause
+use Rattle.ev_io.specs.declared.lines.LineFault.{LineFault}
 use Rattle.ev_io.specs.Lines.{Reading}
+use Rattle.ev_io.specs.Tokens.{Token}
 use Rattle.ev_io.specs.InputLines.{lines_of}
 use Rattle.ev_io.specs.Follow.{line_follows, FollowsPart}
 use Rattle.ev_image.specs.declared.head.Head.{Head}
-use Rattle.ev_image.specs.declared.head.Head.TheVariants as Head
 use Rattle.ev_image.specs.declared.reading.ImageFault.{ImageFault}
-use Rattle.ev_image.specs.declared.reading.ImageFault.TheVariants as ImageFault
 use Rattle.ev_image.specs.Head.{head_follows}
 
 -- An image, with the number of its line `script`, the number of bytes through it, and the lines behind it.
@@ -35,6 +34,22 @@ opened n before head (line ∷ lines) = elim (line_follows head_follows before h
     | None ↦ opened (n + 1) (before + length line) next lines
   ]
 ]
+
+-- a fault of the reader of lines, as a fault of the image
+abbrev pub fault_of : LineFault → ImageFault
+fault_of LineFault.ReadFault = ImageFault.Read
+fault_of (LineFault.TooLarge n) = ImageFault.BadLine n Cause.TooLarge
+fault_of (LineFault.TooLong n) = ImageFault.BadLine n Cause.TooLong
+fault_of (LineFault.NotAscii n k) = ImageFault.BadLine n Cause.NotAscii
+
+-- what stands behind lines of these tokens, the last of them first
+abbrev pub ReachedBy : List (List Token) → Head → Type 0
+ReachedBy [] head = head ≡ Head.Image
+ReachedBy (ts ∷ before) head = (last : Head) × ReachedBy before last × (head_follows last ts ≡ Ok head)
+
+-- what stands behind some lines of a document
+abbrev pub Reached : Head → Type 0
+Reached head = (lines : List (List Token)) × ReachedBy lines head
 
 -- The answer of a reader that stood so before these bytes: the image, with its reader behind the line `script`; or the first refusal; or the source
 -- failed, and the lines before had none.

@@ -1,26 +1,20 @@
 -- What the lines of each section of a document say. Own.
-use Rattle.std.specs.Prelude.{ℕ, Bool, true, false, ◌==◌, List, [], ◌∷◌, map, codes, Option, Some, None, Result, Ok, Err}
+use Rattle.std.specs.Prelude.{ℕ, Bool, true, false, ◌==◌, List, [], ◌∷◌, map, codes, Option, Some, None, Result, Err}
 use Rattle.ev_body.specs.Bodies.{key_number}
 use Rattle.ev_body.specs.declared.key.Key.{Key}
 use Rattle.ev_io.specs.declared.cause.Cause.{Cause}
-use Rattle.ev_io.specs.declared.cause.Cause.TheVariants as Cause
 use Rattle.ev_io.specs.Tokens.{Token}
 use Rattle.ev_asm.specs.Assembly.{Places}
 use Rattle.ev_asm.specs.declared.statement.Stmt.{Stmt}
-use Rattle.ev_asm.specs.declared.statement.Stmt.TheVariants as Stmt
 use Rattle.ev_line.specs.Operands.{Number, Within, Processor, New, NewRegister, TextLabel, AnyKey, AnySide, then_make}
-use Rattle.ev_line.specs.Forms.{Form, form, read_by}
+use Rattle.ev_line.specs.Forms.{Form, form}
 use Rattle.ev_text.specs.Words.{named_in}
 use Rattle.ev_text.specs.TextForms.{statement_of}
 use Rattle.ev_part.specs.declared.line.BodyLine.{BodyLine}
-use Rattle.ev_part.specs.declared.line.BodyLine.TheVariants as BodyLine
 use Rattle.ev_part.specs.ItemForms.{item_of}
 use Rattle.ev_image.specs.declared.lines.StartLine.{StartLine}
-use Rattle.ev_image.specs.declared.lines.StartLine.TheVariants as StartLine
 use Rattle.ev_image.specs.declared.lines.KernelLine.{KernelLine}
-use Rattle.ev_image.specs.declared.lines.KernelLine.TheVariants as KernelLine
 use Rattle.ev_image.specs.declared.lines.PartEnd.{PartEnd}
-use Rattle.ev_image.specs.declared.lines.PartEnd.TheVariants as PartEnd
 use Rattle.ev_image.specs.declared.kernel.Start.{Start}
 use Rattle.ev_image.specs.declared.kernel.Kernel.{Kernel}
 use Rattle.ev_image.specs.declared.kernel.TaskLine.{TaskLine}

@@ -3,14 +3,15 @@
 ghost use Rattle.std.specs.Prelude.{◌≡◌, ◌++◌, true, not, IfOk, length, filter, map, Ok};
 ghost use Rattle.std.specs.List.{list_all, list_any};
 ghost use Rattle.ev_body.specs.Bodies.{covers, fill, filled_keys, key_number};
-ghost use Rattle.ev_body.specs.WellFormed.{IsImage, is_apart, is_user_only, is_user_side};
+ghost use Rattle.ev_body.specs.WellFormed.{is_apart, is_user_only, is_user_side};
 ghost use Rattle.ev_text.specs.UserText.{Comes};
-ghost use Rattle.ev_image.specs.Head.{body_does, each_has_one, every_task, fill_does, image_with, new_body, new_task, of_processor, plain_body, register_given, runs_user, script_does, start_does, task_begun, tasks_by, tasks_of, with_last, with_register};
+ghost use Rattle.ev_image.specs.Head.{body_does, each_has_one, every_task, fill_does, new_body, new_task, of_processor, plain_body, register_given, runs_user, script_does, start_does, task_begun, tasks_by, tasks_of, with_last, with_register};
 
+use crate::draft::Draft;
 use crate::head::Head;
 use crate::kernel::{Kernel, Start, TaskLine};
 use crate::lines::StartLine;
-use ev_body::{Body, Image, Item, Key, Side, TaskSpec};
+use ev_body::{Body, Item, Key, Side, TaskSpec};
 use ev_io::Cause;
 use ev_isa::{Many, Reg};
 use ev_part::BodyLines;
@@ -279,8 +280,6 @@ fn each_has_one(rows: &[Many<TaskSpec>]) -> bool
 
 /// What the line `script` does.
 pub fn script_does(alloc: Global, kernel: Kernel) -> Result<Head, Stop>
-    requires { each_has_one (tasks_by (every_task kernel) kernel.start.processors) ≡ true
-        → IsImage (image_with kernel (tasks_by (every_task kernel) kernel.start.processors)) }
     ensures { Comes (script_does kernel (tasks_by (every_task kernel) kernel.start.processors))
         result }
 {
@@ -306,7 +305,7 @@ pub fn script_does(alloc: Global, kernel: Kernel) -> Result<Head, Stop>
         pages,
         cells,
     } = start;
-    Ok(Head::Opened(Image {
+    Ok(Head::Opened(Draft {
         processors,
         nest,
         pages,

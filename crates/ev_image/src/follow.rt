@@ -9,7 +9,6 @@ ghost use Rattle.ev_part.specs.BodyParts.{all_parts, body_grown};
 ghost use Rattle.ev_part.specs.PartItems.{is_ended};
 ghost use Rattle.ev_text.specs.UserText.{Comes, text_ended, text_grown};
 ghost use Rattle.ev_image.specs.Head.{and_then, body_follows, function_of, functions_in, head_follows, is_main, kernel_does, no_bodies, nothing_given, part_end_does, start_does, text_does};
-ghost use Rattle.ev_image.specs.Opens.{HeadOpens, OpensImage};
 ghost use Rattle.ev_image.specs.Sections.{behind_forms, between_forms, end_forms, filled_forms, nest_forms, part_said, processors_forms, start_forms, task_forms, text_said, version_forms};
 ghost use Rattle.ev_image.specs.declared.head.Head.TheVariants as Head;
 ghost use Rattle.ev_image.specs.declared.lines.PartEnd.TheVariants as PartEnd;
@@ -86,7 +85,6 @@ fn text_follows(alloc: Global, start: Start, text: UserText, tokens: &[&[u8]]) -
 /// What a line between the text and the script does, outside bodies.
 #[tactic(auto, unfolding(crate::specs::Head::kernel_does))]
 fn kernel_does(alloc: Global, kernel: Kernel, line: KernelLine) -> Result<Head, Stop>
-    requires { OpensImage kernel }
     ensures { Comes (kernel_does kernel line) result }
 {
     match line {
@@ -100,7 +98,6 @@ fn kernel_does(alloc: Global, kernel: Kernel, line: KernelLine) -> Result<Head, 
 
 /// A line behind the text, before any body.
 fn tasks_follow(alloc: Global, kernel: Kernel, tokens: &[&[u8]]) -> Result<Head, Stop>
-    requires { OpensImage kernel }
     ensures { Comes (and_then (kernel_does kernel)
         (read_by (task_forms kernel) (map (λ t. t.now) tokens.now))) result }
 {
@@ -112,7 +109,6 @@ fn tasks_follow(alloc: Global, kernel: Kernel, tokens: &[&[u8]]) -> Result<Head,
 
 /// A line behind a body.
 fn bodies_follow(alloc: Global, kernel: Kernel, tokens: &[&[u8]]) -> Result<Head, Stop>
-    requires { OpensImage kernel }
     ensures { Comes (and_then (kernel_does kernel)
         (read_by between_forms (map (λ t. t.now) tokens.now))) result }
 {
@@ -124,7 +120,6 @@ fn bodies_follow(alloc: Global, kernel: Kernel, tokens: &[&[u8]]) -> Result<Head
 
 /// A line behind `fill`.
 fn filled_follow(alloc: Global, kernel: Kernel, tokens: &[&[u8]]) -> Result<Head, Stop>
-    requires { OpensImage kernel }
     ensures { Comes (and_then (kernel_does kernel)
         (read_by filled_forms (map (λ t. t.now) tokens.now))) result }
 {
@@ -312,7 +307,6 @@ fn nest_follows(alloc: Global, processors: u8, tokens: &[&[u8]]) -> Result<Head,
 /// What a line that isn't passed over does to what stands: what stands then, or the line's one cause.
 #[tactic(auto, unfolding(crate::specs::Head::head_follows))]
 pub fn follow(alloc: Global, head: Head, tokens: &[&[u8]]) -> Result<Head, Stop>
-    requires { HeadOpens head }
     ensures { Comes (head_follows head (map (λ t. t.now) tokens.now)) result }
 {
     match head {

@@ -1,7 +1,11 @@
 // What stands of a document up to its line `script`.
 
+ghost use Rattle.std.specs.Prelude.{◌≡◌, None, MatchResult};
+ghost use Rattle.ev_image.specs.Reads.{image_in};
+ghost use Rattle.ev_image.specs.declared.head.Head.TheVariants as Head;
+
+use crate::draft::Draft;
 use crate::kernel::{Kernel, Start};
-use ev_body::Image;
 use ev_part::BodyLines;
 use ev_text::UserText;
 
@@ -27,5 +31,18 @@ pub enum Head {
     /// Behind the line `fill`.
     Filled(Kernel),
     /// Behind the line `script`.
-    Opened(Image),
+    Opened(Draft),
+}
+
+impl Head {
+    /// The image behind the line `script`, or what stands before that line.
+    pub fn opened(self) -> Result<Draft, Head>
+        ensures { MatchResult result (λ draft. self ≡ Head.Opened draft)
+            (λ head. (head ≡ self) × (image_in self ≡ None)) }
+    {
+        match self {
+            Head::Opened(draft) => Ok(draft),
+            head => Err(head),
+        }
+    }
 }

@@ -2,6 +2,7 @@
 #![tactic(auto)]
 
 mod does;
+mod draft;
 mod follow;
 mod head;
 mod kernel;
@@ -9,7 +10,8 @@ mod lines;
 mod reading;
 mod said;
 
+pub use draft::Draft;
 pub use head::Head;
 pub use kernel::{Kernel, Start, TaskLine};
 pub use lines::{KernelLine, PartEnd, StartLine};
-pub use reading::ImageFault;
+pub use reading::{ImageFault, read_draft};

@@ -1,6 +1,20 @@
 // Reading images.
 
-use ev_io::Cause;
+ghost use Rattle.std.specs.Prelude.{◌≡◌, ◌≤◌, ℕ, List, [], Some, IfOk};
+ghost use Rattle.ev_io.specs.Transfer.{Draws, Rose};
+ghost use Rattle.ev_io.specs.Lines.{coming, drawn};
+ghost use Rattle.ev_io.specs.Tokens.{tokens_of};
+ghost use Rattle.ev_text.specs.UserText.{Comes};
+ghost use Rattle.ev_image.specs.Head.{head_follows};
+ghost use Rattle.ev_image.specs.Reads.{OnRead, Reached, ReadsImage, fault_of};
+ghost use Rattle.ev_image.specs.declared.head.Head.TheVariants as Head;
+
+use crate::draft::Draft;
+use crate::follow::follow;
+use crate::head::Head;
+use ev_io::{Cause, LineFault, Lines, Source, tokens_in};
+use ev_text::Stop;
+use std::alloc::Global;
 use thiserror::Error;
 
 /// Why an image isn't in memory. Own.
@@ -15,4 +29,59 @@ pub enum ImageFault {
     /// Memory was refused.
     #[error("memory was refused")]
     NoMemory,
+}
+
+/// What a line of this text does to what stands: its first six tokens tell it.
+fn line_follows(alloc: Global, head: Head, text: &[u8]) -> Result<Head, Stop>
+    ensures { Comes (head_follows head (tokens_of text.now)) result }
+{
+    follow(alloc, head, tokens_in(text).as_slice())
+}
+
+/// The fault of a line's bytes, or of the source.
+fn fault_of(fault: LineFault) -> ImageFault
+    ensures { result ≡ fault_of fault }
+{
+    match fault {
+        LineFault::ReadFault => ImageFault::Read,
+        LineFault::TooLarge(number) => ImageFault::BadLine(number, Cause::TooLarge),
+        LineFault::TooLong(number) => ImageFault::BadLine(number, Cause::TooLong),
+        LineFault::NotAscii(number, _) => ImageFault::BadLine(number, Cause::NotAscii),
+    }
+}
+
+/// Reads what a document says of its kernel image, through the line `script`. A line that doesn't
+/// follow is answered with its number and its one cause, and a missing line `script` as NoEnd at the
+/// last line read. Memory is that of the image. Own.
+pub fn read_draft<S: Source>(
+    alloc: Global,
+    lines: &mut Lines,
+    src: &mut S,
+) -> Result<Draft, ImageFault>
+    ensures reads { (bytes : List ℕ) → coming lines.old.chunk (S.left src.old) ≡ Some bytes
+        → ReadsImage lines.old bytes lines.new (coming lines.new.chunk (S.left src.new)) result }
+    ensures reached { IfOk result (λ draft. Reached (Head.Opened draft)) }
+
+    // bytes are read only as they are given or kept, up to byte 8,388,609
+    ensures draws { Draws (drawn lines.old) (drawn lines.new) (S.left src.old) (S.left src.new) }
+    ensures most { drawn lines.new ≤ 8388609 }
+
+    ensures later { S.faults src.old ≤ S.faults src.new }
+    ensures cause { OnRead result (Rose (S.faults src.old) (S.faults src.new)) }
+{
+    let mut head = Head::Image;
+    loop {
+        match lines.next_said(src) {
+            Err(fault) => return Err(fault_of(fault)),
+            Ok(None) => return Err(ImageFault::BadLine(lines.number(), Cause::NoEnd)),
+            Ok(Some(number)) => match line_follows(alloc, head, lines.text()) {
+                Err(Stop::NoMemory) => return Err(ImageFault::NoMemory),
+                Err(Stop::Because(cause)) => return Err(ImageFault::BadLine(number, cause)),
+                Ok(next) => match next.opened() {
+                    Ok(draft) => return Ok(draft),
+                    Err(next) => head = next,
+                },
+            },
+        }
+    }
 }

@@ -1,4 +1,4 @@
-use Rattle.std.proofs.Common.{◌≡◌, ap, ◌∙◌, sym}
+use Rattle.std.proofs.Common.{◌∙◌, sym}
 use Rattle.ev_image.proofs.Given.{no_tasks, tasks_more}
 use Rattle.ev_image.proofs.does.tasks_by.Goals as goal
 

@@ -1,0 +1,24 @@
+use Rattle.std.proofs.Common.{◌≡◌, ◌≤◌, ◌-◌, ℕ, List, Some, None}
+use Rattle.ev_io.specs.Transfer.{Draws}
+use Rattle.ev_io.specs.Lines.{coming, drawn}
+use Rattle.ev_io.specs.Follow.{Stands}
+use Rattle.ev_image.specs.declared.head.Head.TheVariants as Head
+use Rattle.ev_image.specs.Head.{head_follows}
+use Rattle.ev_image.specs.Reads.{Reached, image_in}
+use Rattle.ev_image.proofs.reading.read_draft.Given as goal
+
+abbrev pub invariant-loop-fault : goal.invariant-loop-fault
+invariant-loop-fault g l =
+    let left = g.S.Source.left in
+    let faults = g.S.Source.faults in
+    record {
+      stands : (bytes : List ℕ) → coming l.fn.lines.chunk (left l.fn.src) ≡ Some bytes
+          → Stands head_follows l.fn.lines Head.Image bytes l.lines (coming l.lines.chunk (left l.src)) l.head;
+      before : image_in l.head ≡ None;
+      reached : Reached l.head;
+      draws : Draws (drawn l.fn.lines) (drawn l.lines) (left l.fn.src) (left l.src);
+      count : faults l.fn.src ≤ faults l.src;
+    }
+
+abbrev pub decreases-loop-fault : goal.decreases-loop-fault
+decreases-loop-fault g l = 8388608 - l.lines.gone
