@@ -22,7 +22,8 @@ pub returns-in-Err-clause-reads : goal.returns-in-Err-clause-reads
 returns-in-Err-clause-reads g c = λ bytes e.
     let stands = c.loop-fault.invariant.stands bytes e in
     let skips = c.in-Err.ensures.said stands.left stands.to_come in
-    rw c.fault_of.ensures (faulty c.args.lines.now bytes c.loop-fault.lines _ _ c.next_said.new.self _ c.in-Err.fault c.loop-fault.invariant.before stands skips)
+    rw c.fault_of.ensures (faulty c.args.lines.now bytes c.loop-fault.lines _ _ c.next_said.new.self _ c.in-Err.fault
+    c.loop-fault.invariant.before stands skips)
 
 pub returns-in-Err-clause-draws : goal.returns-in-Err-clause-draws
 returns-in-Err-clause-draws g c = draws_then _ _ _ _ _ _ c.loop-fault.invariant.draws c.next_said.ensures.draws
