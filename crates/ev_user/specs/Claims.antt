@@ -14,9 +14,18 @@ use Rattle.ev_apic.specs.declared.apic.Apic.{Apic}
 use Rattle.ev_mem.specs.Memory.{Memory, page_fault}
 use Rattle.ev_proc.specs.ProcessorStep.{After, step, ran, next_of, instruction_at}
 use Rattle.ev_abstract.specs.UserCode.{text_bytes, user_step, Goes, Raises}
+use Rattle.ev_abstract.specs.Machine.{user_memory, opening}
+use Rattle.ev_concrete.specs.Opening.{opening_memory}
 use Rattle.ev_user.specs.Tasks.{RunsTask, task_processor}
 use Rattle.ev_user.specs.Sees.{Sees, IsPageWord, IsWrite, with_write, written}
 use Rattle.ev_user.specs.Causes.{Cause, IsCause, raised_event, raising}
+
+-- ---- memory
+
+-- At the opening user code sees what the abstract machine's sees.
+abbrev pub OpeningSees : Type 0
+OpeningSees = (mode : Mode) (image : Image) → IsImage image
+    → Sees image (user_memory image (opening image)) (opening_memory mode image)
 
 -- ---- what is read
 

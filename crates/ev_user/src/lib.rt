@@ -2,12 +2,14 @@
 //! machine's user code does.
 #![tactic(auto)]
 
-ghost use Rattle.ev_user.specs.Claims.{PagesFaultAlike, ReadsAlike, UserGoesOn, UserRaises};
+ghost use Rattle.ev_user.specs.Claims.{OpeningSees, PagesFaultAlike, ReadsAlike, UserGoesOn, UserRaises};
 ghost use Rattle.ev_user.specs.Deliveries.{EventsAreOwn, EventsPass, EventsAreDeliverable};
 ghost use Rattle.ev_user.specs.Deliveries.{ArrivesAtOnce, CallArrives, RefusalArrives};
 
-/// What user code reads at RIP: the page rules and the bytes are the same on both sides.
+/// What user code sees of memory: the same on both sides at the opening, and then the page rules
+/// and the bytes at RIP are.
 pub fn reads()
+    ensures opening { OpeningSees }
     ensures faults { PagesFaultAlike }
     ensures text { ReadsAlike }
 {}
