@@ -85,7 +85,13 @@ arrives_at_once c d a m nmi words frame Call other h = absurd (other refl)
 
 pub call_arrives : CallArrives
 call_arrives c d a m nmi words frame fred h =
-    let called : After = record { cpu = syscall_idt (record c { rip = c.rip + 2 }); apic = a; words = m.words; nmi = nmi; step = Stepped.Delivered (own_event Call) None } in
+    let called : After = record {
+      cpu = syscall_idt (record c { rip = c.rip + 2 });
+      apic = a;
+      words = m.words;
+      nmi = nmi;
+      step = Stepped.Delivered (own_event Call) None;
+    } in
     ap (λ b. if b then delivering c a m nmi (own_event Call) (c.rip + 2) else called) fred ∙ arrives c d a m nmi words frame (own_event Call) (c.rip + 2) h
 
 -- INT n is benign, so that its fault is delivered in its place

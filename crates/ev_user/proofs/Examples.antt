@@ -1,6 +1,5 @@
--- Odd steps of user code, computed: at the end of the text and behind it, at addresses of the kernel and of pages, across the text's end, and accesses that fault.
-use Rattle.std.specs.Prelude.{◌≡◌, refl, ℕ, ◌==◌, Bool, true, false, pos, List, [], ◌∷◌, ◌++◌, replicate, Option, Some, None}
-use Rattle.ev_isa.specs.Word.{is_aligned}
+-- Odd steps of user code, computed: RIP at the text's end and behind it, in a page and in the kernel, bytes behind the text, and accesses that fault.
+use Rattle.std.specs.Prelude.{◌≡◌, refl, ℕ, ◌==◌, pos, List, [], ◌∷◌, ◌++◌, replicate}
 use Rattle.ev_isa.specs.Flags.{start_flags}
 use Rattle.ev_isa.specs.Pages.{UserMemory, place_of, fault_at}
 use Rattle.ev_isa.specs.Instruction.{user_may, is_instruction}

@@ -72,7 +72,8 @@ word_bytes text words b small holds al lo hi =
     le_bytes_8 (bytes_from (byte_at text) b 8) (words b) refl (small_at (byte_at text) (λ x. small (x - text_base)) b 8)
     (holds b al lo hi
     ∙ same_word (drop (b - text_base) text) (bytes_from (byte_at text) b 8)
-    (λ i h. get_or-drop (b - text_base) text i 0 ∙ ap (λ n. get_or text n 0) (let e : b - text_base + i ≡ b + i - text_base = omega arith in e) ∙ sym (at_place (byte_at text) 8 b i h)))
+    (λ i h. get_or-drop (b - text_base) text i 0 ∙ ap (λ n. get_or text n 0) (let e : b - text_base + i ≡ b + i - text_base = omega arith in e)
+    ∙ sym (at_place (byte_at text) 8 b i h)))
 
 -- the first byte that is fetched
 first_byte : (words : NatMap ℕ) (a : ℕ) (f : ℕ → ℕ) → to_le_bytes w64 (words (a - a % 8)) ≡ bytes_from f (a - a % 8) 8

@@ -1,9 +1,9 @@
 -- At the opening user code sees the same memory on both sides.
-use Rattle.std.proofs.Common.{◌≡◌, ℕ, ◌+◌, ◌-◌, ◌*◌, ◌/◌, ◌%◌, ◌^◌, ◌<◌, ◌≤◌, Bool, true, false, ◌&&◌, refl, sym, ap, ◌∙◌, arith, ◌⊎◌, inl, inr, ⊎_elim}
+use Rattle.std.proofs.Common.{◌≡◌, ℕ, ◌+◌, ◌-◌, ◌*◌, ◌/◌, ◌%◌, ◌^◌, ◌<◌, ◌≤◌, Bool, true, false, refl, ap, ◌∙◌, arith, ◌⊎◌, inl, inr, ⊎_elim}
 use Rattle.std.specs.Prelude.{nat_lt, nat_le, if◌then◌else◌}
 use Rattle.std.proofs.lemmas.Bool.{le-leb, lt-ltb, leb-true, ltb-true, eq-eqb}
 use Rattle.ev_isa.specs.Word.{is_aligned, members}
-use Rattle.ev_isa.specs.Pages.{text_base, page_base}
+use Rattle.ev_isa.specs.Pages.{text_base}
 use Rattle.ev_isa.specs.declared.mode.Mode.{Mode}
 use Rattle.ev_body.specs.declared.image.Image.{Image}
 use Rattle.ev_body.specs.WellFormed.{IsImage}
@@ -60,9 +60,11 @@ mapped es mode image is i h =
     yes (is_aligned a) _ _ (eq-eqb (a % 8) 0 (let e : a % 8 ≡ 0 = omega arith in e))
     ∙ no (nat_lt a (2 ^ 63)) _ _ (not_below a (2 ^ 63) (omega arith))
     ∙ no (nat_le fred_page a) _ _ (not_above fred_page a (omega arith))
-    ∙ no (within (stack_top 0 0 - 0x4000) (0x100000 * image.processors) a) _ _ (outside (stack_top 0 0 - 0x4000) (0x100000 * image.processors) a (inl (omega arith)))
+    ∙ no (within (stack_top 0 0 - 0x4000) (0x100000 * image.processors) a) _ _
+    (outside (stack_top 0 0 - 0x4000) (0x100000 * image.processors) a (inl (omega arith)))
     ∙ no (within (pcpu 0) (0x10000 * image.processors) a) _ _ (outside (pcpu 0) (0x10000 * image.processors) a (inr (omega arith)))
-    ∙ no (within (task_words 0 0) (0x100 * image.processors) a) _ _ (outside (task_words 0 0) (0x100 * image.processors) a (inl (omega arith)))
+    ∙ no (within (task_words 0 0) (0x100 * image.processors) a) _ _
+    (outside (task_words 0 0) (0x100 * image.processors) a (inl (omega arith)))
     ∙ no (within user_table (8 * 257) a) _ _ (outside user_table (8 * 257) a (inr (omega arith)))
     ∙ no (within kernel_table (8 * 257) a) _ _ (outside kernel_table (8 * 257) a (inr (omega arith)))
     ∙ no (within idt_base (16 * 256) a) _ _ (outside idt_base (16 * 256) a (inr (omega arith)))
