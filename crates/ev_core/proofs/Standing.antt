@@ -14,6 +14,10 @@ use Rattle.ev_refine.proofs.Refine.{all_settle, tells}
 use Rattle.ev_layout.specs.Marks.{marks_in}
 use Rattle.ev_core.specs.State.{Parts, Shows, CanStep, EdgesTell, local_of}
 use Rattle.ev_core.specs.Run.{MachineView, IsStandingAs, IsStanding}
+use Rattle.ev_state.specs.Processor.{Processor}
+use Rattle.ev_refine.proofs.Domains.{one_task_each}
+use Rattle.ev_core.specs.Task.{IsTaskView}
+use Rattle.ev_core.specs.declared.task_view.TaskView.{TaskView}
 use Rattle.ev_core.specs.declared.local.Local.{Local}
 use Rattle.ev_core.proofs.Parts.{same_value}
 use Rattle.ev_core.proofs.Edges.{edges_more}
@@ -38,6 +42,20 @@ module _ (mode : Mode) (image : Image) (s : System) (m : abstract.Machine) (v : 
   -- what the machine keeps as the depth is the number of contexts
   pub depth_is : (l : Local) → l ≡ local_of s p → l.depth ≡ length (abstract.processor m p).bodies
   depth_is l e = ap (λ (y : Local). y.depth) e ∙ telling.depth
+
+  -- where no body stands, the first task is the processor's own state
+  pub task_is : (view : TaskView) (i : ℕ) (c : Processor) → i ≡ 0 → (abstract.processor m p).bodies ≡ [] → c ≡ s.cpus p → view.regs ≡ c.regs
+      → view.rip ≡ c.rip → view.flags ≡ c.flags → view.gs ≡ c.msrs.gs_base → IsTaskView view ((abstract.processor m p).tasks i)
+  task_is view i c first none is regs rip flags gs =
+      let run = telling.running in
+      let one = one_task_each image so.can.built p lt in
+      let same : (abstract.processor m p).running ≡ i = omega arith in
+      subst (λ n. IsTaskView view ((abstract.processor m p).tasks n)) same (record {
+        regs = regs ∙ ap (λ (d : Processor). d.regs) is ∙ telling.regs none;
+        rip = rip ∙ ap (λ (d : Processor). d.rip) is ∙ telling.rip none;
+        flags = flags ∙ ap (λ (d : Processor). d.flags) is ∙ telling.flags none;
+        gs = gs ∙ ap (λ (d : Processor). d.msrs.gs_base) is ∙ telling.gs none;
+      })
 
   -- parts that show the state can make a step
   pub can_step : (w : Parts) → Shows image.processors w s → CanStep w p

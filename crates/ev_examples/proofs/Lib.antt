@@ -10,6 +10,8 @@ mod NestedInterrupts
 mod MergedNmis
 mod NmiAtLastReturn
 mod UserAtRepeat
+mod UserAtKernelAddresses
+mod BodiesTold
 mod SupervisorJump
 mod NmiAfterSyscall
 mod PageFaultInAnNmi

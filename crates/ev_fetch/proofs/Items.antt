@@ -225,7 +225,8 @@ module _ (mode : Mode) (b : ℕ) (key : Key) (function : ℕ → ℕ) (n : ℕ) 
                 (
                   record { fields = (omega arith, omega arith); counts = refl },
                   (
-                    own (own_label b n (codes "L3")) (gives_at (own_label b n (codes "L3")) (expansion mode b key function n (Call site to func s)) 28 _ refl refl),
+                    own (own_label b n (codes "L3"))
+                        (gives_at (own_label b n (codes "L3")) (expansion mode b key function n (Call site to func s)) 28 _ refl refl),
                     (
                       tt,
                       (
@@ -259,14 +260,17 @@ module _ (mode : Mode) (b : ℕ) (key : Key) (function : ℕ → ℕ) (n : ℕ) 
                                                   (
                                                     ok refl,
                                                     (
-                                                      own (own_label b n (codes "L2")) (gives_at (own_label b n (codes "L2")) (expansion mode b key function n (Call site to func s)) 19 _ refl refl),
+                                                      own (own_label b n (codes "L2"))
+                                                          (gives_at (own_label b n (codes "L2")) (expansion mode b key function n (Call site to func s)) 19
+                                                          _ refl refl),
                                                       (
                                                         record { fields = (omega arith, omega arith); counts = refl },
                                                         (
                                                           ok refl,
                                                           (
                                                             own (own_label b n (codes "L3"))
-                                                                (gives_at (own_label b n (codes "L3")) (expansion mode b key function n (Call site to func s)) 28 _ refl refl),
+                                                                (gives_at (own_label b n (codes "L3"))
+                                                                (expansion mode b key function n (Call site to func s)) 28 _ refl refl),
                                                             (record { fields = (omega arith, omega arith); counts = refl }, (tt, tt)),
                                                           ),
                                                         ),

@@ -30,6 +30,10 @@ draws_nothing n o = ([], omega arith, sym (prepend_nothing o))
 pub draws_more : (l k m n r : ℕ) (a b c : Option (List ℕ)) → Draws l (k + m) a b → Draws m n b c → r ≡ k + n → Draws l r a c
 draws_more l k m n r a b c p q e = (p.0 ++ q.0, omega (arith, e, p.1, q.1, length-append p.0 q.0), p.2 ∙ ap (prepend_known p.0) q.2 ∙ prepend_prepend p.0 q.0 c)
 
+-- bytes that were drawn one after another
+pub draws_then : (l m n : ℕ) (a b c : Option (List ℕ)) → Draws l m a b → Draws m n b c → Draws l n a c
+draws_then l m n a b c p q = (p.0 ++ q.0, omega (arith, p.1, q.1, length-append p.0 q.0), p.2 ∙ ap (prepend_known p.0) q.2 ∙ prepend_prepend p.0 q.0 c)
+
 -- bytes that were read whole, and then more
 pub within_more : (xs : List ℕ) (m : ℕ) (a b c : Option (List ℕ)) → m ≡ length xs → a ≡ prepend_known xs b → DrawsWithin m b c → DrawsWithin 0 a c
 within_more xs m a b c l e q = (xs ++ q.0, omega (arith, l, q.1, length-append xs q.0), e ∙ ap (prepend_known xs) q.2 ∙ prepend_prepend xs q.0 c)

@@ -32,6 +32,7 @@ abbrev pub OnReadFault : {T : Type 0} → Result T InputFault → Type 0 → Typ
 OnReadFault (Err ReadFault) P = P
 OnReadFault _ P = Unit {0}
 
+-- a fact for TooLarge alone
 abbrev pub OnTooLarge : {T : Type 0} → Result T InputFault → Type 0 → Type 0
 OnTooLarge (Err TooLarge) P = P
 OnTooLarge _ P = Unit {0}

@@ -2,3 +2,6 @@ pub mod Transfer
 pub mod Lines
 pub mod Input
 pub mod Number
+pub mod Tokens
+pub mod InputLines
+pub mod Follow

@@ -12,9 +12,11 @@ pub data Outcome : Type 0 where
   End : Outcome
   Bad : LineFault → Outcome
 
+-- whether a byte is one of 20H to 7EH
 abbrev pub is_printable : ℕ → Bool
 is_printable b = nat_le 32 b && nat_le b 126
 
+-- the same as a fact
 abbrev pub IsPrintable : ℕ → Type 0
 IsPrintable b = is_printable b ≡ true
 
@@ -68,6 +70,7 @@ Answers o (Err (TooLong n)) text gone rest = IfSome o (λ x. x ≡ Bad (TooLong 
 Answers o (Err (TooLarge n)) text gone rest = IfSome o (λ x. x ≡ Bad (TooLarge n))
 Answers o (Err (NotAscii n k)) text gone rest = IfSome o (λ x. x ≡ Bad (NotAscii n k))
 
+-- the same for an answer with the number of the line
 abbrev pub Gives : Option Outcome → Reading → Option (List ℕ) → Result (Option ℕ) LineFault → Type 0
 Gives o new rest (Ok (Some n)) = Answers o (Ok true) new.text new.gone rest
 Gives o new rest (Ok None) = Answers o (Ok false) new.text new.gone rest
@@ -99,3 +102,23 @@ abbrev pub First : Option (List ℕ) → Reading → Option (List ℕ) → Resul
 First old new rest (Ok (Some n)) = TakesLine new.text old rest
 First old new rest (Ok None) = IfSome old (λ bytes. bytes ≡ [])
 First old new rest (Err f) = Unit {0}
+
+-- what was read of a line of which no byte was refused, where so many bytes of the input stand before the line
+pub record IsPart (before : ℕ) (part : List ℕ) : Type 0 where
+  pub printable : All IsPrintable part
+  pub short : length part ≤ 4096
+  pub within : before + length part ≤ 8388608
+
+-- of the bytes to come a part of a line and these bytes behind it are gone
+pub record StopsBehind (bad : List ℕ) (before : ℕ) (old : Option (List ℕ)) (part : List ℕ) (gone : ℕ) (rest : Option (List ℕ)) : Type 0 where
+  pub clean : IsPart before part
+  pub drawn : old ≡ prepend_known (part ++ bad) rest
+  pub counted : gone ≡ before + length part + length bad
+
+-- At a fault what was read of the line is gone, and of its bytes at most the refused one: byte 8,388,609 is still to come.
+abbrev pub Stops : {T : Type 0} → Result T LineFault → ℕ → Option (List ℕ) → List ℕ → ℕ → Option (List ℕ) → Type 0
+Stops (Err ReadFault) before old part gone rest = StopsBehind [] before old part gone rest
+Stops (Err (TooLarge n)) before old part gone rest = StopsBehind [] before old part gone rest
+Stops (Err (TooLong n)) before old part gone rest = (b : ℕ) × StopsBehind (b ∷ []) before old part gone rest
+Stops (Err (NotAscii n k)) before old part gone rest = (b : ℕ) × StopsBehind (b ∷ []) before old part gone rest
+Stops (Ok x) before old part gone rest = Unit {0}

@@ -23,6 +23,7 @@ unfoldable pub value : ℕ → List ℕ → ℕ
 value base [] = 0
 value base (d ∷ ds) = digit d * base ^ length ds + value base ds
 
+-- decimal digits, without a leading zero
 unfoldable pub is_decimal : List ℕ → Bool
 is_decimal text = is_digits 10 text && (length text == 1 || not (slice_index text 0 == 0x30))
 
@@ -30,6 +31,7 @@ is_decimal text = is_digits 10 text && (length text == 1 || not (slice_index tex
 unfoldable pub is_hexadecimal : List ℕ → Bool
 is_hexadecimal text = slice_index text 0 == 0x30 && slice_index text 1 == 0x78 && is_digits 16 (drop 2 text)
 
+-- a number where it is below 2^64
 unfoldable pub below_word : ℕ → Option ℕ
 below_word n = if nat_lt n (2 ^ 64) then Some n else None
 

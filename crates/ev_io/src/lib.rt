@@ -11,6 +11,7 @@ mod standard;
 #[cfg(test)]
 mod tests;
 mod text;
+mod tokens;
 mod transfer;
 mod write;
 
@@ -20,5 +21,6 @@ pub use lines::{LineFault, Lines};
 pub use memory::{MemSink, MemSource};
 pub use number::read_number;
 pub use standard::{StdSink, StdSource};
+pub use tokens::{is_passed_over, tokens_in};
 pub use transfer::{Failed, Sink, Source};
 pub use write::put_all;

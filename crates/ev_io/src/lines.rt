@@ -1,31 +1,38 @@
 // Lines from a source.
 
-ghost use Rattle.std.specs.Prelude.{◌≡◌, ◌≤◌, ◌<◌, ℕ, ◌+◌, length, [], true, false, IfOk, IfSome};
+ghost use Rattle.std.specs.Prelude.{◌≡◌, ◌≤◌, ◌<◌, ℕ, ◌+◌, length, [], true, false, IfOk, IfSome, IfNone, List, Some};
 ghost use Rattle.ev_io.specs.Transfer.{Draws, Rose};
-ghost use Rattle.ev_io.specs.Lines.{Answers, First, Gives, Numbers, OnReadFault, TakesLine, coming, drawn, outcomes};
+ghost use Rattle.ev_io.specs.Lines.{Answers, First, Gives, Numbers, OnReadFault, Stops, TakesLine, coming, drawn, outcomes};
+ghost use Rattle.ev_io.specs.InputLines.{Skips};
 ghost use Rattle.std.specs.Io.KnownBytes.{IsAtEnd};
 
 use crate::chunk::Chunk;
 use crate::text::{LINE_LIMIT, LineText};
+use crate::tokens::is_passed_over;
 use crate::transfer::{Failed, Source};
 use ev_isa::NoMemory;
 use std::alloc::Global;
 use std::marker::Model;
+use thiserror::Error;
 
 /// An input has at most 8,388,608 bytes.
 pub const INPUT_LIMIT: u64 = 8_388_608;
 
 /// Why there is no line. The first number is the line's, from 1. At one byte TooLarge comes before
 /// TooLong, and that before NotAscii. Own.
-#[derive(Clone, Copy, Debug, Drop, PartialEq, Eq)]
+#[derive(Clone, Copy, Debug, Drop, PartialEq, Eq, Error)]
 pub enum LineFault {
     /// The source failed.
+    #[error("the source failed")]
     ReadFault,
     /// The line exceeds 4,096 bytes.
+    #[error("line {0} exceeds 4,096 bytes")]
     TooLong(u32),
     /// The line holds byte 8,388,609 of the input, its line feed counted.
+    #[error("line {0} holds byte 8,388,609 of the input")]
     TooLarge(u32),
     /// A byte is neither a line feed nor 20H to 7EH. So many bytes of the line stand before it.
+    #[error("line {0} has a byte that is not printable, behind {1} bytes")]
     NotAscii(u32, u32),
 }
 
@@ -66,8 +73,8 @@ impl Lines {
     }
 
     /// Reads the next line and answers its number, or None at the end of the input. At most 8,388,609
-    /// bytes are read from the source in all. It is for a reader that hasn't answered a fault: what
-    /// was read of the line before a fault is lost.
+    /// bytes are read from the source in all. It is for a reader that hasn't answered a fault: the
+    /// next call passes over what was read of the line before a fault.
     pub fn next<S: Source>(&mut self, src: &mut S) -> Result<Option<u32>, LineFault>
         // what is answered is what comes of the bytes to come
         ensures line { Gives (outcomes (self.old.number + 1) self.old.gone
@@ -77,6 +84,11 @@ impl Lines {
             (coming self.new.chunk (S.left src.new)) result }
         ensures number { Numbers self.old.number self.new.number result }
         ensures grew { IfOk result (λ o. IfSome o (λ _. self.old.gone < self.new.gone)) }
+        ensures none { IfOk result (λ o. IfNone o (self.new.gone ≡ self.old.gone)) }
+
+        // at a fault the text is what was read of the line
+        ensures stops { Stops result self.old.gone (coming self.old.chunk (S.left src.old))
+            self.new.text self.new.gone (coming self.new.chunk (S.left src.new)) }
 
         // bytes are read only as they are given or kept, up to byte 8,388,609
         ensures draws { Draws (drawn self.old) (drawn self.new) (S.left src.old) (S.left src.new) }
@@ -94,6 +106,44 @@ impl Lines {
         } else {
             Ok(None)
         }
+    }
+
+    /// Reads on to the next line that isn't passed over, and answers its number, or None at the end of
+    /// the input. A blank line and one whose first token begins with `#` are passed over, and count as
+    /// lines. It is for a reader that hasn't answered a fault. Own.
+    pub fn next_said<S: Source>(&mut self, src: &mut S) -> Result<Option<u32>, LineFault>
+        // what is answered is what comes of the lines of the bytes to come
+        ensures said { (bytes : List ℕ) → coming self.old.chunk (S.left src.old) ≡ Some bytes
+            → Skips self.old bytes self.new (coming self.new.chunk (S.left src.new)) result }
+        ensures number { IfOk result (λ o. IfSome o (λ n. self.new.number ≡ n)) }
+        ensures grew { IfOk result (λ o. IfSome o (λ _. self.old.gone < self.new.gone)) }
+
+        // bytes are read only as they are given or kept, up to byte 8,388,609
+        ensures draws { Draws (drawn self.old) (drawn self.new) (S.left src.old) (S.left src.new) }
+        ensures most { drawn self.new ≤ 8388609 }
+        ensures within { self.new.gone ≤ 8388608 }
+
+        ensures later { S.faults src.old ≤ S.faults src.new }
+        ensures cause { OnReadFault result (Rose (S.faults src.old) (S.faults src.new)) }
+    {
+        loop {
+            match self.next(src) {
+                Err(fault) => return Err(fault),
+                Ok(None) => return Ok(None),
+                Ok(Some(number)) => {
+                    if !is_passed_over(self.text()) {
+                        return Ok(Some(number));
+                    }
+                }
+            }
+        }
+    }
+
+    /// How many lines were given: the number of the one that was given last, or 0. Own.
+    pub fn number(&self) -> u32
+        ensures { result ≡ self.now.number }
+    {
+        self.number
     }
 
     /// The line that was given last, without its line feed.
@@ -122,7 +172,10 @@ fn read_line<S: Source>(
         (coming chunk.new (S.left src.new))) }
     ensures end { IfOk result (λ found. found ≡ false
         → IsAtEnd (coming chunk.old (S.left src.old))) }
+    ensures stops { Stops result gone.old (coming chunk.old (S.left src.old)) text.new gone.new
+        (coming chunk.new (S.left src.new)) }
     ensures grew { IfOk result (λ found. found ≡ true → gone.old < gone.new) }
+    ensures none { IfOk result (λ found. found ≡ false → gone.new ≡ gone.old) }
     ensures draws { Draws (gone.old + length chunk.old) (gone.new + length chunk.new)
         (S.left src.old) (S.left src.new) }
     ensures most { gone.new + length chunk.new ≤ 8388609 }

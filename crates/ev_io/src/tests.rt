@@ -43,6 +43,20 @@ fn lines_of_an_input(rt: HostRuntime) -> Result<(), Fail> {
 }
 
 #[test]
+fn said_lines(rt: HostRuntime) -> Result<(), Fail> {
+    let mut src = source(rt.alloc(), b"\n # none\n turn  0 \n  \n", &[])?;
+    let mut lines = Lines::new(rt.alloc())?;
+    assert_eq!(rt; lines.next_said(&mut src), Ok(Some(3)));
+    let tokens = tokens_in(lines.text());
+    assert_eq!(rt; tokens.len(), 2);
+    assert_eq!(rt; tokens[0], b"turn".as_slice());
+    assert_eq!(rt; tokens_in(b"1 2 3 4 5 6 7").len(), 6);
+    assert_eq!(rt; lines.next_said(&mut src), Ok(None));
+    assert_eq!(rt; lines.number(), 4);
+    Ok(())
+}
+
+#[test]
 fn fault_of_a_line(rt: HostRuntime) -> Result<(), Fail> {
     let bytes = Vec::from_elem(rt.alloc(), b'\n', 5000)?;
     let mut src = source(rt.alloc(), &bytes, &[1])?;

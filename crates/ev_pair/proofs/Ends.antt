@@ -1,8 +1,15 @@
 -- The lines of the end.
-use Rattle.std.proofs.Common.{◌≡◌, ℕ, suc, zero, ◌-◌, ◌<◌, List, [], ◌∷◌, ◌++◌, length, ap, refl, sym, ◌∙◌, arith}
+use Rattle.std.proofs.Common.{◌≡◌, ℕ, suc, zero, ◌-◌, ◌%◌, ◌<◌, List, [], ◌∷◌, ◌++◌, length, map, ap, refl, sym, ◌∙◌, arith}
 use Rattle.std.proofs.lemmas.List.{append-nil}
 use Rattle.ev_abstract.specs.Machine.{Machine, Processor, processor}
 use Rattle.ev_abstract.specs.EntryText.{Text, line_text, task_words, state_words, busy_words, task_lines, end_lines, all_end_lines}
+use Rattle.ev_isa.specs.Word.{numbers_from}
+use Rattle.ev_isa.specs.declared.mode.Mode.{Mode}
+use Rattle.ev_body.specs.declared.image.Image.{Image}
+use Rattle.ev_concrete.specs.ConcreteRun.{System}
+use Rattle.ev_refine.proofs.Domains.{one_task_each}
+use Rattle.ev_refine.proofs.Refine.{tells}
+use Rattle.ev_core.specs.Run.{MachineView, IsStandingAs}
 use Rattle.ev_core.specs.Task.{IsTaskView}
 use Rattle.ev_core.specs.declared.task_view.TaskView.{TaskView}
 
@@ -28,3 +35,11 @@ task_line mode p depth x t none one is =
 pub no_bodies : {X : Type 0} (xs : List X) → length xs ≡ 0 → xs ≡ []
 no_bodies [] e = refl
 no_bodies (x ∷ xs) e = absurd (omega arith)
+
+-- no task waits where each processor has one
+pub none_wait : (mode : Mode) (image : Image) (s : System) (m : Machine) (v : MachineView) → IsStandingAs mode image s m v → (p : ℕ) → p < image.processors
+    → (processor m p).waiting ≡ []
+none_wait mode image s m v so p lt =
+    let told = tells mode image so.can.built so.can.mode_built so.can.image_is so.left s m so.stands p lt in
+    told.waiting
+    ∙ ap (λ n. map (λ k. k % n) (numbers_from (suc (processor m p).running) (n - 1))) (one_task_each image so.can.built p lt)

@@ -1,7 +1,7 @@
 -- How many bodies stand: as many as contexts, and as a step tells it.
-use Rattle.std.proofs.Common.{◌≡◌, ℕ, zero, suc, ◌+◌, ◌-◌, ◌%◌, ◌<◌, ◌≤◌, Bool, true, false, not, ◌&&◌, List, [], ◌∷◌, length, Option, Some, None, refl, sym, ap, ◌∙◌, subst, arith}
+use Rattle.std.proofs.Common.{◌≡◌, ℕ, suc, ◌+◌, ◌-◌, ◌%◌, ◌<◌, ◌≤◌, Bool, true, false, not, ◌&&◌, List, [], ◌∷◌, length, Option, Some, None, refl, sym, ap, ◌∙◌, arith}
 use Rattle.std.specs.Prelude.{if◌then◌else◌, ◌==◌, nat_lt, nat_le, filter, slice_get}
-use Rattle.std.proofs.lemmas.Bool.{eqb-true, ltb-true, le-leb}
+use Rattle.std.proofs.lemmas.Bool.{eqb-true, ltb-true}
 use Rattle.ev_isa.specs.Word.{NatMap}
 use Rattle.ev_isa.specs.Spelling.{spelling, four_bytes}
 use Rattle.ev_isa.specs.declared.instruction.Ins.{Ins}
@@ -12,15 +12,14 @@ use Rattle.ev_body.specs.declared.body.Body.{Body}
 use Rattle.ev_body.specs.declared.image.Image.{Image}
 use Rattle.ev_asm.specs.Assembly.{size, places, distance}
 use Rattle.ev_effect.specs.Task.{Task}
-use Rattle.ev_listing.specs.AddressMap.{nmi_entry, repeat_entry, nbody_entry, body_code}
+use Rattle.ev_listing.specs.AddressMap.{nmi_entry, repeat_entry, nbody_entry}
 use Rattle.ev_listing.specs.Expansion.{item_address}
 use Rattle.ev_listing.specs.FredCode.{fred_listings}
 use Rattle.ev_listing.specs.IdtCode.{idt_listings}
-use Rattle.ev_state.specs.Processor.{Processor, is_user}
+use Rattle.ev_state.specs.Processor.{Processor, is_user, rsp}
 use Rattle.ev_mem.specs.Memory.{Memory}
-use Rattle.ev_proc.specs.ProcessorStep.{After, next_of, instruction_at}
+use Rattle.ev_proc.specs.ProcessorStep.{next_of, instruction_at}
 use Rattle.ev_abstract.specs.Context.{BodyContext}
-use Rattle.ev_abstract.specs.Machine.{task}
 use Rattle.ev_abstract.specs.Machine as abstract
 use Rattle.ev_abstract.specs.Run.{item_at}
 use Rattle.ev_concrete.specs.ConcreteRun.{System, Activation, interrupted, is_return, starts_inner, concrete_step}
@@ -32,13 +31,18 @@ use Rattle.ev_symbolic.specs.Agrees.{Env, addr, At}
 use Rattle.ev_symbolic.specs.Openings.{at_base}
 use Rattle.ev_symbolic.proofs.Values.{and_left, and_right}
 use Rattle.ev_symbolic.proofs.Blocks.{unsome, every_ok}
-use Rattle.ev_activation.specs.Activation.{Kind, SystemCall, Spot, AtEntry, AtItem, AtExit}
+use Rattle.ev_activation.specs.Activation.{Spot, AtEntry, AtItem, AtExit}
+use Rattle.ev_activation.specs.Seat.{Kind, SystemCall, FromTask, FromBody, NmiFromTask, NmiFromBody, Seat}
 use Rattle.ev_blocks_fred.specs.Blocks.{fred_lines}
 use Rattle.ev_blocks_idt.specs.Blocks.{idt_lines}
 use Rattle.ev_table.specs.Table.{code_table, task_return}
-use Rattle.ev_refine.specs.Relation.{block_of, address_of_item, here, Active, IsContext, Beneath, keeps_cr2, Chain, Acts, StandsOver, StandsOn}
+use Rattle.ev_refine.specs.Nmi.{Frame}
+use Rattle.ev_refine.specs.Active.{block_of, address_of_item, item_place, here, IsAtSpot, Means, Active}
+use Rattle.ev_refine.specs.Relation.{IsContext, most_edges, chained, Interrupted, Chain, StandsOn}
 use Rattle.ev_refine.proofs.Facts.{Facts}
 use Rattle.ev_refine.proofs.Standing.{after_ran, Runs, ran_step}
+use Rattle.ev_refine.proofs.Stays.{over_any}
+use Rattle.ev_refine.proofs.After.{as_chain}
 
 -- the body of a context
 pub body_at : (o : Option Body) (n : ℕ) (i : Item) → item_at o n ≡ Some i → (body : Body) × (o ≡ Some body) × (item_at (Some body) n ≡ Some i)
@@ -76,21 +80,21 @@ elsewhere e z s h =
     ∙ (let q : (e.base 1000 + s.rip.off) % M ≡ s.rip.off = omega arith in q) in
     ap is_in_repeat is ∙ not_true (is_in_repeat s.rip.off) (and_right (nat_lt s.rip.off M) _ rest)
 
-entry_elsewhere : (mode : Mode) → every is_elsewhere (block_of mode SystemCall AtEntry) ≡ true
+entry_elsewhere : (mode : Mode) → every is_elsewhere (block_of mode AtEntry) ≡ true
 unfolding fred_lines idt_lines fred_listings idt_listings spelling four_bytes size places distance
 entry_elsewhere Fred = refl
 entry_elsewhere Idt = refl
 
-exit_elsewhere : (mode : Mode) → every is_elsewhere (block_of mode SystemCall AtExit) ≡ true
+exit_elsewhere : (mode : Mode) → every is_elsewhere (block_of mode AtExit) ≡ true
 unfolding fred_lines idt_lines fred_listings idt_listings spelling four_bytes size places distance
 exit_elsewhere Fred = refl
 exit_elsewhere Idt = refl
 
-no_steps : (mode : Mode) → (block_of mode SystemCall AtItem).steps ≡ 0
+no_steps : (mode : Mode) → (block_of mode AtItem).steps ≡ 0
 no_steps Fred = refl
 no_steps Idt = refl
 
-item_rip : (mode : Mode) → (block_of mode SystemCall AtItem).opening.rip ≡ at_base 20 0
+item_rip : (mode : Mode) → (block_of mode AtItem).opening.rip ≡ at_base 20 0
 item_rip Fred = refl
 item_rip Idt = refl
 
@@ -99,61 +103,70 @@ module _ (mode : Mode) (image : Image) (facts : Facts mode image) where
       → every is_elsewhere b ≡ true → is_in_repeat c.rip ≡ false
   at_elsewhere b k e c m at z l h = ap is_in_repeat at.agrees.rip ∙ elsewhere e z at.state (every_ok is_elsewhere b h k l at.state at.is)
 
-  item_outside : (p : ℕ) (w : Processor) (b : BodyContext) (c : Processor) (m : Memory) (left : ℕ) (act : Active mode image p left SystemCall w b c m)
-      → IsContext mode image b → act.spot ≡ AtItem → is_in_repeat c.rip ≡ false
-  item_outside p w b c m left act ctx q =
-      let e : Env = here mode image p SystemCall w b act.var act.flags in
-      let found = body_at (slice_get image.bodies b.body) b.place ctx.item ctx.is in
-      let start : act.k ≡ 0 = let l = act.within in let n = ap (λ s. (block_of mode SystemCall s).steps) q ∙ no_steps mode in omega arith in
-      let there : act.at.state ≡ (block_of mode SystemCall act.spot).opening = unsome _ _ (sym act.at.is ∙ ap (brun (block_of mode SystemCall act.spot)) start) in
-      let rip : act.at.state.rip ≡ at_base 20 0 = ap (λ (s : SS). s.rip) there ∙ ap (λ s. (block_of mode SystemCall s).opening.rip) q ∙ item_rip mode in
-      let place : c.rip ≡ (address_of_item mode b.body b.place (slice_get image.bodies b.body) + 0) % M = act.at.agrees.rip ∙ ap (addr e) rip in
-      let is : c.rip ≡ (item_address mode b.body found.0 b.place + 0) % M = place
-      ∙ ap (λ o. (address_of_item mode b.body b.place o + 0) % M) found.1 in
-      let small = (facts.item_small b.body b.place found.0 found.1).1 in
-      behind_repeat c.rip (omega arith)
+  module _ (p left : ℕ) (κ : Kind) (σ : Seat) (w c : Processor) (m : Memory) (a : IsAtSpot mode image p left κ σ w c m) where
+    item_outside : (b : BodyContext) → IsContext mode image b → a.spot ≡ AtItem → a.extra 20 ≡ item_place mode image b.body b.place
+        → is_in_repeat c.rip ≡ false
+    item_outside b ctx q at =
+        let e : Env = here mode p κ σ a.ss w a.extra a.var a.flags in
+        let found = body_at (slice_get image.bodies b.body) b.place ctx.item ctx.is in
+        let start : a.k ≡ 0 = let l = a.within in let n = ap (λ s. (block_of mode s).steps) q ∙ no_steps mode in omega arith in
+        let there : a.at.state ≡ (block_of mode a.spot).opening = unsome _ _ (sym a.at.is ∙ ap (brun (block_of mode a.spot)) start) in
+        let rip : a.at.state.rip ≡ at_base 20 0 = ap (λ (s : SS). s.rip) there ∙ ap (λ s. (block_of mode s).opening.rip) q ∙ item_rip mode in
+        let place : c.rip ≡ (a.extra 20 + 0) % M = a.at.agrees.rip ∙ ap (addr e) rip in
+        let is : c.rip ≡ (item_address mode b.body found.0 b.place + 0) % M = place
+        ∙ ap (λ y. (y + 0) % M) (at ∙ ap (address_of_item mode b.body b.place) found.1) in
+        let small = (facts.item_small b.body b.place found.0 found.1).1 in
+        behind_repeat c.rip (omega arith)
 
-  active_outside : (p left : ℕ) (w : Processor) (b : BodyContext) (c : Processor) (m : Memory) (act : Active mode image p left SystemCall w b c m)
-      → IsContext mode image b → is_in_repeat c.rip ≡ false
-  active_outside p left w b c m act ctx = by_spot act.spot refl
-    where
-      by_spot : (spot : Spot) → act.spot ≡ spot → is_in_repeat c.rip ≡ false
-      by_spot AtEntry q = at_elsewhere (block_of mode SystemCall act.spot) act.k _ c m act.at refl act.within
-          (ap (λ s. every is_elsewhere (block_of mode SystemCall s)) q ∙ entry_elsewhere mode)
-      by_spot AtItem q = item_outside p w b c m left act ctx q
-      by_spot AtExit q = at_elsewhere (block_of mode SystemCall act.spot) act.k _ c m act.at refl act.within
-          (ap (λ s. every is_elsewhere (block_of mode SystemCall s)) q ∙ exit_elsewhere mode)
+    spot_outside : (b : BodyContext) → IsContext mode image b → (spot : Spot) → a.spot ≡ spot
+        → Means mode image SystemCall spot a.extra a.var a.flags w b m.words → is_in_repeat c.rip ≡ false
+    spot_outside b ctx AtEntry q means = at_elsewhere (block_of mode a.spot) a.k _ c m a.at refl a.within
+        (ap (λ s. every is_elsewhere (block_of mode s)) q ∙ entry_elsewhere mode)
+    spot_outside b ctx AtItem q means = item_outside b ctx q means.place
+    spot_outside b ctx AtExit q means = at_elsewhere (block_of mode a.spot) a.k _ c m a.at refl a.within
+        (ap (λ s. every is_elsewhere (block_of mode s)) q ∙ exit_elsewhere mode)
 
-  top_outside : (p left r : ℕ) (t : Task) (b : BodyContext) (below : List BodyContext) (c : Processor) (m : Memory)
-      → Chain mode image p left r t (b ∷ below) c m → is_in_repeat c.rip ≡ false
-  top_outside p left r t b below c m h = go h.1 h.5
-    where
-      go : (κ : Kind) → Active mode image p left κ h.0 b c m → is_in_repeat c.rip ≡ false
-      go SystemCall act = active_outside p left h.0 b c m act h.3
-
-  pub chain_outside : (p left r : ℕ) (t : Task) (bs : List BodyContext) (c : Processor) (m : Memory) → Chain mode image p left r t bs c m
-      → {b : BodyContext} {below : List BodyContext} → bs ≡ b ∷ below → is_in_repeat c.rip ≡ false
-  chain_outside p left r t bs c m h {b} {below} q = top_outside p left r t b below c m (subst (λ xs. Chain mode image p left r t xs c m) q h)
+  pub active_outside : (p left : ℕ) (κ : Kind) (σ : Seat) (f : Frame) (sw : Bool) (w : Processor) (b : BodyContext) (c : Processor) (m : Memory)
+      → IsContext mode image b → Active mode image p left κ σ f sw w b c m → is_in_repeat c.rip ≡ false
+  active_outside p left SystemCall σ f sw w b c m ctx a = spot_outside p left SystemCall σ w c m a.stands b ctx a.stands.spot refl a.means
+  active_outside p left FromTask σ f sw w b c m ctx a = absurd a.means
+  active_outside p left FromBody σ f sw w b c m ctx a = absurd a.means
+  active_outside p left NmiFromTask σ f sw w b c m ctx a = absurd a.means
+  active_outside p left NmiFromBody σ f sw w b c m ctx a = absurd a.means
 
   -- as many bodies as contexts
-  counted : (p left r : ℕ) (t : Task) (bs : List BodyContext) (c : Processor) (m : Memory) (as' : List Activation) → Chain mode image p left r t bs c m
-      → Acts mode image bs as' → length (filter has_body (interrupted c as')) ≡ length bs
-  counted p left r t [] c m as' h acts = ap (λ xs. length (filter has_body (interrupted c xs))) acts
-  counted p left r t (b ∷ below) c m [] h acts = absurd acts
-  counted p left r t (b ∷ below) c m (a ∷ as') h acts =
-      let alone : below ≡ [] = only h.1 h.2 in
-      let none : as' ≡ [] = subst (λ xs. Acts mode image xs as') alone acts.1 in
-      let seen : (not a.inner && not (is_in_repeat c.rip)) ≡ true
-      = ap (λ i. not i && not (is_in_repeat c.rip)) acts.0 ∙ ap not (top_outside p left r t b below c m h) in
-      let top : Activation = record a { rsp = _; rip = c.rip } in
-      ap (λ b. length (if b then top ∷ filter has_body as' else filter has_body as')) seen ∙ ap (λ xs. suc (length (filter has_body xs))) none
-      ∙ ap (λ (xs : List BodyContext). suc (length xs)) (sym alone)
+  counted : (p left r : ℕ) (t : Task) (f : Frame) (sw : Bool) (bs : List BodyContext) (as' : List Activation) (c : Processor) (m : Memory)
+      → Chain mode image p left r t f sw bs as' c m → length (filter has_body (interrupted c as')) ≡ length bs
+  counted p left r t f sw [] as' c m h = ap (λ xs. length (filter has_body (interrupted c xs))) h.2
+  counted p left r t f sw (b ∷ below) [] c m h = absurd h
+  counted p left r t f sw (b ∷ below) (a ∷ as') c m h =
+      let outside : is_in_repeat c.rip ≡ false = active_outside p left _ _ f _ h.0 b c m h.1 h.6 in
+      let seen : (not a.inner && not (is_in_repeat c.rip)) ≡ true = ap (λ i. not i && not (is_in_repeat c.rip)) h.2 ∙ ap not outside in
+      let top : Activation = record a { rsp = rsp c; rip = c.rip } in
+      let under : Chain mode image p (most_edges mode image) r t f (chained mode image sw below) below as' h.0 m
+      = over_any mode image (λ v. Chain mode image p (most_edges mode image) r t f (chained mode image sw below) below as' v m) _ h.0 h.4 in
+      ap (λ x. length (if x then top ∷ filter has_body as' else filter has_body as')) seen
+      ∙ ap suc (below_same below h.0 as' h.3 under
+      ∙ counted p (most_edges mode image) r t f (chained mode image sw below) below as' h.0 m under)
     where
-      only : (κ : Kind) → StandsOver mode image κ below → below ≡ []
-      only SystemCall q = q
+      -- what was interrupted stands where the processor below it does
+      below_same : (ds : List BodyContext) (w : Processor) (as' : List Activation) → Interrupted mode image ds w as'
+          → Chain mode image p (most_edges mode image) r t f (chained mode image sw ds) ds as' w m
+          → length (filter has_body as') ≡ length (filter has_body (interrupted w as'))
+      below_same [] w as' i k = ap (λ xs. length (filter has_body xs)) k.2 ∙ sym (ap (λ xs. length (filter has_body (interrupted w xs))) k.2)
+      below_same (d ∷ ds) w [] i k = absurd i
+      below_same (d ∷ ds) w (y ∷ ys) i k =
+          ap (λ z. length (if not y.inner && not (is_in_repeat z) then y ∷ filter has_body ys else filter has_body ys)) i.1
+          ∙ either (not y.inner && not (is_in_repeat w.rip))
+        where
+          either : (z : Bool) → length (if z then y ∷ filter has_body ys else filter has_body ys)
+              ≡ length (if z then record y { rsp = rsp w; rip = w.rip } ∷ filter has_body ys else filter has_body ys)
+          either true = refl
+          either false = refl
 
   pub stands_depth : (p left : ℕ) (s : System) (x : abstract.Processor) → StandsOn mode image p left s x → bodies_on s p ≡ length x.bodies
-  stands_depth p left s x o = counted p left x.running (task x) x.bodies (s.cpus p) s.memory (s.activations p) o.chain o.acts
+  stands_depth p left s x o = counted p o.own o.returning (x.tasks o.returning) o.frame o.switching x.bodies (s.activations p) (s.cpus p) s.memory
+      (as_chain mode image o.layer p o.own o.more o.returning (x.tasks o.returning) o.frame o.switching x.bodies (s.activations p) (s.cpus p) s.memory o.runs)
 
 -- ---- as steps tell it
 
@@ -182,7 +195,8 @@ ends_a_body Idt i c rip hu hr =
 
 -- a step that ran an instruction
 told_ran : (s : System) (p : ℕ) (cpu : Processor) (words : NatMap ℕ) (i : Ins) → Runs s p cpu words → instruction_at s.memory.words (s.cpus p).rip ≡ Some i
-    → told_bodies s p ≡ (if ends_body (s.cpus p) (Some i) then bodies_on s p - 1 else (if begins_body (s.cpus p) (Some i) then suc (bodies_on s p) else bodies_on s p))
+    → told_bodies s p ≡ (if ends_body (s.cpus p) (Some i) then bodies_on s p - 1
+    else (if begins_body (s.cpus p) (Some i) then suc (bodies_on s p) else bodies_on s p))
 unfolding told_bodies
 told_ran s p cpu words i h hi =
     ap (λ r. bodies_after (bodies_on s p) (starts_inner s p (next_of (s.cpus p) (s.apics p) (s.latches p)))

@@ -6,11 +6,10 @@ use Rattle.ev_isa.specs.Flags.{Flags}
 use Rattle.ev_isa.specs.declared.mode.Mode.{Mode}
 use Rattle.ev_isa.specs.declared.mode.Mode.TheVariants.{Idt, Fred}
 use Rattle.ev_body.specs.declared.image.Image.{Image}
-use Rattle.ev_listing.specs.AddressMap.{pcpu, user_table, stack_top}
+use Rattle.ev_listing.specs.AddressMap.{pcpu, user_table, stack_top, stack_bytes}
 use Rattle.ev_state.specs.Processor.{Processor, is_user}
 use Rattle.ev_mem.specs.Memory.{Memory}
 use Rattle.ev_proc.specs.ProcessorStep.{has_fred}
-use Rattle.ev_abstract.specs.Context.{BodyContext}
 use Rattle.ev_concrete.specs.Opening.{regions}
 use Rattle.ev_symbolic.specs.State.{Loc, in_win, in_text}
 use Rattle.ev_symbolic.specs.Agrees.{Env, addr, Far, FactsHold, Described, AreTops, Open, Within, Grounded, Fits}
@@ -21,10 +20,12 @@ use Rattle.ev_distances.proofs.Places.{InWord, cases}
 use Rattle.ev_distances.proofs.Spans.{far, located_in}
 use Rattle.ev_distances.proofs.Regions.{stack_covered, area_covered, user_table_covered}
 use Rattle.ev_distances.proofs.Windows.{sep, open_ok, text_ok, in_area, on_stack, in_tables, in_code}
-use Rattle.ev_activation.specs.Activation.{SystemCall, Spot, AtEntry, AtItem, AtExit}
+use Rattle.ev_activation.specs.Activation.{Spot, AtEntry, AtItem, AtExit}
+use Rattle.ev_activation.specs.Seat.{Kind, Seat, top_at}
 use Rattle.ev_blocks_idt.specs.Blocks.{rsp_window}
 use Rattle.ev_table.specs.Table.{code_table, lines_of_mode}
-use Rattle.ev_refine.specs.Relation.{block_of, IsFixed, InText, InTables, InTasks, InCode, here, top_of, rest_in}
+use Rattle.ev_refine.specs.Active.{block_of, here}
+use Rattle.ev_refine.specs.Named.{UserRsp, Port, Outside, Changes}
 use Rattle.ev_refine.proofs.Facts.{Facts}
 use Rattle.ev_refine.proofs.ModeFacts.{is_fred}
 use Rattle.ev_refine.proofs.Spots.{ground_of, ground_is}
@@ -147,6 +148,22 @@ module _ (e : Env) (p n used : ℕ) (b : Bases e p n used) (hp : p < 32) (hn : n
       (λ z. ⊎_elim (λ (y : InWord _ l). inr (located_in e _ (area_span p 8 8) l (own_located Idt).1.0 y.place)) (λ t. absurd (cc)) (cases _ [] l z))
       (cases _ (rsp_window ∷ []) l i)
 
+  in_area_deeper : (a : ℕ) → InSpan (area_span p 0x20 8) a → InSpan (area_span p 8 0x20) a
+  in_area_deeper a s = let from = s.from in let to = s.to in record { from = omega arith; to = omega arith }
+
+  pub known_within : (mode : Mode) (l : Loc) → in_win (ground_of mode).known l ≡ true → InSpan (stack_span p n used 0xc0) (addr e l)
+      ⊎ (InSpan (area_span p 8 0x20) (addr e l) ⊎ InSpan table_span (addr e l))
+  known_within Fred l i =
+      ⊎_elim (λ (y : InWord _ l). inl (located_in e _ (stack_span p n used 0xc0) l (known_located Fred).0 y.place))
+      (λ z. ⊎_elim (λ (y : InWord _ l). inr (inl (in_area_deeper (addr e l) (located_in e _ (area_span p 0x20 8) l (known_located Fred).1.0 y.place))))
+      (λ z'. ⊎_elim (λ (y : InWord _ l). inr (inr (located_in e _ table_span l (known_located Fred).1.1.0 y.place))) (λ t. absurd (cc))
+      (cases _ [] l z')) (cases _ (win_at 1000 user_table 0x808 ∷ []) l z)) (cases _ (win_at 17 0x20 8 ∷ win_at 1000 user_table 0x808 ∷ []) l i)
+  known_within Idt l i =
+      ⊎_elim (λ (y : InWord _ l). inl (deeper (addr e l) (located_in e _ (stack_span p n used 0xb0) l (known_located Idt).0 y.place)))
+      (λ z. ⊎_elim (λ (y : InWord _ l). inr (inl (located_in e _ (area_span p 8 0x20) l (known_located Idt).1.0 y.place)))
+      (λ z'. ⊎_elim (λ (y : InWord _ l). inr (inr (located_in e _ table_span l (known_located Idt).1.1.0 y.place))) (λ t. absurd (cc))
+      (cases _ [] l z')) (cases _ (win_at 1000 user_table 0x808 ∷ []) l z)) (cases _ (win_at 17 8 0x20 ∷ win_at 1000 user_table 0x808 ∷ []) l i)
+
   pub port_in : (mode : Mode) (l : Loc) → in_win (ground_of mode).shared l ≡ true → InSpan (area_span p 0x28 8) (addr e l)
   port_in Fred l i = ⊎_elim (λ (y : InWord _ l). located_in e _ (area_span p 0x28 8) l (shared_located Fred).0 y.place) (λ z. absurd (cc)) (cases _ [] l i)
   port_in Idt l i = ⊎_elim (λ (y : InWord _ l). located_in e _ (area_span p 0x28 8) l (shared_located Idt).0 y.place) (λ z. absurd (cc)) (cases _ [] l i)
@@ -182,11 +199,11 @@ module _ (image : Image) (e : Env) (p n used : ℕ) (b : Bases e p n used) (hp :
   shared_open Idt = open_ok e (regions image) (ground_of Idt).shared (area_span p 0x28 8 ∷ []) (shared_located e p n used b hp hn (omega arith) Idt) refl
       (area_covered image p 0x28 8 hi (omega arith), tt)
 
--- ---- the activations of today
+-- ---- activations
 
 -- the lines of a block are the kernel's, or none
 lines_stand : (mode : Mode) (image : Image) (spot : Spot) (e : Env) → agrees.Stands (code_table mode image) e (lines_of_mode mode)
-    → agrees.Stands (code_table mode image) e (block_of mode SystemCall spot).lines
+    → agrees.Stands (code_table mode image) e (block_of mode spot).lines
 lines_stand Fred image AtEntry e h = h
 lines_stand Fred image AtItem e h = tt
 lines_stand Fred image AtExit e h = h
@@ -194,52 +211,44 @@ lines_stand Idt image AtEntry e h = h
 lines_stand Idt image AtItem e h = tt
 lines_stand Idt image AtExit e h = h
 
-module _ (mode : Mode) (image : Image) (facts : Facts mode image) (p : ℕ) (hp : p < 32) (hi : p < image.processors) where
-  pub bases_at : (w : Processor) (b : BodyContext) (v : ℕ → ℕ) (f : Flags) → top_of mode image SystemCall w ≡ stack_top p 0
-      → Bases (here mode image p SystemCall w b v f) p 0 0
-  bases_at w b v f ht = record { top = plus_zero _ ∙ ht; area = refl; zero_base = refl }
-    where
-      plus_zero : (x : ℕ) → x + 0 ≡ x
-      plus_zero x = omega arith
+-- in a seat, of which the frame and the saved area lie on the stack
+pub record IsSeat (σ : Seat) : Type 0 where
+  pub stack : σ.stack < 7
+  pub room : σ.used + 0xc0 ≤ 0x2000
+  pub aligned : σ.used % 8 ≡ 0
 
-  pub fits_at : (spot : Spot) (w : Processor) (b : BodyContext) (v : ℕ → ℕ) (f : Flags) → top_of mode image SystemCall w ≡ stack_top p 0
-      → is_user (rest_in mode image SystemCall w) ≡ false → has_fred (rest_in mode image SystemCall w) ≡ is_fred mode
-      → Fits (code_table mode image) (here mode image p SystemCall w b v f) (block_of mode SystemCall spot)
-  fits_at spot w b v f ht hk hf = record {
-    ground = subst (Grounded (here mode image p SystemCall w b v f)) (sym (ground_is mode spot))
-        (grounded _ p 0 0 (bases_at w b v f ht) hp (omega arith) (omega arith) mode hk hf);
+module _ (mode : Mode) (p : ℕ) (σ : Seat) (hs : IsSeat σ) (hp : p < 32) (κ : Kind) (ss : ℕ) (w : Processor) (extra v : ℕ → ℕ) (f : Flags) where
+  abbrev pub env : Env
+  env = here mode p κ σ ss w extra v f
+
+  pub bases_at : Bases env p σ.stack σ.used
+  bases_at = let r = hs.room in record { top = (let e : top_at p σ + σ.used ≡ stack_top p σ.stack = omega arith in e); area = refl; zero_base = refl }
+
+  pub fits_at : (image : Image) → Facts mode image → (spot : Spot) → has_fred w ≡ is_fred mode → Fits (code_table mode image) env (block_of mode spot)
+  fits_at image facts spot hf = record {
+    ground = subst (Grounded env) (sym (ground_is mode spot))
+        (grounded env p σ.stack σ.used bases_at hp hs.stack (let r = hs.room in omega arith) mode refl hf);
     spaced = facts.spaced;
-    stands = lines_stand mode image spot (here mode image p SystemCall w b v f) (facts.stands (here mode image p SystemCall w b v f) refl);
+    stands = lines_stand mode image spot env (facts.stands env refl);
   }
 
-  pub opens_at : (w : Processor) (b : BodyContext) (v : ℕ → ℕ) (f : Flags) (m : Memory) → m.regions ≡ regions image
-      → top_of mode image SystemCall w ≡ stack_top p 0
-      → Open (here mode image p SystemCall w b v f) (ground_of mode).known m.regions × Open (here mode image p SystemCall w b v f)
-      (ground_of mode).shared m.regions
-  opens_at w b v f m hr ht =
-      let e : Env = here mode image p SystemCall w b v f in
-      let bs : Bases e p 0 0 = bases_at w b v f ht in (
-        subst (Open e (ground_of mode).known) (sym hr) (known_open image e p 0 0 bs hp hi (omega arith) (omega arith) (omega arith) mode),
-        subst (Open e (ground_of mode).shared) (sym hr) (shared_open image e p 0 0 bs hp hi (omega arith) (omega arith) (omega arith) mode),
-      )
+  pub opens_at : (image : Image) → p < image.processors → (m : Memory) → m.regions ≡ regions image
+      → Open env (ground_of mode).known m.regions × Open env (ground_of mode).shared m.regions
+  opens_at image hi m hr = (
+    subst (Open env (ground_of mode).known) (sym hr) (known_open image env p σ.stack σ.used bases_at hp hi hs.stack hs.room hs.aligned mode),
+    subst (Open env (ground_of mode).shared) (sym hr) (shared_open image env p σ.stack σ.used bases_at hp hi hs.stack hs.room hs.aligned mode),
+  )
 
-  -- what an activation writes leaves the words that nothing writes, the mark and the running task's
-  module _ (w : Processor) (b : BodyContext) (v : ℕ → ℕ) (f : Flags) (ht : top_of mode image SystemCall w ≡ stack_top p 0) (m m' : NatMap ℕ)
-      (wrote : Within (here mode image p SystemCall w b v f) (ground_of mode).own (ground_of mode).shared m m') where
-    alone : (a : ℕ) → Misses (stack_span p 0 0 0xc0) a → Misses (area_span p 8 8) a → Misses (area_span p 0x28 8) a → m' a ≡ m a
-    alone a h j k = left_alone _ p 0 0 (bases_at w b v f ht) hp (omega arith) (omega arith) mode m m' wrote a h j k
+  -- what an activation writes: words of its stack below its top, the word for RSP, and the port
+  pub kernel_changes : (m n : NatMap ℕ) → Within env (ground_of mode).own (ground_of mode).shared m n → Changes p σ (UserRsp p ∷ Port p ∷ []) m n
+  kernel_changes m n wrote a off d =
+      left_alone env p σ.stack σ.used bases_at hp hs.stack (let r = hs.room in omega arith) mode m n wrote a (on_stack_apart off) d.0 d.1.0
+    where
+      on_stack_apart : Outside (stack_top p σ.stack - stack_bytes) (top_at p σ) a → Misses (stack_span p σ.stack σ.used 0xc0) a
+      on_stack_apart (inl h) = let r = hs.room in inl (omega arith)
+      on_stack_apart (inr h) = let r = hs.room in inr (omega arith)
 
-    pub leaves_fixed : (a : ℕ) → IsFixed a → m' a ≡ m a
-    leaves_fixed a (InText h k) = alone a (inl (omega arith)) (inl (omega arith)) (inl (omega arith))
-    leaves_fixed a (InTables h k) = alone a (inl (omega arith)) (inr (omega arith)) (inr (omega arith))
-    leaves_fixed a (InTasks h k) = alone a (inl (omega arith)) (inr (omega arith)) (inr (omega arith))
-    leaves_fixed a (InCode h) = alone a (inr (omega arith)) (inr (omega arith)) (inr (omega arith))
-
-    pub leaves_mark : m' (pcpu p + 0x20) ≡ m (pcpu p + 0x20)
-    leaves_mark = alone (pcpu p + 0x20) (inl (omega arith)) (inr (omega arith)) (inl (omega arith))
-
-    pub leaves_top : m' (pcpu p + 0x10) ≡ m (pcpu p + 0x10)
-    leaves_top = alone (pcpu p + 0x10) (inl (omega arith)) (inr (omega arith)) (inl (omega arith))
-
-    pub leaves_task : m' (pcpu p + 0x18) ≡ m (pcpu p + 0x18)
-    leaves_task = alone (pcpu p + 0x18) (inl (omega arith)) (inr (omega arith)) (inl (omega arith))
+  -- where known words lie
+  pub known_in : (l : Loc) → in_win (ground_of mode).known l ≡ true
+      → InSpan (stack_span p σ.stack σ.used 0xc0) (addr env l) ⊎ (InSpan (area_span p 8 0x20) (addr env l) ⊎ InSpan table_span (addr env l))
+  known_in l i = known_within env p σ.stack σ.used bases_at hp hs.stack (let r = hs.room in omega arith) mode l i

@@ -6,7 +6,12 @@ pub mod Tells
 pub mod ModeFacts
 pub mod Spots
 pub mod Fits
+pub mod Words
+pub mod CallKinds
+pub mod Domains
 pub mod Standing
+pub mod Stays
+pub mod After
 pub mod Depth
 pub mod Return
 pub mod Items

@@ -1,5 +1,5 @@
 -- The step theorem, put together: a processor runs its task or a body.
-use Rattle.std.proofs.Common.{◌≡◌, ℕ, ◌<◌, inr, List, [], ◌∷◌, refl, sym, subst, arith}
+use Rattle.std.proofs.Common.{◌≡◌, ℕ, ◌<◌, List, [], ◌∷◌, refl, arith}
 use Rattle.ev_isa.specs.Word.{NatMap}
 use Rattle.ev_isa.specs.declared.mode.Mode.{Mode}
 use Rattle.ev_body.specs.declared.image.Image.{Image}
@@ -8,24 +8,15 @@ use Rattle.ev_abstract.specs.Context.{BodyContext}
 use Rattle.ev_abstract.specs.Machine.{Machine, processor}
 use Rattle.ev_concrete.specs.ConcreteRun.{System}
 use Rattle.ev_built.specs.Built.{IsBuilt}
-use Rattle.ev_activation.specs.Activation.{SystemCall, AtEntry}
-use Rattle.ev_refine.specs.Relation.{Stands, here}
+use Rattle.ev_refine.specs.Relation.{Stands}
 use Rattle.ev_refine.specs.Claims.{Simulated, Refines, Opens, AllSettle, KeepsSettled, TurnsFollow, RunsFollow, EndsFollow, RunsAreSafe, StandsTells}
 use Rattle.ev_refine.proofs.Facts.{Facts}
 use Rattle.ev_refine.proofs.CodeFacts.{facts}
-use Rattle.ev_symbolic.specs.State.{Ground}
-use Rattle.ev_symbolic.specs.Agrees.{Open}
-use Rattle.ev_refine.proofs.Spots.{ground_is}
-use Rattle.ev_refine.proofs.SystemCall.{OpensAt}
-use Rattle.ev_refine.proofs.Fits.{fits_at, opens_at}
 use Rattle.ev_refine.proofs.User.{user_turn}
 use Rattle.ev_refine.proofs.Kernel.{kernel_step}
 use Rattle.ev_refine.proofs.Runs as runs
 use Rattle.ev_refine.proofs.Opens as opening
 use Rattle.ev_refine.proofs.Tells as telling
-
-few : (p n : ℕ) → n ≡ 1 → p < n → p < 32
-few p n h lt = omega arith
 
 module _ (mode : Mode) (image : Image) (built : IsBuilt image) (given : IsImage image) where
   pub simulates : (left : NatMap ℕ) (s : System) (m : Machine) → Stands mode image left s m → (p : ℕ) → p < image.processors → Simulated mode image left s m p
@@ -34,20 +25,9 @@ module _ (mode : Mode) (image : Image) (built : IsBuilt image) (given : IsImage 
       code : Facts mode image
       code = facts mode image given built
 
-      small : p < 32
-      small = few p image.processors built.one_processor lt
-
-      opened : OpensAt mode image p
-      opened w b v f m' hr ht =
-          subst (λ (g : Ground). Open (here mode image p SystemCall w b v f) g.known m'.regions
-          × Open (here mode image p SystemCall w b v f) g.shared m'.regions) (sym (ground_is mode AtEntry))
-          (opens_at mode image code p small lt w b v f m' hr ht)
-
       by_bodies : (bs : List BodyContext) → (processor m p).bodies ≡ bs → Simulated mode image left s m p
-      by_bodies [] q =
-          user_turn mode image given built code left s m h p lt q (fits_at mode image code p small lt AtEntry) opened
-      by_bodies (b ∷ below) q =
-          kernel_step mode image built given code left s m h p lt b below q
+      by_bodies [] q = user_turn mode image given built code left s m h p lt q
+      by_bodies (b ∷ below) q = kernel_step mode image built given code left s m h p lt b below q
 
 pub refines : Refines
 refines mode image built h given left s m r p lt = simulates mode image built given left s m r p lt
@@ -60,14 +40,17 @@ pub keeps_settled : KeepsSettled
 keeps_settled mode image built h given left s m r p q lt lt' differ hidden = let one = built.one_processor in absurd (differ (omega arith))
 
 pub all_settle : AllSettle
-all_settle mode image built h given left s m r p lt = runs.settles mode image (refines mode image built h given) (keeps_settled mode image built h given) left s m r p lt
+all_settle mode image built h given left s m r p lt =
+    runs.settles mode image (refines mode image built h given) (keeps_settled mode image built h given) left s m r p lt
 
 pub turns_follow : TurnsFollow
-turns_follow mode image built h given left s m r p lt = runs.turn_follows mode image (refines mode image built h given) (keeps_settled mode image built h given) left s m r p lt
+turns_follow mode image built h given left s m r p lt =
+    runs.turn_follows mode image (refines mode image built h given) (keeps_settled mode image built h given) left s m r p lt
 
 pub runs_follow : RunsFollow
-runs_follow mode image built h given script i b = runs.lines_follow mode image (refines mode image built h given) (keeps_settled mode image built h given) script
-    (λ p. 0) _ _ (opens mode image built h given) i b
+runs_follow mode image built h given script i b =
+    runs.lines_follow mode image (refines mode image built h given) (keeps_settled mode image built h given) script (λ p. 0) _ _
+    (opens mode image built h given) i b
 
 pub ends_follow : EndsFollow
 ends_follow mode image built h given script i b q lt =

@@ -17,7 +17,6 @@ use Rattle.ev_abstract.specs.declared.script_line.Line.TheVariants.{Turn, Edge, 
 use Rattle.ev_proc.specs.ProcessorStep.{After, step}
 use Rattle.ev_proc.specs.declared.stepped.Stepped.{Stepped}
 use Rattle.ev_concrete.specs.ConcreteRun.{System, Marks, marks_of, is_visible, acted, after_step, concrete_step, edges, with_frames, settled, all_settled, concrete_line, concrete_lines}
-use Rattle.ev_concrete.specs.LiveWords.{IsSafeStep}
 use Rattle.ev_built.specs.Built.{line_is_built}
 use Rattle.ev_refine.specs.Relation.{Stands}
 use Rattle.ev_refine.specs.Claims.{EdgeWrites, MakesEdge, MakesTurn, Simulated, Settles, Turns, SettledFirst}
@@ -141,7 +140,7 @@ module _ (mode : Mode) (image : Image) where
       counts = λ k. let e = make_edges k left s m r p lt in (step e.now (edges_of k s p).0 m e.stands p lt).counts;
       seen = λ k. (make_edges k left s m r p lt).seen;
       others = λ k. (make_edges k left s m r p lt).others;
-      bounded = let few : left p ≤ 75 = (r.each p lt).few in omega arith;
+      bounded = let few : left p ≤ 600 = (r.each p lt).few in omega arith;
     }
 
     -- ---- turns and scripts
@@ -156,7 +155,7 @@ module _ (mode : Mode) (image : Image) where
         e = make_edges 1024 left s m r p lt
 
         go : MakesEdge mode image e.now there m p ⊎ MakesTurn mode image e.now there m p → Turns mode image s m p
-        go (inl x) = absurd (let few : left p ≤ 75 = (r.each p lt).few in let clash : true ≡ false = sym (e.seen (omega arith)) ∙ x.hidden in cc)
+        go (inl x) = absurd (let few : left p ≤ 600 = (r.each p lt).few in let clash : true ≡ false = sym (e.seen (omega arith)) ∙ x.hidden in cc)
         go (inr x) = record {
           now = x.now;
           stands = x.stands;
@@ -207,7 +206,7 @@ module _ (mode : Mode) (image : Image) where
           others = λ p lt' b. rest.others p lt' (omega arith) ∙ e.others p lt' (λ q. omega arith);
           seen = λ p b b'. ⊎_elim
               (λ x. ap (is_visible marks (all_settled marks image.processors there (numbers_from (suc a) k)).0) x.1
-              ∙ rest.others a lt (omega arith) ∙ e.seen (let few : left a ≤ 75 = (r.each a lt).few in omega arith))
+              ∙ rest.others a lt (omega arith) ∙ e.seen (let few : left a ≤ 600 = (r.each a lt).few in omega arith))
               (λ x. rest.seen p (let d = x.1 in le_next a p b d) (omega arith)) (eqb_tells p a);
         }
       where

@@ -18,7 +18,9 @@ use Rattle.ev_symbolic.specs.Run.{moved, sstep, brun}
 use Rattle.ev_symbolic.specs.Agrees.{Env, eval, eval_flags, addr, Known, IsTold, Cell}
 use Rattle.ev_symbolic.specs.Join.{Joins, env_after}
 use Rattle.ev_symbolic.specs.Openings.{at_base, all_regs}
-use Rattle.ev_activation.specs.Activation.{SystemCall, Spot, AtEntry, AtItem, AtExit}
+use Rattle.ev_activation.specs.Activation.{Spot, AtEntry, AtItem, AtExit}
+use Rattle.ev_activation.specs.Activation as blocks
+use Rattle.ev_activation.specs.Seat.{SystemCall, Seat}
 use Rattle.ev_blocks_fred.specs.Blocks.{fred_ground, fexit}
 use Rattle.ev_blocks_fred.specs.Ends as fred
 use Rattle.ev_blocks_fred.proofs.Ends as fred_ends
@@ -26,7 +28,7 @@ use Rattle.ev_blocks_idt.specs.Blocks.{idt_ground}
 use Rattle.ev_blocks_idt.specs.Ends as idt
 use Rattle.ev_blocks_idt.proofs.Ends as idt_ends
 use Rattle.ev_table.specs.Table.{other_exit, body_jump, task_return, task_return_cell}
-use Rattle.ev_refine.specs.Relation.{block_of, edges_of, here, InItem, Means, most_edges}
+use Rattle.ev_refine.specs.Active.{block_of, edges_of, item_place, here, InItem, Enters}
 use Rattle.ev_concrete.specs.Shown.{shown_always}
 use Rattle.ev_refine.proofs.ModeFacts.{is_fred}
 
@@ -36,7 +38,7 @@ abbrev pub ground_of : Mode → Ground
 ground_of Fred = fred_ground
 ground_of Idt = idt_ground
 
-pub ground_is : (mode : Mode) (spot : Spot) → (block_of mode SystemCall spot).ground ≡ ground_of mode
+pub ground_is : (mode : Mode) (spot : Spot) → (block_of mode spot).ground ≡ ground_of mode
 ground_is Fred AtEntry = refl
 ground_is Fred AtItem = refl
 ground_is Fred AtExit = refl
@@ -47,22 +49,22 @@ ground_is Idt AtExit = refl
 -- ---- where a block ends
 
 abbrev pub end_of : Mode → Spot → SS
-end_of Fred AtEntry = fred.enter_end SystemCall
-end_of Idt AtEntry = idt.enter_end SystemCall
-end_of Fred AtExit = fred.leave_end SystemCall
-end_of Idt AtExit = idt.leave_end SystemCall
-end_of mode AtItem = (block_of mode SystemCall AtItem).opening
+end_of Fred AtEntry = fred.enter_end blocks.SystemCall
+end_of Idt AtEntry = idt.enter_end blocks.SystemCall
+end_of Fred AtExit = fred.leave_end blocks.SystemCall
+end_of Idt AtExit = idt.leave_end blocks.SystemCall
+end_of mode AtItem = (block_of mode AtItem).opening
 
-pub runs_to_end : (mode : Mode) (spot : Spot) → brun (block_of mode SystemCall spot) (block_of mode SystemCall spot).steps ≡ Some (end_of mode spot)
-runs_to_end Fred AtEntry = fred_ends.enter_run SystemCall
+pub runs_to_end : (mode : Mode) (spot : Spot) → brun (block_of mode spot) (block_of mode spot).steps ≡ Some (end_of mode spot)
+runs_to_end Fred AtEntry = fred_ends.enter_run blocks.SystemCall
 runs_to_end Fred AtItem = refl
-runs_to_end Fred AtExit = fred_ends.leave_run SystemCall
-runs_to_end Idt AtEntry = idt_ends.enter_run SystemCall
+runs_to_end Fred AtExit = fred_ends.leave_run blocks.SystemCall
+runs_to_end Idt AtEntry = idt_ends.enter_run blocks.SystemCall
 runs_to_end Idt AtItem = refl
-runs_to_end Idt AtExit = idt_ends.leave_run SystemCall
+runs_to_end Idt AtExit = idt_ends.leave_run blocks.SystemCall
 
 -- an item's block has no instruction of its own
-pub no_steps : (mode : Mode) → (block_of mode SystemCall AtItem).steps ≡ 0
+pub no_steps : (mode : Mode) → (block_of mode AtItem).steps ≡ 0
 no_steps Fred = refl
 no_steps Idt = refl
 
@@ -71,26 +73,26 @@ at_address : (e : Env) (n : ℕ) → e.base 1000 ≡ 0 → n % M ≡ n → addr 
 at_address e n z small = let h : (e.base 1000 + n) % M ≡ n = omega arith in h
 
 pub entry_ends : (mode : Mode) (e : Env) → e.base 1000 ≡ 0 → addr e (end_of mode AtEntry).rip ≡ body_jump mode
-entry_ends Fred e z = ap (addr e) (fred_ends.enter_rip SystemCall) ∙ at_address e 0xffffffff810002bd z refl
-entry_ends Idt e z = ap (addr e) (idt_ends.enter_rip SystemCall) ∙ at_address e 0xffffffff810031bb z refl
+entry_ends Fred e z = ap (addr e) (fred_ends.enter_rip blocks.SystemCall) ∙ at_address e 0xffffffff810002bd z refl
+entry_ends Idt e z = ap (addr e) (idt_ends.enter_rip blocks.SystemCall) ∙ at_address e 0xffffffff810031bb z refl
 
 pub exit_ends : (mode : Mode) (e : Env) → e.base 1000 ≡ 0 → addr e (end_of mode AtExit).rip ≡ task_return mode
-exit_ends Fred e z = ap (addr e) (fred_ends.leave_rip SystemCall) ∙ at_address e 0xffffffff81000426 z refl
-exit_ends Idt e z = ap (addr e) (idt_ends.leave_rip SystemCall) ∙ at_address e 0xffffffff810034dd z refl
+exit_ends Fred e z = ap (addr e) (fred_ends.leave_rip blocks.SystemCall) ∙ at_address e 0xffffffff81000426 z refl
+exit_ends Idt e z = ap (addr e) (idt_ends.leave_rip blocks.SystemCall) ∙ at_address e 0xffffffff810034dd z refl
 
 pub jumps_to_body : (mode : Mode) → sreg (end_of mode AtEntry) 0 ≡ X 24
-jumps_to_body Fred = ap (λ (xs : List V). get_or xs 0 (K 0)) (fred_ends.enter_regs SystemCall)
-jumps_to_body Idt = ap (λ (xs : List V). get_or xs 0 (K 0)) (idt_ends.enter_regs SystemCall)
+jumps_to_body Fred = ap (λ (xs : List V). get_or xs 0 (K 0)) (fred_ends.enter_regs blocks.SystemCall)
+jumps_to_body Idt = ap (λ (xs : List V). get_or xs 0 (K 0)) (idt_ends.enter_regs blocks.SystemCall)
 
 -- ---- how a block opens
 
 abbrev pub values_of : Mode → List V
-values_of Fred = fred.enter_values SystemCall
-values_of Idt = idt.enter_values SystemCall
+values_of Fred = fred.enter_values blocks.SystemCall
+values_of Idt = idt.enter_values blocks.SystemCall
 
-pub opens_item : (mode : Mode) → Joins (end_of mode AtEntry) (values_of mode) (ground_of mode).known (block_of mode SystemCall AtItem).opening
-opens_item Fred = fred_ends.enter_joins SystemCall
-opens_item Idt = idt_ends.enter_joins SystemCall
+pub opens_item : (mode : Mode) → Joins (end_of mode AtEntry) (values_of mode) (ground_of mode).known (block_of mode AtItem).opening
+opens_item Fred = fred_ends.enter_joins blocks.SystemCall
+opens_item Idt = idt_ends.enter_joins blocks.SystemCall
 
 -- an item opens at its address, with registers of its own
 pub record OpensItem (o : SS) : Type 0 where
@@ -100,7 +102,7 @@ pub record OpensItem (o : SS) : Type 0 where
   pub rsp : V
   pub regs : o.regs ≡ all_regs rsp
 
-pub item_opening : (mode : Mode) → OpensItem (block_of mode SystemCall AtItem).opening
+pub item_opening : (mode : Mode) → OpensItem (block_of mode AtItem).opening
 item_opening Fred = record { rip = refl; flags = refl; blocked = refl; rsp = P 16 (M - 0xc0); regs = refl }
 item_opening Idt = record { rip = refl; flags = refl; blocked = refl; rsp = P 16 (M - 0xb0); regs = refl }
 
@@ -116,10 +118,10 @@ pub record SaysSame (e u : Env) (W : List Win) (o : SS) : Type 0 where
   pub words : (m : NatMap ℕ) → Known e W m o.words → Known u W m o.words
 
 -- only its place speaks of the item
-pub any_item : (mode : Mode) (image : Image) (p : ℕ) (w : Processor) (b b' : BodyContext) (v : ℕ → ℕ) (f : Flags)
-    → SaysSame (here mode image p SystemCall w b v f) (here mode image p SystemCall w b' v f) (ground_of mode).known (block_of mode SystemCall AtItem).opening
+pub any_item : (mode : Mode) (p : ℕ) (σ : Seat) (ss : ℕ) (w : Processor) (extra extra' v : ℕ → ℕ) (f : Flags)
+    → SaysSame (here mode p SystemCall σ ss w extra v f) (here mode p SystemCall σ ss w extra' v f) (ground_of mode).known (block_of mode AtItem).opening
 unfolding eval eval_flags
-any_item Fred image p w b b' v f = record {
+any_item Fred p σ ss w extra extra' v f = record {
   regs = refl;
   flags = refl;
   gs = refl;
@@ -130,7 +132,7 @@ any_item Fred image p w b b' v f = record {
   words =
       λ m h. h;
 }
-any_item Idt image p w b b' v f = record {
+any_item Idt p σ ss w extra extra' v f = record {
   regs = refl;
   flags = refl;
   gs = refl;
@@ -143,7 +145,7 @@ any_item Idt image p w b b' v f = record {
 }
 
 -- and the exit opens with what an item has
-pub exit_opening : (mode : Mode) → (block_of mode SystemCall AtExit).opening ≡ record ((block_of mode SystemCall AtItem).opening) {
+pub exit_opening : (mode : Mode) → (block_of mode AtExit).opening ≡ record ((block_of mode AtItem).opening) {
   rip =
       absolute (other_exit mode);
 }
@@ -159,23 +161,23 @@ exit_canonical Fred = refl
 exit_canonical Idt = refl
 
 -- `log` stores to a word that no block knows
-pub log_moves : (mode : Mode) (q next : ℕ) → sstep (ground_of mode) (GsStore (pos 0x28) q) (absolute next) (block_of mode SystemCall AtItem).opening
-    ≡ Some (moved (block_of mode SystemCall AtItem).opening (block_of mode SystemCall AtItem).opening.regs (absolute next))
+pub log_moves : (mode : Mode) (q next : ℕ) → sstep (ground_of mode) (GsStore (pos 0x28) q) (absolute next) (block_of mode AtItem).opening
+    ≡ Some (moved (block_of mode AtItem).opening (block_of mode AtItem).opening.regs (absolute next))
 log_moves Fred q next = refl
 log_moves Idt q next = refl
 
 -- ---- what an activation's variables mean, from the entry to the item
 
 module _ (image : Image) where
-  pub enters_body : (mode : Mode) (v : ℕ → ℕ) (w : Processor) (b : BodyContext) → Means mode image SystemCall AtEntry v w b
-      → (v 24 ≡ body_code b.body) × (b.place ≡ 0)
+  pub enters_body : (mode : Mode) (v : ℕ → ℕ) (w : Processor) (b : BodyContext) → Enters mode image mode v w b → (v 24 ≡ body_code b.body) × (b.place ≡ 0)
   enters_body Fred v w b means = (means.code, means.place)
   enters_body Idt v w b means = (means.code, means.place)
 
-  pub means_item : (mode : Mode) (e : Env) (w : Processor) (b : BodyContext) (f : Flags) → Means mode image SystemCall AtEntry e.var w b
-      → InItem mode image (env_after e (values_of mode) f).var w b
+  pub means_item : (mode : Mode) (e : Env) (extra : ℕ → ℕ) (w : Processor) (b : BodyContext) (f : Flags) → Enters mode image mode e.var w b
+      → extra 20 ≡ item_place mode image b.body b.place → InItem mode image extra (env_after e (values_of mode) f).var w b
   unfolding eval
-  means_item Fred e w b f means = record {
+  means_item Fred e extra w b f means at = record {
+    place = at;
     saved = record {
       framed = record { rip = means.framed.rip; flags = means.framed.flags; gs = means.framed.gs; selector = means.framed.selector };
       regs =
@@ -183,7 +185,8 @@ module _ (image : Image) where
     };
     locals = means.locals ∙ (λ i. sym means.error i ∷ 0x100 ∷ sym means.info i ∷ 0 ∷ 0 ∷ 0 ∷ 0 ∷ 0 ∷ []);
   }
-  means_item Idt e w b f means = record {
+  means_item Idt e extra w b f means at = record {
+    place = at;
     saved = record { framed = record { rip = means.rip; flags = means.flags; gs = means.gs; selector = means.selector }; regs = means.regs };
     locals = means.locals;
   }
@@ -211,7 +214,7 @@ not_repeated Idt c w h = ap (λ y. (y == nlast_entry + 12) && (w.rip == repeat_e
 
 -- ---- edges
 
-pub one_less : (mode : Mode) (spot : Spot) (k n : ℕ) → edges_of mode spot k ≤ n → k < (block_of mode SystemCall spot).steps → edges_of mode spot (suc k) < n
+pub one_less : (mode : Mode) (spot : Spot) (k n : ℕ) → edges_of mode spot k ≤ n → k < (block_of mode spot).steps → edges_of mode spot (suc k) < n
 one_less Fred AtEntry k n h lt = omega arith
 one_less Fred AtItem k n h lt = absurd (omega arith)
 one_less Fred AtExit k n h lt = omega arith
@@ -219,7 +222,7 @@ one_less Idt AtEntry k n h lt = omega arith
 one_less Idt AtItem k n h lt = absurd (omega arith)
 one_less Idt AtExit k n h lt = omega arith
 
-pub less_in_item : (mode : Mode) (n : ℕ) → edges_of mode AtEntry (block_of mode SystemCall AtEntry).steps ≤ n → edges_of mode AtItem 0 < n
+pub less_in_item : (mode : Mode) (n : ℕ) → edges_of mode AtEntry (block_of mode AtEntry).steps ≤ n → edges_of mode AtItem 0 < n
 less_in_item Fred n h = omega arith
 less_in_item Idt n h = omega arith
 
@@ -227,6 +230,10 @@ pub less_in_exit : (mode : Mode) (k n : ℕ) → edges_of mode AtItem k ≤ n �
 less_in_exit Fred k n h = omega arith
 less_in_exit Idt k n h = omega arith
 
-pub few_in_item : (mode : Mode) (image : Image) → edges_of mode AtItem 0 ≤ most_edges mode image
-few_in_item Fred image = omega arith
-few_in_item Idt image = omega arith
+pub few_edges : (mode : Mode) (spot : Spot) (k : ℕ) → edges_of mode spot k ≤ 100
+few_edges Fred AtEntry k = omega arith
+few_edges Fred AtItem k = omega arith
+few_edges Fred AtExit k = omega arith
+few_edges Idt AtEntry k = omega arith
+few_edges Idt AtItem k = omega arith
+few_edges Idt AtExit k = omega arith

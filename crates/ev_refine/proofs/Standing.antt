@@ -1,48 +1,46 @@
--- Steps of a processor as steps of the whole machine: the choice at the boundary, what a step leaves of the system, and the relation after it.
-use Rattle.std.proofs.Common.{◌≡◌, ℕ, ◌+◌, ◌<◌, ◌≤◌, Bool, true, false, not, ◌&&◌, ◌||◌, List, [], length, Some, None, refl, sym, ap, ◌∙◌, subst, arith, inl}
-use Rattle.std.specs.Prelude.{if◌then◌else◌}
+-- Steps of a processor as steps of the whole machine: the choice at the boundary, what a step shows, and what it leaves of the system.
+use Rattle.std.proofs.Common.{◌≡◌, ℕ, zero, suc, ◌<◌, Bool, true, false, not, ◌&&◌, ◌||◌, List, [], Option, Some, None, refl, sym, ap, ◌∙◌, subst, arith, inl}
+use Rattle.std.specs.Prelude.{if◌then◌else◌, ◌==◌, nat_lt, ◌/◌}
 use Rattle.std.specs.List.{list_any}
-use Rattle.ev_isa.specs.Word.{NatMap, put_at}
+use Rattle.ev_isa.specs.Word.{NatMap, NatSet, greatest_below}
 use Rattle.ev_isa.specs.declared.instruction.Ins.{Ins}
 use Rattle.ev_isa.specs.declared.mode.Mode.{Mode}
 use Rattle.ev_event.specs.declared.boundary.Next.{Next}
+use Rattle.ev_event.specs.declared.event.Event.{Event}
 use Rattle.ev_event.specs.Boundary.{first_of}
+use Rattle.ev_event.specs.declared.frame_note.FrameNote.{FrameNote}
 use Rattle.ev_body.specs.declared.image.Image.{Image}
-use Rattle.ev_listing.specs.AddressMap.{pcpu}
 use Rattle.ev_listing.specs.Marks.{Never, Always}
-use Rattle.ev_effect.specs.Task.{Task}
 use Rattle.ev_state.specs.Processor.{Processor, is_user, interrupts_on}
 use Rattle.ev_apic.specs.declared.apic.Apic.{Apic}
-use Rattle.ev_apic.specs.Apic.{next_vector}
-use Rattle.ev_proc.specs.ProcessorStep.{ran, next_of, step, has_fred, instruction_at}
+use Rattle.ev_apic.specs.Apic.{priority_class, next_vector}
+use Rattle.ev_apic.specs.Vectors.{vectors_of}
+use Rattle.ev_proc.specs.ProcessorStep.{After, ran, next_of, step, has_fred, instruction_at}
 use Rattle.ev_proc.specs.declared.stepped.Stepped.{Stepped}
-use Rattle.ev_abstract.specs.Context.{BodyContext}
-use Rattle.ev_abstract.specs.Machine.{Machine, processor, task}
-use Rattle.ev_abstract.specs.Machine as abstract
-use Rattle.ev_concrete.specs.Opening.{opening_apic}
-use Rattle.ev_concrete.specs.ConcreteRun.{System, Marks, mark_at, is_seen, is_visible, is_visible_by, is_return, is_repeated, without_last, acted, activations_by, after_step, concrete_step}
+use Rattle.ev_concrete.specs.ConcreteRun.{System, Activation, Marks, mark_at, is_seen, is_visible, is_visible_by, is_return, is_repeated, without_last, acted, activations_by, after_step, concrete_step}
 use Rattle.ev_concrete.specs.Depth.{bodies_on}
 use Rattle.ev_concrete.specs.LiveWords.{IsSafeStep, overwrites}
-use Rattle.ev_event.specs.declared.frame_note.FrameNote.{FrameNote}
-use Rattle.ev_built.specs.Built.{IsBuilt}
-use Rattle.ev_symbolic.specs.Agrees.{with_words}
-use Rattle.ev_refine.specs.Relation.{IsFixed, RunsTask, Chain, Acts, most_edges, StandsOn, Stands}
 use Rattle.ev_concrete.specs.Shown.{shown, shown_always, shown_by, told_at}
 use Rattle.ev_refine.specs.Claims.{EdgeWrites}
-use Rattle.ev_refine.proofs.Maps.{at_same}
+use Rattle.ev_refine.proofs.Maps.{at_same, at_other}
 
 -- ---- the boundary
 
--- an APIC that nothing came to
-idle : next_vector opening_apic ≡ None
+none_below : (n : ℕ) (set : NatSet) → ((v : ℕ) → v < n → set v ≡ false) → greatest_below n set ≡ None
+none_below zero set h = refl
+none_below (suc n) set h = ap (λ b. elim b [ true ↦ Some n | false ↦ greatest_below n set ]) (h n (omega arith)) ∙ none_below n set (λ v lt. h v (omega arith))
+
+-- an APIC that no vector came to
+idle : (a : Apic) → ((v : ℕ) → v < 256 → vectors_of a.irr v ≡ false) → next_vector a ≡ None
 unfolding next_vector
-idle = refl
+idle a h = none_below 256 _ (λ v lt. ap (λ b. b && nat_lt (priority_class a) (v / 16)) (h v lt))
 
 -- with no NMI and no vector that waits, an instruction comes first
-pub instruction_first : (c : Processor) (a : Apic) (nmi : Bool) → nmi ≡ false → a ≡ opening_apic → next_of c a nmi ≡ Next.Instruction
+pub instruction_first : (c : Processor) (a : Apic) (nmi : Bool) → nmi ≡ false → ((v : ℕ) → v < 256 → vectors_of a.irr v ≡ false)
+    → next_of c a nmi ≡ Next.Instruction
 unfolding next_of first_of
 instruction_first c a nmi hn ha =
-    ap (λ x. next_of c a x) hn ∙ ap (λ x. next_of c x false) ha
+    ap (λ x. next_of c a x) hn
     ∙ ap (λ v. first_of (record {
       debug = false;
       nmi = false;
@@ -51,7 +49,7 @@ instruction_first c a nmi hn ha =
       if_set =
           interrupts_on c;
       vector = v;
-    })) idle
+    })) (idle a ha)
     ∙ either (interrupts_on c && not c.sti_blocked)
   where
     either : (b : Bool) → (if b then Next.Instruction else Next.Instruction) ≡ Next.Instruction
@@ -116,63 +114,53 @@ ran_returns s p cpu i hi hr hu hl =
     ∙ ap (λ b. if not b && not (is_repeated (s.cpus p) cpu) then without_last (s.activations p) else s.activations p) hu
     ∙ ap (λ b. if not b then without_last (s.activations p) else s.activations p) hl
 
--- ---- what stands beneath an activation
+-- ---- what it leaves of the system
 
--- the task, with another CR2
-pub with_cr2 : (mode : Mode) (image : Image) (p r : ℕ) (t : Task) (w : Processor) (a : ℕ) → RunsTask mode image p r t w
-    → RunsTask mode image p r t (record w { cr2 = a })
-with_cr2 mode image p r t w a h = record {
-  is = ap (λ (y : Processor). record y { cr2 = a }) h.is;
-  gs = h.gs;
-  long = h.long;
-  canonical = h.canonical;
-  at = h.at;
+-- p has this processor and these activations now, and memory these words; of the others nothing has changed
+pub record Moves (p : ℕ) (s s' : System) (cpu : Processor) (as' : List Activation) (words : NatMap ℕ) : Type 0 where
+  pub cpu_is : s'.cpus p ≡ cpu
+  pub activations_are : s'.activations p ≡ as'
+  pub apic : s'.apics p ≡ s.apics p
+  pub latch : s'.latches p ≡ s.latches p
+  pub inboxes : s'.inboxes ≡ s.inboxes
+  pub regions : s'.memory.regions ≡ s.memory.regions
+  pub words_are : s'.memory.words ≡ words
+  pub other_cpu : (q : ℕ) → (q == p) ≡ false → s'.cpus q ≡ s.cpus q
+  pub other_activations : (q : ℕ) → (q == p) ≡ false → s'.activations q ≡ s.activations q
+  pub other_apic : (q : ℕ) → (q == p) ≡ false → s'.apics q ≡ s.apics q
+  pub other_latch : (q : ℕ) → (q == p) ≡ false → s'.latches q ≡ s.latches q
+
+-- a step that takes nothing from the APIC and no NMI
+pub step_moves : (s : System) (p : ℕ) (r : After) → r.apic ≡ s.apics p → r.nmi ≡ s.latches p
+    → Moves p s (after_step s p r) r.cpu (activations_by s p (s.activations p) r.cpu r.step) r.words
+step_moves s p r ha hn = record {
+  cpu_is = at_same s.cpus p p r.cpu refl;
+  activations_are = at_same s.activations p p _ refl;
+  apic = at_same s.apics p p r.apic refl ∙ ha;
+  latch = at_same s.latches p p r.nmi refl ∙ hn;
+  inboxes = refl;
+  regions = refl;
+  words_are = refl;
+  other_cpu = λ q d. at_other s.cpus p q r.cpu d;
+  other_activations = λ q d. at_other s.activations p q _ d;
+  other_apic = λ q d. at_other s.apics p q r.apic d;
+  other_latch = λ q d. at_other s.latches p q r.nmi d;
 }
 
--- ---- the relation after it
-
-module _ (mode : Mode) (image : Image) (built : IsBuilt image) where
-  -- of this processor, where only its bodies have changed
-  pub stands_on_after : (p left now : ℕ) (s : System) (x : abstract.Processor) (cpu : Processor) (words : NatMap ℕ) (bs : List BodyContext)
-      → StandsOn mode image p left s x → now ≤ most_edges mode image
-      → words (pcpu p + 0x20) ≡ s.memory.words (pcpu p + 0x20) → words (pcpu p + 0x10) ≡ s.memory.words (pcpu p + 0x10)
-      → words (pcpu p + 0x18) ≡ s.memory.words (pcpu p + 0x18)
-      → Acts mode image bs (activations_by s p (s.activations p) cpu Stepped.Ran) → cpu.nmi_blocked ≡ false
-      → Chain mode image p now x.running (task x) bs cpu (with_words s.memory words)
-      → StandsOn mode image p now (after_ran s p cpu words) (record x { bodies = bs })
-  stands_on_after p left now s x cpu words bs o few mark top current acts blocking chain = record {
-    few = few;
-    running = o.running;
-    waiting = o.waiting;
-    nmi = o.nmi;
-    latch = at_same s.latches p p (s.latches p) refl ∙ o.latch;
-    blocking = ap (λ (c : Processor). c.nmi_blocked) (at_same s.cpus p p cpu refl) ∙ blocking;
-    pending = o.pending;
-    apic = at_same s.apics p p (s.apics p) refl ∙ o.apic;
-    resched = o.resched;
-    mark = mark ∙ o.mark;
-    top_is = top ∙ o.top_is;
-    task_is = current ∙ o.task_is;
-    acts = subst (Acts mode image bs) (sym (at_same s.activations p p (activations_by s p (s.activations p) cpu Stepped.Ran) refl)) acts;
-    chain = subst (λ c. Chain mode image p now x.running (task x) bs c (with_words s.memory words)) (sym (at_same s.cpus p p cpu refl)) chain;
-  }
-
-  -- of the whole machine
-  pub stands_after : (left : NatMap ℕ) (s : System) (m m' : Machine) (p now : ℕ) (cpu : Processor) (words : NatMap ℕ) → Stands mode image left s m
-      → p < image.processors
-      → ((a : ℕ) → IsFixed a → words a ≡ s.memory.words a) → m'.words ≡ m.words → m'.present ≡ m.present
-      → StandsOn mode image p now (after_ran s p cpu words) (processor m' p)
-      → Stands mode image (put_at left p now) (after_ran s p cpu words) m'
-  stands_after left s m m' p now cpu words h hp fixed same_words same_pages on = record {
-    regions_are = h.regions_are;
-    fixed = λ a f. fixed a f ∙ h.fixed a f;
-    text = same_words ∙ h.text;
-    present = same_pages ∙ h.present;
-    each = λ q hq.
-        let same : p ≡ q = only q hq in
-        subst (λ r. StandsOn mode image r (put_at left p now r) (after_ran s p cpu words) (processor m' r)) same
-        (subst (λ l. StandsOn mode image p l (after_ran s p cpu words) (processor m' p)) (sym (at_same left p p now refl)) on);
-  }
-    where
-      only : (q : ℕ) → q < image.processors → p ≡ q
-      only q hq = let one = built.one_processor in omega arith
+-- and a delivery that is counted
+pub delivery_moves : (n p : ℕ) (s s' : System) (cpu : Processor) (as' : List Activation) (words : NatMap ℕ) (e : Event) (frame : Option ℕ)
+    → Moves p s s' cpu as' words → Moves p s (acted n s' p (Stepped.Delivered e frame)).0 cpu as' words
+delivery_moves n p s s' cpu as' words e None h = h
+delivery_moves n p s s' cpu as' words e (Some a) h = record {
+  cpu_is = h.cpu_is;
+  activations_are = h.activations_are;
+  apic = h.apic;
+  latch = h.latch;
+  inboxes = h.inboxes;
+  regions = h.regions;
+  words_are = h.words_are;
+  other_cpu = h.other_cpu;
+  other_activations = h.other_activations;
+  other_apic = h.other_apic;
+  other_latch = h.other_latch;
+}

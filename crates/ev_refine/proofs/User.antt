@@ -1,5 +1,5 @@
 -- The turns of the task: a plain instruction, or a system call, which begins an activation.
-use Rattle.std.proofs.Common.{◌≡◌, ℕ, suc, ◌+◌, ◌<◌, ◌≤◌, Bool, true, false, List, [], ◌∷◌, set, length, Option, Some, None, refl, sym, ap, ◌∙◌, subst, arith, ◌⊎◌, inl, inr, ⊎_elim}
+use Rattle.std.proofs.Common.{◌≡◌, ℕ, suc, ◌+◌, ◌<◌, Bool, true, false, List, [], ◌∷◌, set, length, Option, Some, None, refl, sym, ap, ◌∙◌, subst, arith, inr, ⊎_elim}
 use Rattle.std.specs.Prelude.{if◌then◌else◌, slice_get, is_some}
 use Rattle.std.proofs.lemmas.List.{length-set}
 use Rattle.ev_isa.specs.Word.{NatMap, is_canonical}
@@ -18,7 +18,7 @@ use Rattle.ev_body.specs.WellFormed.{IsImage}
 use Rattle.ev_effect.specs.Task.{Task}
 use Rattle.ev_state.specs.Processor.{Processor, is_user}
 use Rattle.ev_mem.specs.Memory.{Memory}
-use Rattle.ev_proc.specs.ProcessorStep.{After, executed, has_fred}
+use Rattle.ev_proc.specs.ProcessorStep.{After, executed, has_fred, next_of}
 use Rattle.ev_proc.specs.declared.stepped.Stepped.{Stepped}
 use Rattle.ev_listing.specs.AddressMap.{pcpu, user_table, task_words, body_code}
 use Rattle.ev_abstract.specs.Context.{BodyContext}
@@ -30,26 +30,30 @@ use Rattle.ev_abstract.specs.Delivery.{body_at_start, delivered, entered}
 use Rattle.ev_abstract.specs.UserCode.{user_view}
 use Rattle.ev_abstract.specs.UserCode as user
 use Rattle.ev_abstract.specs.Run.{task_step}
-use Rattle.ev_concrete.specs.Opening.{opening_apic}
 use Rattle.ev_concrete.specs.ConcreteRun.{System, Activation, acted, after_step, activations_by, interrupted, starts_inner}
 use Rattle.ev_concrete.specs.Depth.{bodies_on}
 use Rattle.ev_built.specs.Built.{IsBuilt}
 use Rattle.ev_built.specs.Program.{begins, leads_to}
 use Rattle.ev_symbolic.specs.Agrees.{with_words}
-use Rattle.ev_activation.specs.Activation.{SystemCall}
-use Rattle.ev_refine.specs.Relation.{IsFixed, InText, InTables, InTasks, InCode, task_processor, RunsTask, IsContext, Chain, Acts, most_edges, StandsOn, Stands}
 use Rattle.ev_concrete.specs.Shown.{shown_by, saved_rip, key_of}
+use Rattle.ev_activation.specs.Seat.{SystemCall, kind_of, seat_by, seat_of, room_of}
+use Rattle.ev_refine.specs.Tasks.{IsTask, RunsTask, CurrentIs}
+use Rattle.ev_refine.specs.Nmi.{Leads, inner_edges}
+use Rattle.ev_refine.specs.Domain.{IsInProgram}
+use Rattle.ev_refine.specs.Active.{Active}
+use Rattle.ev_refine.specs.Relation.{InTables, IsContext, Beneath, keeps_cr2, chained, switches_at, most_edges, Chain, Stands}
 use Rattle.ev_refine.specs.Claims.{Simulated}
-use Rattle.ev_refine.proofs.Standing.{with_cr2}
-use Rattle.ev_event.specs.declared.event.Event.{Event}
-use Rattle.ev_refine.proofs.Depth.{stands_depth}
 use Rattle.ev_refine.proofs.Facts.{Facts}
-use Rattle.ev_refine.proofs.UserState.{put_same, TurnsTo, makes_turn, is_safe, tells_bodies, stands_again, stands_acted}
+use Rattle.ev_refine.proofs.CallKinds.{call_no_nmi, call_of}
+use Rattle.ev_refine.proofs.Domains.{one_task_each, with_cr2}
+use Rattle.ev_refine.proofs.Standing.{Moves, step_moves, delivery_moves}
+use Rattle.ev_refine.proofs.Depth.{stands_depth}
+use Rattle.ev_refine.proofs.UserState.{put_same, TurnsTo, makes_turn, is_safe, tells_bodies}
+use Rattle.ev_refine.proofs.UserPlain.{AtUser, at_user, user_after, plain_turn}
+use Rattle.ev_refine.proofs.SystemCall.{call_event, returning, arrival, caller, over, context, Ready, Begins}
 use Rattle.ev_refine.proofs.UserStep.{Makes, makes}
-use Rattle.ev_refine.proofs.UserPlain.{AtUser, at_user, plain_turn}
 use Rattle.ev_refine.proofs.UserBody.{IsSystemCall, is_system_call, table_word_is}
 use Rattle.ev_refine.proofs.UserSafe.{OnlyTask}
-use Rattle.ev_refine.proofs.SystemCall.{call_event, returning, FitsAt, OpensAt, arrival, caller, over, context, Ready, Begins}
 use Rattle.ev_refine.proofs.SystemCallFred as fred
 use Rattle.ev_refine.proofs.SystemCallIdt as idt
 
@@ -111,23 +115,11 @@ begins_call : (mode : Mode) (image : Image) (built : IsBuilt image) (p n : ℕ) 
 begins_call Idt image built p n t cr2 next body m ready = idt.begins_call image p n t cr2 next body m ready
 begins_call Fred image built p n t cr2 next body m ready = fred.begins_call image built p n t cr2 next body m ready
 
-not_there : (a : ℕ) → IsFixed a → (a < 0xffffc90000000000) ⊎ (0xffffffff81000000 ≤ a)
-not_there a (InText h k) = inl (omega arith)
-not_there a (InTables h k) = inl (omega arith)
-not_there a (InTasks h k) = inl (omega arith)
-not_there a (InCode h) = inr h
-
--- what is counted leaves the bodies
-acted_bodies : (n p : ℕ) (e : Event) (frame : Option ℕ) (s : System) → bodies_on (acted n s p (Stepped.Delivered e frame)).0 p ≡ bodies_on s p
-acted_bodies n p e None s = refl
-acted_bodies n p e (Some a) s = refl
-
 module _ (mode : Mode) (image : Image) (formed : IsImage image) (built : IsBuilt image) (facts : Facts mode image) where
   -- a system call
   pub call_turn : (left : NatMap ℕ) (s : System) (m : Machine) → Stands mode image left s m → (p : ℕ) → p < image.processors → (processor m p).bodies ≡ []
-      → FitsAt mode image p → OpensAt mode image p
-      → (u : AtUser mode image formed built facts left s m p) → u.ins ≡ Syscall → TurnsTo mode image built left s m p
-  call_turn left s m h p lt hb fits opens u hi =
+      → (u : AtUser mode image formed built facts left s m p) → u.ins ≡ Syscall → TurnsTo mode image left s m p
+  call_turn left s m h p lt hb u hi =
       let x : abstract.Processor = processor m p in
       let c : Processor = s.cpus p in
       let t : Task = task x in
@@ -138,95 +130,98 @@ module _ (mode : Mode) (image : Image) (formed : IsImage image) (built : IsBuilt
       let call : IsSystemCall image body = is_system_call image formed body found.1 in
       let small : p < 32 = omega (arith, built.one_processor) in
       let zero_is : p ≡ 0 = omega (arith, built.one_processor) in
+      let first : n ≡ 0 = let l = u.on.running in let one = one_task_each image built p lt in omega arith in
       let words : NatMap ℕ = s.memory.words in
       let table : words (user_table + 0x800) ≡ body_code body = h.fixed (user_table + 0x800) (InTables (omega arith) (omega arith))
       ∙ table_word_is mode image built body found.1 in
+      let current : CurrentIs mode p n words = u.on.current u.rest.still in
       let begun : Begins mode image p n t c.cr2 next body s.memory = begins_call mode image built p n t c.cr2 next body s.memory (record {
-        running = u.on.running;
+        running = first;
         small = small;
-        long = u.runs.long;
+        within = lt;
+        facts = facts;
+        long = u.rest.task.task.long;
         next_is = refl;
-        fits = fits;
-        opens = opens;
         regions_are = h.regions_are;
         table = table;
-        top_is = u.on.top_is;
-        mark = u.on.mark;
+        top_is = current.top;
+        mark = u.on.mark u.rest.still ∙ ap (λ b. if b then 1 else 0) u.domain.resched;
       }) in
-      let most : ℕ = most_edges mode image in
       let d : Processor = begun.cpu in
       let words' : NatMap ℕ = begun.words in
       let w : Processor = over mode image p n t c.cr2 next body in
       let b : BodyContext = context mode image p n t c.cr2 next body in
       let back : Task = returning t next in
-      let z : abstract.Processor = with_task x back in
-      let y : abstract.Processor = called x next body in
-      let r : After = arrival d words' begun.frame opening_apic false in
-      let s' : System = after_step s p r in
-      let m' : Machine = with_processor m p y in
-      let task_is : task z ≡ back = put_same x.tasks n back in
-      let empty : s.activations p ≡ [] = u.none in
-      let runs : RunsTask mode image p y.running (task y) w = record {
-        is = ap (λ (q : Task). task_processor mode image p n q c.cr2) (sym task_is);
-        gs = ap (λ (q : Task). q.gs) task_is ∙ u.runs.gs;
-        long = ap (λ (q : Task). length q.regs) task_is ∙ length-set (set t.regs 1 next) 11 (flags_word t.flags) ∙ length-set t.regs 1 next ∙ u.runs.long;
-        canonical = ap (λ (q : Task). is_canonical q.rip) task_is ∙ sym (ap (λ i. is_canonical (leads_to t.rip i)) hi) ∙ u.canonical;
-        at = λ program is. ap (λ (q : Task). begins program q.rip) task_is ∙ sym (ap (λ i. begins program (leads_to t.rip i)) hi) ∙ u.leads program is;
+      let r : After = arrival d words' begun.frame (s.apics p) false in
+      let s' : System = (acted image.processors (after_step s p r) p r.step).0 in
+      let kind : kind_of image b [] ≡ SystemCall = call_of image b call.body call.is call.key in
+      let as' : List Activation = activations_by s p (s.activations p) d r.step in
+      let last : Activation = record { rsp = 0; rip = 0; inner = false } in
+      let begins_last : as' ≡ last ∷ []
+      = (λ i. record { rsp = 0; rip = 0; inner = starts_inner_not i } ∷ nothing_under c (s.activations p) u.rest.none i) in
+      let mv : Moves p s s' d as' words' = delivery_moves image.processors p s (after_step s p r) d as' words' call_event begun.frame
+      (step_moves s p r refl (sym u.latch)) in
+      let good : IsTask back = record {
+        long = length-set (set t.regs 1 next) 11 (flags_word t.flags) ∙ length-set t.regs 1 next ∙ u.rest.task.task.long;
+        canonical = sym (ap (λ i. is_canonical (leads_to t.rip i)) hi) ∙ u.canonical;
+        interrupts = u.rest.task.task.interrupts;
       } in
-      let is_context : IsContext mode image b = record { item = call.item; is = call.first; interrupts = refl; service = refl; calls = refl } in
-      let chain : Chain mode image p most y.running (task y) (b ∷ []) d (with_words s.memory words') =
-      (w, SystemCall, refl, is_context, λ a. with_cr2 mode image p n (task y) w a runs, begun.active) in
-      let stands_on : StandsOn mode image p most s' y = record {
-        few = omega arith;
-        running = u.on.running;
-        waiting = u.on.waiting;
-        nmi = u.on.nmi;
-        latch = put_same s.latches p false;
-        blocking = ap (λ (z : Processor). z.nmi_blocked) (put_same s.cpus p d) ∙ begun.blocking;
-        pending = u.on.pending;
-        apic = put_same s.apics p opening_apic;
-        resched = u.on.resched;
-        mark = begun.stays (pcpu p + 0x20) (inl (omega arith)) ∙ u.on.mark;
-        top_is = begun.stays (pcpu p + 0x10) (inl (omega arith)) ∙ u.on.top_is;
-        task_is = begun.stays (pcpu p + 0x18) (inl (omega arith)) ∙ u.on.task_is;
-        acts = subst (Acts mode image (b ∷ [])) (sym (put_same s.activations p (activations_by s p (s.activations p) d r.step)))
-            (ap (starts_inner s p) u.next, nothing_under c (s.activations p) empty);
-        chain = subst (λ q. Chain mode image p most y.running (task y) (b ∷ []) q (with_words s.memory words')) (sym (put_same s.cpus p d)) chain;
-      } in
-      let only : OnlyTask s = record {
-        none = subst (λ q. s.activations q ≡ []) zero_is empty;
-        user = subst (λ q. is_user (s.cpus q) ≡ true) zero_is u.at_cpl3;
-        task_is = subst (λ q. words (pcpu q + 0x18) ≡ task_words q 0) zero_is (u.on.task_is ∙ ap (task_words p) u.on.running);
-      } in
+      let at : IsInProgram image back.rip = λ program is. sym (ap (λ i. begins program (leads_to t.rip i)) hi) ∙ u.leads program is in
+      let mem : Memory = with_words s.memory words' in
+      let under : RunsTask mode image p n back w = record { is = refl; task = good } in
+      let stood : Active mode image p 75 SystemCall (record { stack = n; used = 0 }) u.on.frame u.on.switching w b d mem
+      = subst (λ g. Active mode image p 75 SystemCall (record { stack = n; used = 0 }) u.on.frame g w b d mem) (sym u.rest.still)
+      (begun.active u.on.frame) in
+      let tail = subst (λ κ. Beneath mode image (keeps_cr2 mode image κ)
+      (λ v. Chain mode image p (most_edges mode image) n back u.on.frame (chained mode image u.on.switching []) [] [] v mem) w
+      × Leads mode p κ u.on.frame w mem.words
+      × Active mode image p 75 κ (seat_by mode κ n (seat_of mode image n []) (room_of mode image [])) u.on.frame
+      (switches_at mode image u.on.switching []) w b d mem) (sym kind)
+      (λ a. (with_cr2 mode image p n back w a under, refl, refl), tt, stood) in
+      let is_context : IsContext mode image b = record { item = call.item; is = call.first } in
+      let chain : Chain mode image p 75 n back u.on.frame u.on.switching (b ∷ []) (last ∷ []) d mem =
+      (w, is_context, refl, tt, tail.0, tail.1, tail.2) in
+      let after = user_after mode image formed built facts left s s' m p lt h u d as' words' back (b ∷ []) 75 hb mv begun.changes good at
+      (begun.blocking ∙ sym (call_no_nmi image b kind)) (record { interrupts = refl; service = refl; calls = refl }, tt) (λ class. refl) (omega arith)
+      (λ q e. subst (λ ys. Chain mode image p 75 q back u.on.frame u.on.switching (b ∷ []) ys d (with_words s.memory words')) (sym begins_last)
+      (subst (λ z. Chain mode image p 75 z back u.on.frame u.on.switching (b ∷ []) (last ∷ []) d (with_words s.memory words')) (sym e) chain)) in
       let entries : List Entry = Enter p Sys Other User 1 0 0 (Some next) ∷ [] in
       let shallow : bodies_on s p ≡ 0 = stands_depth mode image facts p (left p) s x u.on ∙ ap length hb in
-      let acted_on = stands_acted mode image built _ s' m' image.processors p call_event begun.frame
-      (stands_again mode image built left s m h p lt most s' m' refl (λ q i. begun.stays q (not_there q i)) refl refl
-      (subst (λ q. StandsOn mode image p most s' q) (sym (put_same m.processors p y)) stands_on)) in
+      let only : OnlyTask s = record {
+        none = subst (λ q. s.activations q ≡ []) zero_is u.rest.none;
+        user = subst (λ q. is_user (s.cpus q) ≡ true) zero_is u.at_cpl3;
+        task_is = subst (λ q. words (pcpu q + 0x18) ≡ task_words q 0) zero_is (current.current ∙ ap (task_words p) first);
+      } in
       record {
         after = r;
-        steps = u.steps ∙ ap (λ i. executed (caller mode image p n t c.cr2 next body) opening_apic s.memory false (Some i)) hi ∙ begun.runs opening_apic false;
-        machine = m';
+        steps = u.steps ∙ ap (λ i. executed (caller mode image p n t c.cr2 next body) (s.apics p) s.memory false (Some i)) hi ∙ begun.runs (s.apics p) false;
+        machine = with_processor m p (called x next body);
         entries = entries;
         turns = u.turns ∙ ap (λ i. task_step image m p (user.executed (user_view (user_memory image m)) t (t.rip + length (spelling i)) i)) hi
             ∙ call_steps image m p next body call hb found.1;
         seen = u.seen;
-        now_left = most;
-        stands = acted_on;
-        counts = acted_bodies image.processors p call_event begun.frame s' ∙ stands_depth mode image facts p most s' y stands_on
+        now_left = 75 + inner_edges (s.latches p);
+        stands = after.1;
+        counts = stands_depth mode image facts p _ s' _ after.0
             ∙ ap suc (sym shallow) ∙ sym (ap (λ i. if i then bodies_on s p else suc (bodies_on s p)) (ap (starts_inner s p) u.next));
         shows = λ told. shown_is p (bodies_on s p) (is_user c) (has_fred c) told begun.cpu begun.words begun.frame next u.at_cpl3 shallow
-            (ap (λ q. saved_rip (has_fred q) begun.cpu begun.words call_event begun.frame) u.runs.is ∙ begun.saved);
-        safe = begun.safe s only image.processors s';
+            (ap (λ q. saved_rip (has_fred q) begun.cpu begun.words call_event begun.frame) u.rest.task.is ∙ begun.saved);
+        safe = begun.safe s only image.processors (after_step s p r);
       }
+    where
+      starts_inner_not : starts_inner s p (next_of (s.cpus p) (s.apics p) (s.latches p)) ≡ false
+      starts_inner_not = ap (starts_inner s p) u.next
 
   -- a turn of the task is visible, and the abstract machine makes the same; it writes over no live word
-  pub user_turn : (left : NatMap ℕ) (s : System) (m : Machine) → Stands mode image left s m → (p : ℕ) → p < image.processors → (processor m p).bodies ≡ [] → FitsAt mode image p → OpensAt mode image p
+  pub user_turn : (left : NatMap ℕ) (s : System) (m : Machine) → Stands mode image left s m → (p : ℕ) → p < image.processors → (processor m p).bodies ≡ []
       → Simulated mode image left s m p
-  user_turn left s m h p lt hb fits opens =
+  user_turn left s m h p lt hb =
       let u : AtUser mode image formed built facts left s m p = at_user mode image formed built facts left s m h p lt hb in
-      let t : TurnsTo mode image built left s m p
-      = ⊎_elim (λ (hi : u.ins ≡ Syscall). call_turn left s m h p lt hb fits opens u hi)
+      let t : TurnsTo mode image left s m p
+      = ⊎_elim (λ (hi : u.ins ≡ Syscall). call_turn left s m h p lt hb u hi)
       (λ (k : Makes (task (processor m p)) u.ins). plain_turn mode image formed built facts left s m h p lt hb u k)
-      (makes (task (processor m p)) u.ins u.is_built u.canonical) in
-      record { safe = is_safe mode image built left s m p t; counts = tells_bodies mode image built left s m p t; how = inr (makes_turn mode image built left s m p t) }
+      (makes (task (processor m p)) u.ins u.is_built u.canonical) in record {
+        safe = is_safe mode image left s m p t;
+        counts = tells_bodies mode image left s m p t;
+        how = inr (makes_turn mode image left s m p t);
+      }

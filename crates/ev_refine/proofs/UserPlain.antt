@@ -1,7 +1,9 @@
 -- A turn of the task: what both machines make of it, and the turns that raise no event.
-use Rattle.std.proofs.Common.{◌≡◌, ℕ, suc, ◌+◌, ◌-◌, ◌<◌, Bool, true, false, ◌&&◌, not, List, [], length, Some, refl, sym, ap, ◌∙◌, subst, arith}
+use Rattle.std.proofs.Common.{◌≡◌, ℕ, suc, ◌+◌, ◌-◌, ◌<◌, ◌≤◌, Bool, true, false, ◌&&◌, not, List, [], length, Some, refl, ⊎_elim, sym, ap, ◌∙◌, subst, arith}
+use Rattle.std.specs.List.{list_any}
+use Rattle.std.proofs.lemmas.Bool.Decides.{eqb_tells}
 use Rattle.std.specs.Prelude.{◌||◌, if◌then◌else◌, nat_le, nat_lt}
-use Rattle.ev_isa.specs.Word.{NatMap, is_canonical}
+use Rattle.ev_isa.specs.Word.{NatMap, put_at, is_canonical}
 use Rattle.ev_isa.specs.Spelling.{spelling}
 use Rattle.ev_isa.specs.declared.instruction.Ins.{Ins}
 use Rattle.ev_isa.specs.declared.mode.Mode.{Mode}
@@ -15,36 +17,49 @@ use Rattle.ev_proc.specs.declared.stepped.Stepped.{Stepped}
 use Rattle.ev_proc.specs.ProcessorStep.{After, step, executed, ran, next_of, instruction_at}
 use Rattle.ev_abstract.specs.Machine.{Machine, processor, with_processor, task, with_task, user_memory}
 use Rattle.ev_abstract.specs.Machine as abstract
+use Rattle.ev_abstract.specs.Boundary.{is_nmi_body}
+use Rattle.ev_abstract.specs.Context.{BodyContext}
+use Rattle.ev_symbolic.specs.Agrees.{with_words}
 use Rattle.ev_abstract.specs.UserCode.{user_view, step_of}
 use Rattle.ev_abstract.specs.UserCode as user
 use Rattle.ev_abstract.specs.Run.{turn, task_step}
-use Rattle.ev_concrete.specs.Opening.{opening_apic}
+use Rattle.ev_concrete.specs.Opening.{tasks_of}
 use Rattle.ev_concrete.specs.ConcreteRun.{System, marks_of, mark_at, is_visible, is_visible_by, is_seen, after_step, activations_by, is_return, is_repeated, without_last, Activation}
 use Rattle.ev_built.specs.Built.{IsBuilt}
 use Rattle.ev_built.specs.Program.{begins, leads_to, is_built_instruction, IsProgram}
-use Rattle.ev_refine.specs.Relation.{task_processor, first_start, IsInProgram, RunsTask, Chain, Acts, StandsOn, Stands}
 use Rattle.ev_concrete.specs.Depth.{is_in_repeat, bodies_on, is_jump}
 use Rattle.ev_listing.specs.AddressMap.{nmi_entry, repeat_entry}
+use Rattle.ev_refine.specs.Tasks.{IsTask, task_processor, RunsTask}
+use Rattle.ev_refine.specs.Nmi.{inner_edges}
+use Rattle.ev_refine.specs.Named.{Changes}
+use Rattle.ev_refine.specs.Domain.{first_start, IsInProgram, AreQuiet, IsInDomain}
+use Rattle.ev_refine.specs.Relation.{Chain, serves, StandsOn, Stands}
+use Rattle.ev_refine.proofs.Maps.{at_same, at_other}
+use Rattle.ev_refine.proofs.Standing.{instruction_first, Moves, step_moves}
+use Rattle.ev_refine.proofs.After.{kernel_names, latch_parts, own_after, stands_after}
+use Rattle.ev_refine.proofs.Domains.{four_tasks}
 use Rattle.ev_refine.proofs.Depth.{stands_depth}
+use Rattle.ev_refine.proofs.Tells.{AtRest, at_rest}
 use Rattle.ev_refine.proofs.Facts.{Facts}
 use Rattle.ev_refine.proofs.UserText.{Reads, reads, task_canonical, first_program, leads_again}
-use Rattle.ev_refine.proofs.UserState.{put_same, TurnsTo, stands_again}
-use Rattle.ev_refine.proofs.UserStep.{instruction_next, user_steps, task_turns, user_reads, Makes, plain_runs}
+use Rattle.ev_refine.proofs.UserState.{TurnsTo}
+use Rattle.ev_refine.proofs.UserStep.{user_steps, task_turns, user_reads, Makes, plain_runs}
 
 module _ (mode : Mode) (image : Image) (formed : IsImage image) (built : IsBuilt image) (facts : Facts mode image) where
   -- the instruction of the task that comes next, on both sides
   pub record AtUser (left : NatMap ℕ) (s : System) (m : Machine) (p : ℕ) : Type 0 where
     pub on : StandsOn mode image p (left p) s (processor m p)
-    pub runs : RunsTask mode image p (processor m p).running (task (processor m p)) (s.cpus p)
+    pub rest : AtRest mode image p (left p) s (processor m p) on
+    pub domain : IsInDomain image p (processor m p)
+    pub latch : s.latches p ≡ false
     pub at_cpl3 : is_user (s.cpus p) ≡ true
-    pub none : s.activations p ≡ []
     pub next : next_of (s.cpus p) (s.apics p) (s.latches p) ≡ Instruction
     pub ins : Ins
     pub is_built : is_built_instruction ins ≡ true
     pub leads : IsInProgram image (leads_to (task (processor m p)).rip ins)
     pub canonical : is_canonical (leads_to (task (processor m p)).rip ins) ≡ true
     pub steps : step (s.cpus p) (s.apics p) s.memory (s.latches p)
-        ≡ executed (task_processor mode image p (processor m p).running (task (processor m p)) (s.cpus p).cr2) opening_apic s.memory false (Some ins)
+        ≡ executed (task_processor mode image p (processor m p).running (task (processor m p)) (s.cpus p).cr2 false) (s.apics p) s.memory false (Some ins)
     pub turns : turn image m p
         ≡ task_step image m p (user.executed (user_view (user_memory image m)) (task (processor m p)) ((task (processor m p)).rip + length (spelling ins)) ins)
     pub seen : is_visible (marks_of mode image) s p ≡ true
@@ -57,35 +72,102 @@ module _ (mode : Mode) (image : Image) (formed : IsImage image) (built : IsBuilt
       let t : Task = task x in
       let c : Processor = s.cpus p in
       let on : StandsOn mode image p (left p) s x = h.each p lt in
-      let runs : RunsTask mode image p x.running (task x) c = subst (λ bs. Chain mode image p (left p) x.running (task x) bs c s.memory) hb on.chain in
+      let domain : IsInDomain image p x = h.domain p lt in
+      let rest : AtRest mode image p (left p) s x on = at_rest mode image p (left p) s x on hb in
+      let latches = latch_parts on.layer on.frame _ (s.latches p) c.nmi_blocked x.nmi on.latch in
+      let latch : s.latches p ≡ false = sym latches.0 ∙ domain.nmi in
+      let open_to : c.nmi_blocked ≡ false = latches.1 ∙ ap (list_any (is_nmi_body image)) hb in
+      let is : c ≡ task_processor mode image p x.running t c.cr2 false = rest.task.is ∙ ap (task_processor mode image p x.running t c.cr2) open_to in
       let is_program : IsProgram image.text (first_start image) built.program = first_program image built in
       let reads_it : Reads built.program image.text t.rip =
-      reads image.text (first_start image) built.program is_program t.rip (runs.at built.program is_program) in
-      let rip : c.rip ≡ t.rip = ap (λ (z : Processor). z.rip) runs.is in
-      let is_it : is_user c ≡ true = ap is_user runs.is in
+      reads image.text (first_start image) built.program is_program t.rip (domain.tasks x.running on.running built.program is_program) in
+      let rip : c.rip ≡ t.rip = ap (λ (z : Processor). z.rip) is in
+      let is_it : is_user c ≡ true = ap is_user is in
       let fetch = facts.user_fetch s.memory h.regions_are h.fixed t.rip reads_it.from reads_it.to in
-      let next : next_of c (s.apics p) (s.latches p) ≡ Instruction = instruction_next c (s.apics p) (s.latches p) on.apic on.latch in
+      let next : next_of c (s.apics p) (s.latches p) ≡ Instruction
+      = instruction_first c (s.apics p) (s.latches p) latch (λ v l. on.pending v l ∙ ap (λ q. q v) domain.pending) in
       record {
         on = on;
-        runs = runs;
+        rest = rest;
+        domain = domain;
+        latch = latch;
         at_cpl3 = is_it;
-        none = subst (λ bs. Acts mode image bs (s.activations p)) hb on.acts;
         next = next;
         ins = reads_it.ins;
         is_built = reads_it.built;
-        leads = λ program is. leads_again image t.rip reads_it.ins program is reads_it.is (runs.at program is);
+        leads = λ program k. leads_again image t.rip reads_it.ins program k reads_it.is (domain.tasks x.running on.running program k);
         canonical = task_canonical image formed (first_start image) built.program is_program (leads_to t.rip reads_it.ins) reads_it.leads;
         steps = user_steps c (s.apics p) s.memory (s.latches p) reads_it.ins next is_it
             (ap (page_fault s.memory (record { user = true; write = false; fetch = true })) rip ∙ fetch.0)
             (ap (instruction_at s.memory.words) rip ∙ fetch.1 ∙ reads_it.is)
-            ∙ ap (λ (z : Processor). executed z (s.apics p) s.memory (s.latches p) (Some reads_it.ins)) runs.is
-            ∙ ap (λ a. executed (task_processor mode image p x.running t c.cr2) a s.memory (s.latches p) (Some reads_it.ins)) on.apic
-            ∙ ap (λ n. executed (task_processor mode image p x.running t c.cr2) opening_apic s.memory n (Some reads_it.ins)) on.latch;
-        turns = task_turns image m p on.nmi on.pending hb
+            ∙ ap (λ (z : Processor). executed z (s.apics p) s.memory (s.latches p) (Some reads_it.ins)) is
+            ∙ ap (λ n. executed (task_processor mode image p x.running t c.cr2 false) (s.apics p) s.memory n (Some reads_it.ins)) latch;
+        turns = task_turns image m p domain.nmi domain.pending hb
             ∙ ap (task_step image m p)
             (user_reads (user_memory image m) t reads_it.ins reads_it.from (omega (arith, reads_it.to, formed.text_fits)) reads_it.is);
         seen = ap (is_visible_by (marks_of mode image) s p c) next ∙ ap (λ b. b || is_seen (mark_at (marks_of mode image) c.rip) s c) is_it;
       }
+
+  -- ---- the relation after a step of the task
+
+  -- The task is another, and these bodies stand on it, of which the last one's activation was begun; all else is as it was.
+  pub user_after : (left : NatMap ℕ) (s s' : System) (m : Machine) (p : ℕ) (lt : p < image.processors) (h : Stands mode image left s m)
+      (u : AtUser left s m p) (cpu : Processor) (as' : List Activation) (words : NatMap ℕ) (t : Task) (bs : List BodyContext) (own : ℕ)
+      → (processor m p).bodies ≡ []
+      → Moves p s s' cpu as' words → Changes p (record { stack = (processor m p).running; used = 0 }) (kernel_names p) s.memory.words words
+      → IsTask t → IsInProgram image t.rip → cpu.nmi_blocked ≡ list_any (is_nmi_body image) bs → AreQuiet bs
+      → ((class : ℕ) → list_any (λ (b : BodyContext). serves mode image class b.service) bs ≡ false) → own ≤ 500
+      → ((r : ℕ) → r ≡ (processor m p).running → Chain mode image p own r t u.on.frame u.on.switching bs as' cpu (with_words s.memory words))
+      → (StandsOn mode image p (own + inner_edges (s.latches p)) s' (record (with_task (processor m p) t) { bodies = bs }))
+      × Stands mode image (put_at left p (own + inner_edges (s.latches p))) s' (with_processor m p (record (with_task (processor m p) t) { bodies = bs }))
+  user_after left s s' m p lt h u cpu as' words t bs own hb mv changes good at blocked quiet serving few chain =
+      let x : abstract.Processor = processor m p in
+      let y : abstract.Processor = record (with_task x t) { bodies = bs } in
+      let small : p < 32 = omega (arith, built.one_processor) in
+      let eight : image.processors ≤ 8 = formed.count.1 in
+      let four = four_tasks image built p lt in
+      let narrow : x.running < 7 = let l = u.on.running in omega arith in
+      let there : StandsOn mode image p (own + inner_edges (s.latches p)) s' y
+      = own_after mode image p (left p) s s' x (record { stack = x.running; used = 0 }) cpu as' words (put_at x.tasks x.running t) bs own u.on small four mv
+      (sym u.rest.returning) narrow changes (λ i d. others i (λ e. d (e ∙ sym u.rest.returning))) tasks blocked
+      (λ class. serving class ∙ sym (ap (list_any (λ (b : BodyContext). serves mode image class b.service)) hb)) few
+      (subst (λ k. Chain mode image p own u.on.returning k u.on.frame u.on.switching bs as' cpu (with_words s.memory words))
+      (sym (at_same x.tasks x.running u.on.returning t u.rest.returning)) (chain u.on.returning u.rest.returning)) in
+      let inside : IsInDomain image p y = record {
+        pending = u.domain.pending;
+        nmi = u.domain.nmi;
+        resched = u.domain.resched;
+        bodies = quiet;
+        tasks = programs;
+      } in (
+        there,
+        stands_after mode image left s s' m (with_processor m p y) p (own + inner_edges (s.latches p)) y (record { stack = x.running; used = 0 }) cpu as' words
+            eight (four_tasks image built) h lt mv narrow changes
+            (record {
+              own = at_same m.processors p p y refl;
+              others = λ q e. at_other m.processors p q y e;
+              words = refl;
+              present = refl;
+              cells = refl;
+              mail = refl;
+              mail_nmi = refl;
+              records = refl;
+              queue = refl;
+            }) inside there,
+      )
+    where
+      others : (i : ℕ) → (i ≡ (processor m p).running → ⊥) → put_at (processor m p).tasks (processor m p).running t i ≡ (processor m p).tasks i
+      others i d = ⊎_elim (λ e. absurd (d e.1)) (λ e. at_other (processor m p).tasks (processor m p).running i t e.0) (eqb_tells i (processor m p).running)
+
+      tasks : (i : ℕ) → i < length (tasks_of image p) → IsTask (put_at (processor m p).tasks (processor m p).running t i)
+      tasks i l = ⊎_elim (λ e. subst IsTask (sym (at_same (processor m p).tasks (processor m p).running i t e.1)) good)
+          (λ e. subst IsTask (sym (at_other (processor m p).tasks (processor m p).running i t e.0)) (u.on.tasks i l)) (eqb_tells i (processor m p).running)
+
+      programs : (i : ℕ) → i < length (tasks_of image p) → IsInProgram image (put_at (processor m p).tasks (processor m p).running t i).rip
+      programs i l = ⊎_elim
+          (λ e. subst (λ (z : Task). IsInProgram image z.rip) (sym (at_same (processor m p).tasks (processor m p).running i t e.1)) at)
+          (λ e. subst (λ (z : Task). IsInProgram image z.rip) (sym (at_other (processor m p).tasks (processor m p).running i t e.0)) (u.domain.tasks i l))
+          (eqb_tells i (processor m p).running)
 
   -- a step of user code leaves the activations
   same_activations : (s : System) (p : ℕ) (as' : List Activation) (d : Processor) → is_user (s.cpus p) ≡ true → activations_by s p as' d Stepped.Ran ≡ as'
@@ -111,54 +193,39 @@ module _ (mode : Mode) (image : Image) (formed : IsImage image) (built : IsBuilt
   -- a turn that raises no event
   pub plain_turn : (left : NatMap ℕ) (s : System) (m : Machine) → Stands mode image left s m → (p : ℕ) → p < image.processors → (processor m p).bodies ≡ []
       → (u : AtUser left s m p) → Makes (task (processor m p)) u.ins
-      → TurnsTo mode image built left s m p
+      → TurnsTo mode image left s m p
   plain_turn left s m h p lt hb u k =
       let x : abstract.Processor = processor m p in
       let c : Processor = s.cpus p in
-      let d : Processor = task_processor mode image p x.running k.task c.cr2 in
-      let y : abstract.Processor = with_task x k.task in
-      let r : After = ran d opening_apic s.memory.words false in
+      let d : Processor = task_processor mode image p x.running k.task c.cr2 false in
+      let words : NatMap ℕ = s.memory.words in
+      let r : After = ran d (s.apics p) words false in
       let s' : System = after_step s p r in
-      let m' : Machine = with_processor m p y in
-      let task_is : task y ≡ k.task = put_same x.tasks x.running k.task in
-      let runs : RunsTask mode image p y.running (task y) d = record {
-        is = ap (λ t. task_processor mode image p x.running t c.cr2) (sym task_is);
-        gs = ap (λ (t : Task). t.gs) task_is ∙ k.gs ∙ u.runs.gs;
-        long = ap (λ (t : Task). length t.regs) task_is ∙ k.long ∙ u.runs.long;
-        canonical = ap (λ (t : Task). is_canonical t.rip) task_is ∙ ap is_canonical k.rip ∙ u.canonical;
-        at = λ program is. ap (λ (t : Task). begins program t.rip) task_is ∙ ap (begins program) k.rip ∙ u.leads program is;
+      let good : IsTask k.task = record {
+        long = k.long ∙ u.rest.task.task.long;
+        canonical = ap is_canonical k.rip ∙ u.canonical;
+        interrupts = k.interrupts ∙ u.rest.task.task.interrupts;
       } in
-      let chain : Chain mode image p 0 y.running (task y) y.bodies d s.memory =
-      subst (λ bs. Chain mode image p 0 y.running (task y) bs d s.memory) (sym hb) runs in
-      let stands_on : StandsOn mode image p 0 s' y = record {
-        few = omega arith;
-        running = u.on.running;
-        waiting = u.on.waiting;
-        nmi = u.on.nmi;
-        latch = put_same s.latches p false;
-        blocking = ap (λ (z : Processor). z.nmi_blocked) (put_same s.cpus p d);
-        pending = u.on.pending;
-        apic = put_same s.apics p opening_apic;
-        resched = u.on.resched;
-        mark = u.on.mark;
-        top_is = u.on.top_is;
-        task_is = u.on.task_is;
-        acts = subst (Acts mode image y.bodies) (sym (put_same s.activations p (activations_by s p (s.activations p) d Stepped.Ran)
-            ∙ same_activations s p (s.activations p) d u.at_cpl3)) u.on.acts;
-        chain = subst (λ z. Chain mode image p 0 y.running (task y) y.bodies z s.memory) (sym (put_same s.cpus p d)) chain;
-      } in
+      let as' : List Activation = activations_by s p (s.activations p) d Stepped.Ran in
+      let none : as' ≡ [] = same_activations s p (s.activations p) d u.at_cpl3 ∙ u.rest.none in
+      let mv : Moves p s s' d as' words = step_moves s p r refl (sym u.latch) in
+      let at : IsInProgram image k.task.rip = λ program is. ap (begins program) k.rip ∙ u.leads program is in
+      let after = user_after left s s' m p lt h u d as' words k.task [] 0 hb mv (λ a off n. refl) good at refl tt (λ class. refl) (omega arith)
+      (λ r e. (subst (λ z. RunsTask mode image p z k.task d) (sym e) (record { is = refl; task = good }), u.rest.still, none)) in
+      let same : record (with_task x k.task) { bodies = [] } ≡ with_task x k.task = ap (λ (bs : List BodyContext). record (with_task x k.task) { bodies = bs })
+      (sym hb) in
+      let y : abstract.Processor = with_task x k.task in
       record {
         after = r;
-        steps = u.steps ∙ plain_runs mode image p x.running (task x) c.cr2 u.ins k opening_apic s.memory false;
-        machine = m';
+        steps = u.steps ∙ plain_runs mode image p x.running (task x) c.cr2 false u.ins k (s.apics p) s.memory false;
+        machine = with_processor m p y;
         entries = [];
         turns = u.turns ∙ ap (task_step image m p) (k.user (user_view (user_memory image m)) ∙ ap (step_of (task x)) (k.is (user_view (user_memory image m))));
         seen = u.seen;
-        now_left = 0;
-        stands = stands_again mode image built left s m h p lt 0 s' m' refl (λ a i. refl) refl refl
-            (subst (λ z. StandsOn mode image p 0 s' z) (sym (put_same m.processors p y)) stands_on);
+        now_left = 0 + inner_edges (s.latches p);
+        stands = subst (λ z. Stands mode image (put_at left p (0 + inner_edges (s.latches p))) s' (with_processor m p z)) same after.1;
         shows = λ told. ap (λ b. if b then [] else told) u.at_cpl3;
-        counts = stands_depth mode image facts p 0 s' y stands_on ∙ sym (stands_depth mode image facts p (left p) s x u.on)
+        counts = stands_depth mode image facts p _ s' _ after.0 ∙ sym (stands_depth mode image facts p (left p) s x u.on ∙ ap length hb)
             ∙ sym (user_leaves (is_return (instruction_at s.memory.words c.rip)) (nat_le nmi_entry c.rip && nat_lt c.rip repeat_entry)
             (is_jump (instruction_at s.memory.words c.rip)) (is_in_repeat c.rip) (is_user c) (bodies_on s p) u.at_cpl3);
         safe = refl;

@@ -1,22 +1,19 @@
--- A step of the only processor: what it owes for the two machines to stand for each other again.
-use Rattle.std.proofs.Common.{◌≡◌, ℕ, ◌<◌, true, false, List, length, Option, Some, None, refl, sym, ap, ◌∙◌, subst, arith}
+-- A visible step, and the abstract machine's: what they come to together.
+use Rattle.std.proofs.Common.{◌≡◌, ℕ, true, false, List, refl, sym, ap, ◌∙◌, subst}
 use Rattle.std.specs.List.{list_any}
 use Rattle.std.proofs.lemmas.Bool.{eq-eqb}
 use Rattle.ev_isa.specs.Word.{NatMap, put_at}
 use Rattle.ev_isa.specs.declared.mode.Mode.{Mode}
-use Rattle.ev_event.specs.declared.event.Event.{Event}
 use Rattle.ev_body.specs.declared.image.Image.{Image}
 use Rattle.ev_abstract.specs.declared.entry.Entry.{Entry}
-use Rattle.ev_abstract.specs.Machine.{Machine, processor}
+use Rattle.ev_abstract.specs.Machine.{Machine}
 use Rattle.ev_abstract.specs.Run.{turn}
 use Rattle.ev_state.specs.Processor.{is_user}
 use Rattle.ev_proc.specs.ProcessorStep.{After, has_fred, next_of, step, instruction_at}
-use Rattle.ev_proc.specs.declared.stepped.Stepped.{Stepped}
 use Rattle.ev_concrete.specs.ConcreteRun.{System, marks_of, mark_at, is_visible, starts_inner, acted, after_step, concrete_step}
 use Rattle.ev_concrete.specs.Depth.{bodies_on, ends_body, begins_body, bodies_after, told_bodies}
 use Rattle.ev_concrete.specs.LiveWords.{overwrites, IsSafeStep}
-use Rattle.ev_built.specs.Built.{IsBuilt}
-use Rattle.ev_refine.specs.Relation.{IsFixed, StandsOn, Stands}
+use Rattle.ev_refine.specs.Relation.{Stands}
 use Rattle.ev_concrete.specs.Shown.{shown, shown_by, told_at}
 use Rattle.ev_refine.specs.Claims.{MakesTurn}
 
@@ -24,7 +21,7 @@ use Rattle.ev_refine.specs.Claims.{MakesTurn}
 pub put_same : {X : Type 0} (m : NatMap X) (a : ℕ) (v : X) → put_at m a v a ≡ v
 put_same m a v = ap (λ b. elim b [ true ↦ v | false ↦ m a ]) (eq-eqb a a refl)
 
-module _ (mode : Mode) (image : Image) (built : IsBuilt image) where
+module _ (mode : Mode) (image : Image) where
   -- what a visible step of the one and a step of the other come to
   pub record TurnsTo (left : NatMap ℕ) (s : System) (m : Machine) (p : ℕ) : Type 0 where
     pub after : After
@@ -71,45 +68,3 @@ module _ (mode : Mode) (image : Image) (built : IsBuilt image) where
       ∙ ap (λ r. bodies_after (bodies_on s p) (starts_inner s p (next_of (s.cpus p) (s.apics p) (s.latches p)))
       (ends_body (s.cpus p) (instruction_at s.memory.words (s.cpus p).rip)) (begins_body (s.cpus p) (instruction_at s.memory.words (s.cpus p).rip)) r.step)
       (sym t.steps)
-
-  -- what else stands, where the step leaves the words that nothing writes
-  pub stands_again : (left : NatMap ℕ) (s : System) (m : Machine) → Stands mode image left s m → (p : ℕ) → p < image.processors
-      → (now_left : ℕ) (s' : System) (m' : Machine)
-      → s'.memory.regions ≡ s.memory.regions → ((a : ℕ) → IsFixed a → s'.memory.words a ≡ s.memory.words a) → m'.words ≡ m.words → m'.present ≡ m.present
-      → StandsOn mode image p now_left s' (processor m' p) → Stands mode image (put_at left p now_left) s' m'
-  stands_again left s m h p lt now_left s' m' hr hf hw hp ho = record {
-    regions_are = hr ∙ h.regions_are;
-    fixed = λ a i. hf a i ∙ h.fixed a i;
-    text = hw ∙ h.text;
-    present = hp ∙ h.present;
-    each = λ q l. let same : p ≡ q = omega (arith, built.one_processor) in
-        subst (λ q. StandsOn mode image q (put_at left p now_left q) s' (processor m' q)) same
-        (subst (λ n. StandsOn mode image p n s' (processor m' p)) (sym (put_same left p now_left)) ho);
-  }
-
-  -- a delivery that is counted leaves the rest
-  pub stands_acted : (left : NatMap ℕ) (s : System) (m : Machine) (n p : ℕ) (e : Event) (frame : Option ℕ) → Stands mode image left s m
-      → Stands mode image left (acted n s p (Stepped.Delivered e frame)).0 m
-  stands_acted left s m n p e None h = h
-  stands_acted left s m n p e (Some a) h = record {
-    regions_are = h.regions_are;
-    fixed = h.fixed;
-    text = h.text;
-    present = h.present;
-    each = λ q l. let o : StandsOn mode image q (left q) s (processor m q) = h.each q l in record {
-      few = o.few;
-      running = o.running;
-      waiting = o.waiting;
-      nmi = o.nmi;
-      latch = o.latch;
-      blocking = o.blocking;
-      pending = o.pending;
-      apic = o.apic;
-      resched = o.resched;
-      mark = o.mark;
-      top_is = o.top_is;
-      task_is = o.task_is;
-      acts = o.acts;
-      chain = o.chain;
-    };
-  }

@@ -15,15 +15,13 @@ use Rattle.ev_isa.specs.declared.instruction.Ins.{Ins}
 use Rattle.ev_isa.specs.declared.instruction.Ins.TheVariants.{MovImm, Alu, Jmp, Syscall}
 use Rattle.ev_isa.specs.declared.mode.Mode.{Mode}
 use Rattle.ev_event.specs.Event.{gp}
-use Rattle.ev_event.specs.Boundary.{first_of, interrupt_or_instruction}
 use Rattle.ev_event.specs.declared.boundary.Next.TheVariants.{Instruction}
 use Rattle.ev_body.specs.declared.image.Image.{Image}
 use Rattle.ev_effect.specs.Task.{Task, reg, with_reg}
 use Rattle.ev_effect.specs.Effect.{effect, with_result, ◌>>=◌}
-use Rattle.ev_state.specs.Processor.{Processor, is_user, task_of, with_effect, interrupts_on}
+use Rattle.ev_state.specs.Processor.{Processor, is_user, task_of, with_effect}
 use Rattle.ev_state.proofs.FlagLaws.{flags_of-flags_word}
 use Rattle.ev_mem.specs.Memory.{Memory, view, page_fault}
-use Rattle.ev_apic.specs.Apic.{next_vector}
 use Rattle.ev_apic.specs.declared.apic.Apic.{Apic}
 use Rattle.ev_exec.specs.Exec.{Done, exec, changed, completed}
 use Rattle.ev_proc.specs.ProcessorStep.{step, step_by, fetched, executed, after_exec, fault, ran, next_of, instruction_at}
@@ -34,27 +32,15 @@ use Rattle.ev_abstract.specs.UserCode.{UserStep, Goes, step_of, user_step, fetch
 use Rattle.ev_abstract.specs.UserCode as user
 use Rattle.ev_abstract.specs.Boundary.{Choice, Next as NextItem, choice, maskable, interrupt_or_next, is_nmi_body, open_to_interrupts, outranks}
 use Rattle.ev_abstract.specs.Run.{turn, chosen_step, next_step, task_step}
-use Rattle.ev_concrete.specs.Opening.{opening_apic}
 use Rattle.ev_built.specs.Program.{leads_to, is_built_instruction}
-use Rattle.ev_refine.specs.Relation.{task_processor}
+use Rattle.ev_refine.specs.Tasks.{task_processor}
 
 -- ---- the boundary
 
-next_is : (c : Processor) → next_of c opening_apic false ≡ Instruction
-unfolding next_of first_of next_vector
-next_is c = pick (interrupts_on c && not c.sti_blocked)
-  where
-    pick : (b : Bool) → (if b then interrupt_or_instruction None else Instruction) ≡ Instruction
-    pick true = refl
-    pick false = refl
-
--- where nothing waits, the instruction comes first
-pub instruction_next : (c : Processor) (a : Apic) (nmi : Bool) → a ≡ opening_apic → nmi ≡ false → next_of c a nmi ≡ Instruction
-instruction_next c a nmi ha hn = ap (λ a. next_of c a nmi) ha ∙ ap (next_of c opening_apic) hn ∙ next_is c
-
 -- the step of user code at RIP
-pub user_steps : (c : Processor) (a : Apic) (m : Memory) (nmi : Bool) (i : Ins) → next_of c a nmi ≡ Instruction → is_user c ≡ true → page_fault m (record { user = true; write = false; fetch = true }) c.rip ≡ None
-    → instruction_at m.words c.rip ≡ Some i → step c a m nmi ≡ executed c a m nmi (Some i)
+pub user_steps : (c : Processor) (a : Apic) (m : Memory) (nmi : Bool) (i : Ins) → next_of c a nmi ≡ Instruction → is_user c ≡ true
+    → page_fault m (record { user = true; write = false; fetch = true }) c.rip ≡ None → instruction_at m.words c.rip ≡ Some i
+    → step c a m nmi ≡ executed c a m nmi (Some i)
 unfolding step
 user_steps c a m nmi i hn hu hp hi =
     ap (step_by c a m nmi) hn ∙ ap (λ b. fetched c a m nmi (page_fault m (record { user = b; write = false; fetch = true }) c.rip)) hu
@@ -106,6 +92,7 @@ pub record Makes (t : Task) (i : Ins) : Type 0 where
   pub may : user_may i ≡ true
   pub rip : task.rip ≡ leads_to t.rip i
   pub gs : task.gs ≡ t.gs
+  pub interrupts : task.flags.interrupts ≡ t.flags.interrupts
   pub long : length task.regs ≡ length t.regs
 
 -- one clause for each form
@@ -119,6 +106,7 @@ makes t (MovImm d n) h k = let at : Task = record t { rip = t.rip + length (spel
   may = refl;
   rip = refl;
   gs = refl;
+  interrupts = refl;
   long = length-set t.regs d n;
 })
 makes t (Alu Add d s) h k = let at : Task = record t { rip = t.rip + length (spelling (Alu Add d s)) } in let r = alu Add (reg at d) (reg at s) in inr (record {
@@ -129,6 +117,7 @@ makes t (Alu Add d s) h k = let at : Task = record t { rip = t.rip + length (spe
   may = refl;
   rip = refl;
   gs = refl;
+  interrupts = refl;
   long = length-set t.regs d r.0;
 })
 makes t (Jmp n) h k = let next : ℕ = t.rip + length (spelling (Jmp n)) in let to : Task = record t { rip = displaced next n } in inr (record {
@@ -139,26 +128,29 @@ makes t (Jmp n) h k = let next : ℕ = t.rip + length (spelling (Jmp n)) in let 
   may = refl;
   rip = refl;
   gs = refl;
+  interrupts = refl;
   long = refl;
 })
 makes t Syscall h k = inl refl
 makes t _ h k = absurd (cc)
 
 -- the processor that runs the task is then the one that runs the task made
-processor_after : (mode : Mode) (image : Image) (p running : ℕ) (t u : Task) (cr2 : ℕ) → u.gs ≡ t.gs
-    → with_effect (completed (task_processor mode image p running t cr2)) u ≡ task_processor mode image p running u cr2
-processor_after mode image p running t u cr2 h = ap (λ g. task_processor mode image p running (record u { gs = g }) cr2) (sym h)
+processor_after : (mode : Mode) (image : Image) (p running : ℕ) (t u : Task) (cr2 : ℕ) (blocked : Bool) → u.gs ≡ t.gs
+    → with_effect (completed (task_processor mode image p running t cr2 blocked)) u ≡ task_processor mode image p running u cr2 blocked
+processor_after mode image p running t u cr2 blocked h = ap (λ g. task_processor mode image p running (record u { gs = g }) cr2 blocked) (sym h)
 
-pub task_at : (mode : Mode) (image : Image) (p running : ℕ) (t : Task) (cr2 next : ℕ)
-    → record (task_of (task_processor mode image p running t cr2)) { rip = next } ≡ record t { rip = next }
-task_at mode image p running t cr2 next = ap (λ (f : Flags). record t { rip = next; flags = f }) (flags_of-flags_word t.flags)
+pub task_at : (mode : Mode) (image : Image) (p running : ℕ) (t : Task) (cr2 : ℕ) (blocked : Bool) (next : ℕ)
+    → record (task_of (task_processor mode image p running t cr2 blocked)) { rip = next } ≡ record t { rip = next }
+task_at mode image p running t cr2 blocked next = ap (λ (f : Flags). record t { rip = next; flags = f }) (flags_of-flags_word t.flags)
 
-pub plain_runs : (mode : Mode) (image : Image) (p running : ℕ) (t : Task) (cr2 : ℕ) (i : Ins) (k : Makes t i) (a : Apic) (m : Memory) (nmi : Bool)
-    → executed (task_processor mode image p running t cr2) a m nmi (Some i) ≡ ran (task_processor mode image p running k.task cr2) a m.words nmi
-plain_runs mode image p running t cr2 i k a m nmi =
-    let c : Processor = task_processor mode image p running t cr2 in
+pub plain_runs : (mode : Mode) (image : Image) (p running : ℕ) (t : Task) (cr2 : ℕ) (blocked : Bool) (i : Ins) (k : Makes t i) (a : Apic) (m : Memory)
+    (nmi : Bool)
+    → executed (task_processor mode image p running t cr2 blocked) a m nmi (Some i)
+    ≡ ran (task_processor mode image p running k.task cr2 blocked) a m.words nmi
+plain_runs mode image p running t cr2 blocked i k a m nmi =
+    let c : Processor = task_processor mode image p running t cr2 blocked in
     let next : ℕ = t.rip + length (spelling i) in
-    let done : exec c m i next ≡ Done (task_processor mode image p running k.task cr2) m.words
-    = k.on_cpu c m next ∙ ap (λ u. changed c (effect (view m true) u i)) (task_at mode image p running t cr2 next) ∙ ap (changed c) (k.is (view m true))
-    ∙ ap (λ z. Done z m.words) (processor_after mode image p running t k.task cr2 k.gs) in
+    let done : exec c m i next ≡ Done (task_processor mode image p running k.task cr2 blocked) m.words
+    = k.on_cpu c m next ∙ ap (λ u. changed c (effect (view m true) u i)) (task_at mode image p running t cr2 blocked next) ∙ ap (changed c) (k.is (view m true))
+    ∙ ap (λ z. Done z m.words) (processor_after mode image p running t k.task cr2 blocked k.gs) in
     ap (λ b. if not b then fault c a m nmi ud else after_exec c a m nmi next i (exec c m i next)) k.may ∙ ap (after_exec c a m nmi next i) done

@@ -23,7 +23,7 @@ use Rattle.ev_built.specs.Built.{IsBuilt}
 use Rattle.ev_built.specs.Program.{spelled, instruction_from, begins, leads_to, all_lead, is_built_instruction, all_built, AllEncodable, IsProgram}
 use Rattle.ev_symbolic.proofs.Values.{and_left, and_right}
 use Rattle.ev_symbolic.proofs.Blocks.{unsome}
-use Rattle.ev_refine.specs.Relation.{first_start}
+use Rattle.ev_refine.specs.Domain.{first_start}
 
 -- today's instructions have bytes
 spelling_some : (i : Ins) → is_built_instruction i ≡ true → 0 < length (spelling i)

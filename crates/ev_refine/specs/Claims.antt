@@ -1,5 +1,5 @@
 -- What is proved of the machines, as the contract of this crate states it.
-use Rattle.std.specs.Prelude.{◌≡◌, ◌≢◌, ◌⊎◌, ℕ, ◌<◌, ◌≤◌, Bool, true, false, List, [], length}
+use Rattle.std.specs.Prelude.{◌≡◌, ◌≢◌, ◌⊎◌, ℕ, suc, ◌-◌, ◌%◌, ◌<◌, ◌≤◌, Bool, true, false, List, [], length, map}
 use Rattle.std.specs.List.{list_all}
 use Rattle.ev_isa.specs.Word.{NatMap, numbers_from}
 use Rattle.ev_isa.specs.Flags.{flags_word}
@@ -16,6 +16,8 @@ use Rattle.ev_concrete.specs.Depth.{bodies_on, told_bodies}
 use Rattle.ev_concrete.specs.LiveWords.{IsSafeStep}
 use Rattle.ev_proc.specs.Conditions.{HasEntries, IsInCode}
 use Rattle.ev_built.specs.Built.{IsBuilt, mode_is_built, line_is_built}
+use Rattle.ev_concrete.specs.Opening.{tasks_of}
+use Rattle.ev_refine.specs.Tasks.{IsSaved}
 use Rattle.ev_refine.specs.Relation.{Stands}
 use Rattle.ev_concrete.specs.Shown.{shown}
 
@@ -122,17 +124,22 @@ RunsAreSafe = (mode : Mode) (image : Image) → IsBuilt image → mode_is_built 
 
 -- ---- what the relation says to those who make the steps
 
--- the conditions of a processor step; and, where no body stands, the processor's registers are the running task's
+-- The conditions of a processor step; how many bodies stand; and, where none does, the tasks: the processor's registers are those of the running one, and the
+-- others stand in their saved areas.
 pub record Tells (mode : Mode) (image : Image) (s : System) (m : Machine) (p : ℕ) : Type 0 where
   pub entries : HasEntries (s.cpus p) s.memory
   pub in_code : IsInCode (s.cpus p) s.memory
   pub depth : bodies_on s p ≡ length (processor m p).bodies
   pub few : length (processor m p).bodies ≤ 32
-  pub running : (processor m p).running ≡ 0
+  pub running : (processor m p).running < length (tasks_of image p)
+  pub waiting : (processor m p).waiting ≡ map (λ n. n % length (tasks_of image p))
+      (numbers_from (suc (processor m p).running) (length (tasks_of image p) - 1))
   pub regs : (processor m p).bodies ≡ [] → (s.cpus p).regs ≡ (task (processor m p)).regs
   pub rip : (processor m p).bodies ≡ [] → (s.cpus p).rip ≡ (task (processor m p)).rip
   pub flags : (processor m p).bodies ≡ [] → (s.cpus p).flags ≡ flags_word (task (processor m p)).flags
   pub gs : (processor m p).bodies ≡ [] → (s.cpus p).msrs.gs_base ≡ (task (processor m p)).gs
+  pub saved : (processor m p).bodies ≡ [] → (i : ℕ) → i < length (tasks_of image p) → i ≢ (processor m p).running
+      → IsSaved mode p i ((processor m p).tasks i) s.memory.words
 
 abbrev pub StandsTells : Type 0
 StandsTells = (mode : Mode) (image : Image) → IsBuilt image → mode_is_built mode ≡ true → IsImage image → (left : NatMap ℕ) (s : System) (m : Machine)

@@ -1,51 +1,32 @@
 -- When a state of the concrete machine stands for one of the abstract machine. Own.
--- The abstract machine's contexts are matched from the last down: an activation stands over the processor that its return restores.
-use Rattle.std.specs.Prelude.{◌≡◌, ℕ, ◌+◌, ◌*◌, ◌<◌, ◌≤◌, Bool, true, false, ◌==◌, if◌then◌else◌, List, [], ◌∷◌, length, get_or, drop, slice_get, Option, Some, None}
-use Rattle.ev_isa.specs.Word.{NatMap, is_canonical, no_numbers}
-use Rattle.ev_isa.specs.Flags.{Flags, flags_word}
+-- The abstract machine's contexts are matched from the last down: an activation stands over the processor that its return restores. What several activations or
+-- processors read or write stands beside, word by word.
+use Rattle.std.specs.Prelude.{◌≡◌, ◌≢◌, ℕ, suc, ◌+◌, ◌*◌, ◌-◌, ◌/◌, ◌%◌, ◌<◌, ◌≤◌, Bool, true, false, ◌&&◌, ◌==◌, if◌then◌else◌, List, [], ◌∷◌, length, map, reverse, get_or, slice_get, Option, Some, None}
+use Rattle.std.specs.List.{list_any}
+use Rattle.ev_isa.specs.Word.{NatMap, numbers_from}
 use Rattle.ev_isa.specs.Pages.{text_base}
-use Rattle.ev_isa.specs.declared.instruction.Ins.{Ins}
 use Rattle.ev_isa.specs.declared.mode.Mode.{Mode}
 use Rattle.ev_isa.specs.declared.mode.Mode.TheVariants.{Idt, Fred}
 use Rattle.ev_body.specs.declared.item.Item.{Item}
-use Rattle.ev_body.specs.declared.item.Item.TheVariants.{Ret}
-use Rattle.ev_body.specs.declared.body.Body.{Body}
 use Rattle.ev_body.specs.declared.image.Image.{Image}
 use Rattle.ev_effect.specs.Task.{Task}
-use Rattle.ev_state.specs.Processor.{Processor}
-use Rattle.ev_mem.specs.Memory.{Memory}
-use Rattle.ev_listing.specs.AddressMap.{pcpu, user_table, idt_base, task_words, task_selector, stack_top, fred_page, body_code}
-use Rattle.ev_listing.specs.Expansion.{item_address}
-use Rattle.ev_abstract.specs.Context.{BodyContext}
-use Rattle.ev_abstract.specs.Machine.{Machine, processor, task, no_task}
+use Rattle.ev_state.specs.Processor.{Processor, rsp}
+use Rattle.ev_mem.specs.Memory.{Memory, page_map}
+use Rattle.ev_apic.specs.Vectors.{vectors_of}
+use Rattle.ev_listing.specs.AddressMap.{pcpu, slot_offset, record_address, user_table, idt_base, cells_base, task_words, fred_page}
+use Rattle.ev_abstract.specs.Boundary.{is_nmi_body}
+use Rattle.ev_abstract.specs.Context.{BodyContext, CallId}
+use Rattle.ev_abstract.specs.Machine.{Machine, processor, CallRecord, CallState, Free, Queued, Taken}
 use Rattle.ev_abstract.specs.Machine as abstract
 use Rattle.ev_abstract.specs.Run.{item_at}
-use Rattle.ev_concrete.specs.Opening.{listings, code_of, opening_word, opening_apic, opening_cpu, regions}
+use Rattle.ev_concrete.specs.Opening.{listings, code_of, opening_word, tasks_of, regions}
 use Rattle.ev_concrete.specs.ConcreteRun.{System, Activation}
-use Rattle.ev_built.specs.Program.{begins, IsProgram}
-use Rattle.ev_symbolic.specs.Agrees.{Env, untracked, At}
-use Rattle.ev_table.specs.Table.{code_table}
-use Rattle.ev_activation.specs.Activation.{Kind, SystemCall, Spot, AtEntry, AtItem, AtExit}
-use Rattle.ev_symbolic.specs.State.{Block}
-use Rattle.ev_blocks_fred.specs.Blocks as fred
-use Rattle.ev_blocks_idt.specs.Blocks as idt
-
--- the blocks of a mode, and how many edges are left at most until a visible step
-abbrev pub block_of : Mode → Kind → Spot → Block
-block_of Fred κ spot = fred.block κ spot
-block_of Idt κ spot = idt.block κ spot
-
-abbrev pub edges_of : Mode → Spot → ℕ → ℕ
-edges_of Fred spot k = fred.edges_left spot k
-edges_of Idt spot k = idt.edges_left spot k
-
--- the address of item i of body n
-abbrev pub address_of_item : Mode → ℕ → ℕ → Option Body → ℕ
-address_of_item mode n i None = 0
-address_of_item mode n i (Some b) = item_address mode n b i
-
-abbrev pub item_place : Mode → Image → ℕ → ℕ → ℕ
-item_place mode image n i = address_of_item mode n i (slice_get image.bodies n)
+use Rattle.ev_activation.specs.Seat.{Kind, NmiFromTask, NmiFromBody, kind_of, seat_of}
+use Rattle.ev_refine.specs.Tasks.{IsTask, RunsTask, IsSaved, CurrentIs}
+use Rattle.ev_refine.specs.Nmi.{Frame, Leads, Layer, Plain, LatchIs, inner_edges}
+use Rattle.ev_refine.specs.Named.{IsUserWord}
+use Rattle.ev_refine.specs.Active.{Active}
+use Rattle.ev_refine.specs.Domain.{IsInDomain}
 
 -- the word that stands at an address at the opening
 abbrev pub first_word : Mode → Image → NatMap ℕ
@@ -58,178 +39,124 @@ pub data IsFixed (a : ℕ) : Type 0 where
   InTasks : task_words 0 0 ≤ a → a < task_words 0 0 + 0x100 * 32 → IsFixed a
   InCode : fred_page ≤ a → IsFixed a
 
--- ---- the task of a processor
+-- the words of a call record: its number, and whether it is in use, with what is called
+abbrev pub RecordIs : NatMap ℕ → ℕ → CallRecord → CallState → Type 0
+RecordIs words a r Free = words a ≡ 0
+RecordIs words a r Queued = (words a ≡ 1) × (words (a + 0x10) ≡ r.arg) × (words (a + 0x38) ≡ r.func)
+RecordIs words a r Taken = (words a ≡ 1) × (words (a + 0x10) ≡ r.arg) × (words (a + 0x38) ≡ r.func)
 
--- the processor p as its task r has it, where the task is t; CR2 is any
-abbrev pub task_processor : Mode → Image → ℕ → ℕ → Task → ℕ → Processor
-task_processor mode image p r t cr2 = record (opening_cpu mode image p) {
-  regs = t.regs;
-  rip = t.rip;
-  flags = flags_word t.flags;
-  gs = task_selector p r;
-  cr2 = cr2;
-  msrs = record ((opening_cpu mode image p).msrs) { gs_base = t.gs; rsp = stack_top p r ∷ drop 1 (opening_cpu mode image p).msrs.rsp };
-}
-
--- where the first task begins, and whether RIP is at an instruction of user code, as far as the text is a program
-abbrev pub first_start : Image → ℕ
-first_start image = (get_or (get_or image.tasks 0 []) 0 no_task).start
-
-abbrev pub IsInProgram : Image → ℕ → Type 0
-IsInProgram image rip = (program : List Ins) → IsProgram image.text (first_start image) program → begins program rip ≡ true
+-- call records linked from an address, in this order
+abbrev pub Linked : NatMap ℕ → ℕ → List CallId → Type 0
+Linked words a [] = a ≡ 0
+Linked words a (k ∷ ks) = (k.from < 32) × (k.site < 8) × (a ≡ record_address k.from k.site) × Linked words (words (a + 0x18)) ks
 
 module _ (mode : Mode) (image : Image) where
-  -- the processor c runs its task r, which is t; its RIP is at an instruction of user code
-  pub record RunsTask (p r : ℕ) (t : Task) (c : Processor) : Type 0 where
-    pub is : c ≡ task_processor mode image p r t c.cr2
-    pub gs : t.gs ≡ 0
-    pub long : length t.regs ≡ 16
-    pub canonical : is_canonical t.rip ≡ true
-    pub at : IsInProgram image t.rip
+  -- ---- a processor's contexts
 
-  -- ---- an activation
-
-  -- the bases of an activation: 16 the top of its frame, 17 the processor's area, 20 its item, and 0 for absolute addresses
-  abbrev pub bases : ℕ → ℕ → ℕ → ℕ → ℕ
-  bases p top place t = if t == 16 then top else (if t == 17 then pcpu p else (if t == 20 then place else 0))
-
-  -- where its frame ends, by the processor to which it returns
-  abbrev pub top_of : Kind → Processor → ℕ
-  top_of SystemCall w = get_or w.msrs.rsp 0 0
-
-  -- what no symbolic state tells of the processor, from the delivery to the return
-  abbrev pub rest_in : Kind → Processor → Processor
-  rest_in SystemCall w = record (untracked w) { cpl = 0; cs = 0x10; ss = 0x18; level = 0 }
-
-  abbrev pub here : ℕ → Kind → Processor → BodyContext → (ℕ → ℕ) → Flags → Env
-  here p κ w b v f = record { base = bases p (top_of κ w) (item_place mode image b.body b.place); var = v; flags = f; rest = rest_in κ w }
-
-  -- ---- what a block's variables are, where w is the processor to which the activation returns, and b its body's context
-
-  pub record Framed (v : ℕ → ℕ) (w : Processor) : Type 0 where
-    pub rip : v 17 ≡ w.rip
-    pub flags : v 19 ≡ w.flags
-    pub gs : v 60 ≡ w.msrs.gs_base
-    pub selector : v 61 ≡ w.gs
-
-  -- at the entry under FRED: the registers of the task are still there, and RCX and R11 are those that SYSCALL leaves
-  pub record Entering (κ : Kind) (v : ℕ → ℕ) (w : Processor) (b : BodyContext) : Type 0 where
-    pub framed : Framed v w
-    pub regs : w.regs ≡ v 0 ∷ v 17 ∷ v 2 ∷ v 3 ∷ v 20 ∷ v 5 ∷ v 6 ∷ v 7 ∷ v 8 ∷ v 9 ∷ v 10 ∷ v 19 ∷ v 12 ∷ v 13 ∷ v 14 ∷ v 15 ∷ []
-    pub error : v 16 ≡ 0
-    pub info : v 22 ≡ 0
-    pub code : v 24 ≡ body_code b.body
-    pub place : b.place ≡ 0
-    pub locals : b.locals ≡ 0 ∷ 0x100 ∷ 0 ∷ 0 ∷ 0 ∷ 0 ∷ 0 ∷ 0 ∷ []
-
-  -- at the entry under IDT: SYSCALL has left RIP in RCX, and the flags in R11
-  pub record Called (κ : Kind) (v : ℕ → ℕ) (w : Processor) (b : BodyContext) : Type 0 where
-    pub rip : v 1 ≡ w.rip
-    pub flags : v 11 ≡ w.flags
-    pub gs : v 60 ≡ w.msrs.gs_base
-    pub selector : v 61 ≡ w.gs
-    pub regs : w.regs ≡ v 0 ∷ v 1 ∷ v 2 ∷ v 3 ∷ v 4 ∷ v 5 ∷ v 6 ∷ v 7 ∷ v 8 ∷ v 9 ∷ v 10 ∷ v 11 ∷ v 12 ∷ v 13 ∷ v 14 ∷ v 15 ∷ []
-    pub code : v 24 ≡ body_code b.body
-    pub place : b.place ≡ 0
-    pub locals : b.locals ≡ 0 ∷ 0x100 ∷ 0 ∷ 0 ∷ 0 ∷ 0 ∷ 0 ∷ 0 ∷ []
-
-  -- the registers that the saved area and the frame give back; under IDT RCX and R11 are RIP and the flags, so that the exit takes SYSRETQ
-  abbrev pub saved_regs : Mode → (ℕ → ℕ) → List ℕ
-  saved_regs Fred v = v 30 ∷ v 31 ∷ v 32 ∷ v 33 ∷ v 20 ∷ v 35 ∷ v 36 ∷ v 37 ∷ v 38 ∷ v 39 ∷ v 40 ∷ v 41 ∷ v 42 ∷ v 43 ∷ v 44 ∷ v 45 ∷ []
-  saved_regs Idt v = v 30 ∷ v 17 ∷ v 32 ∷ v 33 ∷ v 20 ∷ v 35 ∷ v 36 ∷ v 37 ∷ v 38 ∷ v 39 ∷ v 40 ∷ v 19 ∷ v 42 ∷ v 43 ∷ v 44 ∷ v 45 ∷ []
-
-  pub record Saved (v : ℕ → ℕ) (w : Processor) : Type 0 where
-    pub framed : Framed v w
-    pub regs : w.regs ≡ saved_regs mode v
-
-  pub record InItem (v : ℕ → ℕ) (w : Processor) (b : BodyContext) : Type 0 where
-    pub saved : Saved v w
-    pub locals : b.locals ≡ v 6 ∷ v 7 ∷ v 8 ∷ v 9 ∷ v 10 ∷ v 11 ∷ v 12 ∷ v 13 ∷ []
-
-  pub record Leaving (v : ℕ → ℕ) (w : Processor) (b : BodyContext) : Type 0 where
-    pub saved : Saved v w
-    pub ret : item_at (slice_get image.bodies b.body) b.place ≡ Some Ret
-
-  abbrev pub Enters : Mode → Kind → (ℕ → ℕ) → Processor → BodyContext → Type 0
-  Enters Fred κ v w b = Entering κ v w b
-  Enters Idt κ v w b = Called κ v w b
-
-  abbrev pub Means : Kind → Spot → (ℕ → ℕ) → Processor → BodyContext → Type 0
-  Means κ AtEntry v w b = Enters mode κ v w b
-  Means κ AtItem v w b = InItem v w b
-  Means κ AtExit v w b = Leaving v w b
-
-  -- the activation of the body's context b, which runs on the processor c and will return to w
-  pub record Active (p left : ℕ) (κ : Kind) (w : Processor) (b : BodyContext) (c : Processor) (m : Memory) : Type 0 where
-    pub spot : Spot
-    pub k : ℕ
-    pub var : ℕ → ℕ
-    pub flags : Flags
-    pub within : k ≤ (block_of mode κ spot).steps
-    pub enough : edges_of mode spot k ≤ left
-    pub at : At (code_table mode image) (block_of mode κ spot) k (here p κ w b var flags) c m
-    pub means : Means κ spot var w b
-    pub long : length c.regs ≡ 16
-
-  -- a context of today's bodies: it is at an item, with IF off, and has no interrupt in service and no call
+  -- a context is at an item
   pub record IsContext (b : BodyContext) : Type 0 where
     pub item : Item
     pub is : item_at (slice_get image.bodies b.body) b.place ≡ Some item
-    pub interrupts : b.interrupts ≡ false
-    pub service : b.service ≡ None
-    pub calls : b.calls ≡ []
 
-  -- an activation of this kind may stand over these contexts
-  abbrev pub StandsOver : Kind → List BodyContext → Type 0
-  StandsOver SystemCall below = below ≡ []
+  -- so many edges come at most before a visible step
+  abbrev pub most_edges : ℕ
+  most_edges = 600
 
-  -- whether the return from an activation of this kind restores CR2; else what stands beneath it stands with any
+  -- A return restores w, CR2 aside: under IDT the NMI code alone keeps CR2. What stands beneath an activation that doesn't stands with any.
+  abbrev pub is_idt : Mode → Bool
+  is_idt Idt = true
+  is_idt Fred = false
+
   abbrev pub keeps_cr2 : Kind → Bool
-  keeps_cr2 SystemCall = false
+  keeps_cr2 NmiFromTask = is_idt mode
+  keeps_cr2 NmiFromBody = is_idt mode
+  keeps_cr2 κ = false
 
   abbrev pub Beneath : Bool → (Processor → Type 0) → Processor → Type 0
   Beneath true C w = C w
   Beneath false C w = (a : ℕ) → C (record w { cr2 = a })
 
-  -- Each context stands on the one before it, and the first on the task r, which is t.
-  abbrev pub Chain : ℕ → ℕ → ℕ → Task → List BodyContext → Processor → Memory → Type 0
-  Chain p left r t [] c m = RunsTask p r t c
-  Chain p left r t (b ∷ below) c m =
-      (w : Processor) × (κ : Kind) × StandsOver κ below × IsContext b × Beneath (keeps_cr2 κ) (λ v. Chain p left r t below v m) w × Active p left κ w b c m
+  -- only the first body's exit switches to another task, and nothing does over the task itself
+  abbrev pub switches_at : Bool → List BodyContext → Bool
+  switches_at switching [] = switching
+  switches_at switching (b ∷ below) = false
 
-  -- the activations of the contexts, the last one first: none is that of an inner NMI
-  abbrev pub Acts : List BodyContext → List Activation → Type 0
-  Acts [] as' = as' ≡ []
-  Acts (b ∷ below) [] = ⊥
-  Acts (b ∷ below) (a ∷ as') = (a.inner ≡ false) × Acts below as'
+  abbrev pub chained : Bool → List BodyContext → Bool
+  chained switching [] = false
+  chained switching (b ∷ below) = switching
 
-  -- ---- the machines
+  -- an activation under another one was interrupted where the processor stands to which that one returns
+  abbrev pub Interrupted : List BodyContext → Processor → List Activation → Type 0
+  Interrupted [] w as' = Unit {0}
+  Interrupted (b ∷ below) w [] = ⊥
+  Interrupted (b ∷ below) w (a ∷ as') = (a.rsp ≡ rsp w) × (a.rip ≡ w.rip)
 
-  -- at most so many edges come before a visible step
-  abbrev pub most_edges : ℕ
-  most_edges = 75
+  -- Each context stands on the one before it, and the first on task r, which is t: the running one, or where its exit switches, the next one. Each has an
+  -- activation of its own, which isn't an inner NMI's.
+  abbrev pub Chain : (p left r : ℕ) → Task → Frame → (switching : Bool) → List BodyContext → List Activation → Processor → Memory → Type 0
+  Chain p left r t f sw [] as' c m = RunsTask mode image p r t c × (sw ≡ false) × (as' ≡ [])
+  Chain p left r t f sw (b ∷ below) [] c m = ⊥
+  Chain p left r t f sw (b ∷ below) (a ∷ as') c m =
+      (w : Processor) × IsContext b × (a.inner ≡ false) × Interrupted below w as'
+      × Beneath (keeps_cr2 (kind_of image b below)) (λ v. Chain p most_edges r t f (chained sw below) below as' v m) w
+      × Leads mode p (kind_of image b below) f w m.words
+      × Active mode image p left (kind_of image b below) (seat_of mode image r (b ∷ below)) f (switches_at sw below) w b c m
 
-  -- processor p of the one stands for processor p of the other
+  -- and what stands on them; `more` edges come behind its own
+  abbrev pub Runs : (p left more r : ℕ) → Task → Layer → Frame → Bool → List BodyContext → List Activation → Processor → Memory → Type 0
+  Runs p left more r t Plain f sw bs as' c m = Chain p left r t f sw bs as' c m
+
+  -- ---- what belongs to one processor
+
+  -- whether a context has an interrupt of this class in service
+  abbrev pub serves : ℕ → Option ℕ → Bool
+  serves class None = false
+  serves class (Some k) = k == class
+
+  -- Processor p of the one stands for processor p of the other; at most `left` edges come before a visible step.
   pub record StandsOn (p left : ℕ) (s : System) (x : abstract.Processor) : Type 0 where
     pub few : left ≤ most_edges
-    pub running : x.running ≡ 0
-    pub waiting : x.waiting ≡ []
-    pub nmi : x.nmi ≡ false
-    pub latch : s.latches p ≡ false
-    pub blocking : (s.cpus p).nmi_blocked ≡ false
-    pub pending : x.pending ≡ no_numbers
-    pub apic : s.apics p ≡ opening_apic
-    pub resched : x.resched ≡ false
-    pub mark : s.memory.words (pcpu p + 0x20) ≡ 0
-    pub top_is : s.memory.words (pcpu p + 0x10) ≡ stack_top p x.running
-    pub task_is : s.memory.words (pcpu p + 0x18) ≡ task_words p x.running
-    pub acts : Acts x.bodies (s.activations p)
-    pub chain : Chain p left x.running (task x) x.bodies (s.cpus p) s.memory
+    pub own : ℕ
+    pub more : ℕ
+    pub enough : own + more + inner_edges (s.latches p) ≤ left
+    pub running : x.running < length (tasks_of image p)
+    pub waiting : x.waiting ≡ map (λ n. n % length (tasks_of image p)) (numbers_from (suc x.running) (length (tasks_of image p) - 1))
+    pub layer : Layer
+    pub frame : Frame
+    pub switching : Bool  -- the exit switches to another task: its block knows the mark and the words of the running one
+    pub marked : switching ≡ true → x.resched ≡ true
+    pub returning : ℕ  -- the task to which the bodies return
+    pub is_returning : returning ≡ (if switching then get_or x.waiting 0 x.running else x.running)
+    pub current : switching ≡ false → CurrentIs mode p x.running s.memory.words
+    pub mark : switching ≡ false → s.memory.words (pcpu p + 0x20) ≡ (if x.resched then 1 else 0)
+    pub saved : (i : ℕ) → i < length (tasks_of image p) → i ≢ returning → IsSaved mode p i (x.tasks i) s.memory.words
+    pub tasks : (i : ℕ) → i < length (tasks_of image p) → IsTask (x.tasks i)
+    pub latch : LatchIs layer frame (list_any (is_nmi_body image) x.bodies) (s.latches p) (s.cpus p).nmi_blocked x.nmi
+    pub pending : (v : ℕ) → v < 256 → vectors_of (s.apics p).irr v ≡ x.pending v
+    pub service : (class : ℕ) → list_any (λ v. vectors_of (s.apics p).isr v && (v / 16 == class)) (numbers_from 0 256)
+        ≡ list_any (λ (b : BodyContext). serves class b.service) x.bodies
+    pub slots : (k : ℕ) → k < 64 → s.memory.words (pcpu p + slot_offset k) ≡ x.slots k
+    pub runs : Runs p own more returning (x.tasks returning) layer frame switching x.bodies (s.activations p) (s.cpus p) s.memory
+
+  -- ---- what all processors share
+
+  pub record Shares (s : System) (m : Machine) : Type 0 where
+    pub user : (a : ℕ) → IsUserWord a → s.memory.words a ≡ m.words a
+    pub pages : (i : ℕ) → i < 256 → s.memory.words (page_map + 8 * i) ≡ (if m.present i then 1 else 0)
+    pub cells : (k : ℕ) → k < 256 → s.memory.words (cells_base + 8 * k) ≡ m.cells k
+    pub mail : (p v : ℕ) → p < image.processors → v < 256 → vectors_of (s.inboxes p).vectors v ≡ (processor m p).mail v
+    pub mail_nmi : (p : ℕ) → p < image.processors → (s.inboxes p).nmi ≡ (processor m p).mail_nmi
+    pub numbers : (p k : ℕ) → p < image.processors → k < 8 → s.memory.words (record_address p k + 0x28) ≡ ((processor m p).records k).number
+    pub records : (p k : ℕ) → p < image.processors → k < 8
+        → RecordIs s.memory.words (record_address p k) ((processor m p).records k) ((processor m p).records k).state
+    pub queues : (p : ℕ) → p < image.processors → Linked s.memory.words (s.memory.words (pcpu p + 0x30)) (reverse (processor m p).queue)
+
+  -- ---- the machines
 
   -- The state s of the concrete machine stands for m; of each processor, at most `left` edges come before a visible step.
   pub record Stands (left : NatMap ℕ) (s : System) (m : Machine) : Type 0 where
     pub regions_are : s.memory.regions ≡ regions image
     pub fixed : (a : ℕ) → IsFixed a → s.memory.words a ≡ first_word mode image a
-    pub text : m.words ≡ (abstract.opening image).words
-    pub present : m.present ≡ (abstract.opening image).present
+    pub shares : Shares s m
+    pub domain : (p : ℕ) → p < image.processors → IsInDomain image p (processor m p)
     pub each : (p : ℕ) → p < image.processors → StandsOn p (left p) s (processor m p)

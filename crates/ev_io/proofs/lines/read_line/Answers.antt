@@ -4,9 +4,17 @@ use Rattle.std.proofs.lemmas.List.Elements.{All-push}
 use Rattle.std.specs.Io.KnownBytes.{prepend_known}
 use Rattle.ev_io.specs.Lines.{IsPrintable}
 use Rattle.ev_io.proofs.Bytes.{prepend_first, prepend_prepend, draws_more}
-use Rattle.ev_io.proofs.Outcomes.{at_large, at_line, at_long, at_not_ascii, at_end, at_last, takes_line, takes_last, takes_none, text_is, end_here, is_fine}
+use Rattle.ev_io.proofs.Outcomes.{at_large, at_line, at_long, at_not_ascii, at_end, at_last, takes_line, takes_last, takes_none, text_is, end_here, is_fine, stops_here, stops_behind}
 use Rattle.ev_io.proofs.lines.read_line.Goals.{then-b-lt32-via-then-b-lt32, then-b-lt32-via-else-b-lt32+then-b-gt126}
 use Rattle.ev_io.proofs.lines.read_line.Goals as goal
+
+pub returns-in-Err-clause-stops : goal.returns-in-Err-clause-stops
+returns-in-Err-clause-stops g c =
+    let t = c.loop-text.text in
+    let k = c.loop-text.gone in
+    let kept = c.loop-text.invariant in
+    let text = text_is c.args.gone.now k t kept.printable kept.short kept.gone kept.within in
+    stops_here c.args.gone.now k t _ _ text kept.gone (kept.same ∙ ap (prepend_known t) c.fill.ensures.same)
 
 pub returns-in-Err-clause-draws : goal.returns-in-Err-clause-draws
 returns-in-Err-clause-draws g c =
@@ -74,6 +82,15 @@ returns-then-gone-ge-INPUT_LIMIT-clause-answer g c =
     let some = c.in-Ok-true.ensures.some c.in-Ok-true.field-0-test in
     at_large c.args.number c.args.gone.now k t c.fill.new.self _ (g.S.Source.left c.fill.new.src) text kept.gone c.if-gone-ge-INPUT_LIMIT.true some comes
 
+pub returns-then-gone-ge-INPUT_LIMIT-clause-stops : goal.returns-then-gone-ge-INPUT_LIMIT-clause-stops
+returns-then-gone-ge-INPUT_LIMIT-clause-stops g c =
+    let t = c.loop-text.text in
+    let k = c.loop-text.gone in
+    let kept = c.loop-text.invariant in
+    let text = text_is c.args.gone.now k t kept.printable kept.short kept.gone kept.within in
+    let comes = kept.same ∙ ap (prepend_known t) c.fill.ensures.same in
+    stops_here c.args.gone.now k t _ _ text kept.gone comes
+
 pub returns-then-gone-ge-INPUT_LIMIT-clause-draws : goal.returns-then-gone-ge-INPUT_LIMIT-clause-draws
 returns-then-gone-ge-INPUT_LIMIT-clause-draws g c =
     draws_more _ c.loop-text.gone _ _ _ _ _ _ c.loop-text.invariant.draws c.fill.ensures.draws refl
@@ -122,6 +139,19 @@ returns-then-len-ge-LINE_LIMIT-clause-answer g c =
     at_long c.args.number c.args.gone.now k b t _ rest text kept.gone c.if-gone-ge-INPUT_LIMIT.false c.if-b-eq10.false
     (omega (arith, c.if-len-ge-LINE_LIMIT.true, c.len-in-loop-text.ensures.is)) comes
 
+pub returns-then-len-ge-LINE_LIMIT-clause-stops : goal.returns-then-len-ge-LINE_LIMIT-clause-stops
+returns-then-len-ge-LINE_LIMIT-clause-stops g c =
+    let t = c.loop-text.text in
+    let k = c.loop-text.gone in
+    let kept = c.loop-text.invariant in
+    let text = text_is c.args.gone.now k t kept.printable kept.short kept.gone kept.within in
+    let b = c.pop-b.result in
+    let left = g.S.Source.left c.fill.new.src in
+    let rest = prepend_known c.pop-b.new.self left in
+    let comes = kept.same ∙ ap (prepend_known t) (c.fill.ensures.same ∙ ap (λ x. prepend_known x left) c.pop-b.ensures
+    ∙ prepend_first b c.pop-b.new.self left) in
+    stops_behind c.args.gone.now k b t _ rest text kept.gone comes
+
 pub returns-then-len-ge-LINE_LIMIT-clause-draws : goal.returns-then-len-ge-LINE_LIMIT-clause-draws
 returns-then-len-ge-LINE_LIMIT-clause-draws g c =
     draws_more _ c.loop-text.gone _ _ _ _ _ _ c.loop-text.invariant.draws c.fill.ensures.draws (omega (arith, ap length c.pop-b.ensures))
@@ -145,6 +175,19 @@ returns-then-b-lt32-clause-answer g c =
     ] in
     at_not_ascii c.args.number c.args.gone.now k b _ t _ rest text kept.gone c.if-gone-ge-INPUT_LIMIT.false c.if-b-eq10.false
     (omega (arith, c.if-len-ge-LINE_LIMIT.false, c.len-in-loop-text.ensures.is)) side c.len-then-b-lt32.ensures.is comes
+
+pub returns-then-b-lt32-clause-stops : goal.returns-then-b-lt32-clause-stops
+returns-then-b-lt32-clause-stops g c =
+    let t = c.loop-text.text in
+    let k = c.loop-text.gone in
+    let kept = c.loop-text.invariant in
+    let text = text_is c.args.gone.now k t kept.printable kept.short kept.gone kept.within in
+    let b = c.pop-b.result in
+    let left = g.S.Source.left c.fill.new.src in
+    let rest = prepend_known c.pop-b.new.self left in
+    let comes = kept.same ∙ ap (prepend_known t) (c.fill.ensures.same ∙ ap (λ x. prepend_known x left) c.pop-b.ensures
+    ∙ prepend_first b c.pop-b.new.self left) in
+    stops_behind c.args.gone.now k b t _ rest text kept.gone comes
 
 pub returns-then-b-lt32-clause-draws : goal.returns-then-b-lt32-clause-draws
 returns-then-b-lt32-clause-draws g c =

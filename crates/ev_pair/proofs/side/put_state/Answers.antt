@@ -5,7 +5,7 @@ use Rattle.ev_abstract.specs.Machine as abstract
 use Rattle.ev_abstract.specs.EntryText.{end_lines}
 use Rattle.ev_trace.specs.FrameText.{mode_text}
 use Rattle.ev_pair.proofs.Writes.{ok_then, err_then}
-use Rattle.ev_pair.proofs.Ends.{busy_line, task_line, no_bodies}
+use Rattle.ev_pair.proofs.Ends.{busy_line, task_line, none_wait, no_bodies}
 use Rattle.ev_pair.proofs.side.put_state.Goals as goal
 
 pub returns-then-depth-gt0-clause-ok : goal.returns-then-depth-gt0-clause-ok
@@ -33,7 +33,7 @@ returns-clause-ok g c image s m so =
     let processors = so.at.shows.processors in
     let lt : c.args.p < image.processors = omega arith in
     let text =
-    task_line (mode_text c.args.mode) c.args.p c.depth-depth.result x c.task.result none (so.stands.each c.args.p lt).waiting
+    task_line (mode_text c.args.mode) c.args.p c.depth-depth.result x c.task.result none (none_wait c.args.mode image s m _ so c.args.p lt)
     (c.task.ensures c.args.mode image s m so (no_bodies x.bodies (sym depth ∙ none)))
     ∙ ap (end_lines (mode_text c.args.mode) c.args.p x) depth in
     ok_then c.put_task.result _ _ (λ h. h ∙ ap (append_known (g.K.Sink.taken c.args.sink.now)) text) c.put_task.ensures.ok
@@ -46,7 +46,7 @@ returns-clause-failed g c image s m so =
     let processors = so.at.shows.processors in
     let lt : c.args.p < image.processors = omega arith in
     let text =
-    task_line (mode_text c.args.mode) c.args.p c.depth-depth.result x c.task.result none (so.stands.each c.args.p lt).waiting
+    task_line (mode_text c.args.mode) c.args.p c.depth-depth.result x c.task.result none (none_wait c.args.mode image s m _ so c.args.p lt)
     (c.task.ensures c.args.mode image s m so (no_bodies x.bodies (sym depth ∙ none)))
     ∙ ap (end_lines (mode_text c.args.mode) c.args.p x) depth in
     err_then c.put_task.result _ _ (λ h. subst (TookPrefix (g.K.Sink.taken c.args.sink.now) (g.K.Sink.taken c.put_task.new.sink)) text h)

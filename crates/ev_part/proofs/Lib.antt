@@ -1,0 +1,4 @@
+pub mod Opening
+pub mod Labelled
+pub mod PartLaws
+pub mod Walks

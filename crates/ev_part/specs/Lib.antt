@@ -1,0 +1,5 @@
+pub mod ItemWords
+pub mod ItemForms
+pub mod PartItems
+pub mod PartStands
+pub mod BodyParts

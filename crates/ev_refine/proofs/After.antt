@@ -1,0 +1,341 @@
+-- The relation after a step of one processor: of that processor, of the others, and of the words that all share.
+use Rattle.std.proofs.Common.{◌≡◌, ◌⊎◌, inl, inr, ⊎_elim, ℕ, ◌+◌, ◌*◌, ◌%◌, ◌<◌, ◌≤◌, Bool, true, false, List, [], ◌∷◌, length, map, get_or, Some, refl, sym, ap, ◌∙◌, subst, arith}
+use Rattle.std.specs.Prelude.{if◌then◌else◌, ◌==◌, ◌&&◌, ◌/◌, reverse}
+use Rattle.std.specs.List.{list_any}
+use Rattle.std.proofs.lemmas.Bool.Decides.{eqb_tells, leb_tells}
+use Rattle.std.proofs.lemmas.Nat.{mod_below}
+use Rattle.ev_isa.specs.Word.{NatMap, put_at, numbers_from}
+use Rattle.ev_isa.specs.declared.mode.Mode.{Mode}
+use Rattle.ev_isa.specs.declared.mode.Mode.TheVariants.{Idt, Fred}
+use Rattle.ev_body.specs.declared.image.Image.{Image}
+use Rattle.ev_effect.specs.Task.{Task}
+use Rattle.ev_mem.specs.declared.region.Region.{Region}
+use Rattle.ev_mem.specs.Memory.{Memory, page_map}
+use Rattle.ev_state.specs.Processor.{Processor}
+use Rattle.ev_apic.specs.declared.apic.Apic.{Apic}
+use Rattle.ev_apic.specs.Vectors.{vectors_of}
+use Rattle.ev_listing.specs.AddressMap.{pcpu, slot_offset, record_address, cells_base}
+use Rattle.ev_abstract.specs.Boundary.{is_nmi_body}
+use Rattle.ev_abstract.specs.Context.{BodyContext, CallId}
+use Rattle.ev_abstract.specs.Machine.{Machine, processor, CallRecord, CallState, Free, Queued, Taken}
+use Rattle.ev_abstract.specs.Machine as abstract
+use Rattle.ev_concrete.specs.Opening.{tasks_of}
+use Rattle.ev_concrete.specs.ConcreteRun.{System, Activation}
+use Rattle.ev_symbolic.specs.Agrees.{with_words}
+use Rattle.ev_activation.specs.Seat.{Seat}
+use Rattle.ev_refine.specs.Tasks.{IsTask, IsSaved, TssIs, CurrentIs}
+use Rattle.ev_refine.specs.Nmi.{Frame, Held, Layer, Plain, LatchIs, inner_edges}
+use Rattle.ev_refine.specs.Named.{Named, UserRsp, Port, IsUserWord, Outside, NotNamed, Changes}
+use Rattle.ev_refine.specs.Domain.{IsInDomain}
+use Rattle.ev_refine.specs.Relation.{Chain, Runs, serves, StandsOn, RecordIs, Linked, Shares, Stands}
+use Rattle.ev_refine.proofs.Maps.{at_same}
+use Rattle.ev_refine.proofs.Words.{fixed_stays, stack_stays, stacks_stay, saved_stays}
+use Rattle.ev_refine.proofs.Standing.{Moves}
+use Rattle.ev_refine.proofs.Stays.{chain_stays, others_spared}
+
+-- what a step of today may write of the words with a name
+abbrev pub kernel_names : ℕ → List Named
+kernel_names p = UserRsp p ∷ Port p ∷ []
+
+-- ---- words of areas that it doesn't
+
+in_order : (p q : ℕ) → (p < q) ⊎ ((p ≡ q) ⊎ (q < p))
+in_order p q = ⊎_elim (λ x. ⊎_elim (λ y. inr (inl y.1)) (λ y. inl (strict y.1 x.1)) (eqb_tells p q))
+    (λ x. inr (inr (let y = x.1 in omega arith))) (leb_tells p q)
+  where
+    strict : (p ≡ q → ⊥) → p ≤ q → p < q
+    strict n l = ⊎_elim (λ x. absurd (n (let z = x.1 in omega arith))) (λ x. let z = x.1 in omega arith) (leb_tells q p)
+
+area_word : (p q o o' : ℕ) → o + 8 ≤ 0x10000 → o' < 0x10000 → (o' < o) ⊎ (o + 8 ≤ o') → Outside (pcpu p + o) (pcpu p + o + 8) (pcpu q + o')
+area_word p q o o' h k d = go (in_order p q)
+  where
+    here : p ≡ q → (o' < o) ⊎ (o + 8 ≤ o') → Outside (pcpu p + o) (pcpu p + o + 8) (pcpu q + o')
+    here e (inl l) = inl (omega arith)
+    here e (inr l) = inr (omega arith)
+
+    go : (p < q) ⊎ ((p ≡ q) ⊎ (q < p)) → Outside (pcpu p + o) (pcpu p + o + 8) (pcpu q + o')
+    go (inl l) = inr (omega arith)
+    go (inr (inl e)) = here e d
+    go (inr (inr l)) = inl (omega arith)
+
+-- the offset of a word of an area that is neither SYSCALL's RSP nor the port
+abbrev pub IsOther : ℕ → Type 0
+IsOther o = (o < 0x10000) × ((o < 8) ⊎ (0x10 ≤ o)) × ((o < 0x28) ⊎ (0x30 ≤ o))
+
+pub area_spared : (p q o : ℕ) → IsOther o → NotNamed (kernel_names p) (pcpu q + o)
+area_spared p q o h = (area_word p q 8 o (omega arith) h.0 h.1, (area_word p q 0x28 o (omega arith) h.0 h.2, tt))
+
+pub far_spared : (p a : ℕ) → p < 32 → (a < 0xffff888000000000) ⊎ (0xffff888000200000 ≤ a) → NotNamed (kernel_names p) a
+far_spared p a hp (inl h) = (inl (omega arith), (inl (omega arith), tt))
+far_spared p a hp (inr h) = (inr (omega arith), (inr (omega arith), tt))
+
+-- ---- what a step of p says of memory
+
+module _ (p : ℕ) (σ : Seat) (hp : p < 32) (hs : σ.stack < 7) (m n : NatMap ℕ) (changes : Changes p σ (kernel_names p) m n) where
+  pub area_same : (q o : ℕ) → q < 32 → IsOther o → n (pcpu q + o) ≡ m (pcpu q + o)
+  area_same q o hq h = let small = h.0 in changes (pcpu q + o) (inl (omega arith)) (area_spared p q o h)
+
+  pub low_same : (a : ℕ) → a < 0xffffc90000000000 → (a < 0xffff888000000000) ⊎ (0xffff888000200000 ≤ a) → n a ≡ m a
+  low_same a l h = changes a (inl (omega arith)) (far_spared p a hp h)
+
+  record_same : (q k o : ℕ) → q < 32 → k < 8 → o < 0x40 → n (record_address q k + o) ≡ m (record_address q k + o)
+  record_same q k o hq hk ho =
+      let e : record_address q k + o ≡ pcpu q + (0x800 + 0x40 * k + o) = omega arith in
+      ap n e ∙ area_same q (0x800 + 0x40 * k + o) hq (omega arith, inr (omega arith), inr (omega arith)) ∙ sym (ap m e)
+
+  -- ---- call records
+
+  record_is : (q k : ℕ) (r : CallRecord) (st : CallState) → q < 32 → k < 8 → RecordIs m (record_address q k) r st → RecordIs n (record_address q k) r st
+  record_is q k r st hq hk h = go st h
+    where
+      first : n (record_address q k) ≡ m (record_address q k)
+      first = let e : record_address q k ≡ record_address q k + 0 = omega arith in ap n e ∙ record_same q k 0 hq hk (omega arith) ∙ sym (ap m e)
+
+      go : (st : CallState) → RecordIs m (record_address q k) r st → RecordIs n (record_address q k) r st
+      go Free h = first ∙ h
+      go Queued h = (first ∙ h.0, record_same q k 0x10 hq hk (omega arith) ∙ h.1, record_same q k 0x38 hq hk (omega arith) ∙ h.2)
+      go Taken h = (first ∙ h.0, record_same q k 0x10 hq hk (omega arith) ∙ h.1, record_same q k 0x38 hq hk (omega arith) ∙ h.2)
+
+  linked_is : (a : ℕ) (ks : List CallId) → Linked m a ks → Linked n a ks
+  linked_is a [] h = h
+  linked_is a (k ∷ ks) h =
+      let next : n (a + 0x18) ≡ m (a + 0x18)
+      = ap (λ x. n (x + 0x18)) h.2 ∙ record_same k.from k.site 0x18 h.0 h.1 (omega arith) ∙ sym (ap (λ x. m (x + 0x18)) h.2) in
+      (h.0, h.1, h.2, subst (λ x. Linked n x ks) (sym next) (linked_is (m (a + 0x18)) ks h.3))
+
+  queue_is : (q : ℕ) (ks : List CallId) → q < 32 → Linked m (m (pcpu q + 0x30)) ks → Linked n (n (pcpu q + 0x30)) ks
+  queue_is q ks hq h =
+      subst (λ x. Linked n x ks) (sym (area_same q 0x30 hq (omega arith, inr (omega arith), inr (omega arith)))) (linked_is (m (pcpu q + 0x30)) ks h)
+
+  -- ---- the running task's words
+
+  tss_is : (mode : Mode) (q r : ℕ) → q < 32 → TssIs mode q r m → TssIs mode q r n
+  tss_is Fred q r hq h = h
+  tss_is Idt q r hq h = area_same q 0x408 hq (omega arith, inr (omega arith), inr (omega arith)) ∙ h
+
+  pub current_is : (mode : Mode) (q r : ℕ) → q < 32 → CurrentIs mode q r m → CurrentIs mode q r n
+  current_is mode q r hq h = record {
+    top = area_same q 0x10 hq (omega arith, inr (omega arith), inl (omega arith)) ∙ h.top;
+    current = area_same q 0x18 hq (omega arith, inr (omega arith), inl (omega arith)) ∙ h.current;
+    tss = tss_is mode q r hq h.tss;
+  }
+
+  pub mark_is : (q : ℕ) → q < 32 → n (pcpu q + 0x20) ≡ m (pcpu q + 0x20)
+  mark_is q hq = area_same q 0x20 hq (omega arith, inr (omega arith), inl (omega arith))
+
+  pub slot_is : (q k : ℕ) → q < 32 → k < 64 → n (pcpu q + slot_offset k) ≡ m (pcpu q + slot_offset k)
+  slot_is q k hq hk = area_same q (0x200 + 8 * k) hq (omega arith, inr (omega arith), inr (omega arith))
+
+-- ---- the processor that made it
+
+pub latch_again : (layer : Layer) (f : Frame) (nmi nmi' latch latch' blocked blocked' x : Bool) → latch' ≡ latch → blocked' ≡ nmi'
+    → LatchIs layer f nmi latch blocked x → LatchIs layer f nmi' latch' blocked' x
+latch_again Plain Held nmi nmi' latch latch' blocked blocked' x l b h = (h.0 ∙ sym l, b)
+
+pub latch_parts : (layer : Layer) (f : Frame) (nmi latch blocked x : Bool) → LatchIs layer f nmi latch blocked x → (x ≡ latch) × (blocked ≡ nmi)
+latch_parts Plain Held nmi latch blocked x h = h
+
+module _ (mode : Mode) (image : Image) where
+  pub as_runs : (layer : Layer) (p left more r : ℕ) (t : Task) (f : Frame) (sw : Bool) (bs : List BodyContext) (as' : List Activation) (c : Processor)
+      (m : Memory) → Chain mode image p left r t f sw bs as' c m → Runs mode image p left more r t layer f sw bs as' c m
+  as_runs Plain p left more r t f sw bs as' c m h = h
+
+  pub as_chain : (layer : Layer) (p left more r : ℕ) (t : Task) (f : Frame) (sw : Bool) (bs : List BodyContext) (as' : List Activation) (c : Processor)
+      (m : Memory) → Runs mode image p left more r t layer f sw bs as' c m → Chain mode image p left r t f sw bs as' c m
+  as_chain Plain p left more r t f sw bs as' c m h = h
+
+  -- the bodies return to one of the tasks
+  first_small : (n d : ℕ) (xs : List ℕ) → d < n → get_or (map (λ k. k % n) xs) 0 d < n
+  first_small n d [] h = h
+  first_small n d (x ∷ xs) h = mod_below x n (omega arith)
+
+  pub returns_to : (p left : ℕ) (s : System) (x : abstract.Processor) (on : StandsOn mode image p left s x) → on.returning < length (tasks_of image p)
+  returns_to p left s x on = go on.switching on.is_returning
+    where
+      go : (sw : Bool) → on.returning ≡ (if sw then get_or x.waiting 0 x.running else x.running) → on.returning < length (tasks_of image p)
+      go true h = subst (λ n. n < length (tasks_of image p)) (sym (h ∙ ap (λ ws. get_or ws 0 x.running) on.waiting))
+          (first_small (length (tasks_of image p)) x.running _ on.running)
+      go false h = subst (λ n. n < length (tasks_of image p)) (sym h) on.running
+
+  few_inner : (latch : Bool) → inner_edges latch ≤ 31
+  few_inner true = omega arith
+  few_inner false = omega arith
+
+  -- Its bodies, and its returning task, are new; of the rest the step leaves all.
+  pub own_after : (p left : ℕ) (s s' : System) (x : abstract.Processor) (σ : Seat) (cpu : Processor) (as' : List Activation) (words : NatMap ℕ)
+      (ts : NatMap Task) (bs : List BodyContext) (own : ℕ) (on : StandsOn mode image p left s x) → p < 32 → length (tasks_of image p) ≤ 4
+      → Moves p s s' cpu as' words → σ.stack ≡ on.returning → σ.stack < 7 → Changes p σ (kernel_names p) s.memory.words words
+      → ((i : ℕ) → (i ≡ on.returning → ⊥) → ts i ≡ x.tasks i) → ((i : ℕ) → i < length (tasks_of image p) → IsTask (ts i))
+      → cpu.nmi_blocked ≡ list_any (is_nmi_body image) bs
+      → ((class : ℕ) → list_any (λ (b : BodyContext). serves mode image class b.service) bs
+      ≡ list_any (λ (b : BodyContext). serves mode image class b.service) x.bodies)
+      → own ≤ 500 → Chain mode image p own on.returning (ts on.returning) on.frame on.switching bs as' cpu (with_words s.memory words)
+      → StandsOn mode image p (own + inner_edges (s.latches p)) s' (record x { tasks = ts; bodies = bs })
+  own_after p left s s' x σ cpu as' words ts bs own on hp four mv at hs changes same good blocked serving few chain = record {
+    few = let f = few_inner (s.latches p) in omega arith;
+    own = own;
+    more = 0;
+    enough = subst (λ b. own + 0 + inner_edges b ≤ own + inner_edges (s.latches p)) (sym mv.latch) (omega arith);
+    running = on.running;
+    waiting = on.waiting;
+    layer = on.layer;
+    frame = on.frame;
+    switching = on.switching;
+    marked = on.marked;
+    returning = on.returning;
+    is_returning = on.is_returning;
+    current = λ e. in_words (CurrentIs mode p x.running) (current_is p σ hp hs s.memory.words words changes mode p x.running hp (on.current e));
+    mark = λ e. ap (λ w. w (pcpu p + 0x20)) mv.words_are ∙ mark_is p σ hp hs s.memory.words words changes p hp ∙ on.mark e;
+    saved = λ i lt d. in_words (IsSaved mode p i (ts i)) (subst (λ t. IsSaved mode p i t words) (sym (same i d))
+        (saved_stays mode p i (x.tasks i) s.memory.words words hp (omega arith)
+        (stack_stays p σ (kernel_names p) s.memory.words words hp hs (hp, (hp, tt)) changes i (λ e. d (e ∙ at)))
+        (on.saved i lt d)));
+    tasks = good;
+    latch = latch_again on.layer on.frame (list_any (is_nmi_body image) x.bodies) (list_any (is_nmi_body image) bs) (s.latches p) (s'.latches p)
+        (s.cpus p).nmi_blocked (s'.cpus p).nmi_blocked x.nmi mv.latch (ap (λ (c : Processor). c.nmi_blocked) mv.cpu_is ∙ blocked) on.latch;
+    pending = λ v lt. ap (λ (a : Apic). vectors_of a.irr v) mv.apic ∙ on.pending v lt;
+    service = λ class. ap (λ (a : Apic). list_any (λ v. vectors_of a.isr v && (v / 16 == class)) (numbers_from 0 256)) mv.apic
+        ∙ on.service class ∙ sym (serving class);
+    slots = λ k lt. ap (λ w. w (pcpu p + slot_offset k)) mv.words_are ∙ slot_is p σ hp hs s.memory.words words changes p k hp lt ∙ on.slots k lt;
+    runs = as_runs on.layer p own 0 on.returning (ts on.returning) on.frame on.switching bs (s'.activations p) (s'.cpus p) s'.memory
+        (moved (λ a c w r. Chain mode image p own on.returning (ts on.returning) on.frame on.switching bs a c (record { regions = r; words = w })) chain);
+  }
+    where
+      in_words : (P : NatMap ℕ → Type 0) → P words → P s'.memory.words
+      in_words P h = subst P (sym mv.words_are) h
+
+      moved : (P : List Activation → Processor → NatMap ℕ → List Region → Type 0) → P as' cpu words s.memory.regions
+          → P (s'.activations p) (s'.cpus p) s'.memory.words s'.memory.regions
+      moved P h = subst (λ a. P a (s'.cpus p) s'.memory.words s'.memory.regions) (sym mv.activations_are)
+          (subst (λ c. P as' c s'.memory.words s'.memory.regions) (sym mv.cpu_is)
+          (subst (λ w. P as' cpu w s'.memory.regions) (sym mv.words_are) (subst (λ r. P as' cpu words r) (sym mv.regions) h)))
+
+  -- ---- another processor
+
+  pub other_stays : (p q left : ℕ) (s s' : System) (x : abstract.Processor) (σ : Seat) (cpu : Processor) (as' : List Activation) (words : NatMap ℕ)
+      → p < 32 → q < 32 → length (tasks_of image q) ≤ 4 → (q ≡ p → ⊥) → (q == p) ≡ false → Moves p s s' cpu as' words → σ.stack < 7
+      → Changes p σ (kernel_names p) s.memory.words words → StandsOn mode image q left s x → StandsOn mode image q left s' x
+  other_stays p q left s s' x σ cpu as' words hp hq four d e mv hs changes on = record {
+    few = on.few;
+    own = on.own;
+    more = on.more;
+    enough = subst (λ b. on.own + on.more + inner_edges b ≤ left) (sym (mv.other_latch q e)) on.enough;
+    running = on.running;
+    waiting = on.waiting;
+    layer = on.layer;
+    frame = on.frame;
+    switching = on.switching;
+    marked = on.marked;
+    returning = on.returning;
+    is_returning = on.is_returning;
+    current = λ f. in_words (CurrentIs mode q x.running) (current_is p σ hp hs s.memory.words words changes mode q x.running hq (on.current f));
+    mark = λ f. ap (λ w. w (pcpu q + 0x20)) mv.words_are ∙ mark_is p σ hp hs s.memory.words words changes q hq ∙ on.mark f;
+    saved = λ i lt f. in_words (IsSaved mode q i (x.tasks i)) (saved_stays mode q i (x.tasks i) s.memory.words words hq (omega arith)
+        (λ a h k. stacks_stay p σ (kernel_names p) s.memory.words words hp hs (hp, (hp, tt)) changes q d a (omega arith) (omega arith)) (on.saved i lt f));
+    tasks = on.tasks;
+    latch = subst (λ b. LatchIs on.layer on.frame (list_any (is_nmi_body image) x.bodies) (s'.latches q) b x.nmi)
+        (sym (ap (λ (c : Processor). c.nmi_blocked) (mv.other_cpu q e)))
+        (subst (λ b. LatchIs on.layer on.frame (list_any (is_nmi_body image) x.bodies) b (s.cpus q).nmi_blocked x.nmi) (sym (mv.other_latch q e)) on.latch);
+    pending = λ v lt. ap (λ (a : Apic). vectors_of a.irr v) (mv.other_apic q e) ∙ on.pending v lt;
+    service = λ class. ap (λ (a : Apic). list_any (λ v. vectors_of a.isr v && (v / 16 == class)) (numbers_from 0 256)) (mv.other_apic q e) ∙ on.service class;
+    slots = λ k lt. ap (λ w. w (pcpu q + slot_offset k)) mv.words_are ∙ slot_is p σ hp hs s.memory.words words changes q k hq lt ∙ on.slots k lt;
+    runs = as_runs on.layer q on.own on.more on.returning (x.tasks on.returning) on.frame on.switching x.bodies (s'.activations q) (s'.cpus q) s'.memory
+        (moved (λ a c w r. Chain mode image q on.own on.returning (x.tasks on.returning) on.frame on.switching x.bodies a c (record { regions = r; words = w }))
+        (chain_stays mode image q on.own on.returning (x.tasks on.returning) on.frame on.switching x.bodies (s.activations q) (s.cpus q) s.memory words hq
+        returning_small
+        (others_spared p q on.returning σ (kernel_names p) s.memory.words words hp hs hq returning_small d (hp, (hp, tt))
+        ((λ f. d (sym (some_same p q f))), ((λ f. d (sym (some_same p q f))), tt)) changes)
+        (as_chain on.layer q on.own on.more on.returning (x.tasks on.returning) on.frame on.switching x.bodies (s.activations q) (s.cpus q) s.memory on.runs)));
+  }
+    where
+      some_same : (a b : ℕ) → Some a ≡ Some b → a ≡ b
+      some_same a b h = cc
+
+      in_words : (P : NatMap ℕ → Type 0) → P words → P s'.memory.words
+      in_words P h = subst P (sym mv.words_are) h
+
+      returning_small : on.returning < 7
+      returning_small = let l = returns_to q left s x on in omega arith
+
+      moved : (P : List Activation → Processor → NatMap ℕ → List Region → Type 0) → P (s.activations q) (s.cpus q) words s.memory.regions
+          → P (s'.activations q) (s'.cpus q) s'.memory.words s'.memory.regions
+      moved P h = subst (λ a. P a (s'.cpus q) s'.memory.words s'.memory.regions) (sym (mv.other_activations q e))
+          (subst (λ c. P (s.activations q) c s'.memory.words s'.memory.regions) (sym (mv.other_cpu q e))
+          (subst (λ w. P (s.activations q) (s.cpus q) w s'.memory.regions) (sym mv.words_are)
+          (subst (λ r. P (s.activations q) (s.cpus q) words r) (sym mv.regions) h)))
+
+  -- ---- what all share
+
+  -- the machines m and m' differ in processor p alone, and there in nothing that others see
+  pub record Alike (p : ℕ) (m m' : Machine) (x : abstract.Processor) : Type 0 where
+    pub own : processor m' p ≡ x
+    pub others : (q : ℕ) → (q == p) ≡ false → processor m' q ≡ processor m q
+    pub words : m'.words ≡ m.words
+    pub present : m'.present ≡ m.present
+    pub cells : m'.cells ≡ m.cells
+    pub mail : x.mail ≡ (processor m p).mail
+    pub mail_nmi : x.mail_nmi ≡ (processor m p).mail_nmi
+    pub records : x.records ≡ (processor m p).records
+    pub queue : x.queue ≡ (processor m p).queue
+
+  component : {Z : Type 0} (f : abstract.Processor → Z) (p q : ℕ) (m m' : Machine) (x : abstract.Processor) → Alike p m m' x → f x ≡ f (processor m p)
+      → f (processor m' q) ≡ f (processor m q)
+  component f p q m m' x a h = ⊎_elim (λ e. ap (λ r. f (processor m' r)) e.1 ∙ ap f a.own ∙ h ∙ sym (ap (λ r. f (processor m r)) e.1))
+      (λ e. ap f (a.others q e.0)) (eqb_tells q p)
+
+  shares_after : (p : ℕ) (s s' : System) (m m' : Machine) (x : abstract.Processor) (σ : Seat) (cpu : Processor) (as' : List Activation) (words : NatMap ℕ)
+      → p < 32 → image.processors ≤ 8 → Moves p s s' cpu as' words → σ.stack < 7 → Changes p σ (kernel_names p) s.memory.words words → Alike p m m' x
+      → Shares mode image s m → Shares mode image s' m'
+  shares_after p s s' m m' x σ cpu as' words hp eight mv hs changes a h = record {
+    user = λ b u. at b ∙ user_same b u ∙ h.user b u ∙ sym (ap (λ w. w b) a.words);
+    pages = λ i lt. at (page_map + 8 * i) ∙ low (page_map + 8 * i) (omega arith) (inr (omega arith)) ∙ h.pages i lt
+        ∙ sym (ap (λ w. if w i then 1 else 0) a.present);
+    cells = λ k lt. at (cells_base + 8 * k) ∙ low (cells_base + 8 * k) (omega arith) (inr (omega arith)) ∙ h.cells k lt ∙ sym (ap (λ w. w k) a.cells);
+    mail = λ q v lt l. ap (λ b. vectors_of (b q).vectors v) mv.inboxes ∙ h.mail q v lt l ∙ sym (ap (λ w. w v) (component (λ y. y.mail) p q m m' x a a.mail));
+    mail_nmi = λ q lt. ap (λ b. (b q).nmi) mv.inboxes ∙ h.mail_nmi q lt ∙ sym (component (λ y. y.mail_nmi) p q m m' x a a.mail_nmi);
+    numbers = λ q k lt l. at (record_address q k + 0x28) ∙ record_same p σ hp hs s.memory.words words changes q k 0x28 (omega arith) l (omega arith)
+        ∙ h.numbers q k lt l ∙ sym (ap (λ w. (w k).number) (component (λ y. y.records) p q m m' x a a.records));
+    records = λ q k lt l. in_words (λ w. RecordIs w (record_address q k) ((processor m' q).records k) ((processor m' q).records k).state)
+        (subst (λ r. RecordIs words (record_address q k) (r k) (r k).state) (sym (component (λ y. y.records) p q m m' x a a.records))
+        (record_is p σ hp hs s.memory.words words changes q k ((processor m q).records k) ((processor m q).records k).state (omega arith) l
+        (h.records q k lt l)));
+    queues = λ q lt. in_words (λ w. Linked w (w (pcpu q + 0x30)) (reverse (processor m' q).queue))
+        (subst (λ ks. Linked words (words (pcpu q + 0x30)) (reverse ks)) (sym (component (λ y. y.queue) p q m m' x a a.queue))
+        (queue_is p σ hp hs s.memory.words words changes q (reverse (processor m q).queue) (omega arith) (h.queues q lt)));
+  }
+    where
+      in_words : (P : NatMap ℕ → Type 0) → P words → P s'.memory.words
+      in_words P k = subst P (sym mv.words_are) k
+
+      at : (b : ℕ) → s'.memory.words b ≡ words b
+      at b = ap (λ w. w b) mv.words_are
+
+      low : (b : ℕ) → b < 0xffffc90000000000 → (b < 0xffff888000000000) ⊎ (0xffff888000200000 ≤ b) → words b ≡ s.memory.words b
+      low b l d = low_same p σ hp hs s.memory.words words changes b l d
+
+      user_same : (b : ℕ) → IsUserWord b → words b ≡ s.memory.words b
+      user_same b u = ⊎_elim (λ t. let k = t.1 in low b (omega arith) (inl (omega arith))) (λ t. let k = t.1 in low b (omega arith) (inl (omega arith))) u.1
+
+  -- ---- the whole
+
+  pub stands_after : (left : NatMap ℕ) (s s' : System) (m m' : Machine) (p now : ℕ) (x : abstract.Processor) (σ : Seat) (cpu : Processor)
+      (as' : List Activation) (words : NatMap ℕ) → image.processors ≤ 8 → ((q : ℕ) → q < image.processors → length (tasks_of image q) ≤ 4)
+      → Stands mode image left s m → p < image.processors → Moves p s s' cpu as' words → σ.stack < 7
+      → Changes p σ (kernel_names p) s.memory.words words → Alike p m m' x → IsInDomain image p x → StandsOn mode image p now s' x
+      → Stands mode image (put_at left p now) s' m'
+  stands_after left s s' m m' p now x σ cpu as' words eight four h lt mv hs changes a domain on = record {
+    regions_are = mv.regions ∙ h.regions_are;
+    fixed = λ b f. ap (λ w. w b) mv.words_are ∙ fixed_stays p σ (kernel_names p) s.memory.words words hp hs (hp, (hp, tt)) changes b f ∙ h.fixed b f;
+    shares = shares_after p s s' m m' x σ cpu as' words hp eight mv hs changes a h.shares;
+    domain = λ q lq. ⊎_elim (λ e. subst (λ r. IsInDomain image r (processor m' r)) (sym e.1) (subst (IsInDomain image p) (sym a.own) domain))
+        (λ e. subst (IsInDomain image q) (sym (a.others q e.0)) (h.domain q lq)) (eqb_tells q p);
+    each = λ q lq. ⊎_elim
+        (λ e. subst (λ r. StandsOn mode image r (put_at left p now r) s' (processor m' r)) (sym e.1)
+        (subst (λ n. StandsOn mode image p n s' (processor m' p)) (sym (at_same left p p now refl)) (subst (StandsOn mode image p now s') (sym a.own) on)))
+        (λ e. subst (λ n. StandsOn mode image q n s' (processor m' q)) (sym (ap (λ b. elim b [ true ↦ now | false ↦ left q ]) e.0))
+        (subst (StandsOn mode image q (left q) s') (sym (a.others q e.0))
+        (other_stays p q (left q) s s' (processor m q) σ cpu as' words hp (omega arith) (four q lq) e.1 e.0 mv hs changes (h.each q lq)))) (eqb_tells q p);
+  }
+    where
+      hp : p < 32
+      hp = omega arith

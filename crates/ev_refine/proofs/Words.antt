@@ -1,0 +1,194 @@
+-- Words by their names: none lies on a stack or is fixed, those of other processors lie apart; and what stays where a step changes words of some names.
+use Rattle.std.proofs.Common.{◌≡◌, ◌≢◌, ◌⊎◌, inl, inr, ⊎_elim, ℕ, zero, suc, ◌+◌, ◌-◌, ◌*◌, ◌^◌, ◌<◌, ◌≤◌, List, [], ◌∷◌, map, Some, refl, sym, ap, ◌∙◌, subst, arith}
+use Rattle.std.proofs.lemmas.Bool.Decides.{eqb_tells, leb_tells}
+use Rattle.ev_isa.specs.Word.{NatMap, wrap, bit}
+use Rattle.ev_state.specs.Processor.{selector}
+use Rattle.ev_isa.specs.declared.mode.Mode.{Mode}
+use Rattle.ev_isa.specs.declared.mode.Mode.TheVariants.{Idt, Fred}
+use Rattle.ev_effect.specs.Frame.{addresses}
+use Rattle.ev_effect.specs.Task.{Task}
+use Rattle.ev_listing.specs.AddressMap.{pcpu, stack_top, stack_bytes}
+use Rattle.ev_activation.specs.Seat.{Seat, top_at}
+use Rattle.ev_refine.specs.Relation.{IsFixed, InText, InTables, InTasks, InCode}
+use Rattle.ev_refine.specs.Tasks.{IsSaved}
+use Rattle.ev_refine.specs.Named.{Named, UserRsp, Top, Current, Mark, Port, Head, TssTop, Slot, RecordWord, CellAt, PageBit, UserWord, address_of, owner, IsName, IsWritten, Outside, NotNamed, AreWritten, NoneOf, Changes}
+
+-- ---- no name lies on a stack
+
+module _ (p : ℕ) (σ : Seat) (hp : p < 32) (hs : σ.stack < 7) where
+  abbrev pub OffStack : ℕ → Type 0
+  OffStack a = Outside (stack_top p σ.stack - stack_bytes) (top_at p σ) a
+
+  pub low_off_stack : (a : ℕ) → a < 0xffffc90000000000 → OffStack a
+  low_off_stack a h = inl (omega arith)
+
+  pub named_off_stack : (x : Named) → IsName x → OffStack (address_of x)
+  named_off_stack (UserRsp q) h = inl (omega arith)
+  named_off_stack (Top q) h = inl (omega arith)
+  named_off_stack (Current q) h = inl (omega arith)
+  named_off_stack (Mark q) h = inl (omega arith)
+  named_off_stack (Port q) h = inl (omega arith)
+  named_off_stack (Head q) h = inl (omega arith)
+  named_off_stack (TssTop q) h = inl (omega arith)
+  named_off_stack (Slot q k) h = let a = h.0 in let b = h.1 in inl (omega arith)
+  named_off_stack (RecordWord q k o) h = let a = h.0 in let b = h.1 in let c = h.2 in inl (omega arith)
+  named_off_stack (CellAt k) h = inl (omega arith)
+  named_off_stack (PageBit i) h = inl (omega arith)
+  named_off_stack (UserWord a) h =
+      ⊎_elim (λ t. let b = t.1 in inl (omega arith)) (λ t. let b = t.1 in inl (omega arith)) h.1
+
+  pub fixed_off_stack : (a : ℕ) → IsFixed a → OffStack a
+  fixed_off_stack a (InText h k) = inl (omega arith)
+  fixed_off_stack a (InTables h k) = inl (omega arith)
+  fixed_off_stack a (InTasks h k) = inl (omega arith)
+  fixed_off_stack a (InCode h) = inr (omega arith)
+
+-- ---- where names lie: in the areas, in the page map and the cells, or in the data pages
+
+data Ranged (a : ℕ) : Type 0 where
+  InAreas : 0xffff888000000000 ≤ a → a + 8 ≤ 0xffff888000200000 → Ranged a
+  InMaps : 0xffff888000820000 ≤ a → a + 8 ≤ 0xffff888000830800 → Ranged a
+  InPages : 0x10000000 ≤ a → a < 0x10100000 → Ranged a
+
+ranged : (x : Named) → IsWritten x → Ranged (address_of x)
+ranged (UserRsp q) h = InAreas (omega arith) (omega arith)
+ranged (Top q) h = InAreas (omega arith) (omega arith)
+ranged (Current q) h = InAreas (omega arith) (omega arith)
+ranged (Mark q) h = InAreas (omega arith) (omega arith)
+ranged (Port q) h = InAreas (omega arith) (omega arith)
+ranged (Head q) h = InAreas (omega arith) (omega arith)
+ranged (TssTop q) h = InAreas (omega arith) (omega arith)
+ranged (Slot q k) h = let a = h.0 in let b = h.1 in InAreas (omega arith) (omega arith)
+ranged (RecordWord q k o) h = let a = h.0 in let b = h.1 in let c = h.2 in let d = h.3 in InAreas (omega arith) (omega arith)
+ranged (CellAt k) h = InMaps (omega arith) (omega arith)
+ranged (PageBit i) h = InMaps (omega arith) (omega arith)
+ranged (UserWord a) h = let b = h.1 in InPages h.0 (omega arith)
+
+-- what nothing writes has no name that is written
+fixed_outside : (x a : ℕ) → Ranged x → IsFixed a → Outside x (x + 8) a
+fixed_outside x a (InAreas b c) (InText h k) = inl (omega arith)
+fixed_outside x a (InAreas b c) (InTables h k) = inr (omega arith)
+fixed_outside x a (InAreas b c) (InTasks h k) = inr (omega arith)
+fixed_outside x a (InAreas b c) (InCode h) = inr (omega arith)
+fixed_outside x a (InMaps b c) (InText h k) = inl (omega arith)
+fixed_outside x a (InMaps b c) (InTables h k) = inl (omega arith)
+fixed_outside x a (InMaps b c) (InTasks h k) = inr (omega arith)
+fixed_outside x a (InMaps b c) (InCode h) = inr (omega arith)
+fixed_outside x a (InPages b c) (InText h k) = inl (omega arith)
+fixed_outside x a (InPages b c) (InTables h k) = inr (omega arith)
+fixed_outside x a (InPages b c) (InTasks h k) = inr (omega arith)
+fixed_outside x a (InPages b c) (InCode h) = inr (omega arith)
+
+fixed_unnamed : (names : List Named) → AreWritten names → (a : ℕ) → IsFixed a → NotNamed names a
+fixed_unnamed [] w a f = tt
+fixed_unnamed (x ∷ xs) w a f = (fixed_outside (address_of x) a (ranged x w.0) f, fixed_unnamed xs w.1 a f)
+
+-- words of stacks have no name
+stack_outside : (x a : ℕ) → Ranged x → 0xffffc90000000000 ≤ a → Outside x (x + 8) a
+stack_outside x a (InAreas b c) h = inr (omega arith)
+stack_outside x a (InMaps b c) h = inr (omega arith)
+stack_outside x a (InPages b c) h = inr (omega arith)
+
+pub stack_unnamed : (names : List Named) → AreWritten names → (a : ℕ) → 0xffffc90000000000 ≤ a → NotNamed names a
+stack_unnamed [] w a f = tt
+stack_unnamed (x ∷ xs) w a f = (stack_outside (address_of x) a (ranged x w.0) f, stack_unnamed xs w.1 a f)
+
+-- ---- areas of other processors
+
+in_order : (p q : ℕ) → (p ≡ q → ⊥) → (p < q) ⊎ (q < p)
+in_order p q d = ⊎_elim (λ x. let y = x.1 in inr (strict (λ e. d (sym e)) y)) (λ x. let y = x.1 in inl (omega arith)) (leb_tells q p)
+  where
+    strict : (q ≡ p → ⊥) → q ≤ p → q < p
+    strict n l = ⊎_elim (λ x. absurd (n x.1)) (λ x. let y = x.1 in differ y l) (eqb_tells q p)
+      where
+        differ : (q ≡ p → ⊥) → q ≤ p → q < p
+        differ n l = ⊎_elim (λ x. absurd (n (let z = x.1 in omega arith))) (λ x. let z = x.1 in omega arith) (leb_tells p q)
+
+area_outside : (p q o a : ℕ) → (p ≡ q → ⊥) → o + 8 ≤ 0x10000 → pcpu q ≤ a → a < pcpu q + 0x10000 → Outside (pcpu p + o) (pcpu p + o + 8) a
+area_outside p q o a d ho h k = ⊎_elim (λ (l : p < q). inr (omega arith)) (λ (l : q < p). inl (omega arith)) (in_order p q d)
+
+other_area : (x : Named) → IsWritten x → (q a : ℕ) → q < 32 → owner x ≢ Some q → pcpu q ≤ a → a < pcpu q + 0x10000
+    → Outside (address_of x) (address_of x + 8) a
+other_area (UserRsp p) w q a hq d h k = area_outside p q 8 a (λ e. d (ap Some e)) (omega arith) h k
+other_area (Top p) w q a hq d h k = area_outside p q 0x10 a (λ e. d (ap Some e)) (omega arith) h k
+other_area (Current p) w q a hq d h k = area_outside p q 0x18 a (λ e. d (ap Some e)) (omega arith) h k
+other_area (Mark p) w q a hq d h k = area_outside p q 0x20 a (λ e. d (ap Some e)) (omega arith) h k
+other_area (Port p) w q a hq d h k = area_outside p q 0x28 a (λ e. d (ap Some e)) (omega arith) h k
+other_area (Head p) w q a hq d h k = area_outside p q 0x30 a (λ e. d (ap Some e)) (omega arith) h k
+other_area (TssTop p) w q a hq d h k = area_outside p q 0x408 a (λ e. d (ap Some e)) (omega arith) h k
+other_area (Slot p i) w q a hq d h k = let b = w.1 in area_outside p q (0x200 + 8 * i) a (λ e. d (ap Some e)) (omega arith) h k
+other_area (RecordWord p i o) w q a hq d h k =
+    let b = w.1 in let c = w.2 in let z = w.3 in
+    ⊎_elim (λ (l : p < q). inr (omega arith)) (λ (l : q < p). inl (omega arith)) (in_order p q (λ e. d (ap Some e)))
+other_area (CellAt i) w q a hq d h k = inl (omega arith)
+other_area (PageBit i) w q a hq d h k = inl (omega arith)
+other_area (UserWord b) w q a hq d h k = let c = w.1 in inr (omega arith)
+
+pub other_unnamed : (names : List Named) → AreWritten names → (q : ℕ) → q < 32 → NoneOf q names → (a : ℕ) → pcpu q ≤ a → a < pcpu q + 0x10000
+    → NotNamed names a
+other_unnamed [] w q hq n a h k = tt
+other_unnamed (x ∷ xs) w q hq n a h k = (other_area x w.0 q a hq n.0 h k, other_unnamed xs w.1 q hq n.1 a h k)
+
+-- ---- what a step leaves
+
+module _ (p : ℕ) (σ : Seat) (names : List Named) (m n : NatMap ℕ) (hp : p < 32) (hs : σ.stack < 7) (written : AreWritten names)
+    (changes : Changes p σ names m n) where
+  pub named_stays : (x : Named) → IsName x → NotNamed names (address_of x) → n (address_of x) ≡ m (address_of x)
+  named_stays x h d = changes (address_of x) (named_off_stack p σ hp hs x h) d
+
+  pub fixed_stays : (a : ℕ) → IsFixed a → n a ≡ m a
+  fixed_stays a f = changes a (fixed_off_stack p σ hp hs a f) (fixed_unnamed names written a f)
+
+  -- another stack of the processor
+  pub stack_stays : (i : ℕ) → (i ≡ σ.stack → ⊥) → (a : ℕ) → stack_top p i - stack_bytes ≤ a → a < stack_top p i → n a ≡ m a
+  stack_stays i d a h k = changes a (apart (in_order i σ.stack d)) (stack_unnamed names written a (omega arith))
+    where
+      apart : (i < σ.stack) ⊎ (σ.stack < i) → OffStack p σ hp hs a
+      apart (inl l) = inl (omega arith)
+      apart (inr l) = inr (omega arith)
+
+  -- what belongs to another processor: its area and its stacks
+  pub area_stays : (q : ℕ) → q < 32 → NoneOf q names → (a : ℕ) → pcpu q ≤ a → a < pcpu q + 0x10000 → n a ≡ m a
+  area_stays q hq d a h k = changes a (low_off_stack p σ hp hs a (omega arith)) (other_unnamed names written q hq d a h k)
+
+  pub stacks_stay : (q : ℕ) → (q ≡ p → ⊥) → (a : ℕ) → 0xffffc90000000000 + 0x100000 * q ≤ a → a < 0xffffc90000000000 + 0x100000 * suc q → n a ≡ m a
+  stacks_stay q d a h k = changes a (apart (in_order q p d)) (stack_unnamed names written a (omega arith))
+    where
+      apart : (q < p) ⊎ (p < q) → OffStack p σ hp hs a
+      apart (inl l) = inl (omega arith)
+      apart (inr l) = inr (omega arith)
+
+-- ---- saved areas
+
+same_map : (m n : NatMap ℕ) (k a hi : ℕ) → a + 8 * k ≤ hi → hi < 2 ^ 64 → ((x : ℕ) → a ≤ x → x < hi → n x ≡ m x)
+    → map n (addresses a k) ≡ map m (addresses a k)
+same_map m n zero a hi l h f = refl
+same_map m n (suc k) a hi l h f =
+    let next : wrap (a + 8) ≡ a + 8 = omega arith in
+    (λ i. f a (omega arith) (omega arith) i ∷ map n (addresses (wrap (a + 8)) k))
+    ∙ ap (λ xs. m a ∷ xs)
+    (subst (λ z. map n (addresses z k) ≡ map m (addresses z k)) (sym next) (same_map m n k (a + 8) hi (omega arith) h (λ x b c. f x (omega arith) c)))
+
+pub saved_stays : (mode : Mode) (p i : ℕ) (t : Task) (m n : NatMap ℕ) → p < 32 → i < 7
+    → ((a : ℕ) → stack_top p i - stack_bytes ≤ a → a < stack_top p i → n a ≡ m a)
+    → IsSaved mode p i t m → IsSaved mode p i t n
+saved_stays Idt p i t m n hp hi f s = record {
+  regs = same_map m n 15 (stack_top p i - 0xb0) (stack_top p i) (omega arith) (omega arith) (λ x b c. f x (omega arith) c) ∙ s.regs;
+  rip = f (stack_top p i - 0xb0 + 0x88) (omega arith) (omega arith) ∙ s.rip;
+  cs = f (stack_top p i - 0xb0 + 0x90) (omega arith) (omega arith) ∙ s.cs;
+  flags = f (stack_top p i - 0xb0 + 0x98) (omega arith) (omega arith) ∙ s.flags;
+  rsp = f (stack_top p i - 0xb0 + 0xa0) (omega arith) (omega arith) ∙ s.rsp;
+  ss = ap selector (f (stack_top p i - 0xb0 + 0xa8) (omega arith) (omega arith)) ∙ s.ss;
+  sti = ap (bit 16) (f (stack_top p i - 0xb0 + 0xa8) (omega arith) (omega arith)) ∙ s.sti;
+  nmi = ap (bit 18) (f (stack_top p i - 0xb0 + 0xa8) (omega arith) (omega arith)) ∙ s.nmi;
+}
+saved_stays Fred p i t m n hp hi f s = record {
+  regs = same_map m n 15 (stack_top p i - 0xc0) (stack_top p i) (omega arith) (omega arith) (λ x b c. f x (omega arith) c) ∙ s.regs;
+  rip = f (stack_top p i - 0xc0 + 0x88) (omega arith) (omega arith) ∙ s.rip;
+  cs = f (stack_top p i - 0xc0 + 0x90) (omega arith) (omega arith) ∙ s.cs;
+  flags = f (stack_top p i - 0xc0 + 0x98) (omega arith) (omega arith) ∙ s.flags;
+  rsp = f (stack_top p i - 0xc0 + 0xa0) (omega arith) (omega arith) ∙ s.rsp;
+  ss = ap selector (f (stack_top p i - 0xc0 + 0xa8) (omega arith) (omega arith)) ∙ s.ss;
+  sti = ap (bit 16) (f (stack_top p i - 0xc0 + 0xa8) (omega arith) (omega arith)) ∙ s.sti;
+  nmi = ap (bit 18) (f (stack_top p i - 0xc0 + 0xa8) (omega arith) (omega arith)) ∙ s.nmi;
+}

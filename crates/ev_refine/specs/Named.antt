@@ -1,0 +1,93 @@
+-- Words of memory that have a name: what others than one activation read or write. Each has an address, and some belong to a processor. Own.
+use Rattle.std.specs.Prelude.{◌≡◌, ◌≢◌, ◌⊎◌, ℕ, ◌+◌, ◌*◌, ◌-◌, ◌%◌, ◌<◌, ◌≤◌, true, List, [], ◌∷◌, Option, Some, None}
+use Rattle.ev_isa.specs.Word.{NatMap, is_aligned}
+use Rattle.ev_isa.specs.Pages.{text_base, page_base}
+use Rattle.ev_mem.specs.Memory.{page_map}
+use Rattle.ev_listing.specs.AddressMap.{pcpu, slot_offset, record_address, cells_base, stack_top, stack_bytes}
+use Rattle.ev_activation.specs.Seat.{Seat, top_at}
+
+-- The words of a processor's area: SYSCALL's RSP, the top of the running task's stack and its words, the reschedule mark, the port of `log`, the head of the
+-- queue of calls, the stack's top in the TSS, slots, and a word of a call record, at an offset. Then shared cells, presence of pages, and words of user code.
+pub data Named : Type 0 where
+  UserRsp Top Current Mark Port Head TssTop : (p : ℕ) → Named
+  Slot : (p k : ℕ) → Named
+  RecordWord : (p k offset : ℕ) → Named
+  CellAt : (k : ℕ) → Named
+  PageBit : (i : ℕ) → Named
+  UserWord : (a : ℕ) → Named
+
+abbrev pub address_of : Named → ℕ
+address_of (UserRsp p) = pcpu p + 8
+address_of (Top p) = pcpu p + 0x10
+address_of (Current p) = pcpu p + 0x18
+address_of (Mark p) = pcpu p + 0x20
+address_of (Port p) = pcpu p + 0x28
+address_of (Head p) = pcpu p + 0x30
+address_of (TssTop p) = pcpu p + 0x408
+address_of (Slot p k) = pcpu p + slot_offset k
+address_of (RecordWord p k o) = record_address p k + o
+address_of (CellAt k) = cells_base + 8 * k
+address_of (PageBit i) = page_map + 8 * i
+address_of (UserWord a) = a
+
+-- the processor that a word belongs to
+abbrev pub owner : Named → Option ℕ
+owner (UserRsp p) = Some p
+owner (Top p) = Some p
+owner (Current p) = Some p
+owner (Mark p) = Some p
+owner (Port p) = Some p
+owner (Head p) = Some p
+owner (TssTop p) = Some p
+owner (Slot p k) = Some p
+owner (RecordWord p k o) = Some p
+owner _ = None
+
+-- words of the text and of the data pages
+abbrev pub IsPageWord : ℕ → Type 0
+IsPageWord a = (page_base ≤ a) × (a < page_base + 0x1000 * 256)
+
+abbrev pub IsUserWord : ℕ → Type 0
+IsUserWord a = (is_aligned a ≡ true) × (((text_base ≤ a) × (a < text_base + 0x10000)) ⊎ IsPageWord a)
+
+-- names within their bounds
+abbrev pub IsName : Named → Type 0
+IsName (UserRsp p) = p < 32
+IsName (Top p) = p < 32
+IsName (Current p) = p < 32
+IsName (Mark p) = p < 32
+IsName (Port p) = p < 32
+IsName (Head p) = p < 32
+IsName (TssTop p) = p < 32
+IsName (Slot p k) = (p < 32) × (k < 64)
+IsName (RecordWord p k o) = (p < 32) × (k < 8) × (o < 0x40) × (o % 8 ≡ 0)
+IsName (CellAt k) = k < 256
+IsName (PageBit i) = i < 256
+IsName (UserWord a) = IsUserWord a
+
+-- those that are ever written: all but the text
+abbrev pub IsWritten : Named → Type 0
+IsWritten (UserWord a) = IsPageWord a
+IsWritten x = IsName x
+
+-- an address outside an interval
+abbrev pub Outside : (lo hi a : ℕ) → Type 0
+Outside lo hi a = (a < lo) ⊎ (hi ≤ a)
+
+-- an address that is in no word of these names
+abbrev pub NotNamed : List Named → ℕ → Type 0
+NotNamed [] a = Unit {0}
+NotNamed (x ∷ xs) a = Outside (address_of x) (address_of x + 8) a × NotNamed xs a
+
+abbrev pub AreWritten : List Named → Type 0
+AreWritten [] = Unit {0}
+AreWritten (x ∷ xs) = IsWritten x × AreWritten xs
+
+-- none of these words is processor q's
+abbrev pub NoneOf : ℕ → List Named → Type 0
+NoneOf q [] = Unit {0}
+NoneOf q (x ∷ xs) = (owner x ≢ Some q) × NoneOf q xs
+
+-- What a step of p writes, whose activation has this seat: words of its stack below the top of its frame, and words of these names.
+abbrev pub Changes : ℕ → Seat → List Named → NatMap ℕ → NatMap ℕ → Type 0
+Changes p σ names m n = (a : ℕ) → Outside (stack_top p σ.stack - stack_bytes) (top_at p σ) a → NotNamed names a → n a ≡ m a

@@ -1,0 +1,4 @@
+pub mod LineLaws
+pub mod ScriptLaws
+pub mod TextLaws
+pub mod Examples

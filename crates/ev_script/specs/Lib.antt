@@ -1,0 +1,3 @@
+pub mod ScriptLine
+pub mod LineText
+pub mod Script

@@ -1,0 +1,20 @@
+//! Statements of user text.
+#![tactic(auto)]
+
+mod counted;
+mod labels;
+mod moves;
+mod statements;
+mod stop;
+mod text;
+mod words;
+
+pub use counted::{four, none, one, two};
+pub use labels::Labels;
+pub use statements::statement;
+pub use stop::Stop;
+pub use text::{UserText, WholeText};
+pub use words::{alu_word, is};
+
+#[cfg(test)]
+mod tests;
