@@ -69,7 +69,8 @@ pub record GoesOn (mode : Mode) (image : Image) (p r : ℕ) (t : Task) (u : User
   pub sees : Sees image (record u { words = words }) (written m write)
   pub others : (x : ℕ) → (IsPageWord x → ⊥) → with_write m.words write x ≡ m.words x
 
--- The step s delivers what the task raises, from the task's processor with the RIP that is saved.
+-- The step s delivers what the task raises, from the task's processor with the RIP that is saved;
+-- of INT n other than INT 3 the processor's own event.
 pub record Raised (t : Task) (c : Processor) (a : Apic) (m : Memory) (nmi : Bool) (saved : ℕ)
     (e : Event) (s : After) : Type 0 where
   pub cause : Cause

@@ -14,7 +14,7 @@ use Rattle.ev_proc.specs.ProcessorStep.{has_fred, try, after_arrival}
 use Rattle.ev_concrete.specs.Opening.{gate}
 use Rattle.ev_user.specs.Causes.{Cause, Refused, Call, IsCause, own_event, raised_event, raising}
 
--- The event that the processor delivers is no NMI and no interrupt, and its vector is a byte.
+-- an event that is no NMI and no interrupt, and whose vector is a byte
 pub record IsOwn (e : Event) : Type 0 where
   pub no_interrupt : e.kind ≢ External
   pub no_nmi : e.kind ≢ Nmi
