@@ -103,7 +103,8 @@ module _ (v w : View) (alike : AreAlike v w) (t : Task) where
   -- a read: the same word goes on
   reads : (bad : Event) (a : ℕ) (f g : ℕ → Result Changed Event) → IsBad bad → ((n : ℕ) → Alike (f n) (g n))
       → Alike (read_word v bad a >>= f) (read_word w bad a >>= g)
-  reads bad a f g h k = access false bad a (v.words a) (w.words a) f g h
+  reads bad a f g h k =
+      access false bad a (v.words a) (w.words a) f g h
       (λ p q. subst (λ n. Alike (f (v.words a)) (g n)) (alike.words false a p q) (k (v.words a)))
 
   -- a write that ends the instruction, of a value and a task that depend on the word that was there
@@ -111,8 +112,8 @@ module _ (v w : View) (alike : AreAlike v w) (t : Task) where
       → Alike (write_word v bad a (value (v.words a)) >>= (λ ws. Ok (to (v.words a), ws)))
       (write_word w bad a (value (w.words a)) >>= (λ ws. Ok (to (w.words a), ws)))
   writes bad a value to h k =
-      access true bad a (put_at v.words a (value (v.words a))) (put_at w.words a (value (w.words a))) (λ ws. Ok (to (v.words a), ws))
-      (λ ws. Ok (to (w.words a), ws)) h
+      access true bad a (put_at v.words a (value (v.words a))) (put_at w.words a (value (w.words a)))
+      (λ ws. Ok (to (v.words a), ws)) (λ ws. Ok (to (w.words a), ws)) h
       (λ p q. record {
         task = ap to (alike.words true a p q);
         write = Some (a, value (v.words a));
@@ -143,13 +144,13 @@ module _ (v w : View) (alike : AreAlike v w) (t : Task) where
       at : Task
       at = record t { rip = a }
 
-      pick : (b : Bool) → is_canonical a ≡ b → Alike ((if b then Ok at else Err (gp 0)) >>= (λ u. Ok (u, v.words)))
-          ((if b then Ok at else Err (gp 0)) >>= (λ u. Ok (u, w.words)))
+      pick : (b : Bool) → is_canonical a ≡ b
+          → Alike ((if b then Ok at else Err (gp 0)) >>= (λ u. Ok (u, v.words))) ((if b then Ok at else Err (gp 0)) >>= (λ u. Ok (u, w.words)))
       pick true q = only at (record { gs = refl; long = refl; interrupts = refl; canonical = λ h. q })
       pick false q = fails Protection tt
 
-  branches : (b : Bool) (a : ℕ) → Alike ((if b then jumped t a else Ok t) >>= (λ u. Ok (u, v.words)))
-      ((if b then jumped t a else Ok t) >>= (λ u. Ok (u, w.words)))
+  branches : (b : Bool) (a : ℕ)
+      → Alike ((if b then jumped t a else Ok t) >>= (λ u. Ok (u, v.words))) ((if b then jumped t a else Ok t) >>= (λ u. Ok (u, w.words)))
   branches true a = jumps a
   branches false a = only t stays
 
@@ -189,8 +190,8 @@ module _ (v w : View) (alike : AreAlike v w) (t : Task) where
   effects (Shl d n) = let r : ℕ × Status = shift_left (reg t d) n in only (with_result t d r) (results d r)
   effects (Shr d n) = let r : ℕ × Status = shift_right (reg t d) n in only (with_result t d r) (results d r)
   effects (Xchg b n s) = writes (bad_address b) (displaced (reg t b) n) (λ x. reg t s) (λ x. with_reg t s x) (is_bad b) (sets s)
-  effects (Xadd b n s) = writes (bad_address b) (displaced (reg t b) n) (λ x. (sum x (reg t s)).0) (λ x. in_flags (with_reg t s x) (sum x (reg t s)).1)
-      (is_bad b)
+  effects (Xadd b n s) =
+      writes (bad_address b) (displaced (reg t b) n) (λ x. (sum x (reg t s)).0) (λ x. in_flags (with_reg t s x) (sum x (reg t s)).1) (is_bad b)
       (λ x. results s (x, (sum x (reg t s)).1))
   effects (CmpXchg b n s) = writes (bad_address b) (displaced (reg t b) n) (λ x. (compared t x s).1) (λ x. (compared t x s).0) (is_bad b) (λ x. compares x s)
   effects (Jmp n) = jumps (displaced t.rip n)

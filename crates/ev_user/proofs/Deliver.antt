@@ -90,8 +90,7 @@ call_arrives c d a m nmi words frame fred h =
       apic = a;
       words = m.words;
       nmi = nmi;
-      step =
-          Stepped.Delivered (own_event Call) None;
+      step = Stepped.Delivered (own_event Call) None;
     } in
     ap (λ b. if b then delivering c a m nmi (own_event Call) (c.rip + 2) else called) fred ∙ arrives c d a m nmi words frame (own_event Call) (c.rip + 2) h
 

@@ -42,6 +42,14 @@ use Rattle.ev_user.proofs.Writes.{small_code, views_alike, is_write, others_stay
 low_canonical : (a : ℕ) → a < 2 ^ 47 → is_canonical a ≡ true
 low_canonical a h = ap (λ b. b || (a / 2 ^ 47 == 2 ^ 17 - 1)) (eq-eqb (a / 2 ^ 47) 0 (let e : a / 140737488355328 ≡ 0 = omega arith in e))
 
+-- a fault has no length
+no_length : (f : Fault) → (fault_event f).length ≡ 0
+no_length Undefined = refl
+no_length Fault.Stack = refl
+no_length Protection = refl
+no_length (Page code address) = refl
+no_length Fault.Alignment = refl
+
 module _ (mode : Mode) (image : Image) (p r : ℕ) (t : Task) (u : UserMemory) (cr2 : ℕ) (blocked : Bool) (a : Apic) (m : Memory) (nmi : Bool)
     (formed : IsImage image) (is_task : IsTask t) (sees : Sees image u m) where
   abbrev cpu : Task → Processor
@@ -57,51 +65,9 @@ module _ (mode : Mode) (image : Image) (p r : ℕ) (t : Task) (u : UserMemory) (
 
   -- a fault at RIP
   faulted : (f : Fault) → IsCause (Faulted f) → Follows (Raises t.rip (fault_event f)) (fault c a m nmi (fault_event f))
-  faulted f h = pick f h
-    where
-      none : t.rip ≡ t.rip + 0
-      none = omega arith
-
-      pick : (f : Fault) → IsCause (Faulted f) → Follows (Raises t.rip (fault_event f)) (fault c a m nmi (fault_event f))
-      pick Undefined h = record {
-        cause = Faulted Undefined;
-        is = h;
-        event = refl;
-        saved_is = none;
-        step_is =
-            ap (delivering c a m nmi (fault_event Undefined)) none;
-      }
-      pick Fault.Stack h = record {
-        cause = Faulted Fault.Stack;
-        is = h;
-        event = refl;
-        saved_is = none;
-        step_is =
-            ap (delivering c a m nmi (fault_event Fault.Stack)) none;
-      }
-      pick Protection h = record {
-        cause = Faulted Protection;
-        is = h;
-        event = refl;
-        saved_is = none;
-        step_is =
-            ap (delivering c a m nmi (fault_event Protection)) none;
-      }
-      pick (Page code x) h = record {
-        cause = Faulted (Page code x);
-        is = h;
-        event = refl;
-        saved_is = none;
-        step_is = ap (delivering c a m nmi (fault_event (Page code x))) none;
-      }
-      pick Fault.Alignment h = record {
-        cause = Faulted Fault.Alignment;
-        is = h;
-        event = refl;
-        saved_is = none;
-        step_is =
-            ap (delivering c a m nmi (fault_event Fault.Alignment)) none;
-      }
+  faulted f h =
+      let at_rip : t.rip ≡ t.rip + (fault_event f).length = omega (arith, no_length f) in
+      record { cause = Faulted f; is = h; event = refl; saved_is = at_rip; step_is = ap (delivering c a m nmi (fault_event f)) at_rip }
 
   -- the processor after an effect is that of the task after it
   processor_after : (x : Task) → x.gs ≡ t.gs → with_effect (completed c) x ≡ cpu x
@@ -234,8 +200,8 @@ module _ (mode : Mode) (image : Image) (p r : ℕ) (t : Task) (u : UserMemory) (
   abbrev same : Processor
   same = task_processor mode image p r t c.cr2 c.nmi_blocked
 
-  all_steps : (x : UserStep) → user_step u t ≡ x → Follows mode image p r t u c.cr2 c.nmi_blocked a m nmi site.formed site.runs.task site.sees x
-      (step same a m nmi)
+  all_steps : (x : UserStep) → user_step u t ≡ x
+      → Follows mode image p r t u c.cr2 c.nmi_blocked a m nmi site.formed site.runs.task site.sees x (step same a m nmi)
   all_steps x h =
       subst (λ y. Follows mode image p r t u c.cr2 c.nmi_blocked a m nmi site.formed site.runs.task site.sees y (step same a m nmi)) h
       (follows mode image p r t u c.cr2 c.nmi_blocked a m nmi site.formed site.runs.task site.sees

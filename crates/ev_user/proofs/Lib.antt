@@ -6,3 +6,4 @@ pub mod Writes
 pub mod Follows
 pub mod Deliver
 pub mod Examples
+pub mod Opened

@@ -168,7 +168,8 @@ pub data Looks (image : Image) (a : ℕ) : Type 0 where
 
 pub looks : (image : Image) → IsImage image → (a : ℕ) → Looks image a
 unfolding place_of
-looks image is a = pick (nat_le text_base a && nat_lt a (text_base + 0x10000)) (nat_le page_base a && nat_lt a (page_base + 0x1000 * 256))
+looks image is a =
+    pick (nat_le text_base a && nat_lt a (text_base + 0x10000)) (nat_le page_base a && nat_lt a (page_base + 0x1000 * 256))
     (nat_lt a (2 ^ 63)) refl refl refl
   where
     by : Bool → Bool → Bool → Place
@@ -224,7 +225,8 @@ same_rule s t x Upper h = refl
 -- a number of a page is below 256
 small_page : (a i : ℕ) → place_of a ≡ Page i → i < 256
 unfolding place_of
-small_page a i h = pick (nat_le text_base a && nat_lt a (text_base + 0x10000)) (nat_le page_base a && nat_lt a (page_base + 0x1000 * 256))
+small_page a i h =
+    pick (nat_le text_base a && nat_lt a (text_base + 0x10000)) (nat_le page_base a && nat_lt a (page_base + 0x1000 * 256))
     (nat_lt a (2 ^ 63)) refl h
   where
     pick : (x y z : Bool) → (nat_le page_base a && nat_lt a (page_base + 0x1000 * 256)) ≡ y

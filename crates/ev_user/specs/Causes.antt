@@ -1,4 +1,5 @@
--- What user code raises (SDM volume 3, chapter 6; volume 2, INT n, INT1, INT3, SYSCALL; which of them there are is own).
+-- What user code raises (SDM volume 3, chapter 6; volume 2, INT n, INT1, INT3, SYSCALL). Which of
+-- them there are is own.
 use Rattle.std.specs.Prelude.{◌≡◌, ◌≢◌, ℕ, ◌+◌, ◌*◌, ◌^◌, ◌<◌, Bool, true}
 use Rattle.ev_isa.specs.Word.{is_canonical}
 use Rattle.ev_event.specs.declared.event.EventType.{EventType}
@@ -10,7 +11,8 @@ use Rattle.ev_apic.specs.declared.apic.Apic.{Apic}
 use Rattle.ev_mem.specs.Memory.{Memory}
 use Rattle.ev_proc.specs.ProcessorStep.{After, delivering, system_call}
 
--- invalid opcode, stack-segment fault, general protection, page fault with its error code and address, alignment check
+-- invalid opcode, stack-segment fault, general protection, page fault with its error code and
+-- address, alignment check
 pub data Fault : Type 0 where
   Undefined : Fault
   Stack : Fault
@@ -18,6 +20,7 @@ pub data Fault : Type 0 where
   Page : (code address : ℕ) → Fault
   Alignment : Fault
 
+-- its event
 abbrev pub fault_event : Fault → Event
 fault_event Undefined = ud
 fault_event Stack = ss 0
@@ -25,7 +28,8 @@ fault_event Protection = gp 0
 fault_event (Page code address) = pf code address
 fault_event Alignment = ac
 
--- a fault, or what an instruction raises by itself: INT1, INT3, INT 3 in two bytes, another INT n, SYSCALL
+-- a fault, or what an instruction raises by itself: INT1, INT3, INT 3 in two bytes, another INT n,
+-- SYSCALL
 pub data Cause : Type 0 where
   Faulted : Fault → Cause
   Debug : Cause
@@ -43,7 +47,8 @@ own_event Three = software SoftInt 3 2
 own_event (Refused n) = software SoftInt n 2
 own_event Call = software Other 1 2
 
--- the event that the abstract machine raises: INT n is a general protection fault, with the vector in its error code
+-- the event that the abstract machine raises: INT n is a general protection fault, with the vector
+-- in its error code
 abbrev pub raised_event : Cause → Event
 raised_event (Refused n) = gp (8 * n + 2)
 raised_event cause = own_event cause
@@ -54,7 +59,8 @@ IsCause (Faulted (Page code address)) = (code < 32) × (is_canonical address ≡
 IsCause (Refused n) = (n < 2 ^ 8) × (n ≢ 3)
 IsCause _ = Unit {0}
 
--- The step that delivers it: a fault saves RIP of its instruction, and the others that of the next. No event has a length but those that leave RIP behind.
+-- The step that delivers it. A fault, which has no length, saves RIP of its instruction, and the
+-- others that of the next.
 abbrev pub raising : Processor → Apic → Memory → Bool → Cause → After
 raising c a m nmi Call = system_call c a m nmi (c.rip + 2)
 raising c a m nmi cause = delivering c a m nmi (own_event cause) (c.rip + (own_event cause).length)

@@ -13,9 +13,11 @@ IsPageWord a = (page_base ≤ a) × (a < page_base + 0x1000 * 256)
 
 -- words of the text and of the data pages
 abbrev pub IsUserWord : ℕ → Type 0
-IsUserWord a = (is_aligned a ≡ true) × (((text_base ≤ a) × (a < text_base + 0x10000)) ⊎ IsPageWord a)
+IsUserWord a = (is_aligned a ≡ true)
+    × (((text_base ≤ a) × (a < text_base + 0x10000)) ⊎ IsPageWord a)
 
--- The words agree, those of the text are the image's, and the page map has 1 exactly at the pages that are present.
+-- The words agree, those of the text are the image's, and the page map has 1 exactly at the pages
+-- that are present.
 pub record Sees (image : Image) (u : UserMemory) (m : Memory) : Type 0 where
   pub regions_are : m.regions ≡ regions image
   pub text_is : u.text ≡ image.text
@@ -33,11 +35,13 @@ with_write words (Some w) = put_at words w.0 w.1
 -- it is a word of a data page that is present
 abbrev pub IsWrite : NatSet → Option (ℕ × ℕ) → Type 0
 IsWrite present None = Unit {0}
-IsWrite present (Some w) = (is_aligned w.0 ≡ true) × IsPageWord w.0 × (present ((w.0 - page_base) / 0x1000) ≡ true)
+IsWrite present (Some w) =
+    (is_aligned w.0 ≡ true) × IsPageWord w.0 × (present ((w.0 - page_base) / 0x1000) ≡ true)
 
--- user memory, and memory, with it
+-- user memory with it
 abbrev pub user_written : UserMemory → Option (ℕ × ℕ) → UserMemory
 user_written u w = record u { words = with_write u.words w }
 
+-- and memory
 abbrev pub written : Memory → Option (ℕ × ℕ) → Memory
 written m w = record m { words = with_write m.words w }

@@ -38,6 +38,7 @@ task_processor mode image p r t cr2 blocked = record (opening_cpu mode image p) 
 }
 
 -- the processor c runs task r, which is t
-pub record RunsTask (mode : Mode) (image : Image) (p r : ℕ) (t : Task) (c : Processor) : Type 0 where
+pub record RunsTask (mode : Mode) (image : Image) (p r : ℕ) (t : Task) (c : Processor)
+    : Type 0 where
   pub is : c ≡ task_processor mode image p r t c.cr2 c.nmi_blocked
   pub task : IsTask t

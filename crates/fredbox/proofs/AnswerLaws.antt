@@ -18,8 +18,8 @@ use Rattle.ev_form.specs.declared.document.Document.{Document}
 use Rattle.ev_form.proofs.FormLaws.{one_document, gives_image, gives_script}
 use Rattle.ev_form.proofs.BuiltLaws.{is_built}
 use Rattle.fredbox.specs.declared.command.Command.{Command}
-use Rattle.fredbox.specs.declared.status.Status.{Status}
-use Rattle.fredbox.specs.declared.status.Status.TheVariants.{Done, Usage, ReadFault, WriteFault, NotBuilt, NoMemory}
+use Rattle.ev_status.specs.declared.status.Status.{Status}
+use Rattle.ev_status.specs.declared.status.Status.TheVariants.{Done, Usage, ReadFault, WriteFault, BadDocument, Refused, NotBuilt, NoMemory}
 use Rattle.fredbox.specs.Answer.{Answers, IsDocumentOf, IsNoForm, Ran, run_of}
 
 -- ---- the document of a form can be run
@@ -74,6 +74,8 @@ ran_answers left old new c x WriteFault f p k r = (f, p.0, k, subst (TookPrefix 
 ran_answers left old new c x NoMemory f p k r =
     λ d q h. subst (λ (e : FirstForm). TookPrefix old new (run_of c e)) (same_form left d f q p.0 h k) (subst (TookPrefix old new) (text_same c x f p) r)
 ran_answers left old new c x Usage f p k r = absurd r
+ran_answers left old new c x (BadDocument line cause) f p k r = absurd r
+ran_answers left old new c x (Refused refusal) f p k r = absurd r
 ran_answers left old new c x ReadFault f p k r = absurd r
 ran_answers left old new c x NotBuilt f p k r = absurd r
 
@@ -87,6 +89,8 @@ answers_done left old new c NoMemory f a p h no_read no_write enough = absurd (e
 answers_done left old new c ReadFault f a p h no_read no_write enough = absurd (no_read refl)
 answers_done left old new c NotBuilt f a p h no_read no_write enough = absurd (not_of left f p h a.1)
 answers_done left old new c Usage f a p h no_read no_write enough = absurd a
+answers_done left old new c (BadDocument line cause) f a p h no_read no_write enough = absurd a
+answers_done left old new c (Refused refusal) f a p h no_read no_write enough = absurd a
 
 -- and a prefix of its text is taken in any case
 pub answers_prefix : (left old new : Option (List ℕ)) (c : Command) (s : Status) (f : FirstForm) → Answers left old new c s → IsForm f → left ≡ Some (text_of f)
@@ -98,3 +102,5 @@ answers_prefix left old new c NoMemory f a p h = a f p h
 answers_prefix left old new c ReadFault f a p h = took_nothing_by old new (run_of c f) a
 answers_prefix left old new c NotBuilt f a p h = took_nothing_by old new (run_of c f) a.0
 answers_prefix left old new c Usage f a p h = absurd a
+answers_prefix left old new c (BadDocument line cause) f a p h = absurd a
+answers_prefix left old new c (Refused refusal) f a p h = absurd a

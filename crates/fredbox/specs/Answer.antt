@@ -1,5 +1,5 @@
--- What the program answers, and what it says of a fault. Own.
-use Rattle.std.specs.Prelude.{◌≡◌, ℕ, List, [], codes, Option, Some, Result, Ok, Err, IfSome}
+-- What the program answers to the bytes of a document. Own.
+use Rattle.std.specs.Prelude.{◌≡◌, ℕ, List, [], Option, Some, Result, Ok, Err, IfSome}
 use Rattle.std.specs.Io.KnownBytes.{append_known}
 use Rattle.ev_io.specs.Transfer.{TookPrefix}
 use Rattle.ev_concrete.specs.RunText.{run_text}
@@ -8,8 +8,8 @@ use Rattle.ev_form.specs.FirstForm.{FirstForm, text_of}
 use Rattle.ev_form.specs.FormImage.{IsForm, image_of, script_of}
 use Rattle.ev_form.specs.declared.document.Document.{Document}
 use Rattle.fredbox.specs.declared.command.Command.{Command}
-use Rattle.fredbox.specs.declared.status.Status.{Status}
-use Rattle.fredbox.specs.declared.status.Status.TheVariants.{Done, Usage, ReadFault, WriteFault, NotBuilt, NoMemory}
+use Rattle.ev_status.specs.declared.status.Status.{Status}
+use Rattle.ev_status.specs.declared.status.Status.TheVariants.{Done, Usage, ReadFault, WriteFault, BadDocument, Refused, NotBuilt, NoMemory}
 
 -- the document of a form
 abbrev pub IsDocumentOf : Document → FirstForm → Type 0
@@ -46,19 +46,5 @@ Answers left old new c NoMemory = (f : FirstForm) → IsForm f → left ≡ Some
 Answers left old new c ReadFault = new ≡ old
 Answers left old new c NotBuilt = (new ≡ old) × IfSome left IsNoForm
 Answers left old new c Usage = ⊥
-
-abbrev pub fault_text : Status → List ℕ
-fault_text Done = []
-fault_text Usage = codes "fredbox: usage"
-fault_text ReadFault = codes "fredbox: read fault"
-fault_text WriteFault = codes "fredbox: write fault"
-fault_text NotBuilt = codes "fredbox: not built"
-fault_text NoMemory = codes "fredbox: no memory"
-
-abbrev pub code_of : Status → ℕ
-code_of Done = 0
-code_of Usage = 1
-code_of ReadFault = 2
-code_of WriteFault = 3
-code_of NoMemory = 6
-code_of NotBuilt = 7
+Answers left old new c (BadDocument line cause) = ⊥
+Answers left old new c (Refused refusal) = ⊥

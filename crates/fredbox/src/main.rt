@@ -2,12 +2,11 @@
 #![tactic(auto)]
 
 mod command;
-mod status;
 mod top;
 
 use arrayvec::ArrayString;
 use ev_io::{StdSink, StdSource};
-use status::print_fault;
+use ev_status::print_fault;
 use std::process::ExitCode;
 use std::{env, io};
 use top::top;
@@ -29,7 +28,8 @@ fn main(rt: HostRuntime) -> io::Result<ExitCode> {
     let code = print_fault(&status, &mut fault);
     if code != 0 {
         let text = fault.as_str();
-        eprintln!(rt; "{text}")?;
+        // The status says it too, so a line that cannot be written is let go.
+        let _ = eprintln!(rt; "{text}");
     }
     Ok(ExitCode::from(code))
 }

@@ -1,8 +1,8 @@
 // A document's run, words that are no command, and a sink that fails at once.
 
-use crate::status::Status;
 use crate::top::top;
 use ev_io::{MemSink, MemSource};
+use ev_status::Status;
 use std::alloc::Global;
 use std::test::Fail;
 

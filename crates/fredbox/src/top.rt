@@ -11,15 +11,15 @@ ghost use Rattle.ev_pair.specs.Safety.{RunIsSafe};
 ghost use Rattle.ev_form.specs.FirstForm.{FirstForm, text_of};
 ghost use Rattle.ev_form.specs.FormImage.{IsForm, image_of, script_of};
 ghost use Rattle.fredbox.specs.declared.command.Command.{Command};
-ghost use Rattle.fredbox.specs.declared.status.Status.TheVariants as Status;
+ghost use Rattle.ev_status.specs.declared.status.Status.TheVariants as Status;
 ghost use Rattle.fredbox.specs.Commands.{command_of};
 ghost use Rattle.fredbox.specs.Answer.{Answers, Finds, IsDocumentOf, IsNoForm, Ran};
 
 use crate::command::{Command, command_of};
-use crate::status::Status;
 use ev_form::{Document, read_form};
 use ev_io::{InputFault, Sink, Source, read_all};
 use ev_pair::{RunFault, run_modes};
+use ev_status::Status;
 use std::alloc::Global;
 
 /// Reads a document whole, or answers why there is none.
