@@ -6,7 +6,7 @@ use Rattle.ev_io.specs.declared.cause.Cause.{Cause}
 use Rattle.ev_io.specs.declared.cause.Cause.TheVariants as Cause
 use Rattle.ev_asm.specs.Assembly.{Places, Name, is_name, place}
 use Rattle.ev_line.specs.Operands.{has_label}
-use Rattle.ev_text.specs.LabelTable.{found}
+use Rattle.ev_asm.specs.LabelTable.{found}
 use Rattle.ev_text.specs.UserText.{unless}
 use Rattle.ev_part.specs.declared.line.BodyLine.{BodyLine}
 use Rattle.ev_part.specs.declared.line.BodyLine.TheVariants.{Here, Does, Jumps}

@@ -1,7 +1,6 @@
 pub mod Ranges
 pub mod Choosing
 pub mod Surplus
-pub mod LabelLaws
 pub mod TextLaws
 pub mod Gives
 pub mod Encoded

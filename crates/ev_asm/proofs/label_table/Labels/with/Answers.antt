@@ -5,9 +5,9 @@ use Rattle.std.specs.Str.{bytes_eq}
 use Rattle.std.specs.BTreeMap.{get_by_text}
 use Rattle.std.specs.Map.{update}
 use Rattle.ev_asm.specs.Assembly.{Places}
-use Rattle.ev_text.specs.LabelTable.{found}
-use Rattle.ev_text.proofs.LabelLaws.{found_more}
-use Rattle.ev_text.proofs.labels.Labels.with.Goals as goal
+use Rattle.ev_asm.specs.LabelTable.{found}
+use Rattle.ev_asm.proofs.LabelLaws.{found_more}
+use Rattle.ev_asm.proofs.label_table.Labels.with.Goals as goal
 
 pub invariant_of-result : goal.invariant_of-result
 invariant_of-result c = λ q.
