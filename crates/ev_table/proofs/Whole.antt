@@ -133,7 +133,7 @@ module _ (mode : Mode) (image : Image) (given : IsImage image) (built : IsBuilt 
       (sizes mode n b.key (λ f. 0) 0 (take i (body_items b)) (take_built i (body_items b) (short_at bodies are_short n b h).built))
 
   -- where an item lies: 2304 bytes are 256 items of at most 9
-  range : (n i : ℕ) (b : Body) → slice_get bodies n ≡ Some b → (0xffffffff82000000 ≤ item_address mode n b i)
+  pub range : (n i : ℕ) (b : Body) → slice_get bodies n ≡ Some b → (0xffffffff82000000 ≤ item_address mode n b i)
       × (item_address mode n b i ≤ 0xffffffff82800000 + 2304)
   range n i b h =
       let few : n < length bodies = slice_get_within bodies n b h in
