@@ -29,14 +29,14 @@ use Rattle.ev_built.specs.Built.{IsBuilt}
 use Rattle.ev_built.specs.Program.{begins, leads_to, is_built_instruction, IsProgram}
 use Rattle.ev_concrete.specs.Depth.{is_in_repeat, bodies_on, is_jump}
 use Rattle.ev_listing.specs.AddressMap.{nmi_entry, repeat_entry}
-use Rattle.ev_refine.specs.Tasks.{IsTask, task_processor, RunsTask}
+use Rattle.ev_user.specs.Tasks.{IsTask, task_processor, RunsTask}
 use Rattle.ev_refine.specs.Nmi.{inner_edges}
 use Rattle.ev_refine.specs.Named.{Changes}
 use Rattle.ev_refine.specs.Domain.{first_start, IsInProgram, AreQuiet, IsInDomain}
 use Rattle.ev_refine.specs.Relation.{Chain, serves, StandsOn, Stands}
 use Rattle.ev_refine.proofs.Maps.{at_same, at_other}
 use Rattle.ev_refine.proofs.Standing.{instruction_first, Moves, step_moves}
-use Rattle.ev_refine.proofs.After.{kernel_names, latch_parts, own_after, stands_after}
+use Rattle.ev_refine.proofs.After.{kernel_names, latch_parts, own_after, stands_after, few_inner}
 use Rattle.ev_refine.proofs.Domains.{four_tasks}
 use Rattle.ev_refine.proofs.Depth.{stands_depth}
 use Rattle.ev_refine.proofs.Tells.{AtRest, at_rest}
@@ -130,7 +130,8 @@ module _ (mode : Mode) (image : Image) (formed : IsImage image) (built : IsBuilt
       let there : StandsOn mode image p (own + inner_edges (s.latches p)) s' y
       = own_after mode image p (left p) s s' x (record { stack = x.running; used = 0 }) cpu as' words (put_at x.tasks x.running t) bs own u.on small four mv
       (sym u.rest.returning) narrow changes (λ i d. others i (λ e. d (e ∙ sym u.rest.returning))) tasks blocked
-      (λ class. serving class ∙ sym (ap (list_any (λ (b : BodyContext). serves mode image class b.service)) hb)) few
+      (λ class. serving class ∙ sym (ap (list_any (λ (b : BodyContext). serves mode image class b.service)) hb))
+      (let f = few_inner mode image (s.latches p) in omega arith)
       (subst (λ k. Chain mode image p own u.on.returning k u.on.frame u.on.switching bs as' cpu (with_words s.memory words))
       (sym (at_same x.tasks x.running u.on.returning t u.rest.returning)) (chain u.on.returning u.rest.returning)) in
       let inside : IsInDomain image p y = record {

@@ -33,7 +33,7 @@ use Rattle.ev_abstract.specs.UserCode as user
 use Rattle.ev_abstract.specs.Boundary.{Choice, Next as NextItem, choice, maskable, interrupt_or_next, is_nmi_body, open_to_interrupts, outranks}
 use Rattle.ev_abstract.specs.Run.{turn, chosen_step, next_step, task_step}
 use Rattle.ev_built.specs.Program.{leads_to, is_built_instruction}
-use Rattle.ev_refine.specs.Tasks.{task_processor}
+use Rattle.ev_user.specs.Tasks.{task_processor}
 
 -- ---- the boundary
 

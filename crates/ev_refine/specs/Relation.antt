@@ -22,9 +22,10 @@ use Rattle.ev_abstract.specs.Run.{item_at}
 use Rattle.ev_concrete.specs.Opening.{listings, code_of, opening_word, tasks_of, regions}
 use Rattle.ev_concrete.specs.ConcreteRun.{System, Activation}
 use Rattle.ev_activation.specs.Seat.{Kind, NmiFromTask, NmiFromBody, kind_of, seat_of}
-use Rattle.ev_refine.specs.Tasks.{IsTask, RunsTask, IsSaved, CurrentIs}
+use Rattle.ev_user.specs.Tasks.{IsTask, RunsTask}
+use Rattle.ev_refine.specs.Tasks.{IsSaved, CurrentIs}
 use Rattle.ev_refine.specs.Nmi.{Frame, Leads, Layer, Plain, LatchIs, inner_edges}
-use Rattle.ev_refine.specs.Named.{IsUserWord}
+use Rattle.ev_user.specs.Sees.{IsUserWord}
 use Rattle.ev_refine.specs.Active.{Active}
 use Rattle.ev_refine.specs.Domain.{IsInDomain}
 
