@@ -244,12 +244,14 @@ module _ (mode : Mode) (image : Image) where
     service = λ class. ap (λ (a : Apic). list_any (λ v. vectors_of a.isr v && (v / 16 == class)) (numbers_from 0 256)) (mv.other_apic q e) ∙ on.service class;
     slots = λ k lt. ap (λ w. w (pcpu q + slot_offset k)) mv.words_are ∙ slot_is p σ hp hs s.memory.words words changes q k hq lt ∙ on.slots k lt;
     runs = as_runs on.layer q on.own on.more on.returning (x.tasks on.returning) on.frame on.switching x.bodies (s'.activations q) (s'.cpus q) s'.memory
-        (moved (λ a c w r. Chain mode image q on.own on.returning (x.tasks on.returning) on.frame on.switching x.bodies a c (record { regions = r; words = w }))
+        (moved (λ a c w r. Chain mode image q on.own on.returning (x.tasks on.returning) on.frame on.switching x.bodies a c
+        (record { regions = r; words = w }))
         (chain_stays mode image q on.own on.returning (x.tasks on.returning) on.frame on.switching x.bodies (s.activations q) (s.cpus q) s.memory words lq
         eight returning_small
         (others_spared p q σ (kernel_names p) s.memory.words words hp hs hq d (hp, (hp, tt))
         ((λ f. d (sym (some_same p q f))), ((λ f. d (sym (some_same p q f))), tt)) changes)
-        (as_chain on.layer q on.own on.more on.returning (x.tasks on.returning) on.frame on.switching x.bodies (s.activations q) (s.cpus q) s.memory on.runs)));
+        (as_chain on.layer q on.own on.more on.returning (x.tasks on.returning) on.frame on.switching x.bodies (s.activations q) (s.cpus q) s.memory
+        on.runs)));
   }
     where
       hq : q < 32

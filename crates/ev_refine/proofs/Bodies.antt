@@ -352,7 +352,13 @@ module _ (image : Image) (p : ℕ) (hp : p < 32) (κ : Kind) (σ : Seat) (ss : �
       by_flags : v 31 ≡ v 17 → (t : Bool) → (v 41 == v 19) ≡ t → OpensExit Idt p κ σ ss w extra v f c (at_exit exit_entry) m
       by_flags q true h =
           let q' : v 41 ≡ v 19 = eqb-true (v 41) (v 19) h in
-          idt_exit BySysret (ring_is, ((facts_tell (here Idt p κ σ ss w extra v f)).equal (saved 1) frame_rip q, ((facts_tell (here Idt p κ σ ss w extra v f)).equal (saved 11) frame_flags q', tt))) (q, q') a
+          idt_exit BySysret (
+            ring_is,
+            (
+              (facts_tell (here Idt p κ σ ss w extra v f)).equal (saved 1) frame_rip q,
+              ((facts_tell (here Idt p κ σ ss w extra v f)).equal (saved 11) frame_flags q', tt),
+            ),
+          ) (q, q') a
       by_flags q false h =
           idt_exit ByOtherFlags (
             ring_is,
@@ -364,7 +370,8 @@ module _ (image : Image) (p : ℕ) (hp : p < 32) (κ : Kind) (σ : Seat) (ss : �
 
       by_rip : (t : Bool) → (v 31 == v 17) ≡ t → OpensExit Idt p κ σ ss w extra v f c (at_exit exit_entry) m
       by_rip true h = by_flags (eqb-true (v 31) (v 17) h) (v 41 == v 19) refl
-      by_rip false h = idt_exit ByOtherRip (ring_is, ((facts_tell (here Idt p κ σ ss w extra v f)).unequal (saved 1) frame_rip (unlike (v 31) (v 17) h) s.rcx rip, tt)) tt a
+      by_rip false h = idt_exit ByOtherRip
+          (ring_is, ((facts_tell (here Idt p κ σ ss w extra v f)).unequal (saved 1) frame_rip (unlike (v 31) (v 17) h) s.rcx rip, tt)) tt a
 
   pub exits : (mode : Mode) → Saved mode image v w → v 17 < 2 ^ 64 → v 19 < 2 ^ 64
       → Agrees (e mode p κ σ ss w extra v f) (block mode (body mode AtItem)).ground (block mode (body mode AtItem)).opening c m

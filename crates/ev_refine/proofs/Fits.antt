@@ -180,7 +180,8 @@ module _ (mode : Mode) (image : Image) (p : ℕ) (σ : Seat) (hs : IsSeat σ) (h
   -- where known words lie: on a stack of the processor, or in its area
   pub known_in : (spot : Spot) → over_task mode spot ≡ true → (l : Loc) → in_win (block mode spot).ground.known l ≡ true
       → InSome (IsThere env (where_at p σ) l) (forms spot).known
-  known_in spot h l i = which_form env (where_at p σ) l (forms spot).known (located image.processors env (where_at p σ) (forms spot).known (known_fits spot h))
+  known_in spot h l i = which_form env (where_at p σ) l (forms spot).known
+      (located image.processors env (where_at p σ) (forms spot).known (known_fits spot h))
       (ap (λ W. in_win W l) (sym (windows_fit mode spot).0.known) ∙ i)
 
   -- the kernel has access to the port of `log`

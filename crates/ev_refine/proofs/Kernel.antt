@@ -289,7 +289,8 @@ module _ (mode : Mode) (image : Image) (built : IsBuilt image) (good : IsImage i
           where
             unserved : (class : ℕ) (ys : List BodyContext) → AreQuiet ys → list_any (λ (a : BodyContext). serves mode image class a.service) ys ≡ false
             unserved class [] q = refl
-            unserved class (a ∷ ys) q = ap (λ o. serves mode image class o || list_any (λ (a : BodyContext). serves mode image class a.service) ys) q.0.service
+            unserved class (a ∷ ys) q = ap (λ o. serves mode image class o || list_any (λ (a : BodyContext). serves mode image class a.service) ys)
+                q.0.service
                 ∙ unserved class ys q.1
 
     -- ---- the abstract machine's step
@@ -308,7 +309,8 @@ module _ (mode : Mode) (image : Image) (built : IsBuilt image) (good : IsImage i
     log_turn : (q : ℕ) → item_at (slice_get image.bodies b.body) b.place ≡ Some (Log q)
         → turn image m p ≡ (with_processor m p (record x { bodies = context.onward b ∷ [] }), Entry.Log p (local b q) ∷ [])
     unfolding item_step
-    log_turn q hi = turns (Log q) hi ∙ ap (λ bs. (with_processor m p (record x { bodies = replace_last (context.onward b) bs }), Entry.Log p (local b q) ∷ [])) bodies
+    log_turn q hi = turns (Log q) hi ∙ ap
+        (λ bs. (with_processor m p (record x { bodies = replace_last (context.onward b) bs }), Entry.Log p (local b q) ∷ [])) bodies
 
     ret_turn : item_at (slice_get image.bodies b.body) b.place ≡ Some Ret → turn image m p ≡ (with_processor m p (record x { bodies = [] }), [])
     unfolding item_step
@@ -523,7 +525,8 @@ module _ (mode : Mode) (image : Image) (built : IsBuilt image) (good : IsImage i
           (port_open mode image p seat in_seat hp good.count.1 κ ss w extra v f s.memory h.regions_are (gs_word 0x28) refl) in
           let does : Executes cell.ins (onward c c.regs next) words
           = (singles c s.memory next).stores_to_gs (pos 0x28) q port (is_at cell.ins next true e B at hu hc) gs access in
-          let changes : Changes p seat (kernel_names p) s.memory.words words = λ y off d. put_other s.memory.words port (register c q) y (port_apart y d.1.0) in
+          let changes : Changes p seat (kernel_names p) s.memory.words words = λ y off d. put_other s.memory.words port (register c q) y (port_apart y d.1.0)
+          in
           let kept_at : At code B 0 e c (with_words s.memory words) = stays code B 0 e c s.memory (with_words s.memory words) at refl
           (λ l i. put_other s.memory.words port (register c q) (addr e l) (off_stack ss extra v f l i)) in
           let b' : Agrees e B.ground B.opening c (with_words s.memory words) = at_end code B 0 B.opening refl e c (with_words s.memory words) kept_at in
@@ -668,7 +671,8 @@ module _ (mode : Mode) (image : Image) (built : IsBuilt image) (good : IsImage i
           (ap (λ y. (y == nlast_entry + 12) && (back.rip == repeat_entry) && not (is_user back)) x.rip
           ∙ ap (λ q. q && (back.rip == repeat_entry) && not (is_user back)) x.unlike) ∙ ap without_last acts in
           visible cell hc refl hu back s.memory.words x.back refl (λ y far far'. refl) [] refl tt (λ class. refl)
-          (ap (λ e. if e then length (processor m p).bodies - 1 else (if begins_body c (Some cell.ins) then suc (length (processor m p).bodies) else length (processor m p).bodies))
+          (ap (λ e. if e then length (processor m p).bodies - 1 else
+          (if begins_body c (Some cell.ins) then suc (length (processor m p).bodies) else length (processor m p).bodies))
           (ends_a_body (Some cell.ins) c x.place x.rip x.outside hu x.is) ∙ ap (λ (bs : List BodyContext). length bs - 1) bodies) 0 (omega arith)
           (with_cr2_open mode image p r t w c.cr2 task, still, gone) [] (x.silent p (bodies_on s p) c s.memory.words) (ret_turn ret)
 
@@ -734,7 +738,8 @@ module _ (mode : Mode) (image : Image) (built : IsBuilt image) (good : IsImage i
           at_exit (idt_exits image p small κ seat r t w ss extra v f code c s.memory blocked by (subst (λ m. HasKernel m code) (sym q) facts.kernel)
           (subst (λ m. RunsTask m image p r t w) (sym q) task) (level_of Idt κ w alone) (subst (λ m. Saved m image v w) (sym q) means.0.saved)
           (subst (λ m. Matches m image by v) (sym q) means.1)
-          (subst (λ m. At code (idt_block (idt.Leaves (IdtToTask by))) (idt_block (idt.Leaves (IdtToTask by))).steps (here m p κ seat ss w extra v f) c s.memory)
+          (subst (λ m. At code (idt_block (idt.Leaves (IdtToTask by))) (idt_block (idt.Leaves (IdtToTask by))).steps (here m p κ seat ss w extra v f) c
+          s.memory)
           (sym q) (subst (λ j. At code (idt_block (idt.Leaves (IdtToTask by))) j (env ss extra v f) c s.memory) n at)))
           (ap is_user at.agrees.rest) means.0.ret
       at_the_end act Idt q (InBody IdtFrame AtTable) k ss ss_is extra v f n at means long enough hi =

@@ -131,7 +131,8 @@ module _ (image : Image) (p : ℕ) (hp : p < 32) (κ : Kind) (σ : Seat) (q : �
       let b : Block = fred_block (fred.Leaves FredToTask) in
       let z = fred_returns.to_task in
       let a : Agrees e b.ground _ c m = at_end code b b.steps _ z.runs e c m at in
-      let back = eretu_returns e b.ground b _ eretu_place c m w saved top_tag (M - 0x40) frame_rip frame_cs frame_flags frame_rsp frame_ss (P gs_tag 0) other_gs
+      let back = eretu_returns e b.ground b _ eretu_place c m w saved top_tag (M - 0x40) frame_rip frame_cs frame_flags frame_rsp frame_ss (P gs_tag 0)
+      other_gs
       gs_selector level_rsp z a refl (ap (λ (y : Processor). bit 32 y.cr4) r.is)
       (restores_with image Fred p hp κ σ q t w r level kss extra v f saved_is _ frame_rip frame_flags other_gs (P gs_tag 0)
       (regs_are image Fred p hp κ σ q t w r level kss extra v f saved_is) saved_is.rip saved_is.flags saved_is.gs

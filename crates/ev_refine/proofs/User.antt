@@ -183,7 +183,8 @@ module _ (mode : Mode) (image : Image) (formed : IsImage image) (built : IsBuilt
       let chain : Chain mode image p call_edges n back u.on.frame u.on.switching (b ∷ []) (last ∷ []) d mem =
       (w, is_context, refl, tt, tail.0, tail.1, tail.2) in
       let after = user_after mode image formed built facts left s s' m p lt h u d as' words' back (b ∷ []) call_edges hb mv begun.changes good at
-      (begun.blocking ∙ sym (plain_no_nmi image b (ap is_over_task kind))) (record { interrupts = refl; service = refl; calls = refl }, tt) (λ class. refl) (omega arith)
+      (begun.blocking ∙ sym (plain_no_nmi image b (ap is_over_task kind))) (record { interrupts = refl; service = refl; calls = refl }, tt) (λ class. refl)
+      (omega arith)
       (λ q e. subst (λ ys. Chain mode image p call_edges q back u.on.frame u.on.switching (b ∷ []) ys d (with_words s.memory words')) (sym begins_last)
       (subst (λ z. Chain mode image p call_edges z back u.on.frame u.on.switching (b ∷ []) (last ∷ []) d (with_words s.memory words')) (sym e) chain)) in
       let entries : List Entry = Enter p Sys Other User 1 0 0 (Some next) ∷ [] in

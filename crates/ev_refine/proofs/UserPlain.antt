@@ -61,7 +61,8 @@ module _ (mode : Mode) (image : Image) (formed : IsImage image) (built : IsBuilt
     pub steps : step (s.cpus p) (s.apics p) s.memory (s.latches p)
         ≡ executed (task_processor mode image p (processor m p).running (task (processor m p)) (s.cpus p).cr2 false) (s.apics p) s.memory false (Some ins)
     pub turns : turn image m p
-        ≡ task_step image m p (user.executed (user_view (user_memory image m)) (task (processor m p)) ((task (processor m p)).rip + length (spelling ins)) ins)
+        ≡ task_step image m p
+        (user.executed (user_view (user_memory image m)) (task (processor m p)) ((task (processor m p)).rip + length (spelling ins)) ins)
     pub seen : is_visible (marks_of mode image) s p ≡ true
 
   pub at_user : (left : NatMap ℕ) (s : System) (m : Machine) → Stands mode image left s m → (p : ℕ) → p < image.processors → (processor m p).bodies ≡ []
@@ -142,7 +143,8 @@ module _ (mode : Mode) (image : Image) (formed : IsImage image) (built : IsBuilt
         tasks = programs;
       } in (
         there,
-        stands_after mode image left s s' m (with_processor m p y) p (own + inner_edges (s.latches p)) y (record { stack = x.running; used = 0 }) cpu as' words
+        stands_after mode image left s s' m (with_processor m p y) p (own + inner_edges (s.latches p)) y (record { stack = x.running; used = 0 }) cpu as'
+            words
             eight (four_tasks image built) h lt mv narrow changes
             (record {
               own = at_same m.processors p p y refl;
@@ -213,7 +215,8 @@ module _ (mode : Mode) (image : Image) (formed : IsImage image) (built : IsBuilt
       let at : IsInProgram image k.task.rip = λ program is. ap (begins program) k.rip ∙ u.leads program is in
       let after = user_after left s s' m p lt h u d as' words k.task [] 0 hb mv (λ a off n. refl) good at refl tt (λ class. refl) (omega arith)
       (λ r e. (subst (λ z. RunsTask mode image p z k.task d) (sym e) (record { is = refl; task = good }), u.rest.still, none)) in
-      let same : record (with_task x k.task) { bodies = [] } ≡ with_task x k.task = ap (λ (bs : List BodyContext). record (with_task x k.task) { bodies = bs })
+      let same : record (with_task x k.task) { bodies = [] } ≡ with_task x k.task = ap
+      (λ (bs : List BodyContext). record (with_task x k.task) { bodies = bs })
       (sym hb) in
       let y : abstract.Processor = with_task x k.task in
       record {
@@ -221,7 +224,8 @@ module _ (mode : Mode) (image : Image) (formed : IsImage image) (built : IsBuilt
         steps = u.steps ∙ plain_runs mode image p x.running (task x) c.cr2 false u.ins k (s.apics p) s.memory false;
         machine = with_processor m p y;
         entries = [];
-        turns = u.turns ∙ ap (task_step image m p) (k.user (user_view (user_memory image m)) ∙ ap (step_of (task x)) (k.is (user_view (user_memory image m))));
+        turns = u.turns ∙ ap (task_step image m p)
+            (k.user (user_view (user_memory image m)) ∙ ap (step_of (task x)) (k.is (user_view (user_memory image m))));
         seen = u.seen;
         now_left = 0 + inner_edges (s.latches p);
         stands = subst (λ z. Stands mode image (put_at left p (0 + inner_edges (s.latches p))) s' (with_processor m p z)) same after.1;
