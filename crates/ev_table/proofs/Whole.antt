@@ -6,7 +6,7 @@ use Rattle.std.proofs.lemmas.Option.{slice_get_within}
 use Rattle.ev_isa.specs.Word.{displaced, is_canonical}
 use Rattle.ev_isa.specs.declared.mode.Mode.{Mode}
 use Rattle.ev_isa.specs.declared.mode.Mode.TheVariants.{Idt, Fred}
-use Rattle.ev_isa.specs.declared.instruction.Ins.TheVariants.{GsStore, JmpReg}
+use Rattle.ev_isa.specs.declared.instruction.Ins.TheVariants.{GsStore}
 use Rattle.ev_body.specs.declared.key.Key.{Key}
 use Rattle.ev_body.specs.declared.key.Key.TheVariants.{Nmi}
 use Rattle.ev_body.specs.declared.item.Item.{Item}
@@ -22,15 +22,14 @@ use Rattle.ev_listing.specs.Marks.{all_places, all_marks}
 use Rattle.ev_concrete.specs.Opening.{kernel_listings, listings, body_listings}
 use Rattle.ev_concrete.specs.ConcreteRun.{Marks, marks_of, mark_at}
 use Rattle.ev_built.specs.Built.{IsBuilt}
-use Rattle.ev_symbolic.specs.Agrees.{Env, Cell, Code, Stands}
+use Rattle.ev_symbolic.specs.Agrees.{Cell, Code}
 use Rattle.ev_symbolic.specs.Listed.{Cells, cell_at, cells_in, distinct, AllFound}
-use Rattle.ev_symbolic.proofs.Listed.{all_found, stands_in}
-use Rattle.ev_symbolic.specs.State.{Line}
-use Rattle.ev_table.specs.Table.{code_table, lines_of_mode, other_exit, exit_address, RetCell, body_jump, task_return, task_return_cell}
-use Rattle.ev_table.proofs.Cells.{below_by_test, over, distinct_append, found_first, found_rest, found_at, marks_by, marks_by_append, mark_by, mark_found}
+use Rattle.ev_symbolic.proofs.Listed.{all_found}
+use Rattle.ev_table.specs.Table.{code_table, other_exit, exit_address, RetCell}
+use Rattle.ev_table.proofs.Cells.{below_by_test, over, distinct_append, found_first, found_rest, marks_by, marks_by_append, mark_by, mark_found}
 use Rattle.ev_table.proofs.Items.{items_size, take_built, take_size_most, item_size, item_cell, item_found, next_item, sizes}
 use Rattle.ev_table.proofs.Labels.{is_of_body, place_behind, cells_in_same, exit_inner, all_places_append, cells_in_append}
-use Rattle.ev_table.proofs.Kernel.{kernel_cells, kernel_distinct, kernel_low, kernel_below, kernel_inner, kernel_marks, kernel_lines, exit_is, body_jump_cell, task_return_is}
+use Rattle.ev_table.proofs.Kernel.{kernel_cells, kernel_distinct, kernel_below, kernel_inner, kernel_marks, exit_is}
 use Rattle.ev_table.proofs.Bodies.{AllShort, all_short, short_at, cells_of, body_cells, bodies_from, bodies_distinct, body_found, listed, labels, marks_are, all_marks_append}
 
 -- a jump back leads to the target of its distance
@@ -115,17 +114,6 @@ module _ (mode : Mode) (image : Image) (given : IsImage image) (built : IsBuilt 
   pub kernel_found : AllFound (code_table mode image) (kernel_cells mode)
   kernel_found = found_rest (code_table mode image) (body_cells mode env 0 bodies) (kernel_cells mode) found
 
-  pub lines : (e : Env) → e.base 1000 ≡ 0 → Stands (code_table mode image) e (lines_of_mode mode)
-  unfolding kernel_cells
-  lines e z = subst (λ (ls : List Line). Stands (code_table mode image) e ls) (kernel_lines mode)
-      (stands_in (code_table mode image) e z (all_places (kernel_listings mode)) (kernel_listings mode) kernel_found (kernel_low mode))
-
-  pub body_jump_stands : code_table mode image (body_jump mode) ≡ Some (record { ins = JmpReg 0; next = body_jump mode + 2; mark = false })
-  body_jump_stands = found_at (code_table mode image) (kernel_cells mode) kernel_found (body_jump mode) _ (body_jump_cell mode)
-
-  pub task_return_stands : code_table mode image (task_return mode) ≡ Some (task_return_cell mode)
-  task_return_stands = found_at (code_table mode image) (kernel_cells mode) kernel_found (task_return mode) _ (task_return_is mode)
-
   -- ---- items
 
   address : (n i : ℕ) (b : Body) → slice_get bodies n ≡ Some b → item_address mode n b i ≡ body_code n + items_size (take i (body_items b))
@@ -133,7 +121,7 @@ module _ (mode : Mode) (image : Image) (given : IsImage image) (built : IsBuilt 
       (sizes mode n b.key (λ f. 0) 0 (take i (body_items b)) (take_built i (body_items b) (short_at bodies are_short n b h).built))
 
   -- where an item lies: 2304 bytes are 256 items of at most 9
-  range : (n i : ℕ) (b : Body) → slice_get bodies n ≡ Some b → (0xffffffff82000000 ≤ item_address mode n b i)
+  pub range : (n i : ℕ) (b : Body) → slice_get bodies n ≡ Some b → (0xffffffff82000000 ≤ item_address mode n b i)
       × (item_address mode n b i ≤ 0xffffffff82800000 + 2304)
   range n i b h =
       let few : n < length bodies = slice_get_within bodies n b h in

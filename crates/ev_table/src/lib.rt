@@ -1,13 +1,13 @@
-//! The code of an image in either mode as a table: what stands at the lines of the kernel and at
+//! The code of an image in either mode as a table: what stands at the cells of the kernel and at
 //! the items of bodies, and which cells the abstract machine sees.
 #![tactic(auto)]
 
-ghost use Rattle.ev_table.specs.Table.{LinesStand, CellsAreSpaced, LogStands, RetStands, OthersHaveOneExit, BodiesBeginWithItems, ItemsAreCanonical, UnmarkedCellsAreEdges, MarkedCellsAreSeen, BodyJumpStands, TaskReturnStands};
+ghost use Rattle.ev_table.specs.Table.{KernelStands, CellsAreSpaced, LogStands, RetStands, OthersHaveOneExit, BodiesBeginWithItems, ItemsAreCanonical, UnmarkedCellsAreEdges, MarkedCellsAreSeen};
 
-/// In both modes: the kernel's lines stand in the table of every image that can run today, each
+/// In both modes: the kernel's cells stand in the table of every image that can run today, each
 /// item of a body is one cell at its address, and an address is marked where its cell is. Own.
 pub fn table()
-    ensures lines { LinesStand }
+    ensures kernel { KernelStands }
     ensures spaced { CellsAreSpaced }
     ensures logs { LogStands }
     ensures rets { RetStands }
@@ -16,6 +16,4 @@ pub fn table()
     ensures canonical { ItemsAreCanonical }
     ensures unmarked { UnmarkedCellsAreEdges }
     ensures marked { MarkedCellsAreSeen }
-    ensures body_jump { BodyJumpStands }
-    ensures task_return { TaskReturnStands }
 {}
