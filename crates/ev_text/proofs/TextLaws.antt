@@ -1,13 +1,11 @@
 -- A text with a statement more: its labels, its size, and what is refused.
-use Rattle.std.proofs.Common.{◌≡◌, ℕ, ◌+◌, ◌<◌, ◌≤◌, Bool, true, false, not, ◌&&◌, List, [], ◌∷◌, ◌++◌, Option, Some, Result, Ok, Err, refl, sym, ap, ◌∙◌, arith, nat_lt, ◌⊎◌, inl, inr}
-use Rattle.std.specs.Prelude.{is_some, ◌||◌}
-use Rattle.std.specs.List.{list_any}
+use Rattle.std.proofs.Common.{◌≡◌, ℕ, ◌+◌, ◌<◌, ◌≤◌, Bool, true, false, ◌&&◌, List, [], ◌∷◌, ◌++◌, Result, Ok, Err, refl, sym, ap, ◌∙◌, arith, nat_lt, ◌⊎◌, inl, inr}
 use Rattle.ev_isa.specs.Pages.{text_base}
 use Rattle.ev_io.specs.declared.cause.Cause.{Cause}
 use Rattle.ev_asm.specs.declared.statement.Stmt.{Stmt}
 use Rattle.ev_asm.specs.declared.statement.Stmt.TheVariants.{Label, Plain, Jump}
-use Rattle.ev_asm.specs.Assembly.{Places, Name, is_name, size, total_size, places}
-use Rattle.ev_asm.specs.Assembled.{stmt_labels, is_new_name, is_second_label, is_encoded, are_instructions, assembled}
+use Rattle.ev_asm.specs.Assembly.{Places, Name, size, total_size, places}
+use Rattle.ev_asm.specs.Assembled.{stmt_labels, is_second_label, is_encoded, are_instructions, assembled}
 use Rattle.ev_asm.specs.LabelTable.{names_of, gives_again, label_given}
 use Rattle.ev_asm.proofs.LabelLaws.{again, total_more, places_more}
 use Rattle.ev_text.specs.TextStands.{IsText, stop_of}

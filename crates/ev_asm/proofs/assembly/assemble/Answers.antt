@@ -1,5 +1,4 @@
-use Rattle.std.proofs.Common.{◌≡◌, ◌+◌, ◌≤◌, ◌<◌, ◌^◌, sym, ◌∙◌, arith}
-use Rattle.ev_asm.specs.Assembly.{total_size}
+use Rattle.std.proofs.Common.{sym, ◌∙◌, arith}
 use Rattle.ev_asm.proofs.Statements.{all_lead, total_fits}
 use Rattle.ev_asm.proofs.assembly.assemble.Goals as goal
 

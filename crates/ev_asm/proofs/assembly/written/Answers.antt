@@ -1,4 +1,4 @@
-use Rattle.std.proofs.Common.{◌≡◌, ℕ, List, ◌+◌, ◌++◌, not, length, arith, sym, ap, ◌∙◌, inr, Ok}
+use Rattle.std.proofs.Common.{◌≡◌, ℕ, List, ◌+◌, ◌++◌, not, length, arith, ap, ◌∙◌, inr, Ok}
 use Rattle.ev_asm.specs.Assembly.{Places, code, size}
 use Rattle.ev_asm.specs.Linked.{reaches}
 use Rattle.ev_asm.proofs.Statements.{code_step, addresses_step, kept, bytes_size, total_step, code_end, addresses_end, reached}

@@ -3,7 +3,7 @@ use Rattle.std.specs.Prelude.{option_map}
 use Rattle.std.proofs.lemmas.List.{take_all}
 use Rattle.ev_asm.specs.declared.statement.Stmt.{Stmt}
 use Rattle.ev_asm.specs.declared.fault.AsmFault.TheVariants.{DoubleLabel}
-use Rattle.ev_asm.specs.Assembly.{Places, size}
+use Rattle.ev_asm.specs.Assembly.{Places}
 use Rattle.ev_asm.specs.Assembled.{is_second_label}
 use Rattle.ev_asm.proofs.Statements.{front_at, first_at_step, first_at_stop, first_at_end}
 use Rattle.ev_asm.proofs.LabelLaws.{InStep, again, none_yet, one_further}
