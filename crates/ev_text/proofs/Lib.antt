@@ -4,4 +4,5 @@ pub mod Surplus
 pub mod LabelLaws
 pub mod TextLaws
 pub mod Gives
+pub mod WordLaws
 pub mod Encoded
