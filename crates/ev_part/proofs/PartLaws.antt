@@ -49,7 +49,7 @@ again p (Here name) = found_there (labels_of p) name
 again p (Does i) = refl
 again p (Jumps cond name) = refl
 
-count_more : (ls : List BodyLine) (l : BodyLine) → count_items (ls ++ l ∷ []) ≡ count_items ls + item_count l
+pub count_more : (ls : List BodyLine) (l : BodyLine) → count_items (ls ++ l ∷ []) ≡ count_items ls + item_count l
 count_more [] (Here name) = omega arith
 count_more [] (Does i) = omega arith
 count_more [] (Jumps cond name) = omega arith

@@ -3,4 +3,5 @@ pub mod Choosing
 pub mod Surplus
 pub mod TextLaws
 pub mod Gives
+pub mod WordLaws
 pub mod Encoded
