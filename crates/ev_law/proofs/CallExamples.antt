@@ -25,7 +25,7 @@ use Rattle.ev_abstract.specs.CrossCall.{record_of}
 use Rattle.ev_abstract.specs.Delivery.{delivered}
 use Rattle.ev_abstract.specs.ItemMeaning.{item_step}
 use Rattle.ev_abstract.specs.Machine.{Machine, opening, processor}
-use Rattle.ev_abstract.specs.Run.{line_step, run, trace, turn}
+use Rattle.ev_abstract.specs.Run.{line_step, trace, turn}
 use Rattle.ev_abstract.specs.UserCode.{executed, user_step}
 use Rattle.ev_abstract.specs.declared.entry.Entry.{Entry}
 use Rattle.ev_abstract.specs.declared.script_line.Line.{Line}

@@ -1,22 +1,21 @@
 -- Steps that leave each call where it is and each context in its function: records, queues and lists stay.
-use Rattle.std.specs.Prelude.{◌≡◌, refl, ℕ, suc, ◌+◌, ◌<◌, Bool, true, false, ◌&&◌, ◌||◌, ◌==◌, if◌then◌else◌, List, [], ◌∷◌, ◌++◌, Option, Some, None, slice_get, count_by, flat_map}
+use Rattle.std.specs.Prelude.{◌≡◌, refl, ℕ, ◌+◌, ◌<◌, Bool, true, false, ◌&&◌, ◌==◌, if◌then◌else◌, List, [], ◌∷◌, ◌++◌, Some, count_by}
 use Rattle.std.specs.List.{list_any}
-use Rattle.std.proofs.Common.{arith, ap, sym, ◌∙◌, subst, append_assoc}
+use Rattle.std.proofs.Common.{arith, ap, sym, ◌∙◌, subst}
 use Rattle.std.proofs.lemmas.Bool.{eqb-true}
-use Rattle.ev_isa.specs.Word.{NatMap, put_at}
+use Rattle.ev_isa.specs.Word.{NatMap}
 use Rattle.ev_isa.specs.Pages.{Place, Page}
 use Rattle.ev_body.specs.declared.key.Key.{Key}
 use Rattle.ev_body.specs.declared.key.Key.TheVariants.{Irq}
-use Rattle.ev_body.specs.declared.body.Body.{Body}
 use Rattle.ev_body.specs.declared.image.Image.{Image}
 use Rattle.ev_abstract.specs.Context.{BodyContext, CallId}
 use Rattle.ev_abstract.specs.Machine.{Processor, Machine, CallRecord, processor, with_processor}
 use Rattle.ev_abstract.specs.CrossCall.{record_of}
 use Rattle.ev_abstract.specs.declared.entry.Entry.{Entry}
-use Rattle.ev_abstract.specs.declared.entry.Entry.TheVariants.{Call, Ran, Done}
+use Rattle.ev_abstract.specs.declared.entry.Entry.TheVariants.{Ran, Done}
 use Rattle.ev_abstract.specs.CallLaws.{is_call, is_ran}
 use Rattle.ev_abstract.specs.ItemMeaning.{Step, replace_last, with_context, with_cell, with_page, mailed, with_mail}
-use Rattle.ev_law.specs.Calls.{one_if, times, to_run, is_queued, is_taken, is_free, was_queued, has_run, IsInRange, IsPlaced, IsTold, first_function, function_at, RunsItsCall, RunTheirCalls, KeepsCallRecords}
+use Rattle.ev_law.specs.Calls.{one_if, times, to_run, is_queued, is_taken, is_free, IsInRange, IsPlaced, IsTold, first_function, RunsItsCall, RunTheirCalls, KeepsCallRecords}
 use Rattle.ev_law.proofs.Counts.{count_append, count_cons, count_push, times_append, times_same}
 use Rattle.ev_law.proofs.Machines.{mailed_same}
 

@@ -1,17 +1,17 @@
 -- The steps that move calls: a call is queued, the calls of a queue are taken, a call is finished.
-use Rattle.std.specs.Prelude.{◌≡◌, refl, ℕ, suc, ◌+◌, ◌<◌, Bool, true, false, ◌&&◌, ◌||◌, nat_lt, nat_le, ◌==◌, if◌then◌else◌, List, [], ◌∷◌, ◌++◌, count_by, not}
+use Rattle.std.specs.Prelude.{◌≡◌, refl, ℕ, suc, ◌+◌, ◌<◌, Bool, true, false, ◌&&◌, ◌||◌, nat_lt, nat_le, ◌==◌, if◌then◌else◌, List, [], ◌∷◌, ◌++◌, count_by}
 use Rattle.std.specs.List.{list_any}
 use Rattle.std.proofs.Common.{arith, ap, sym, ◌∙◌, subst}
-use Rattle.std.proofs.lemmas.Bool.{and_parts, and_from, eqb-true, eq-eqb, le-leb}
+use Rattle.std.proofs.lemmas.Bool.{and_parts, and_from, eqb-true, le-leb}
 use Rattle.ev_isa.specs.Word.{NatMap, put_at}
 use Rattle.ev_body.specs.declared.image.Image.{Image}
 use Rattle.ev_abstract.specs.Context.{BodyContext, CallId}
-use Rattle.ev_abstract.specs.Machine.{CallState, Free, Queued, Taken, Processor, Machine, CallRecord, processor, with_processor}
+use Rattle.ev_abstract.specs.Machine.{CallState, Free, Queued, Taken, Processor, Machine, CallRecord, processor}
 use Rattle.ev_abstract.specs.CrossCall.{record_of, with_record, in_state, with_queue, queued, new_record, all_taken}
 use Rattle.ev_abstract.specs.declared.entry.Entry.{Entry}
 use Rattle.ev_abstract.specs.CallLaws.{is_call, is_ran}
 use Rattle.ev_abstract.specs.ItemMeaning.{replace_last, with_context}
-use Rattle.ev_law.specs.Calls.{is_id, one_if, times, to_run, is_queued, is_taken, is_free, was_queued, has_run, IsInRange, IsPlaced, IsTold, RunsItsCall, RunTheirCalls, KeepsCallRecords}
+use Rattle.ev_law.specs.Calls.{is_id, one_if, times, to_run, is_queued, is_taken, is_free, was_queued, IsInRange, IsPlaced, IsTold, RunsItsCall, RunTheirCalls, KeepsCallRecords}
 use Rattle.ev_law.proofs.Counts.{count_push, any_counted, counted_any, same_call, id_self, id_sym, times_same, times_other, times_append, equal_sym, is_one, queued_more, queued_runs, runs_more}
 use Rattle.ev_law.proofs.CallRecords.{put_field, runs_under, placed_by, told_more, told_past, KeptStep}
 
@@ -56,6 +56,71 @@ with_queue_at m p queue q = pick (q == p)
         ≡ (if b then queue else (processor m q).queue)
     pick true = refl
     pick false = refl
+
+-- the record of each call of the list
+taken_records : (ks : List CallId) (m : Machine) (j : CallId)
+    → record_of (all_taken m ks) j ≡ (if list_any (is_id j) ks then in_state (record_of m j) Taken else record_of m j)
+taken_records [] m j = refl
+taken_records (k ∷ ks) m j = pick (is_id j k) refl (taken_records ks (with_record m k (in_state (record_of m k) Taken)) j)
+  where
+    next : Machine
+    next = with_record m k (in_state (record_of m k) Taken)
+
+    twice : (b : Bool) (r s : CallRecord) → r ≡ in_state s Taken → (if b then in_state r Taken else r) ≡ in_state s Taken
+    twice true r s e = ap (λ r. in_state r Taken) e
+    twice false r s e = e
+
+    pick : (b : Bool) → is_id j k ≡ b
+        → record_of (all_taken next ks) j ≡ (if list_any (is_id j) ks then in_state (record_of next j) Taken else record_of next j)
+        → record_of (all_taken next ks) j ≡ (if b || list_any (is_id j) ks then in_state (record_of m j) Taken else record_of m j)
+    pick true e h = h ∙ twice (list_any (is_id j) ks) (record_of next j) (record_of m j)
+        (with_record_at m k (in_state (record_of m k) Taken) j ∙ ap (λ b. if b then in_state (record_of m k) Taken else record_of m j) e
+        ∙ ap (λ i. in_state (record_of m i) Taken) (sym (same_call j k e)))
+    pick false e h = h ∙ ap (λ r. if list_any (is_id j) ks then in_state r Taken else r)
+        (with_record_at m k (in_state (record_of m k) Taken) j ∙ ap (λ b. if b then in_state (record_of m k) Taken else record_of m j) e)
+
+-- they name the functions that they did
+pub emptied_func : (m : Machine) (ks : List CallId) (p : ℕ) (j : CallId) → (record_of (with_queue (all_taken m ks) p []) j).func ≡ (record_of m j).func
+emptied_func m ks p j =
+    ap (λ (r : CallRecord). r.func) (with_queue_records (all_taken m ks) p [] j ∙ taken_records ks m j) ∙ func (list_any (is_id j) ks) (record_of m j)
+  where
+    func : (b : Bool) (r : CallRecord) → (if b then in_state r Taken else r).func ≡ r.func
+    func true r = refl
+    func false r = refl
+
+pub freed_func : (m : Machine) (k j : CallId) → (record_of (with_record m k (in_state (record_of m k) Free)) j).func ≡ (record_of m j).func
+freed_func m k j = ap (λ (r : CallRecord). r.func) (with_record_at m k (in_state (record_of m k) Free) j) ∙ pick (is_id j k) refl
+  where
+    pick : (b : Bool) → is_id j k ≡ b → (if b then in_state (record_of m k) Free else record_of m j).func ≡ (record_of m j).func
+    pick true e = ap (λ i. (record_of m i).func) (sym (same_call j k e))
+    pick false e = refl
+
+taken_queue : (ks : List CallId) (m : Machine) (q : ℕ) → (processor (all_taken m ks) q).queue ≡ (processor m q).queue
+taken_queue [] m q = refl
+taken_queue (k ∷ ks) m q = let r : CallRecord = in_state (record_of m k) Taken in taken_queue ks (with_record m k r) q ∙ with_record_queue m k r q
+
+taken_bodies : (ks : List CallId) (m : Machine) (q : ℕ) → (processor (all_taken m ks) q).bodies ≡ (processor m q).bodies
+taken_bodies [] m q = refl
+taken_bodies (k ∷ ks) m q = let r : CallRecord = in_state (record_of m k) Taken in taken_bodies ks (with_record m k r) q ∙ with_record_bodies m k r q
+
+-- whether a call is in the list, by how often it is
+in_list : (j : CallId) (ks : List CallId) (b : Bool) → times j ks ≡ one_if b → list_any (is_id j) ks ≡ b
+in_list j ks true e = any_counted (is_id j) ks (omega (arith, e))
+in_list j ks false e = pick (list_any (is_id j) ks) refl
+  where
+    pick : (t : Bool) → list_any (is_id j) ks ≡ t → t ≡ false
+    pick true q = absurd (let l : 0 < times j ks = counted_any (is_id j) ks q in omega (arith, e, l))
+    pick false q = refl
+
+not_taken : (s : CallState) → is_queued s ≡ true → is_taken s ≡ false
+not_taken Queued h = refl
+not_taken Free h = absurd (cc)
+not_taken Taken h = absurd (cc)
+
+not_free : (s : CallState) → is_queued s ≡ true → is_free s ≡ false
+not_free Queued h = refl
+not_free Free h = absurd (cc)
+not_free Taken h = absurd (cc)
 
 -- ---- another last context
 
@@ -246,55 +311,6 @@ module _ (image : Image) (m : Machine) (past : List Entry) (keeps : KeepsCallRec
             (context_runs m made p c d below made_bodies here image runs keeps.runs q)
 
   -- ---- `take`
-
-  -- the record of each call of the list
-  taken_records : (ks : List CallId) (m : Machine) (j : CallId)
-      → record_of (all_taken m ks) j ≡ (if list_any (is_id j) ks then in_state (record_of m j) Taken else record_of m j)
-  taken_records [] m j = refl
-  taken_records (k ∷ ks) m j = pick (is_id j k) refl (taken_records ks (with_record m k (in_state (record_of m k) Taken)) j)
-    where
-      next : Machine
-      next = with_record m k (in_state (record_of m k) Taken)
-
-      twice : (b : Bool) (r s : CallRecord) → r ≡ in_state s Taken → (if b then in_state r Taken else r) ≡ in_state s Taken
-      twice true r s e = ap (λ r. in_state r Taken) e
-      twice false r s e = e
-
-      pick : (b : Bool) → is_id j k ≡ b
-          → record_of (all_taken next ks) j ≡ (if list_any (is_id j) ks then in_state (record_of next j) Taken else record_of next j)
-          → record_of (all_taken next ks) j ≡ (if b || list_any (is_id j) ks then in_state (record_of m j) Taken else record_of m j)
-      pick true e h = h ∙ twice (list_any (is_id j) ks) (record_of next j) (record_of m j)
-          (with_record_at m k (in_state (record_of m k) Taken) j ∙ ap (λ b. if b then in_state (record_of m k) Taken else record_of m j) e
-          ∙ ap (λ i. in_state (record_of m i) Taken) (sym (same_call j k e)))
-      pick false e h = h ∙ ap (λ r. if list_any (is_id j) ks then in_state r Taken else r)
-          (with_record_at m k (in_state (record_of m k) Taken) j ∙ ap (λ b. if b then in_state (record_of m k) Taken else record_of m j) e)
-
-  taken_queue : (ks : List CallId) (m : Machine) (q : ℕ) → (processor (all_taken m ks) q).queue ≡ (processor m q).queue
-  taken_queue [] m q = refl
-  taken_queue (k ∷ ks) m q = let r : CallRecord = in_state (record_of m k) Taken in taken_queue ks (with_record m k r) q ∙ with_record_queue m k r q
-
-  taken_bodies : (ks : List CallId) (m : Machine) (q : ℕ) → (processor (all_taken m ks) q).bodies ≡ (processor m q).bodies
-  taken_bodies [] m q = refl
-  taken_bodies (k ∷ ks) m q = let r : CallRecord = in_state (record_of m k) Taken in taken_bodies ks (with_record m k r) q ∙ with_record_bodies m k r q
-
-  -- whether a call is in the list, by how often it is
-  in_list : (j : CallId) (ks : List CallId) (b : Bool) → times j ks ≡ one_if b → list_any (is_id j) ks ≡ b
-  in_list j ks true e = any_counted (is_id j) ks (omega (arith, e))
-  in_list j ks false e = pick (list_any (is_id j) ks) refl
-    where
-      pick : (t : Bool) → list_any (is_id j) ks ≡ t → t ≡ false
-      pick true q = absurd (let l : 0 < times j ks = counted_any (is_id j) ks q in omega (arith, e, l))
-      pick false q = refl
-
-  not_taken : (s : CallState) → is_queued s ≡ true → is_taken s ≡ false
-  not_taken Queued h = refl
-  not_taken Free h = absurd (cc)
-  not_taken Taken h = absurd (cc)
-
-  not_free : (s : CallState) → is_queued s ≡ true → is_free s ≡ false
-  not_free Queued h = refl
-  not_free Free h = absurd (cc)
-  not_free Taken h = absurd (cc)
 
   module _ (calls : d.calls ≡ (processor m p).queue) (nothing : c.calls ≡ []) (runs : RunsItsCall image m d) where
     took : Machine

@@ -1,18 +1,19 @@
 -- In which function an item stands: the next item and a jump's target stand in the same one.
-use Rattle.std.specs.Prelude.{◌≡◌, refl, ℕ, suc, ◌+◌, ◌≤◌, ◌<◌, ◌⊎◌, Bool, true, false, ◌&&◌, ◌||◌, nat_lt, nat_le, ◌==◌, if◌then◌else◌, List, [], ◌∷◌, ◌++◌, length, Option, Some, None, slice_get}
+use Rattle.std.specs.Prelude.{◌≡◌, refl, ℕ, zero, suc, not, ◌+◌, ◌≤◌, ◌<◌, ◌⊎◌, Bool, true, false, ◌&&◌, ◌||◌, nat_le, ◌==◌, if◌then◌else◌, List, [], ◌∷◌, length, Some, None, slice_get}
 use Rattle.std.specs.List.{list_any, list_all}
 use Rattle.std.proofs.Common.{arith, ap, sym, ◌∙◌, subst, inl, inr}
-use Rattle.std.proofs.lemmas.Bool.{and_parts, eqb-true, leb-true, lt-ltb, le-ltb, lt-leb}
+use Rattle.std.proofs.lemmas.Bool.{and_parts, eqb-true, false_from_ne_true, lt-ltb, le-ltb, lt-leb}
 use Rattle.ev_body.specs.declared.item.Item.{Item}
+use Rattle.ev_body.specs.declared.item.Item.TheVariants.{Ret}
 use Rattle.ev_body.specs.declared.body.Part.{Part}
 use Rattle.ev_body.specs.declared.body.Body.{Body}
 use Rattle.ev_body.specs.declared.image.Image.{Image}
-use Rattle.ev_body.specs.Bodies.{body_items, function_start, first_item, key_number}
-use Rattle.ev_body.specs.WellFormed.{IsImage, is_body, is_key, are_parts, has_operands, has_no_parts, ends_with, is_ret, is_finish}
+use Rattle.ev_body.specs.Bodies.{body_items, function_start, first_item}
+use Rattle.ev_body.specs.WellFormed.{IsImage, is_body, are_parts, has_operands, ends_with, is_ret, is_finish}
 use Rattle.ev_abstract.specs.Rules.{in_function, jump_target}
 use Rattle.ev_law.specs.Calls.{part_at, function_at}
 use Rattle.ev_law.proofs.Lists.{all_at}
-use Rattle.ev_law.proofs.Parts.{items_of, get_split, total, goes_in, starts_in, leads_in, part_ends, parts_lead, parts_start}
+use Rattle.ev_law.proofs.Parts.{items_of, get_split, goes_in, starts_in, leads_in, part_ends, parts_lead, parts_start}
 use Rattle.ev_law.proofs.Ruled.{IsRuled}
 
 -- what is within a part, and what is behind it
@@ -22,6 +23,23 @@ here_at n part rest i l = ap (λ (t : Bool). if t then Some part.func else part_
 behind_at : (n : ℕ) (part : Part) (rest : List Part) (i : ℕ) → n + length part.items ≤ i
     → part_at n (part ∷ rest) i ≡ part_at (n + length part.items) rest i
 behind_at n part rest i l = ap (λ (t : Bool). if t then Some part.func else part_at (n + length part.items) rest i) (le-ltb i (n + length part.items) l)
+
+ret_no_finish : is_finish Ret ≡ true → ⊥
+unfolding is_finish
+ret_no_finish h = absurd (let k : false ≡ true = h in cc)
+
+ret_is : not (is_ret Ret) ≡ true → ⊥
+unfolding is_ret
+ret_is h = absurd (let k : false ≡ true = h in cc)
+
+no_ret_in : (items : List Item) (i : ℕ) → ends_with is_finish items ≡ true → slice_get items i ≡ Some Ret → ⊥
+unfolding ends_with
+no_ret_in [] i h e = cc
+no_ret_in (x ∷ []) zero h e = let same : x ≡ Ret = cc in ret_no_finish (subst (λ y. is_finish y ≡ true) same h)
+no_ret_in (x ∷ []) (suc i) h e = absurd (cc)
+no_ret_in (x ∷ y ∷ ys) zero h e = let same : x ≡ Ret = cc in
+    ret_is (subst (λ z. not (is_ret z) ≡ true) same (and_parts (not (is_ret x)) _ (and_parts _ (ends_with is_finish (y ∷ ys)) h).0).0)
+no_ret_in (x ∷ y ∷ ys) (suc i) h e = no_ret_in (y ∷ ys) i (and_parts (not (is_ret x) && not (is_finish x)) _ h).1 e
 
 module _ (bytes : ℕ) where
   part_next : (n : ℕ) (parts : List Part) (j : ℕ) (item : Item) → are_parts bytes n parts ≡ true → slice_get (items_of parts) j ≡ Some item
@@ -66,6 +84,19 @@ module _ (bytes : ℕ) where
           let r : j ≡ length part.items + a.0 = a.1 in
           behind_at n part rest t (lead a.0 a.2).0 ∙ next a.0 a.2 (omega (arith, r, q)) ∙ sym (behind_at n part rest i (omega (arith, r, q)))
 
+  -- a function has no `ret`
+  part_no_ret : (n : ℕ) (parts : List Part) (j : ℕ) → are_parts bytes n parts ≡ true → slice_get (items_of parts) j ≡ Some Ret → ⊥
+  part_no_ret n [] j h e = cc
+  part_no_ret n (part ∷ rest) j h e =
+      let p = part_ends bytes n part rest h in
+      step (get_split part.items (items_of rest) j Ret e) p.0 (λ k g. part_no_ret (n + length part.items) rest k p.2 g)
+    where
+      step : ((j < length part.items) × (slice_get part.items j ≡ Some Ret))
+          ⊎ ((k : ℕ) × (j ≡ length part.items + k) × (slice_get (items_of rest) k ≡ Some Ret))
+          → ends_with is_finish part.items ≡ true → ((k : ℕ) → slice_get (items_of rest) k ≡ Some Ret → ⊥) → ⊥
+      step (inl a) ends next = no_ret_in part.items j ends a.1
+      step (inr a) ends next = next a.0 a.2
+
   part_start : (n : ℕ) (parts : List Part) (func : ℕ) → are_parts bytes n parts ≡ true → list_any (λ (part : Part). part.func == func) parts ≡ true
       → part_at n parts (first_item n parts func) ≡ Some func
   part_start n [] func h k = absurd (cc)
@@ -89,6 +120,7 @@ pub record IsParted (b : Body) : Type 0 where
   pub next : (i : ℕ) (item : Item) → slice_get (body_items b) i ≡ Some item → is_ret item ≡ false → is_finish item ≡ false
       → function_at b (suc i) ≡ function_at b i
   pub leads : (i : ℕ) (item : Item) (n : ℕ) → slice_get (body_items b) i ≡ Some item → jump_target item ≡ Some n → function_at b n ≡ function_at b i
+  pub ret : (i : ℕ) → slice_get (body_items b) i ≡ Some Ret → in_function b i ≡ false
   pub start : (func : ℕ) → list_any (λ (part : Part). part.func == func) b.parts ≡ true → function_at b (function_start b func) ≡ Some func
 
 pub no_function : (b : Body) (i : ℕ) → in_function b i ≡ false → function_at b i ≡ None
@@ -129,6 +161,8 @@ module _ (image : Image) (is : IsImage image) (ruled : (n : ℕ) (b : Body) → 
         (let s = behind_main b i item k q in part_next (length image.text) (length b.items) b.parts s.0 item (parts_are n b e) s.2 f i s.1));
     leads = λ i item t k j. same_function b i t ((ruled n b e).leads i item t k j).1 (λ q.
         (let s = behind_main b i item k q in part_leads (length image.text) (length b.items) b.parts s.0 item t (parts_are n b e) s.2 j i s.1));
+    ret = λ i k. false_from_ne_true (in_function b i) (λ q. (let s = behind_main b i Ret k q in
+        part_no_ret (length image.text) (length b.items) b.parts s.0 (parts_are n b e) s.2));
     start = λ func has. some_function b (function_start b func) ((ruled n b e).func func has).1
         ∙ part_start (length image.text) (length b.items) b.parts func (parts_are n b e) has;
   }

@@ -1,0 +1,11 @@
+use Rattle.ev_law.proofs.CallRuns.{calls_are_kept, contexts_run_their_calls, finishes_have_calls}
+use Rattle.ev_law.proofs.calls.calls_run_once.Goals as goal
+
+pub returns-clause-trace : goal.returns-clause-trace
+returns-clause-trace c = calls_are_kept
+
+pub returns-clause-contexts : goal.returns-clause-contexts
+returns-clause-contexts c = contexts_run_their_calls
+
+pub returns-clause-finish : goal.returns-clause-finish
+returns-clause-finish c = finishes_have_calls

@@ -1,0 +1,58 @@
+-- The laws of calls in the runs of accepted images. Own.
+use Rattle.std.specs.Prelude.{◌≡◌, ℕ, List, [], ◌∷◌, ◌++◌, Some, slice_get}
+use Rattle.ev_body.specs.declared.item.Item.TheVariants.{Finish}
+use Rattle.ev_body.specs.declared.body.Body.{Body}
+use Rattle.ev_body.specs.declared.image.Image.{Image}
+use Rattle.ev_body.specs.Bodies.{body_items}
+use Rattle.ev_body.specs.WellFormed.{IsImage}
+use Rattle.ev_abstract.specs.Context.{CallId, BodyContext}
+use Rattle.ev_abstract.specs.Machine.{Taken, Machine, processor, opening}
+use Rattle.ev_abstract.specs.CrossCall.{record_of}
+use Rattle.ev_abstract.specs.Accepted.{IsAccepted}
+use Rattle.ev_abstract.specs.Script.{is_line, IsScript}
+use Rattle.ev_abstract.specs.declared.entry.Entry.{Entry}
+use Rattle.ev_abstract.specs.declared.script_line.Line.{Line}
+use Rattle.ev_abstract.specs.Run.{line_step, run, trace}
+use Rattle.ev_law.specs.Legal.{Legal}
+use Rattle.ev_law.specs.Calls.{RunsItsCall, KeepsCallRecords}
+use Rattle.std.specs.Prelude.{true}
+
+-- ---- the invariant
+
+-- it holds at the opening, and every line of a script keeps it, with the entries that the line adds
+abbrev pub OpeningKeepsCalls : Type 0
+OpeningKeepsCalls = (image : Image) → KeepsCallRecords image (opening image) []
+
+abbrev pub LinesKeepCalls : Type 0
+LinesKeepCalls = (image : Image) (m : Machine) (entries : List Entry) (l : Line) → IsImage image
+    → IsAccepted image → is_line image l ≡ true → Legal image m → KeepsCallRecords image m entries
+    → KeepsCallRecords image (line_step image m l).0 (entries ++ (line_step image m l).1)
+
+-- so it holds after every script, with the trace
+abbrev pub RunsKeepCalls : Type 0
+RunsKeepCalls = (image : Image) (script : List Line) → IsImage image → IsAccepted image
+    → IsScript image script → KeepsCallRecords image (run image script) (trace image script)
+
+-- ---- what follows of each context
+
+-- each context on a processor stands in the function of its first call, and in none where it has no call
+abbrev pub ContextsRunTheirCalls : Type 0
+ContextsRunTheirCalls = (image : Image) (script : List Line) (p : ℕ) (c : BodyContext)
+    (above below : List BodyContext) → IsImage image → IsAccepted image → IsScript image script
+    → (processor (run image script) p).bodies ≡ above ++ c ∷ below → RunsItsCall image (run image script) c
+
+-- the context has a first call, which this processor has taken
+pub record HasACall (m : Machine) (p : ℕ) (c : BodyContext) : Type 0 where
+  pub call : CallId
+  pub rest : List CallId
+  pub calls : c.calls ≡ call ∷ rest
+  pub taken : (record_of m call).state ≡ Taken
+  pub to : (record_of m call).to ≡ p
+
+-- so `finish` always has a call to finish
+abbrev pub FinishesHaveCalls : Type 0
+FinishesHaveCalls = (image : Image) (script : List Line) (p : ℕ) (c : BodyContext) (b : Body)
+    (above below : List BodyContext) → IsImage image → IsAccepted image → IsScript image script
+    → (processor (run image script) p).bodies ≡ above ++ c ∷ below
+    → slice_get image.bodies c.body ≡ Some b → slice_get (body_items b) c.place ≡ Some Finish
+    → HasACall (run image script) p c
