@@ -15,8 +15,8 @@ use Rattle.ev_abstract.specs.declared.entry.Entry.{Entry}
 use Rattle.ev_abstract.specs.declared.entry.Entry.TheVariants.{Ran, Done}
 use Rattle.ev_abstract.specs.CallLaws.{is_call, is_ran}
 use Rattle.ev_abstract.specs.ItemMeaning.{Step, replace_last, with_context, with_cell, with_page, mailed, with_mail}
-use Rattle.ev_law.specs.Calls.{one_if, times, to_run, is_queued, is_taken, is_free, IsInRange, IsPlaced, IsTold, first_function, RunsItsCall, RunTheirCalls, KeepsCallRecords}
-use Rattle.ev_law.proofs.Counts.{count_append, count_cons, count_push, times_append, times_same}
+use Rattle.ev_call_law.specs.Calls.{one_if, times, to_run, is_queued, is_taken, is_free, IsInRange, IsPlaced, IsTold, first_function, RunsItsCall, RunTheirCalls, KeepsCallRecords}
+use Rattle.ev_call_law.proofs.Counts.{count_append, count_cons, count_push, times_append, times_same}
 use Rattle.ev_law.proofs.Machines.{mailed_same}
 
 -- ---- entries

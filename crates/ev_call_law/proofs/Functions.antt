@@ -11,7 +11,7 @@ use Rattle.ev_body.specs.declared.image.Image.{Image}
 use Rattle.ev_body.specs.Bodies.{body_items, function_start, first_item}
 use Rattle.ev_body.specs.WellFormed.{IsImage, is_body, are_parts, has_operands, ends_with, is_ret, is_finish}
 use Rattle.ev_abstract.specs.Rules.{in_function, jump_target}
-use Rattle.ev_law.specs.Calls.{part_at, function_at}
+use Rattle.ev_call_law.specs.Calls.{part_at, function_at}
 use Rattle.ev_law.proofs.Lists.{all_at}
 use Rattle.ev_law.proofs.Parts.{items_of, get_split, goes_in, starts_in, leads_in, part_ends, parts_lead, parts_start}
 use Rattle.ev_law.proofs.Ruled.{IsRuled}

@@ -28,14 +28,14 @@ use Rattle.ev_abstract.specs.declared.entry.Entry.{Entry}
 use Rattle.ev_abstract.specs.ItemMeaning.{Step, item_step, with_context, with_cell, with_page, with_slot, with_task_at, with_mail, unknown_flags, arithmetic, taken, raised, guarded, kernel_fault, user_address, gives, done, called, waited, finished, below_last}
 use Rattle.ev_abstract.specs.Rules.{breaks_slots, in_function, is_call_handler, jump_target}
 use Rattle.ev_law.specs.Legal.{AreLegal, Legal, declares, knows, runs_calls}
-use Rattle.ev_law.specs.Calls.{one_if, to_run, is_free, was_queued, first_function, function_at, RunsItsCall, RunTheirCalls, KeepsCallRecords}
+use Rattle.ev_call_law.specs.Calls.{one_if, to_run, is_free, was_queued, first_function, function_at, RunsItsCall, RunTheirCalls, KeepsCallRecords}
 use Rattle.ev_law.proofs.Ruled.{IsRuled}
 use Rattle.ev_law.proofs.Delivery.{delivered_records}
 use Rattle.ev_law.proofs.Items.{declared_at, dropped_records}
-use Rattle.ev_law.proofs.Functions.{IsParted, no_function}
-use Rattle.ev_law.proofs.Counts.{any_counted}
-use Rattle.ev_law.proofs.CallRecords.{AllFit, ArePlain, IsPlain, Same, KeptStep, same_self, put_same, same_cell, same_words, same_page, same_mail, same_kick, same_calls, put_calls, same_kept, goes_on}
-use Rattle.ev_law.proofs.CallSteps.{emptied_func, freed_func, call_kept, take_kept, finish_kept}
+use Rattle.ev_call_law.proofs.Functions.{IsParted, no_function}
+use Rattle.ev_call_law.proofs.Counts.{any_counted}
+use Rattle.ev_call_law.proofs.Records.{AllFit, ArePlain, IsPlain, Same, KeptStep, same_self, put_same, same_cell, same_words, same_page, same_mail, same_kick, same_calls, put_calls, same_kept, goes_on}
+use Rattle.ev_call_law.proofs.Steps.{emptied_func, freed_func, call_kept, take_kept, finish_kept}
 
 -- ---- entries of no call
 

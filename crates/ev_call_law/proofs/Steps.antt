@@ -11,9 +11,9 @@ use Rattle.ev_abstract.specs.CrossCall.{record_of, with_record, in_state, with_q
 use Rattle.ev_abstract.specs.declared.entry.Entry.{Entry}
 use Rattle.ev_abstract.specs.CallLaws.{is_call, is_ran}
 use Rattle.ev_abstract.specs.ItemMeaning.{replace_last, with_context}
-use Rattle.ev_law.specs.Calls.{is_id, one_if, times, to_run, is_queued, is_taken, is_free, was_queued, IsInRange, IsPlaced, IsTold, RunsItsCall, RunTheirCalls, KeepsCallRecords}
-use Rattle.ev_law.proofs.Counts.{count_push, any_counted, counted_any, same_call, id_self, id_sym, times_same, times_other, times_append, equal_sym, is_one, queued_more, queued_runs, runs_more}
-use Rattle.ev_law.proofs.CallRecords.{put_field, runs_under, placed_by, told_more, told_past, KeptStep}
+use Rattle.ev_call_law.specs.Calls.{is_id, one_if, times, to_run, is_queued, is_taken, is_free, was_queued, IsInRange, IsPlaced, IsTold, RunsItsCall, RunTheirCalls, KeepsCallRecords}
+use Rattle.ev_call_law.proofs.Counts.{count_push, any_counted, counted_any, same_call, id_self, id_sym, times_same, times_other, times_append, equal_sym, is_one, queued_more, queued_runs, runs_more}
+use Rattle.ev_call_law.proofs.Records.{put_field, runs_under, placed_by, told_more, told_past, KeptStep}
 
 -- ---- what the steps leave
 

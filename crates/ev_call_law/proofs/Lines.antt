@@ -21,11 +21,11 @@ use Rattle.ev_abstract.specs.declared.script_line.Line.{Line}
 use Rattle.ev_abstract.specs.declared.script_line.Line.TheVariants.{Turn, Edge, Arrive, Accept}
 use Rattle.ev_abstract.specs.Run.{turn, line_step, task_step, item_at, item_or_nothing, next_step, chosen_step, arrived, accepted}
 use Rattle.ev_law.specs.Legal.{AreLegal, Legal, knows}
-use Rattle.ev_law.specs.Calls.{KeepsCallRecords}
+use Rattle.ev_call_law.specs.Calls.{KeepsCallRecords}
 use Rattle.ev_law.proofs.Ruled.{IsRuled}
-use Rattle.ev_law.proofs.Functions.{IsParted}
-use Rattle.ev_law.proofs.CallRecords.{KeptStep, Same, same_self, same_words, put_same, same_calls, put_calls, same_kept}
-use Rattle.ev_law.proofs.CallItems.{delivered_kept, item_kept}
+use Rattle.ev_call_law.proofs.Functions.{IsParted}
+use Rattle.ev_call_law.proofs.Records.{KeptStep, Same, same_self, same_words, put_same, same_calls, put_calls, same_kept}
+use Rattle.ev_call_law.proofs.Items.{delivered_kept, item_kept}
 
 arrived_same : (m : Machine) (p : ℕ) (key : Key) → Same m (with_processor m p (arrived (processor m p) key))
 arrived_same m p Nmi = put_same m p (arrived (processor m p) Nmi) refl refl refl

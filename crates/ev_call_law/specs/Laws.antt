@@ -14,7 +14,7 @@ use Rattle.ev_abstract.specs.declared.entry.Entry.{Entry}
 use Rattle.ev_abstract.specs.declared.script_line.Line.{Line}
 use Rattle.ev_abstract.specs.Run.{line_step, run, trace}
 use Rattle.ev_law.specs.Legal.{Legal}
-use Rattle.ev_law.specs.Calls.{RunsItsCall, KeepsCallRecords}
+use Rattle.ev_call_law.specs.Calls.{RunsItsCall, KeepsCallRecords}
 use Rattle.std.specs.Prelude.{true}
 
 -- ---- the invariant

@@ -5,7 +5,7 @@ use Rattle.std.proofs.Common.{arith, ap, sym, ◌∙◌, subst}
 use Rattle.std.proofs.lemmas.Bool.{and_parts, and_from, eqb-true, eq-eqb, leb-true, ltb-true, le-leb, lt-leb, lt-ltb, le-ltb, eqb-false}
 use Rattle.std.proofs.lemmas.List.Sums.{sum_by-cons, sum_by-append}
 use Rattle.ev_abstract.specs.Context.{CallId}
-use Rattle.ev_law.specs.Calls.{is_id, one_if, times}
+use Rattle.ev_call_law.specs.Calls.{is_id, one_if, times}
 
 -- ---- lists
 

@@ -1,5 +1,5 @@
-use Rattle.ev_law.proofs.CallRuns.{opening_keeps_calls, lines_keep_calls, runs_keep_calls}
-use Rattle.ev_law.proofs.calls.keeps_calls.Goals as goal
+use Rattle.ev_call_law.proofs.Runs.{opening_keeps_calls, lines_keep_calls, runs_keep_calls}
+use Rattle.ev_call_law.proofs.laws.keeps_calls.Goals as goal
 
 pub returns-clause-opening : goal.returns-clause-opening
 returns-clause-opening c = opening_keeps_calls

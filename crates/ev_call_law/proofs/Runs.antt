@@ -17,16 +17,16 @@ use Rattle.ev_abstract.specs.declared.entry.Entry.TheVariants.{Ran, Done}
 use Rattle.ev_abstract.specs.declared.script_line.Line.{Line}
 use Rattle.ev_abstract.specs.Run.{line_step, after, entries_from, run, trace}
 use Rattle.ev_law.specs.Legal.{Legal, runs_calls}
-use Rattle.ev_law.specs.Calls.{one_if, times, to_run, is_taken, has_run, RunsItsCall, RunTheirCalls, KeepsCallRecords}
-use Rattle.ev_law.specs.CallRuns.{OpeningKeepsCalls, LinesKeepCalls, RunsKeepCalls, ContextsRunTheirCalls, HasACall, FinishesHaveCalls}
+use Rattle.ev_call_law.specs.Calls.{one_if, times, to_run, is_taken, has_run, RunsItsCall, RunTheirCalls, KeepsCallRecords}
+use Rattle.ev_call_law.specs.Laws.{OpeningKeepsCalls, LinesKeepCalls, RunsKeepCalls, ContextsRunTheirCalls, HasACall, FinishesHaveCalls}
 use Rattle.ev_law.proofs.Ruled.{body_ruled}
-use Rattle.ev_law.proofs.Functions.{body_parted}
+use Rattle.ev_call_law.proofs.Functions.{body_parted}
 use Rattle.ev_law.proofs.Lines.{lines_keep_legal}
 use Rattle.ev_law.proofs.Runs.{opening_is_legal}
 use Rattle.ev_law.proofs.Follows.{contexts_follow}
-use Rattle.ev_law.proofs.Counts.{is_one, times_append, times_same}
-use Rattle.ev_law.proofs.CallRecords.{Fits, AllFit, KeptStep}
-use Rattle.ev_law.proofs.CallLines.{line_kept}
+use Rattle.ev_call_law.proofs.Counts.{is_one, times_append, times_same}
+use Rattle.ev_call_law.proofs.Records.{Fits, AllFit, KeptStep}
+use Rattle.ev_call_law.proofs.Lines.{line_kept}
 
 -- ---- the invariant
 

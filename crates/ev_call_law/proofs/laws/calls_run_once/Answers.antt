@@ -1,5 +1,5 @@
-use Rattle.ev_law.proofs.CallRuns.{calls_are_kept, contexts_run_their_calls, finishes_have_calls}
-use Rattle.ev_law.proofs.calls.calls_run_once.Goals as goal
+use Rattle.ev_call_law.proofs.Runs.{calls_are_kept, contexts_run_their_calls, finishes_have_calls}
+use Rattle.ev_call_law.proofs.laws.calls_run_once.Goals as goal
 
 pub returns-clause-trace : goal.returns-clause-trace
 returns-clause-trace c = calls_are_kept

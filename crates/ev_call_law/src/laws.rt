@@ -1,8 +1,8 @@
 // The laws of calls between processors.
 
 ghost use Rattle.ev_abstract.specs.Claims.{CallsAreKept};
-ghost use Rattle.ev_law.specs.CallRuns.{LinesKeepCalls, OpeningKeepsCalls, RunsKeepCalls};
-ghost use Rattle.ev_law.specs.CallRuns.{ContextsRunTheirCalls, FinishesHaveCalls};
+ghost use Rattle.ev_call_law.specs.Laws.{LinesKeepCalls, OpeningKeepsCalls, RunsKeepCalls};
+ghost use Rattle.ev_call_law.specs.Laws.{ContextsRunTheirCalls, FinishesHaveCalls};
 
 /// With an accepted image each call is free, or once in the queue of its target, or once in the lists
 /// of its target's contexts, and nowhere else; its record says which, and the entries have each call
