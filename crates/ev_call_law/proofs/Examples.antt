@@ -1,6 +1,6 @@
 -- The invariant of calls, computed after every line of scripts.
-use Rattle.std.specs.Prelude.{◌≡◌, refl, ℕ, Bool, true, false, ◌&&◌, ◌||◌, nat_lt, ◌==◌, List, [], ◌∷◌, ◌++◌, Option, Some, None, is_none, slice_get, replicate, flat_map, count_by}
-use Rattle.std.specs.List.{list_all}
+use Rattle.std.specs.Prelude.{◌≡◌, refl, ℕ, Bool, true, false, not, ◌&&◌, ◌||◌, nat_lt, ◌==◌, List, [], ◌∷◌, ◌++◌, Option, Some, None, is_none, slice_get, replicate, flat_map, count_by}
+use Rattle.std.specs.List.{list_all, list_any}
 use Rattle.ev_isa.specs.Spelling.{spelling}
 use Rattle.ev_isa.specs.declared.instruction.AluOp.{AluOp}
 use Rattle.ev_isa.specs.declared.instruction.Cond.{Cond}
@@ -49,22 +49,29 @@ is_placed m k q =
     (times k (processor m q).queue == one_if (is_queued (record_of m k).state && ((record_of m k).to == q)))
     && in_range 2 k (record_of m k) && (times k (to_run (processor m q).bodies) == one_if (is_taken (record_of m k).state && ((record_of m k).to == q)))
 
+-- the call's entry as its record has it
+abbrev is_entry_of : CallId → CallRecord → Entry → Bool
+is_entry_of k r (Entry.Call p site number to func arg) =
+    (p == k.from) && (site == k.site) && (number == r.number) && (to == r.to) && (func == r.func) && (arg == r.arg)
+is_entry_of k r _ = false
+
 abbrev is_told : Machine → List Entry → CallId → ℕ → Bool
 is_told m entries k n =
     (count_by (is_call k.from k.site n) entries == one_if (was_queued (record_of m k) n))
     && (count_by (is_ran k.from k.site n) entries == one_if (has_run (record_of m k) n))
+    && (not (nat_lt 0 (record_of m k).number) || list_any (is_entry_of k (record_of m k)) entries)
 
 abbrev same_option : Option ℕ → Option ℕ → Bool
 same_option None o = is_none o
 same_option (Some a) None = false
 same_option (Some a) (Some b) = a == b
 
-abbrev function_in : Option Body → ℕ → Option ℕ
-function_in None i = None
-function_in (Some b) i = function_at b i
+abbrev function_of : Option Body → ℕ → Option ℕ
+function_of None i = None
+function_of (Some b) i = function_at b i
 
 abbrev runs_its_call : KernelImage → Machine → BodyContext → Bool
-runs_its_call image m c = same_option (function_in (slice_get image.bodies c.body) c.place) (first_function m c.calls)
+runs_its_call image m c = same_option (function_of (slice_get image.bodies c.body) c.place) (first_function m c.calls)
 
 -- for two processors, each of eight sites and the first numbers
 abbrev is_kept : KernelImage → Machine → List Entry → Bool
@@ -188,20 +195,21 @@ all_sites_entries = refl
 
 -- ---- two `take`s in a row with nothing to take; then a function that calls and waits, between `take` and `finish`
 
-unfoldable in_function : KernelImage
-in_function = calling (Item.Call 0 1 1 12 ∷ Item.Kick 1 12 ∷ Item.Sti ∷ Item.Wait 0 ∷ Item.Cli ∷ Item.Ret ∷ []) (
+unfoldable within_function : KernelImage
+within_function = calling (Item.Call 0 1 1 12 ∷ Item.Kick 1 12 ∷ Item.Sti ∷ Item.Wait 0 ∷ Item.Cli ∷ Item.Ret ∷ []) (
     record { func = 3; items = Item.Log 9 ∷ Item.Finish ∷ [] }
     ∷ record { func = 1; items = Item.Call 5 0 3 10 ∷ Item.Kick 0 10 ∷ Item.Wait 5 ∷ Item.Finish ∷ [] } ∷ [])
 
-unfoldable in_function_script : List Line
-in_function_script = Arrive 1 (Key.Irq 0xfb) ∷ turns 1 2 ++ Arrive 1 (Key.Irq 0xfb) ∷ turns 1 5 ++ turns 0 4 ++ Accept 1 ∷ turns 1 6 ++ Accept 0 ∷ turns 0 8
+unfoldable within_function_script : List Line
+within_function_script = Arrive 1 (Key.Irq 0xfb) ∷ turns 1 2 ++ Arrive 1 (Key.Irq 0xfb) ∷ turns 1 5 ++ turns 0 4 ++ Accept 1 ∷ turns 1 6 ++ Accept 0 ∷ turns 0
+    8
     ++ turns 1 3 ++ turns 0 2
 
-in_function_kept : is_kept_along in_function (opening in_function) [] in_function_script ≡ true
-unfolding computing in_function in_function_script
-in_function_kept = refl
+within_function_kept : is_kept_along within_function (opening within_function) [] within_function_script ≡ true
+unfolding computing within_function within_function_script
+within_function_kept = refl
 
-in_function_entries : call_entries (trace in_function in_function_script) ≡
+within_function_entries : call_entries (trace within_function within_function_script) ≡
     Entry.Call 0 0 1 1 1 0 ∷ Entry.Call 1 5 1 0 3 0 ∷ Entry.Ran 0 1 5 1 ∷ Entry.Done 1 5 1 ∷ Entry.Ran 1 0 0 1 ∷ Entry.Done 0 0 1 ∷ []
-unfolding computing in_function in_function_script
-in_function_entries = refl
+unfolding computing within_function within_function_script
+within_function_entries = refl

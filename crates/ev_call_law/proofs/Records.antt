@@ -1,7 +1,7 @@
 -- Steps that leave each call where it is and each context in its function: records, queues and lists stay.
 use Rattle.std.specs.Prelude.{◌≡◌, refl, ℕ, ◌+◌, ◌<◌, Bool, true, false, ◌&&◌, ◌==◌, if◌then◌else◌, List, [], ◌∷◌, ◌++◌, Some, count_by}
 use Rattle.std.specs.List.{list_any}
-use Rattle.std.proofs.Common.{arith, ap, sym, ◌∙◌, subst}
+use Rattle.std.proofs.Common.{arith, ap, sym, ◌∙◌, subst, append_assoc}
 use Rattle.std.proofs.lemmas.Bool.{eqb-true}
 use Rattle.ev_isa.specs.Word.{NatMap}
 use Rattle.ev_isa.specs.Pages.{Place, Page}
@@ -15,7 +15,7 @@ use Rattle.ev_abstract.specs.declared.entry.Entry.{Entry}
 use Rattle.ev_abstract.specs.declared.entry.Entry.TheVariants.{Ran, Done}
 use Rattle.ev_abstract.specs.CallLaws.{is_call, is_ran}
 use Rattle.ev_abstract.specs.ItemMeaning.{Step, replace_last, with_context, with_cell, with_page, mailed, with_mail}
-use Rattle.ev_call_law.specs.Calls.{one_if, times, to_run, is_queued, is_taken, is_free, IsInRange, IsPlaced, IsTold, first_function, RunsItsCall, RunTheirCalls, KeepsCallRecords}
+use Rattle.ev_call_law.specs.Calls.{HasEntry, one_if, times, to_run, is_queued, is_taken, is_free, IsInRange, IsPlaced, IsTold, first_function, RunsItsCall, RunTheirCalls, KeepsCallRecords}
 use Rattle.ev_call_law.proofs.Counts.{count_append, count_cons, count_push, times_append, times_same}
 use Rattle.ev_law.proofs.Machines.{mailed_same}
 
@@ -23,7 +23,8 @@ use Rattle.ev_law.proofs.Machines.{mailed_same}
 
 -- what an entry says of calls happened before
 abbrev pub Fits : List Entry → Entry → Type 0
-Fits past (Ran p from site number) = list_any (is_call from site number) past ≡ true
+Fits past (Ran p from site number) =
+    (list_any (is_call from site number) past ≡ true) × ((func arg : ℕ) × HasEntry (record { from = from; site = site }) number p func arg past)
 Fits past (Done p site number) = 0 < number → list_any (is_ran p site number) past ≡ true
 Fits past _ = Unit {0}
 
@@ -50,10 +51,19 @@ plain_more : (test : Entry → Bool) (past es : List Entry) → ((e : Entry) →
     → count_by test (past ++ es) ≡ count_by test past
 plain_more test past es f h = let k = none_counted test es f h in count_append test past es ∙ omega (arith, k)
 
+pub said_more : (k : CallId) (number to func arg : ℕ) (past es : List Entry) → HasEntry k number to func arg past
+    → HasEntry k number to func arg (past ++ es)
+said_more k number to func arg past es h = record {
+  before = h.before;
+  rest = h.rest ++ es;
+  stands = ap (λ p. p ++ es) h.stands ∙ append_assoc h.before (Entry.Call k.from k.site number to func arg ∷ h.rest) es;
+}
+
 pub told_more : (k : CallId) (r : CallRecord) (past es : List Entry) → IsTold k r past → ArePlain es → IsTold k r (past ++ es)
 told_more k r past es t h = record {
   calls = λ n. plain_more (is_call k.from k.site n) past es (λ e p. p.call k.from k.site n) h ∙ t.calls n;
   runs = λ n. plain_more (is_ran k.from k.site n) past es (λ e p. p.ran k.from k.site n) h ∙ t.runs n;
+  last = λ l. said_more k r.number r.to r.func r.arg past es (t.last l);
 }
 
 -- the same of one entry, for one call
@@ -62,6 +72,7 @@ pub told_past : (k : CallId) (r : CallRecord) (past : List Entry) (e : Entry) �
 told_past k r past e f g t = record {
   calls = λ n. count_push (is_call k.from k.site n) past e ∙ ap (λ t. count_by (is_call k.from k.site n) past + one_if t) (f n) ∙ omega arith ∙ t.calls n;
   runs = λ n. count_push (is_ran k.from k.site n) past e ∙ ap (λ t. count_by (is_ran k.from k.site n) past + one_if t) (g n) ∙ omega arith ∙ t.runs n;
+  last = λ l. said_more k r.number r.to r.func r.arg past (e ∷ []) (t.last l);
 }
 
 -- a call's place, by its record
@@ -167,7 +178,8 @@ module _ (image : Image) where
     runs = λ q. run q (q == p) refl;
   }
     where
-      list : (q : ℕ) (b : Bool) → q == p ≡ b → to_run (elim b as (λ y. Processor) [ true ↦ x | false ↦ n.processors q ]).bodies ≡ to_run (processor m q).bodies
+      list : (q : ℕ) (b : Bool) → q == p ≡ b → to_run (elim b as (λ y. Processor) [ true ↦ x | false ↦ n.processors q ]).bodies ≡ to_run
+          (processor m q).bodies
       list q true h = l ∙ ap (λ i. to_run (processor m i).bodies) (sym (eqb-true q p h))
       list q false h = ap to_run (s.bodies q)
 

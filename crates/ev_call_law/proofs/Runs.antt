@@ -18,7 +18,7 @@ use Rattle.ev_abstract.specs.declared.script_line.Line.{Line}
 use Rattle.ev_abstract.specs.Run.{line_step, after, entries_from, run, trace}
 use Rattle.ev_law.specs.Legal.{Legal, runs_calls}
 use Rattle.ev_call_law.specs.Calls.{one_if, times, to_run, is_taken, has_run, RunsItsCall, RunTheirCalls, KeepsCallRecords}
-use Rattle.ev_call_law.specs.Laws.{OpeningKeepsCalls, LinesKeepCalls, RunsKeepCalls, ContextsRunTheirCalls, HasACall, FinishesHaveCalls}
+use Rattle.ev_call_law.specs.Laws.{OpeningKeepsCalls, LinesKeepCalls, RunsKeepCalls, CallsRunOnTheirTargets, ContextsRunTheirCalls, HasACall, FinishesHaveCalls}
 use Rattle.ev_law.proofs.Ruled.{body_ruled}
 use Rattle.ev_call_law.proofs.Functions.{body_parted}
 use Rattle.ev_law.proofs.Lines.{lines_keep_legal}
@@ -41,6 +41,7 @@ opening_keeps_calls image = record {
   told = λ k. record {
     calls = λ n. sym (ap one_if (none_queued n));
     runs = λ n. sym (ap (λ t. one_if (t && (nat_lt n 0 || true))) (none_queued n));
+    last = λ l. absurd (omega (arith, l));
   };
   runs = λ q. tt;
 }
@@ -99,9 +100,13 @@ calls_are_kept image script is accepted s = let k = run_kept image script is acc
   once = λ from site number. (let id : CallId = record { from = from; site = site } in
       let e = (k.kept.told id).runs number in
       let l = at_most_one (has_run (record_of (run image script) id) number) in omega (arith, e, l));
-  queued = λ before rest p from site number q. fit_at [] before (Ran p from site number) rest (subst (AllFit []) q k.fit);
+  queued = λ before rest p from site number q. (fit_at [] before (Ran p from site number) rest (subst (AllFit []) q k.fit)).0;
   reported = λ before rest p site number pos q. fit_at [] before (Done p site number) rest (subst (AllFit []) q k.fit) pos;
 }
+
+pub calls_run_on_their_targets : CallsRunOnTheirTargets
+calls_run_on_their_targets image script is accepted s before rest p from site number q =
+    (fit_at [] before (Ran p from site number) rest (subst (AllFit []) q (run_kept image script is accepted s).fit)).1
 
 -- ---- contexts
 

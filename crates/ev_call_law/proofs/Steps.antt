@@ -11,9 +11,9 @@ use Rattle.ev_abstract.specs.CrossCall.{record_of, with_record, in_state, with_q
 use Rattle.ev_abstract.specs.declared.entry.Entry.{Entry}
 use Rattle.ev_abstract.specs.CallLaws.{is_call, is_ran}
 use Rattle.ev_abstract.specs.ItemMeaning.{replace_last, with_context}
-use Rattle.ev_call_law.specs.Calls.{is_id, one_if, times, to_run, is_queued, is_taken, is_free, was_queued, IsInRange, IsPlaced, IsTold, RunsItsCall, RunTheirCalls, KeepsCallRecords}
+use Rattle.ev_call_law.specs.Calls.{HasEntry, is_id, one_if, times, to_run, is_queued, is_taken, is_free, was_queued, IsInRange, IsPlaced, IsTold, RunsItsCall, RunTheirCalls, KeepsCallRecords}
 use Rattle.ev_call_law.proofs.Counts.{count_push, any_counted, counted_any, same_call, id_self, id_sym, times_same, times_other, times_append, equal_sym, is_one, queued_more, queued_runs, runs_more}
-use Rattle.ev_call_law.proofs.Records.{put_field, runs_under, placed_by, told_more, told_past, KeptStep}
+use Rattle.ev_call_law.proofs.Records.{AllFit, put_field, runs_under, placed_by, said_more, told_more, told_past, KeptStep}
 
 -- ---- what the steps leave
 
@@ -272,6 +272,7 @@ module _ (image : Image) (m : Machine) (past : List Entry) (keeps : KeepsCallRec
       runs = λ n. pushed (is_ran k.from k.site n) past (Entry.Call k.from k.site (suc number) to func arg) false (call_not_ran k k n (suc number) to func arg)
           ∙ omega arith ∙ (keeps.told k).runs n
           ∙ ap (λ (s : CallState). one_if ((nat_le 1 n && nat_le n number) && (nat_lt n number || is_free s))) free ∙ sym (queued_runs number n);
+      last = λ l. record { before = past; rest = []; stands = refl };
     }
 
     call_told_other : (j : CallId) → is_id j k ≡ false → IsTold j (record_of m j) (past ++ entry ∷ [])
@@ -419,6 +420,7 @@ module _ (image : Image) (m : Machine) (past : List Entry) (keeps : KeepsCallRec
         pick true w = let a = and_parts (is_queued r.state) (r.to == p) w in record {
           calls = (keeps.told j).calls;
           runs = λ n. (keeps.told j).runs n ∙ ap (λ t. one_if (was_queued r n && (nat_lt n r.number || t))) (not_free r.state a.0);
+          last = (keeps.told j).last;
         }
         pick false w = keeps.told j
 
@@ -526,15 +528,18 @@ module _ (image : Image) (m : Machine) (past : List Entry) (keeps : KeepsCallRec
         list q false e = (keeps.placed j).list q
 
     finish_told_here : IsTold k (in_state (record_of m k) Free) (past ++ Entry.Ran p k.from k.site (record_of m k).number ∷ [])
-    finish_told_here = let number : ℕ = (record_of m k).number in let range = (keeps.placed k).fits (taken_not_free (record_of m k).state was_taken.0) in record {
-      calls = λ n. pushed (is_call k.from k.site n) past (Entry.Ran p k.from k.site number) false (ran_not_call k k p n number) ∙ omega arith
-          ∙ (keeps.told k).calls n;
-      runs = λ n. pushed (is_ran k.from k.site n) past (Entry.Ran p k.from k.site number) (is_id k k && (number == n)) (ran_test k k p n number)
-          ∙ ap (λ t. count_by (is_ran k.from k.site n) past + one_if (t && (number == n))) (id_self k)
-          ∙ ap (λ x. x + one_if (number == n)) ((keeps.told k).runs n
-          ∙ ap (λ t. one_if (was_queued (record_of m k) n && (nat_lt n number || t))) (taken_not_free (record_of m k).state was_taken.0))
-          ∙ runs_more number n range.number;
-    }
+    finish_told_here = let number : ℕ = (record_of m k).number in let range = (keeps.placed k).fits (taken_not_free (record_of m k).state was_taken.0) in
+        record {
+          calls = λ n. pushed (is_call k.from k.site n) past (Entry.Ran p k.from k.site number) false (ran_not_call k k p n number) ∙ omega arith
+              ∙ (keeps.told k).calls n;
+          runs = λ n. pushed (is_ran k.from k.site n) past (Entry.Ran p k.from k.site number) (is_id k k && (number == n)) (ran_test k k p n number)
+              ∙ ap (λ t. count_by (is_ran k.from k.site n) past + one_if (t && (number == n))) (id_self k)
+              ∙ ap (λ x. x + one_if (number == n)) ((keeps.told k).runs n
+              ∙ ap (λ t. one_if (was_queued (record_of m k) n && (nat_lt n number || t))) (taken_not_free (record_of m k).state was_taken.0))
+              ∙ runs_more number n range.number;
+          last = λ l. said_more k number (record_of m k).to (record_of m k).func (record_of m k).arg past (Entry.Ran p k.from k.site number ∷ [])
+              ((keeps.told k).last l);
+        }
 
     finish_told_other : (j : CallId) → is_id j k ≡ false → IsTold j (record_of m j) (past ++ Entry.Ran p k.from k.site (record_of m k).number ∷ [])
     finish_told_other j e = let number : ℕ = (record_of m k).number in
@@ -542,7 +547,7 @@ module _ (image : Image) (m : Machine) (past : List Entry) (keeps : KeepsCallRec
         (λ n. ran_not_call k j p n number) (λ n. ran_test k j p n number ∙ ap (λ t. t && (number == n)) (id_sym k j ∙ e)) (keeps.told j)
 
     -- it was queued before
-    finish_fits : list_any (is_call k.from k.site (record_of m k).number) past ≡ true
+    finish_fits : AllFit past (Entry.Ran p k.from k.site (record_of m k).number ∷ [])
     finish_fits =
         let number : ℕ = (record_of m k).number in
         let range = (keeps.placed k).fits (taken_not_free (record_of m k).state was_taken.0) in
@@ -550,7 +555,8 @@ module _ (image : Image) (m : Machine) (past : List Entry) (keeps : KeepsCallRec
         let e : count_by (is_call k.from k.site number) past ≡ one_if (nat_le 1 number && nat_le number number) = (keeps.told k).calls number in
         let o : one_if (nat_le 1 number && nat_le number number) ≡ 1 =
         ap one_if (and_from (nat_le 1 number) (nat_le number number) (le-leb 1 number (omega (arith, pos))) (le-leb number number (omega arith))) in
-        any_counted (is_call k.from k.site number) past (omega (arith, e, o))
+        let l = subst (λ to. HasEntry k number to (record_of m k).func (record_of m k).arg past) was_taken.1 ((keeps.told k).last pos) in
+        ((any_counted (is_call k.from k.site number) past (omega (arith, e, o)), ((record_of m k).func, (record_of m k).arg, l)), tt)
 
     pub finish_kept : KeptStep image past (
       with_context (with_record m k (in_state (record_of m k) Free)) p d,
@@ -564,7 +570,7 @@ module _ (image : Image) (m : Machine) (past : List Entry) (keeps : KeepsCallRec
         runs = λ q. runs_under image m finish_after (processor finish_after q).bodies (λ j l. func j (is_id j k) refl)
             (context_runs m freed p c d below freed_bodies here image runs keeps.runs q);
       };
-      fit = (finish_fits, tt);
+      fit = finish_fits;
     }
       where
         entries : List Entry

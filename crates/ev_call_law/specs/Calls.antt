@@ -1,6 +1,6 @@
--- Where the calls of the abstract machine are, which function a context runs, and what a trace tells of
--- calls. Own.
-use Rattle.std.specs.Prelude.{◌≡◌, ℕ, ◌+◌, ◌<◌, Bool, true, false, ◌&&◌, ◌||◌, nat_lt, nat_le, ◌==◌, if◌then◌else◌, List, [], ◌∷◌, length, flat_map, Option, Some, None, slice_get, count_by}
+-- Where the calls of the abstract machine are, which function a context runs, and what a trace tells
+-- of calls. Own.
+use Rattle.std.specs.Prelude.{◌≡◌, ℕ, ◌+◌, ◌<◌, Bool, true, false, ◌&&◌, ◌||◌, nat_lt, nat_le, ◌==◌, if◌then◌else◌, List, [], ◌∷◌, ◌++◌, length, flat_map, Option, Some, None, slice_get, count_by}
 use Rattle.ev_body.specs.declared.body.Part.{Part}
 use Rattle.ev_body.specs.declared.body.Body.{Body}
 use Rattle.ev_body.specs.declared.image.Image.{Image}
@@ -17,18 +17,22 @@ use Rattle.ev_abstract.specs.Rules.{in_function}
 abbrev pub is_id : CallId → CallId → Bool
 is_id j k = (j.from == k.from) && (j.site == k.site)
 
+-- no call of the site is under way
 abbrev pub is_free : CallState → Bool
 is_free Free = true
 is_free _ = false
 
+-- it waits in its target's queue
 abbrev pub is_queued : CallState → Bool
 is_queued Queued = true
 is_queued _ = false
 
+-- it is in a list of its target's contexts
 abbrev pub is_taken : CallState → Bool
 is_taken Taken = true
 is_taken _ = false
 
+-- 1 where the test passes
 abbrev pub one_if : Bool → ℕ
 one_if t = if t then 1 else 0
 
@@ -48,8 +52,8 @@ pub record IsInRange (image : Image) (k : CallId) (r : CallRecord) : Type 0 wher
   pub func : r.func < 8
   pub number : 0 < r.number
 
--- A call is free and nowhere, or queued and once in the queue of its target alone, or taken and once in the
--- lists of its target's contexts alone.
+-- A call is free and nowhere, or queued and once in the queue of its target alone, or taken and once
+-- in the lists of its target's contexts alone.
 pub record IsPlaced (image : Image) (m : Machine) (k : CallId) : Type 0 where
   pub queue : (q : ℕ) → times k (processor m q).queue
       ≡ one_if (is_queued (record_of m k).state && ((record_of m k).to == q))
@@ -67,10 +71,18 @@ was_queued r n = nat_le 1 n && nat_le n r.number
 abbrev pub has_run : CallRecord → ℕ → Bool
 has_run r n = was_queued r n && (nat_lt n r.number || is_free r.state)
 
--- The entries have each call that the site queued, and each that ran, just once.
+-- the entries have this call, with its target, function and argument
+pub record HasEntry (k : CallId) (number to func arg : ℕ) (entries : List Entry) : Type 0 where
+  pub before : List Entry
+  pub rest : List Entry
+  pub stands : entries ≡ before ++ Entry.Call k.from k.site number to func arg ∷ rest
+
+-- The entries have each call that the site queued, and each that ran, just once. The record has of
+-- the last one what its entry says.
 pub record IsTold (k : CallId) (r : CallRecord) (entries : List Entry) : Type 0 where
   pub calls : (n : ℕ) → count_by (is_call k.from k.site n) entries ≡ one_if (was_queued r n)
   pub runs : (n : ℕ) → count_by (is_ran k.from k.site n) entries ≡ one_if (has_run r n)
+  pub last : 0 < r.number → HasEntry k r.number r.to r.func r.arg entries
 
 -- ---- which function runs
 
@@ -78,7 +90,8 @@ pub record IsTold (k : CallId) (r : CallRecord) (entries : List Entry) : Type 0 
 abbrev pub part_at : ℕ → List Part → ℕ → Option ℕ
 part_at n [] i = None
 part_at n (part ∷ parts) i =
-    if nat_lt i (n + length part.items) then Some part.func else part_at (n + length part.items) parts i
+    if nat_lt i (n + length part.items) then Some part.func
+    else part_at (n + length part.items) parts i
 
 -- the function in which item i of a body stands, if it is in one
 abbrev pub function_at : Body → ℕ → Option ℕ

@@ -1,5 +1,5 @@
 -- The laws of calls in the runs of accepted images. Own.
-use Rattle.std.specs.Prelude.{◌≡◌, ℕ, List, [], ◌∷◌, ◌++◌, Some, slice_get}
+use Rattle.std.specs.Prelude.{◌≡◌, ℕ, true, List, [], ◌∷◌, ◌++◌, Some, slice_get}
 use Rattle.ev_body.specs.declared.item.Item.TheVariants.{Finish}
 use Rattle.ev_body.specs.declared.body.Body.{Body}
 use Rattle.ev_body.specs.declared.image.Image.{Image}
@@ -14,8 +14,7 @@ use Rattle.ev_abstract.specs.declared.entry.Entry.{Entry}
 use Rattle.ev_abstract.specs.declared.script_line.Line.{Line}
 use Rattle.ev_abstract.specs.Run.{line_step, run, trace}
 use Rattle.ev_law.specs.Legal.{Legal}
-use Rattle.ev_call_law.specs.Calls.{RunsItsCall, KeepsCallRecords}
-use Rattle.std.specs.Prelude.{true}
+use Rattle.ev_call_law.specs.Calls.{HasEntry, RunsItsCall, KeepsCallRecords}
 
 -- ---- the invariant
 
@@ -33,13 +32,27 @@ abbrev pub RunsKeepCalls : Type 0
 RunsKeepCalls = (image : Image) (script : List Line) → IsImage image → IsAccepted image
     → IsScript image script → KeepsCallRecords image (run image script) (trace image script)
 
+-- ---- what follows of each call
+
+-- a call runs on the processor for which it was queued before
+abbrev pub RunsOnItsTarget : List Entry → Type 0
+RunsOnItsTarget entries = (before rest : List Entry) (p from site number : ℕ)
+    → entries ≡ before ++ Entry.Ran p from site number ∷ rest
+    → (func arg : ℕ) × HasEntry (record { from = from; site = site }) number p func arg before
+
+-- in the trace of every script
+abbrev pub CallsRunOnTheirTargets : Type 0
+CallsRunOnTheirTargets = (image : Image) (script : List Line) → IsImage image → IsAccepted image
+    → IsScript image script → RunsOnItsTarget (trace image script)
+
 -- ---- what follows of each context
 
--- each context on a processor stands in the function of its first call, and in none where it has no call
+-- each context on a processor stands in the function of its first call, and in none without a call
 abbrev pub ContextsRunTheirCalls : Type 0
 ContextsRunTheirCalls = (image : Image) (script : List Line) (p : ℕ) (c : BodyContext)
     (above below : List BodyContext) → IsImage image → IsAccepted image → IsScript image script
-    → (processor (run image script) p).bodies ≡ above ++ c ∷ below → RunsItsCall image (run image script) c
+    → (processor (run image script) p).bodies ≡ above ++ c ∷ below
+    → RunsItsCall image (run image script) c
 
 -- the context has a first call, which this processor has taken
 pub record HasACall (m : Machine) (p : ℕ) (c : BodyContext) : Type 0 where
