@@ -2,20 +2,25 @@
 //! the items of bodies, and which cells the abstract machine sees.
 #![tactic(auto)]
 
-ghost use Rattle.ev_table.specs.Table.{LinesStand, CellsAreSpaced, LogStands, RetStands, OthersHaveOneExit, BodiesBeginWithItems, ItemsAreCanonical, UnmarkedCellsAreEdges, MarkedCellsAreSeen, BodyJumpStands, TaskReturnStands};
+ghost use Rattle.ev_table.specs.Table.{LinesStand, CellsAreSpaced, ItemsStand, ItemsAreMarked, ItemsFollow, ItemLabelsArePlaced, ExitsArePlaced, LogStands, RetStands, OthersHaveOneExit, BodiesBeginWithItems, ItemsAreCanonical, CellsAreMarked, MarkedCellsAreSeen, BodyJumpStands, TaskReturnStands};
 
-/// In both modes: the kernel's lines stand in the table of every image that can run today, each
-/// item of a body is one cell at its address, and an address is marked where its cell is. Own.
+/// In both modes, for every image: the kernel's lines stand in the table, the cells of each item
+/// stand at its address with its marks, and an address is marked where its cell is. Own.
 pub fn table()
     ensures lines { LinesStand }
     ensures spaced { CellsAreSpaced }
+    ensures items { ItemsStand }
+    ensures item_marks { ItemsAreMarked }
+    ensures follow { ItemsFollow }
+    ensures labels { ItemLabelsArePlaced }
+    ensures placed { ExitsArePlaced }
     ensures logs { LogStands }
     ensures rets { RetStands }
     ensures exits { OthersHaveOneExit }
     ensures first_items { BodiesBeginWithItems }
     ensures canonical { ItemsAreCanonical }
-    ensures unmarked { UnmarkedCellsAreEdges }
-    ensures marked { MarkedCellsAreSeen }
+    ensures marks { CellsAreMarked }
+    ensures always { MarkedCellsAreSeen }
     ensures body_jump { BodyJumpStands }
     ensures task_return { TaskReturnStands }
 {}
