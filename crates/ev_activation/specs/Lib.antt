@@ -1,2 +1,1 @@
-pub mod Activation
 pub mod Seat

@@ -1,2 +1,3 @@
-//! What activations of handlers are: the events that begin them, and the places of kernel code where they stand.
+//! What activations of handlers are: their kinds and their seats on the processor's stacks, told
+//! from the contexts that they stand for.
 #![tactic(auto)]

@@ -14,4 +14,4 @@ pub use draft::Draft;
 pub use head::Head;
 pub use kernel::{Kernel, Start, TaskLine};
 pub use lines::{KernelLine, PartEnd, StartLine};
-pub use reading::{ImageFault, read_draft};
+pub use reading::{ImageFault, read_image};

@@ -23,11 +23,13 @@ use Rattle.ev_concrete.specs.Opening.{tasks_of}
 use Rattle.ev_concrete.specs.ConcreteRun.{System, Activation}
 use Rattle.ev_symbolic.specs.Agrees.{with_words}
 use Rattle.ev_activation.specs.Seat.{Seat}
-use Rattle.ev_refine.specs.Tasks.{IsTask, IsSaved, TssIs, CurrentIs}
+use Rattle.ev_user.specs.Tasks.{IsTask}
+use Rattle.ev_refine.specs.Tasks.{IsSaved, TssIs, CurrentIs}
 use Rattle.ev_refine.specs.Nmi.{Frame, Held, Layer, Plain, LatchIs, inner_edges}
-use Rattle.ev_refine.specs.Named.{Named, UserRsp, Port, IsUserWord, Outside, NotNamed, Changes}
+use Rattle.ev_user.specs.Sees.{IsUserWord}
+use Rattle.ev_refine.specs.Named.{Named, UserRsp, Port, Outside, NotNamed, Changes}
 use Rattle.ev_refine.specs.Domain.{IsInDomain}
-use Rattle.ev_refine.specs.Relation.{Chain, Runs, serves, StandsOn, RecordIs, Linked, Shares, Stands}
+use Rattle.ev_refine.specs.Relation.{Chain, Runs, serves, StandsOn, RecordIs, Linked, Shares, Stands, most_edges}
 use Rattle.ev_refine.proofs.Maps.{at_same}
 use Rattle.ev_refine.proofs.Words.{fixed_stays, stack_stays, stacks_stay, saved_stays}
 use Rattle.ev_refine.proofs.Standing.{Moves}
@@ -157,7 +159,7 @@ module _ (mode : Mode) (image : Image) where
           (first_small (length (tasks_of image p)) x.running _ on.running)
       go false h = subst (λ n. n < length (tasks_of image p)) (sym h) on.running
 
-  few_inner : (latch : Bool) → inner_edges latch ≤ 31
+  pub few_inner : (latch : Bool) → inner_edges latch ≤ 31
   few_inner true = omega arith
   few_inner false = omega arith
 
@@ -169,10 +171,11 @@ module _ (mode : Mode) (image : Image) where
       → cpu.nmi_blocked ≡ list_any (is_nmi_body image) bs
       → ((class : ℕ) → list_any (λ (b : BodyContext). serves mode image class b.service) bs
       ≡ list_any (λ (b : BodyContext). serves mode image class b.service) x.bodies)
-      → own ≤ 500 → Chain mode image p own on.returning (ts on.returning) on.frame on.switching bs as' cpu (with_words s.memory words)
+      → own + inner_edges (s.latches p) ≤ most_edges mode image
+      → Chain mode image p own on.returning (ts on.returning) on.frame on.switching bs as' cpu (with_words s.memory words)
       → StandsOn mode image p (own + inner_edges (s.latches p)) s' (record x { tasks = ts; bodies = bs })
   own_after p left s s' x σ cpu as' words ts bs own on hp four mv at hs changes same good blocked serving few chain = record {
-    few = let f = few_inner (s.latches p) in omega arith;
+    few = few;
     own = own;
     more = 0;
     enough = subst (λ b. own + 0 + inner_edges b ≤ own + inner_edges (s.latches p)) (sym mv.latch) (omega arith);
@@ -213,9 +216,10 @@ module _ (mode : Mode) (image : Image) where
   -- ---- another processor
 
   pub other_stays : (p q left : ℕ) (s s' : System) (x : abstract.Processor) (σ : Seat) (cpu : Processor) (as' : List Activation) (words : NatMap ℕ)
-      → p < 32 → q < 32 → length (tasks_of image q) ≤ 4 → (q ≡ p → ⊥) → (q == p) ≡ false → Moves p s s' cpu as' words → σ.stack < 7
+      → p < 32 → q < image.processors → image.processors ≤ 8 → length (tasks_of image q) ≤ 4 → (q ≡ p → ⊥) → (q == p) ≡ false
+      → Moves p s s' cpu as' words → σ.stack < 7
       → Changes p σ (kernel_names p) s.memory.words words → StandsOn mode image q left s x → StandsOn mode image q left s' x
-  other_stays p q left s s' x σ cpu as' words hp hq four d e mv hs changes on = record {
+  other_stays p q left s s' x σ cpu as' words hp lq eight four d e mv hs changes on = record {
     few = on.few;
     own = on.own;
     more = on.more;
@@ -240,14 +244,19 @@ module _ (mode : Mode) (image : Image) where
     service = λ class. ap (λ (a : Apic). list_any (λ v. vectors_of a.isr v && (v / 16 == class)) (numbers_from 0 256)) (mv.other_apic q e) ∙ on.service class;
     slots = λ k lt. ap (λ w. w (pcpu q + slot_offset k)) mv.words_are ∙ slot_is p σ hp hs s.memory.words words changes q k hq lt ∙ on.slots k lt;
     runs = as_runs on.layer q on.own on.more on.returning (x.tasks on.returning) on.frame on.switching x.bodies (s'.activations q) (s'.cpus q) s'.memory
-        (moved (λ a c w r. Chain mode image q on.own on.returning (x.tasks on.returning) on.frame on.switching x.bodies a c (record { regions = r; words = w }))
-        (chain_stays mode image q on.own on.returning (x.tasks on.returning) on.frame on.switching x.bodies (s.activations q) (s.cpus q) s.memory words hq
-        returning_small
-        (others_spared p q on.returning σ (kernel_names p) s.memory.words words hp hs hq returning_small d (hp, (hp, tt))
+        (moved (λ a c w r. Chain mode image q on.own on.returning (x.tasks on.returning) on.frame on.switching x.bodies a c
+        (record { regions = r; words = w }))
+        (chain_stays mode image q on.own on.returning (x.tasks on.returning) on.frame on.switching x.bodies (s.activations q) (s.cpus q) s.memory words lq
+        eight returning_small
+        (others_spared p q σ (kernel_names p) s.memory.words words hp hs hq d (hp, (hp, tt))
         ((λ f. d (sym (some_same p q f))), ((λ f. d (sym (some_same p q f))), tt)) changes)
-        (as_chain on.layer q on.own on.more on.returning (x.tasks on.returning) on.frame on.switching x.bodies (s.activations q) (s.cpus q) s.memory on.runs)));
+        (as_chain on.layer q on.own on.more on.returning (x.tasks on.returning) on.frame on.switching x.bodies (s.activations q) (s.cpus q) s.memory
+        on.runs)));
   }
     where
+      hq : q < 32
+      hq = omega arith
+
       some_same : (a b : ℕ) → Some a ≡ Some b → a ≡ b
       some_same a b h = cc
 
@@ -334,7 +343,7 @@ module _ (mode : Mode) (image : Image) where
         (subst (λ n. StandsOn mode image p n s' (processor m' p)) (sym (at_same left p p now refl)) (subst (StandsOn mode image p now s') (sym a.own) on)))
         (λ e. subst (λ n. StandsOn mode image q n s' (processor m' q)) (sym (ap (λ b. elim b [ true ↦ now | false ↦ left q ]) e.0))
         (subst (StandsOn mode image q (left q) s') (sym (a.others q e.0))
-        (other_stays p q (left q) s s' (processor m q) σ cpu as' words hp (omega arith) (four q lq) e.1 e.0 mv hs changes (h.each q lq)))) (eqb_tells q p);
+        (other_stays p q (left q) s s' (processor m q) σ cpu as' words hp lq eight (four q lq) e.1 e.0 mv hs changes (h.each q lq)))) (eqb_tells q p);
   }
     where
       hp : p < 32

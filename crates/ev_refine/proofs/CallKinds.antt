@@ -1,4 +1,4 @@
--- Kinds of activations: that of a system call stands on the task alone, and is no NMI's.
+-- Kinds of activations: that of a system call, and of another event of a task, stands on the task alone, and is no NMI's.
 use Rattle.std.proofs.Common.{◌≡◌, ℕ, Bool, true, false, List, [], ◌∷◌, Option, Some, None, refl, ap, ◌∙◌}
 use Rattle.std.specs.Prelude.{◌==◌, ◌||◌, if◌then◌else◌, slice_get}
 use Rattle.std.specs.List.{list_any}
@@ -9,35 +9,99 @@ use Rattle.ev_body.specs.declared.image.Image.{Image}
 use Rattle.ev_body.specs.Bodies.{key_number}
 use Rattle.ev_abstract.specs.Boundary.{has_key, is_nmi_body}
 use Rattle.ev_abstract.specs.Context.{BodyContext}
-use Rattle.ev_activation.specs.Seat.{SystemCall, FromTask, FromBody, NmiFromTask, NmiFromBody, key_by, key_at, kind_from, kind_of}
+use Rattle.ev_activation.specs.Seat.{Kind, SystemCall, FromTask, FromBody, NmiFromTask, NmiFromBody, key_by, key_at, kind_from, kind_of, seat_by, seat_of, room_of}
+use Rattle.ev_isa.specs.Word.{NatMap}
+use Rattle.ev_isa.specs.declared.mode.Mode.{Mode}
+use Rattle.ev_effect.specs.Task.{Task}
+use Rattle.ev_state.specs.Processor.{Processor}
+use Rattle.ev_mem.specs.Memory.{Memory}
+use Rattle.ev_symbolic.specs.Agrees.{Env}
+use Rattle.ev_blocks.specs.Blocks.{Spot}
+use Rattle.ev_user.specs.Tasks.{RunsTask}
+use Rattle.ev_refine.specs.Nmi.{Frame, Knows, Leads}
+use Rattle.ev_refine.specs.Active.{OverTask, Means, Active, level_in}
+use Rattle.ev_refine.specs.Relation.{Beneath, keeps_cr2, most_edges, chained, switches_at, Chain}
+use Rattle.ev_refine.proofs.Domains.{with_cr2}
 
-pub call_alone : (image : Image) (b : BodyContext) (below : List BodyContext) → kind_of image b below ≡ SystemCall → below ≡ []
-call_alone image b [] h = refl
-call_alone image b (d ∷ ds) h = pick (key_at image b == 2) h
+-- those of an activation over a task, but for NMIs
+abbrev pub is_over_task : Kind → Bool
+is_over_task SystemCall = true
+is_over_task FromTask = true
+is_over_task κ = false
+
+pub stands_alone : (image : Image) (b : BodyContext) (below : List BodyContext) → is_over_task (kind_of image b below) ≡ true → below ≡ []
+stands_alone image b [] h = refl
+stands_alone image b (d ∷ ds) h = pick (key_at image b == 2) h
   where
-    pick : (t : Bool) → (if t then NmiFromBody else FromBody) ≡ SystemCall → (d ∷ ds) ≡ []
-    pick true k = absurd (cc)
-    pick false k = absurd (cc)
+    pick : (t : Bool) → is_over_task (if t then NmiFromBody else FromBody) ≡ true → (d ∷ ds) ≡ []
+    pick true k = absurd (let clash : false ≡ true = k in cc)
+    pick false k = absurd (let clash : false ≡ true = k in cc)
 
-is_call : (key : ℕ) → kind_from key [] ≡ SystemCall → (key == 0x100) ≡ true
-is_call key h = pick (key == 0x100) refl h
+other_key : (key : ℕ) → is_over_task (kind_from key []) ≡ true → (key == 2) ≡ false
+other_key key h = pick (key == 0x100) refl h
   where
-    other : (t : Bool) → (if t then NmiFromTask else FromTask) ≡ SystemCall → ⊥
-    other true k = cc
-    other false k = cc
+    plain : (t : Bool) → is_over_task (if t then NmiFromTask else FromTask) ≡ true → t ≡ false
+    plain true k = let clash : false ≡ true = k in absurd (cc)
+    plain false k = refl
 
-    pick : (t : Bool) → (key == 0x100) ≡ t → (if t then SystemCall else (if key == 2 then NmiFromTask else FromTask)) ≡ SystemCall → (key == 0x100) ≡ true
-    pick true q k = q
-    pick false q k = absurd (other (key == 2) k)
+    pick : (t : Bool) → (key == 0x100) ≡ t → is_over_task (if t then SystemCall else (if key == 2 then NmiFromTask else FromTask)) ≡ true → (key == 2) ≡ false
+    pick true q k = ap (λ n. n == 2) (eqb-true key 0x100 q)
+    pick false q k = plain (key == 2) k
 
-no_nmi : (o : Option Body) → kind_from (key_by o) [] ≡ SystemCall → has_key 2 o ≡ false
+no_nmi : (o : Option Body) → is_over_task (kind_from (key_by o) []) ≡ true → has_key 2 o ≡ false
 no_nmi None h = refl
-no_nmi (Some b) h = ap (λ n. n == 2) (eqb-true (key_number b.key) 0x100 (is_call (key_number b.key) h))
+no_nmi (Some b) h = other_key (key_number b.key) h
 
-pub call_no_nmi : (image : Image) (b : BodyContext) → kind_of image b [] ≡ SystemCall → list_any (is_nmi_body image) (b ∷ []) ≡ false
-call_no_nmi image b h = ap (λ t. t || false) (no_nmi (slice_get image.bodies b.body) h)
+pub plain_no_nmi : (image : Image) (b : BodyContext) → is_over_task (kind_of image b []) ≡ true → list_any (is_nmi_body image) (b ∷ []) ≡ false
+plain_no_nmi image b h = ap (λ t. t || false) (no_nmi (slice_get image.bodies b.body) h)
 
 -- a body of system calls
 pub call_of : (image : Image) (b : BodyContext) (x : Body) → slice_get image.bodies b.body ≡ Some x → x.key ≡ Sys → kind_of image b [] ≡ SystemCall
 unfolding key_number
 call_of image b x h k = ap (λ o. kind_from (key_by o) []) h ∙ ap (λ key. kind_from (key_number key) []) k
+
+-- ---- what depends on the kind alone
+
+pub means_by : (mode : Mode) (image : Image) (κ : Kind) → is_over_task κ ≡ true → (spot : Spot) (e : Env) (w : Processor) (b : BodyContext) (m : NatMap ℕ)
+    → OverTask mode image mode spot e w b → Means mode image κ spot e w b m
+means_by mode image SystemCall a spot e w b m h = h
+means_by mode image FromTask a spot e w b m h = h
+means_by mode image FromBody a spot e w b m h = let clash : false ≡ true = a in absurd (cc)
+means_by mode image NmiFromTask a spot e w b m h = let clash : false ≡ true = a in absurd (cc)
+means_by mode image NmiFromBody a spot e w b m h = let clash : false ≡ true = a in absurd (cc)
+
+pub means_of : (mode : Mode) (image : Image) (κ : Kind) → is_over_task κ ≡ true → (spot : Spot) (e : Env) (w : Processor) (b : BodyContext) (m : NatMap ℕ)
+    → Means mode image κ spot e w b m → OverTask mode image mode spot e w b
+means_of mode image SystemCall a spot e w b m h = h
+means_of mode image FromTask a spot e w b m h = h
+means_of mode image FromBody a spot e w b m h = absurd h
+means_of mode image NmiFromTask a spot e w b m h = absurd h
+means_of mode image NmiFromBody a spot e w b m h = absurd h
+
+pub knows_nothing : (mode : Mode) (κ : Kind) (f : Frame) → is_over_task κ ≡ true → (known : Bool) → Knows mode κ known f
+knows_nothing mode SystemCall f a known = tt
+knows_nothing mode FromTask f a known = tt
+knows_nothing mode FromBody f a known = tt
+knows_nothing mode NmiFromTask f a known = let clash : false ≡ true = a in absurd (cc)
+knows_nothing mode NmiFromBody f a known = let clash : false ≡ true = a in absurd (cc)
+
+pub level_of : (mode : Mode) (κ : Kind) (w : Processor) → is_over_task κ ≡ true → level_in mode κ w ≡ w.level
+level_of mode SystemCall w a = refl
+level_of mode FromTask w a = refl
+level_of mode FromBody w a = refl
+level_of mode NmiFromTask w a = refl
+level_of mode NmiFromBody w a = let clash : false ≡ true = a in absurd (cc)
+
+-- the chain of one activation
+pub over_kind : (mode : Mode) (image : Image) (p left r : ℕ) (t : Task) (f : Frame) (sw : Bool) (w : Processor) (b : BodyContext) (c : Processor) (m : Memory)
+    (κ : Kind) → is_over_task κ ≡ true → RunsTask mode image p r t w → sw ≡ false
+    → Active mode image p left κ (record { stack = r; used = 0 }) f sw w b c m
+    → Beneath mode image (keeps_cr2 mode image κ)
+    (λ v. Chain mode image p (most_edges mode image) r t f (chained mode image sw []) [] [] v m) w
+    × Leads mode p κ f w m.words
+    × Active mode image p left κ (seat_by mode κ r (seat_of mode image r []) (room_of mode image [])) f (switches_at mode image sw []) w b c m
+over_kind mode image p left r t f sw w b c m SystemCall a task still act = (λ n. (with_cr2 mode image p r t w n task, refl, refl), tt, act)
+over_kind mode image p left r t f sw w b c m FromTask a task still act = (λ n. (with_cr2 mode image p r t w n task, refl, refl), tt, act)
+over_kind mode image p left r t f sw w b c m FromBody a task still act = let clash : false ≡ true = a in absurd (cc)
+over_kind mode image p left r t f sw w b c m NmiFromTask a task still act = let clash : false ≡ true = a in absurd (cc)
+over_kind mode image p left r t f sw w b c m NmiFromBody a task still act = let clash : false ≡ true = a in absurd (cc)

@@ -1,5 +1,5 @@
 -- The facts on an image's code hold for the images of today.
-use Rattle.std.proofs.Common.{◌≡◌, ℕ, true, not, ◌&&◌, List, [], ◌∷◌, Some, refl, ap, ◌∙◌}
+use Rattle.std.proofs.Common.{◌≡◌, ℕ, true, not, ◌&&◌, List, [], ◌∷◌, Some, refl, ap, ◌∙◌, ◌≤◌, ◌+◌, ◌^◌, arith}
 use Rattle.std.specs.Prelude.{slice_get}
 use Rattle.std.specs.List.{list_all}
 use Rattle.ev_body.specs.declared.item.Item.{Item}
@@ -19,6 +19,8 @@ use Rattle.ev_concrete.specs.Opening.{listings}
 use Rattle.ev_symbolic.proofs.Listed.{spaced_in}
 use Rattle.ev_symbolic.proofs.Values.{and_left, and_right}
 use Rattle.ev_table.specs.Table.{code_table, other_exit, exit_address, RetCell, is_call}
+use Rattle.ev_table.proofs.Kernel as kernel
+use Rattle.ev_paths.specs.Lines.{HasKernel}
 use Rattle.ev_table.proofs.Whole as whole
 use Rattle.ev_fetch.proofs.Kernel.{kernel_fetches}
 use Rattle.ev_fetch.proofs.Text.{text_fetches}
@@ -99,9 +101,21 @@ module _ (mode : Mode) (image : Image) (given : IsImage image) (built : IsBuilt 
             r.leads ∙ whole.exit_of_others mode b.key (not_nmi image.bodies n b built.keys h);
       }
 
+  kernel_found : HasKernel mode (code_table mode image)
+  unfolding kernel.kernel_cells
+  kernel_found = whole.kernel_found mode image given
+
+  item_range : (n i : ℕ) (b : Body) → slice_get image.bodies n ≡ Some b → (0xffffffff82000000 ≤ item_address mode n b i)
+      × (item_address mode n b i + 0x100 ≤ 2 ^ 64)
+  item_range n i b h = upper (item_address mode n b i) (whole.range mode image given n i b h)
+    where
+      upper : (a : ℕ) → (0xffffffff82000000 ≤ a) × (a ≤ 0xffffffff82800000) → (0xffffffff82000000 ≤ a) × (a + 0x100 ≤ 2 ^ 64)
+      upper a r = (r.0, omega arith)
+
   pub facts : Facts mode image
   facts = record {
-    stands = λ e z. whole.lines mode image given e z;
+    kernel = kernel_found;
+    item_range = item_range;
     spaced = spaced_in (all_places (listings mode image)) (listings mode image);
     log_cell = λ n i s b h k. whole.log_stands mode image given n i s b h k;
     ret_cell = ret;
@@ -112,6 +126,4 @@ module _ (mode : Mode) (image : Image) (given : IsImage image) (built : IsBuilt 
     fetches = λ m e f. kernel_fetches mode image m given spells e (holds_code mode image m.words (λ a l. f a (InCode l)));
     user_fetch = λ m e f. text_fetches image m given e (holds_text mode image m.words (λ a l k. f a (InText l k)));
     in_code = λ m e c. stays_in_code image m c given e;
-    body_jump_cell = whole.body_jump_stands mode image given;
-    return_cell = whole.task_return_stands mode image given;
   }

@@ -3,19 +3,15 @@ use Rattle.std.proofs.Common.{◌≡◌, ℕ, suc, ◌+◌, ◌-◌, ◌%◌, �
 use Rattle.std.specs.Prelude.{if◌then◌else◌, ◌==◌, nat_lt, nat_le, filter, slice_get}
 use Rattle.std.proofs.lemmas.Bool.{eqb-true, ltb-true}
 use Rattle.ev_isa.specs.Word.{NatMap}
-use Rattle.ev_isa.specs.Spelling.{spelling, four_bytes}
 use Rattle.ev_isa.specs.declared.instruction.Ins.{Ins}
 use Rattle.ev_isa.specs.declared.mode.Mode.{Mode}
 use Rattle.ev_isa.specs.declared.mode.Mode.TheVariants.{Idt, Fred}
 use Rattle.ev_body.specs.declared.item.Item.{Item}
 use Rattle.ev_body.specs.declared.body.Body.{Body}
 use Rattle.ev_body.specs.declared.image.Image.{Image}
-use Rattle.ev_asm.specs.Assembly.{size, places, distance}
 use Rattle.ev_effect.specs.Task.{Task}
 use Rattle.ev_listing.specs.AddressMap.{nmi_entry, repeat_entry, nbody_entry}
 use Rattle.ev_listing.specs.Expansion.{item_address}
-use Rattle.ev_listing.specs.FredCode.{fred_listings}
-use Rattle.ev_listing.specs.IdtCode.{idt_listings}
 use Rattle.ev_state.specs.Processor.{Processor, is_user, rsp}
 use Rattle.ev_mem.specs.Memory.{Memory}
 use Rattle.ev_proc.specs.ProcessorStep.{next_of, instruction_at}
@@ -31,15 +27,20 @@ use Rattle.ev_symbolic.specs.Agrees.{Env, addr, At}
 use Rattle.ev_symbolic.specs.Openings.{at_base}
 use Rattle.ev_symbolic.proofs.Values.{and_left, and_right}
 use Rattle.ev_symbolic.proofs.Blocks.{unsome, every_ok}
-use Rattle.ev_activation.specs.Activation.{Spot, AtEntry, AtItem, AtExit}
 use Rattle.ev_activation.specs.Seat.{Kind, SystemCall, FromTask, FromBody, NmiFromTask, NmiFromBody, Seat}
-use Rattle.ev_blocks_fred.specs.Blocks.{fred_lines}
-use Rattle.ev_blocks_idt.specs.Blocks.{idt_lines}
-use Rattle.ev_table.specs.Table.{code_table, task_return}
+use Rattle.ev_blocks.specs.Shapes.{FredFrame, IdtFrame}
+use Rattle.ev_blocks.specs.Fred.{FromUser, FredToTask, fred_block}
+use Rattle.ev_blocks.specs.Fred as fred
+use Rattle.ev_blocks.specs.Idt.{Sys, IdtToTask, idt_block}
+use Rattle.ev_blocks.specs.Idt as idt
+use Rattle.ev_blocks.specs.Items.{AtTable, AtJump, AtItem, body_block}
+use Rattle.ev_blocks.specs.Blocks.{Spot, InFred, InIdt, InBody, block}
+use Rattle.ev_table.specs.Table.{code_table}
 use Rattle.ev_refine.specs.Nmi.{Frame}
-use Rattle.ev_refine.specs.Active.{block_of, address_of_item, item_place, here, IsAtSpot, Means, Active}
+use Rattle.ev_refine.specs.Active.{address_of_item, item_place, OverTask, Active}
 use Rattle.ev_refine.specs.Relation.{IsContext, most_edges, chained, Interrupted, Chain, StandsOn}
 use Rattle.ev_refine.proofs.Facts.{Facts}
+use Rattle.ev_refine.proofs.Spots.{is_elsewhere, entry_elsewhere, fred_exit_elsewhere, sys_elsewhere, idt_exit_elsewhere}
 use Rattle.ev_refine.proofs.Standing.{after_ran, Runs, ran_step}
 use Rattle.ev_refine.proofs.Stays.{over_any}
 use Rattle.ev_refine.proofs.After.{as_chain}
@@ -67,10 +68,6 @@ behind_repeat a h = pick (nat_lt a nbody_entry) refl
     pick true q = let z = ltb-true a nbody_entry q in absurd (omega arith)
     pick false q = and_false (nat_le repeat_entry a)
 
--- a state at an absolute address that isn't in REPEAT
-abbrev is_elsewhere : SS → Bool
-is_elsewhere s = (s.rip.tag == 1000) && (nat_lt s.rip.off M && not (is_in_repeat s.rip.off))
-
 elsewhere : (e : Env) → e.base 1000 ≡ 0 → (s : SS) → is_elsewhere s ≡ true → is_in_repeat (addr e s.rip) ≡ false
 elsewhere e z s h =
     let tag : s.rip.tag ≡ 1000 = eqb-true s.rip.tag 1000 (and_left _ _ h) in
@@ -80,56 +77,51 @@ elsewhere e z s h =
     ∙ (let q : (e.base 1000 + s.rip.off) % M ≡ s.rip.off = omega arith in q) in
     ap is_in_repeat is ∙ not_true (is_in_repeat s.rip.off) (and_right (nat_lt s.rip.off M) _ rest)
 
-entry_elsewhere : (mode : Mode) → every is_elsewhere (block_of mode AtEntry) ≡ true
-unfolding fred_lines idt_lines fred_listings idt_listings spelling four_bytes size places distance
-entry_elsewhere Fred = refl
-entry_elsewhere Idt = refl
-
-exit_elsewhere : (mode : Mode) → every is_elsewhere (block_of mode AtExit) ≡ true
-unfolding fred_lines idt_lines fred_listings idt_listings spelling four_bytes size places distance
-exit_elsewhere Fred = refl
-exit_elsewhere Idt = refl
-
-no_steps : (mode : Mode) → (block_of mode AtItem).steps ≡ 0
-no_steps Fred = refl
-no_steps Idt = refl
-
-item_rip : (mode : Mode) → (block_of mode AtItem).opening.rip ≡ at_base 20 0
-item_rip Fred = refl
-item_rip Idt = refl
-
 module _ (mode : Mode) (image : Image) (facts : Facts mode image) where
   at_elsewhere : (b : Block) (k : ℕ) (e : Env) (c : Processor) (m : Memory) → At (code_table mode image) b k e c m → e.base 1000 ≡ 0 → k ≤ b.steps
       → every is_elsewhere b ≡ true → is_in_repeat c.rip ≡ false
   at_elsewhere b k e c m at z l h = ap is_in_repeat at.agrees.rip ∙ elsewhere e z at.state (every_ok is_elsewhere b h k l at.state at.is)
 
-  module _ (p left : ℕ) (κ : Kind) (σ : Seat) (w c : Processor) (m : Memory) (a : IsAtSpot mode image p left κ σ w c m) where
-    item_outside : (b : BodyContext) → IsContext mode image b → a.spot ≡ AtItem → a.extra 20 ≡ item_place mode image b.body b.place
-        → is_in_repeat c.rip ≡ false
-    item_outside b ctx q at =
-        let e : Env = here mode p κ σ a.ss w a.extra a.var a.flags in
-        let found = body_at (slice_get image.bodies b.body) b.place ctx.item ctx.is in
-        let start : a.k ≡ 0 = let l = a.within in let n = ap (λ s. (block_of mode s).steps) q ∙ no_steps mode in omega arith in
-        let there : a.at.state ≡ (block_of mode a.spot).opening = unsome _ _ (sym a.at.is ∙ ap (brun (block_of mode a.spot)) start) in
-        let rip : a.at.state.rip ≡ at_base 20 0 = ap (λ (s : SS). s.rip) there ∙ ap (λ s. (block_of mode s).opening.rip) q ∙ item_rip mode in
-        let place : c.rip ≡ (a.extra 20 + 0) % M = a.at.agrees.rip ∙ ap (addr e) rip in
-        let is : c.rip ≡ (item_address mode b.body found.0 b.place + 0) % M = place
-        ∙ ap (λ y. (y + 0) % M) (at ∙ ap (address_of_item mode b.body b.place) found.1) in
-        let small = (facts.item_small b.body b.place found.0 found.1).1 in
-        behind_repeat c.rip (omega arith)
+  -- an item, where nothing of the block comes before it
+  at_item_outside : (B : Block) (k : ℕ) (e : Env) (c : Processor) (m : Memory) (b : BodyContext) → IsContext mode image b
+      → At (code_table mode image) B k e c m → k ≤ 0 → B.opening.rip ≡ at_base 20 0 → e.base 20 ≡ item_place mode image b.body b.place
+      → is_in_repeat c.rip ≡ false
+  at_item_outside B k e c m b ctx at l opens place =
+      let found = body_at (slice_get image.bodies b.body) b.place ctx.item ctx.is in
+      let start : k ≡ 0 = omega arith in
+      let there : at.state ≡ B.opening = unsome _ _ (sym at.is ∙ ap (brun B) start) in
+      let rip : at.state.rip ≡ at_base 20 0 = ap (λ (s : SS). s.rip) there ∙ opens in
+      let is : c.rip ≡ (item_address mode b.body found.0 b.place + 0) % M = at.agrees.rip ∙ ap (addr e) rip
+      ∙ ap (λ y. (y + 0) % M) (place ∙ ap (address_of_item mode b.body b.place) found.1) in
+      let range = facts.item_range b.body b.place found.0 found.1 in
+      let low = range.0 in let high = range.1 in
+      behind_repeat c.rip (omega arith)
 
-    spot_outside : (b : BodyContext) → IsContext mode image b → (spot : Spot) → a.spot ≡ spot
-        → Means mode image SystemCall spot a.extra a.var a.flags w b m.words → is_in_repeat c.rip ≡ false
-    spot_outside b ctx AtEntry q means = at_elsewhere (block_of mode a.spot) a.k _ c m a.at refl a.within
-        (ap (λ s. every is_elsewhere (block_of mode s)) q ∙ entry_elsewhere mode)
-    spot_outside b ctx AtItem q means = item_outside b ctx q means.place
-    spot_outside b ctx AtExit q means = at_elsewhere (block_of mode a.spot) a.k _ c m a.at refl a.within
-        (ap (λ s. every is_elsewhere (block_of mode s)) q ∙ exit_elsewhere mode)
+  over_task_outside : (m : Mode) (spot : Spot) (k : ℕ) (e : Env) (w c : Processor) (mem : Memory) (b : BodyContext) → IsContext mode image b
+      → e.base 1000 ≡ 0 → k ≤ (block m spot).steps → At (code_table mode image) (block m spot) k e c mem → OverTask mode image m spot e w b
+      → is_in_repeat c.rip ≡ false
+  over_task_outside Fred (InFred (FromUser way)) k e w c mem b ctx z l at h = at_elsewhere (fred_block (FromUser way)) k e c mem at z l (entry_elsewhere way)
+  over_task_outside Fred (InFred (fred.Leaves FredToTask)) k e w c mem b ctx z l at h =
+      at_elsewhere (fred_block (fred.Leaves FredToTask)) k e c mem at z l fred_exit_elsewhere
+  over_task_outside Fred (InBody FredFrame AtTable) k e w c mem b ctx z l at h = at_elsewhere (body_block true FredFrame AtTable) k e c mem at z l refl
+  over_task_outside Fred (InBody FredFrame AtJump) k e w c mem b ctx z l at h = at_elsewhere (body_block true FredFrame AtJump) k e c mem at z l refl
+  over_task_outside Fred (InBody FredFrame AtItem) k e w c mem b ctx z l at h =
+      at_item_outside (body_block true FredFrame AtItem) k e c mem b ctx at l refl h.1
+  over_task_outside Idt (InIdt Sys) k e w c mem b ctx z l at h = at_elsewhere (idt_block Sys) k e c mem at z l sys_elsewhere
+  over_task_outside Idt (InIdt (idt.Leaves (IdtToTask by))) k e w c mem b ctx z l at h =
+      at_elsewhere (idt_block (idt.Leaves (IdtToTask by))) k e c mem at z l (idt_exit_elsewhere by)
+  over_task_outside Idt (InBody IdtFrame AtTable) k e w c mem b ctx z l at h = at_elsewhere (body_block false IdtFrame AtTable) k e c mem at z l refl
+  over_task_outside Idt (InBody IdtFrame AtJump) k e w c mem b ctx z l at h = at_elsewhere (body_block false IdtFrame AtJump) k e c mem at z l refl
+  over_task_outside Idt (InBody IdtFrame AtItem) k e w c mem b ctx z l at h =
+      at_item_outside (body_block false IdtFrame AtItem) k e c mem b ctx at l refl h.1
+  over_task_outside m _ k e w c mem b ctx z l at h = absurd h
 
   pub active_outside : (p left : ℕ) (κ : Kind) (σ : Seat) (f : Frame) (sw : Bool) (w : Processor) (b : BodyContext) (c : Processor) (m : Memory)
       → IsContext mode image b → Active mode image p left κ σ f sw w b c m → is_in_repeat c.rip ≡ false
-  active_outside p left SystemCall σ f sw w b c m ctx a = spot_outside p left SystemCall σ w c m a.stands b ctx a.stands.spot refl a.means
-  active_outside p left FromTask σ f sw w b c m ctx a = absurd a.means
+  active_outside p left SystemCall σ f sw w b c m ctx a = over_task_outside mode a.stands.spot a.stands.k _ w c m b ctx refl a.stands.within a.stands.at
+      a.means
+  active_outside p left FromTask σ f sw w b c m ctx a = over_task_outside mode a.stands.spot a.stands.k _ w c m b ctx refl a.stands.within a.stands.at
+      a.means
   active_outside p left FromBody σ f sw w b c m ctx a = absurd a.means
   active_outside p left NmiFromTask σ f sw w b c m ctx a = absurd a.means
   active_outside p left NmiFromBody σ f sw w b c m ctx a = absurd a.means
@@ -182,16 +174,13 @@ goes_on_inside returns user early jumps repeats n hr ho =
     pick true false = refl
     pick false b = refl
 
--- the return to the task ends the body
-pub ends_a_body : (mode : Mode) (i : Option Ins) (c : Processor) → c.rip ≡ task_return mode → is_user c ≡ false → is_return i ≡ true → ends_body c i ≡ true
-ends_a_body Fred i c rip hu hr =
+-- a return that isn't in the NMI code before REPEAT, where inner NMIs return, ends the body
+pub ends_a_body : (i : Option Ins) (c : Processor) (place : ℕ) → c.rip ≡ place → (nat_le nmi_entry place && nat_lt place repeat_entry) ≡ false
+    → is_user c ≡ false → is_return i ≡ true → ends_body c i ≡ true
+ends_a_body i c place rip out hu hr =
     ap (λ r. r && not (is_user c) && not (nat_le nmi_entry c.rip && nat_lt c.rip repeat_entry)) hr
     ∙ ap (λ u. not u && not (nat_le nmi_entry c.rip && nat_lt c.rip repeat_entry)) hu
-    ∙ ap (λ a. not (nat_le nmi_entry a && nat_lt a repeat_entry)) rip
-ends_a_body Idt i c rip hu hr =
-    ap (λ r. r && not (is_user c) && not (nat_le nmi_entry c.rip && nat_lt c.rip repeat_entry)) hr
-    ∙ ap (λ u. not u && not (nat_le nmi_entry c.rip && nat_lt c.rip repeat_entry)) hu
-    ∙ ap (λ a. not (nat_le nmi_entry a && nat_lt a repeat_entry)) rip
+    ∙ ap (λ a. not (nat_le nmi_entry a && nat_lt a repeat_entry)) rip ∙ ap not out
 
 -- a step that ran an instruction
 told_ran : (s : System) (p : ℕ) (cpu : Processor) (words : NatMap ℕ) (i : Ins) → Runs s p cpu words → instruction_at s.memory.words (s.cpus p).rip ≡ Some i

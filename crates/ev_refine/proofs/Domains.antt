@@ -7,7 +7,7 @@ use Rattle.ev_effect.specs.Task.{Task}
 use Rattle.ev_state.specs.Processor.{Processor}
 use Rattle.ev_concrete.specs.Opening.{tasks_of}
 use Rattle.ev_built.specs.Built.{IsBuilt}
-use Rattle.ev_refine.specs.Tasks.{RunsTask}
+use Rattle.ev_user.specs.Tasks.{RunsTask}
 
 -- each processor has one task
 pub one_task_each : (image : Image) → IsBuilt image → (p : ℕ) → p < image.processors → length (tasks_of image p) ≡ 1

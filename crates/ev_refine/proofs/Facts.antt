@@ -1,10 +1,12 @@
 -- What the proofs of steps use of an image's code: what stands where, its marks, and that memory holds its bytes.
-use Rattle.std.proofs.Common.{◌≡◌, ℕ, ◌+◌, ◌<◌, ◌≤◌, ◌^◌, true, false, length, Some, None}
-use Rattle.std.specs.Prelude.{pos, suc, slice_get}
-use Rattle.ev_isa.specs.Word.{is_canonical}
+use Rattle.std.proofs.Common.{◌≡◌, ℕ, ◌+◌, ◌-◌, ◌/◌, ◌<◌, ◌≤◌, ◌^◌, Bool, true, false, ◌||◌, length, Some, None, refl, ap, ◌∙◌, arith}
+use Rattle.std.specs.Prelude.{pos, suc, ◌==◌, slice_get}
+use Rattle.std.proofs.lemmas.Bool.{eqb-true, eq-eqb}
+use Rattle.ev_isa.specs.Word.{is_canonical, bit_if}
+use Rattle.ev_isa.specs.Flags.{Flags, flags_word}
 use Rattle.ev_isa.specs.Pages.{text_base}
 use Rattle.ev_isa.specs.Reading.{reading}
-use Rattle.ev_isa.specs.declared.instruction.Ins.TheVariants.{GsStore, JmpReg}
+use Rattle.ev_isa.specs.declared.instruction.Ins.TheVariants.{GsStore}
 use Rattle.ev_isa.specs.declared.mode.Mode.{Mode}
 use Rattle.ev_body.specs.declared.item.Item.TheVariants.{Log, Ret}
 use Rattle.ev_body.specs.declared.body.Body.{Body}
@@ -20,11 +22,10 @@ use Rattle.ev_concrete.specs.Opening.{regions}
 use Rattle.ev_concrete.specs.ConcreteRun.{marks_of, mark_at}
 use Rattle.ev_proc.specs.ProcessorStep.{instruction_at}
 use Rattle.ev_proc.specs.Conditions.{IsInCode}
-use Rattle.ev_symbolic.specs.Agrees.{Env, addr, Cell, Spaced}
-use Rattle.ev_symbolic.specs.Agrees as agrees
+use Rattle.ev_symbolic.specs.Agrees.{Cell, Spaced}
 use Rattle.ev_symbolic.specs.Machine.{Fetches}
-use Rattle.ev_table.specs.Table.{code_table, lines_of_mode, other_exit, RetCell, body_jump, task_return, task_return_cell}
-use Rattle.ev_table.specs.Table.{code_table}
+use Rattle.ev_paths.specs.Lines.{HasKernel}
+use Rattle.ev_table.specs.Table.{code_table, other_exit, RetCell}
 use Rattle.ev_refine.specs.Relation.{first_word, IsFixed}
 
 -- the words that nothing writes are those of the opening
@@ -32,7 +33,7 @@ abbrev pub HasFixed : Mode → Image → Memory → Type 0
 HasFixed mode image m = (a : ℕ) → IsFixed a → m.words a ≡ first_word mode image a
 
 pub record Facts (mode : Mode) (image : Image) : Type 0 where
-  pub stands : (e : Env) → e.base 1000 ≡ 0 → agrees.Stands (code_table mode image) e (lines_of_mode mode)
+  pub kernel : HasKernel mode (code_table mode image)
   pub spaced : Spaced (code_table mode image)
   pub log_cell : (n i s : ℕ) (b : Body) → slice_get image.bodies n ≡ Some b → item_at (Some b) i ≡ Some (Log s)
       → code_table mode image (item_address mode n b i) ≡ Some (record { ins = GsStore (pos 0x28) s; next = item_address mode n b (suc i); mark = true })
@@ -41,11 +42,52 @@ pub record Facts (mode : Mode) (image : Image) : Type 0 where
   pub first_item : (n : ℕ) (b : Body) → item_address mode n b 0 ≡ body_code n
   pub item_small : (n i : ℕ) (b : Body) → slice_get image.bodies n ≡ Some b → (is_canonical (item_address mode n b i) ≡ true)
       × (item_address mode n b i + 16 < 2 ^ 64)
+  pub item_range : (n i : ℕ) (b : Body) → slice_get image.bodies n ≡ Some b → (0xffffffff82000000 ≤ item_address mode n b i)
+      × (item_address mode n b i + 0x100 ≤ 2 ^ 64)
   pub unmarked : (a : ℕ) (x : Cell) → code_table mode image a ≡ Some x → x.mark ≡ false → mark_at (marks_of mode image) a ≡ Never
   pub marked : (a : ℕ) (x : Cell) → code_table mode image a ≡ Some x → x.mark ≡ true → mark_at (marks_of mode image) a ≡ Always
   pub fetches : (m : Memory) → m.regions ≡ regions image → HasFixed mode image m → Fetches (code_table mode image) m
   pub user_fetch : (m : Memory) → m.regions ≡ regions image → HasFixed mode image m → (a : ℕ) → text_base ≤ a → a < text_base + length image.text
       → (page_fault m (record { user = true; write = false; fetch = true }) a ≡ None) × (instruction_at m.words a ≡ reading (text_bytes image.text a))
   pub in_code : (m : Memory) → m.regions ≡ regions image → (c : Processor) → IsInCode c m
-  pub body_jump_cell : code_table mode image (body_jump mode) ≡ Some (record { ins = JmpReg 0; next = body_jump mode + 2; mark = false })
-  pub return_cell : code_table mode image (task_return mode) ≡ Some (task_return_cell mode)
+
+-- ---- numbers below 2 ^ 64
+
+bit_small : (k : ℕ) (b : Bool) → bit_if k b ≤ 2 ^ k
+bit_small k true = let h : 2 ^ k ≤ 2 ^ k = omega arith in h
+bit_small k false = let h : 0 ≤ 2 ^ k = omega arith in h
+
+-- RFLAGS
+pub word_of_flags : (f : Flags) → flags_word f < 2 ^ 64
+unfolding flags_word
+word_of_flags f =
+    let c = bit_small 0 f.status.carry in
+    let z = bit_small 6 f.status.zero in
+    let s = bit_small 7 f.status.sign in
+    let i = bit_small 9 f.interrupts in
+    let o = bit_small 11 f.status.overflow in
+    let a = bit_small 18 f.alignment in
+    omega arith
+
+-- canonical addresses
+pub word_of_canonical : (a : ℕ) → is_canonical a ≡ true → a < 2 ^ 64
+word_of_canonical a h = pick (a / 2 ^ 47 == 0) refl h
+  where
+    pick : (t : Bool) → (a / 2 ^ 47 == 0) ≡ t → (t || (a / 2 ^ 47 == 2 ^ 17 - 1)) ≡ true → a < 2 ^ 64
+    pick true q k = let e : a / 2 ^ 47 ≡ 0 = eqb-true (a / 2 ^ 47) 0 q in low a e
+      where
+        low : (a : ℕ) → a / 140737488355328 ≡ 0 → a < 2 ^ 64
+        low a e = omega arith
+    pick false q k = let e : a / 2 ^ 47 ≡ 2 ^ 17 - 1 = eqb-true (a / 2 ^ 47) (2 ^ 17 - 1) k in high a e
+      where
+        high : (a : ℕ) → a / 140737488355328 ≡ 131071 → a < 2 ^ 64
+        high a e = omega arith
+
+-- addresses of the kernel are canonical
+pub kernel_canonical : (a : ℕ) → 0xffff800000000000 ≤ a → a < 2 ^ 64 → is_canonical a ≡ true
+kernel_canonical a h k = ap (λ b. (a / 2 ^ 47 == 0) || b) (eq-eqb (a / 2 ^ 47) (2 ^ 17 - 1) (let e : a / 140737488355328 ≡ 131071 = omega arith in e))
+    ∙ or_one (a / 2 ^ 47 == 0)
+  where
+    or_one : (b : Bool) → (b || true) ≡ true
+    or_one true = refl
+    or_one false = refl

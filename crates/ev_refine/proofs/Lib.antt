@@ -13,6 +13,7 @@ pub mod Standing
 pub mod Stays
 pub mod After
 pub mod Depth
+pub mod Bodies
 pub mod Return
 pub mod Items
 pub mod Instructions
@@ -21,7 +22,6 @@ pub mod UserText
 pub mod UserState
 pub mod UserStep
 pub mod UserPlain
-pub mod UserFrame
 pub mod UserBody
 pub mod UserSafe
 pub mod SystemCall

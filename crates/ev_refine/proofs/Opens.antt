@@ -19,9 +19,10 @@ use Rattle.ev_concrete.specs.ConcreteRun.{opening_system}
 use Rattle.ev_concrete.specs.Opening.{Placed, opening_word, word_there, pcpu_word, within, tasks_of, opening_cpu}
 use Rattle.ev_built.specs.Built.{IsBuilt}
 use Rattle.ev_built.specs.Program.{begins}
-use Rattle.ev_refine.specs.Tasks.{IsTask, TssIs, CurrentIs, level_zero}
+use Rattle.ev_user.specs.Tasks.{IsTask, level_zero}
+use Rattle.ev_refine.specs.Tasks.{TssIs, CurrentIs}
 use Rattle.ev_refine.specs.Nmi.{Held, Plain}
-use Rattle.ev_refine.specs.Named.{IsUserWord}
+use Rattle.ev_user.specs.Sees.{IsUserWord}
 use Rattle.ev_refine.specs.Domain.{IsInDomain}
 use Rattle.ev_refine.specs.Relation.{Shares, Stands, StandsOn, first_word}
 use Rattle.ev_refine.proofs.Domains.{one_task_each}

@@ -1,239 +1,205 @@
--- The blocks of a system call in either mode: the ground that they share, where each ends, and how one opens the next.
-use Rattle.std.proofs.Common.{◌≡◌, ℕ, suc, ◌+◌, ◌-◌, ◌%◌, ◌<◌, ◌≤◌, true, false, ◌&&◌, get_or, List, [], ◌∷◌, map, Some, refl, sym, ap, ◌∙◌, arith}
-use Rattle.std.specs.Prelude.{pos, not, ◌==◌}
-use Rattle.ev_isa.specs.Word.{NatMap, bit, is_canonical}
-use Rattle.ev_isa.specs.Flags.{Flags}
-use Rattle.ev_isa.specs.declared.instruction.Ins.TheVariants.{GsStore}
+-- The spots at which activations over a task stand: their windows, where their blocks end, and that none lies in REPEAT.
+use Rattle.std.proofs.Common.{◌≡◌, ℕ, Bool, true, false, not, ◌&&◌, List, [], ◌∷◌, Some, refl}
+use Rattle.std.specs.Prelude.{◌==◌, nat_lt, nat_le}
+use Rattle.ev_isa.specs.Spelling.{spelling, four_bytes}
+use Rattle.ev_isa.specs.Word.{NatMap}
 use Rattle.ev_isa.specs.declared.mode.Mode.{Mode}
 use Rattle.ev_isa.specs.declared.mode.Mode.TheVariants.{Idt, Fred}
+use Rattle.ev_asm.specs.Assembly.{size, places, distance}
 use Rattle.ev_body.specs.declared.image.Image.{Image}
-use Rattle.ev_listing.specs.AddressMap.{exit_entry, body_code, nlast_entry, repeat_entry}
-use Rattle.ev_state.specs.Processor.{Processor, is_user}
+use Rattle.ev_listing.specs.FredCode.{fred_listings}
+use Rattle.ev_state.specs.Processor.{Processor}
 use Rattle.ev_abstract.specs.Context.{BodyContext}
-use Rattle.ev_concrete.specs.Opening.{control}
-use Rattle.ev_concrete.specs.ConcreteRun.{is_return, is_repeated}
-use Rattle.ev_symbolic.specs.Value.{M, V, K, P, X, FVar}
-use Rattle.ev_symbolic.specs.State.{SS, Win, Ground, absolute, sreg}
-use Rattle.ev_symbolic.specs.Run.{moved, sstep, brun}
-use Rattle.ev_symbolic.specs.Agrees.{Env, eval, eval_flags, addr, Known, IsTold, Cell}
-use Rattle.ev_symbolic.specs.Join.{Joins, env_after}
-use Rattle.ev_symbolic.specs.Openings.{at_base, all_regs}
-use Rattle.ev_activation.specs.Activation.{Spot, AtEntry, AtItem, AtExit}
-use Rattle.ev_activation.specs.Activation as blocks
-use Rattle.ev_activation.specs.Seat.{SystemCall, Seat}
-use Rattle.ev_blocks_fred.specs.Blocks.{fred_ground, fexit}
-use Rattle.ev_blocks_fred.specs.Ends as fred
-use Rattle.ev_blocks_fred.proofs.Ends as fred_ends
-use Rattle.ev_blocks_idt.specs.Blocks.{idt_ground}
-use Rattle.ev_blocks_idt.specs.Ends as idt
-use Rattle.ev_blocks_idt.proofs.Ends as idt_ends
-use Rattle.ev_table.specs.Table.{other_exit, body_jump, task_return, task_return_cell}
-use Rattle.ev_refine.specs.Active.{block_of, edges_of, item_place, here, InItem, Enters}
-use Rattle.ev_concrete.specs.Shown.{shown_always}
+use Rattle.ev_concrete.specs.Depth.{is_in_repeat}
+use Rattle.ev_symbolic.specs.Value.{M}
+use Rattle.ev_symbolic.specs.State.{SS, absolute_tag}
+use Rattle.ev_symbolic.specs.Run.{brun, every}
+use Rattle.ev_symbolic.specs.Agrees.{Env, Code, Stands}
+use Rattle.ev_distances.specs.Form.{Form, OnStack, Stretch, InArea}
+use Rattle.ev_blocks.specs.Shapes.{FredFrame, IdtFrame}
+use Rattle.ev_blocks.specs.Fred.{FredWay, ByCall, ByInt3, ByIntN, ByOther, FromUser, FredToTask, fred_block, fred_lines}
+use Rattle.ev_blocks.specs.Fred as fred
+use Rattle.ev_blocks.specs.Idt.{IdtReturn, BySysret, ByOtherRip, ByOtherFlags, Sys, IdtToTask, idt_block, idt_places, sys_lines, exit_lines}
+use Rattle.ev_blocks.specs.Idt as idt
+use Rattle.ev_blocks.specs.Items.{AtTable, AtJump, AtItem}
+use Rattle.ev_blocks.specs.Blocks.{Spot, InFred, InIdt, InBody, block, forms}
+use Rattle.ev_blocks.specs.Blocks as blocks
+use Rattle.ev_paths.specs.Lines.{HasKernel}
+use Rattle.ev_paths.proofs.Lines.{fred_stand, idt_stand}
+use Rattle.ev_paths.proofs.FredEnds.{fred_enters, fred_returns}
+use Rattle.ev_paths.proofs.IdtEnds.{idt_enters, idt_returns}
+use Rattle.ev_activation.specs.Seat.{Kind, SystemCall, FromTask, FromBody, NmiFromTask, NmiFromBody}
+use Rattle.ev_refine.specs.Active.{OverTask, Means}
 use Rattle.ev_refine.proofs.ModeFacts.{is_fred}
 
--- ---- the ground
+-- ---- which they are
 
-abbrev pub ground_of : Mode → Ground
-ground_of Fred = fred_ground
-ground_of Idt = idt_ground
+abbrev pub over_task : Mode → Spot → Bool
+over_task Fred (InFred (FromUser way)) = true
+over_task Fred (InFred (fred.Leaves FredToTask)) = true
+over_task Fred (InBody FredFrame AtTable) = true
+over_task Fred (InBody FredFrame AtJump) = true
+over_task Fred (InBody FredFrame AtItem) = true
+over_task Idt (InIdt Sys) = true
+over_task Idt (InIdt (idt.Leaves (IdtToTask by))) = true
+over_task Idt (InBody IdtFrame AtTable) = true
+over_task Idt (InBody IdtFrame AtJump) = true
+over_task Idt (InBody IdtFrame AtItem) = true
+over_task mode spot = false
 
-pub ground_is : (mode : Mode) (spot : Spot) → (block_of mode spot).ground ≡ ground_of mode
-ground_is Fred AtEntry = refl
-ground_is Fred AtItem = refl
-ground_is Fred AtExit = refl
-ground_is Idt AtEntry = refl
-ground_is Idt AtItem = refl
-ground_is Idt AtExit = refl
+is_over : (mode : Mode) (image : Image) (m : Mode) (spot : Spot) (e : Env) (w : Processor) (b : BodyContext) → OverTask mode image m spot e w b
+    → over_task m spot ≡ true
+is_over mode image Fred (InFred (FromUser way)) e w b h = refl
+is_over mode image Fred (InFred (fred.Leaves FredToTask)) e w b h = refl
+is_over mode image Fred (InBody FredFrame AtTable) e w b h = refl
+is_over mode image Fred (InBody FredFrame AtJump) e w b h = refl
+is_over mode image Fred (InBody FredFrame AtItem) e w b h = refl
+is_over mode image Idt (InIdt Sys) e w b h = refl
+is_over mode image Idt (InIdt (idt.Leaves (IdtToTask by))) e w b h = refl
+is_over mode image Idt (InBody IdtFrame AtTable) e w b h = refl
+is_over mode image Idt (InBody IdtFrame AtJump) e w b h = refl
+is_over mode image Idt (InBody IdtFrame AtItem) e w b h = refl
+is_over mode image m _ e w b h = absurd h
 
--- ---- where a block ends
+pub means_over : (mode : Mode) (image : Image) (κ : Kind) (spot : Spot) (e : Env) (w : Processor) (b : BodyContext) (m : NatMap ℕ)
+    → Means mode image κ spot e w b m → over_task mode spot ≡ true
+means_over mode image SystemCall spot e w b m h = is_over mode image mode spot e w b h
+means_over mode image FromTask spot e w b m h = is_over mode image mode spot e w b h
+means_over mode image FromBody spot e w b m h = absurd h
+means_over mode image NmiFromTask spot e w b m h = absurd h
+means_over mode image NmiFromBody spot e w b m h = absurd h
 
-abbrev pub end_of : Mode → Spot → SS
-end_of Fred AtEntry = fred.enter_end blocks.SystemCall
-end_of Idt AtEntry = idt.enter_end blocks.SystemCall
-end_of Fred AtExit = fred.leave_end blocks.SystemCall
-end_of Idt AtExit = idt.leave_end blocks.SystemCall
-end_of mode AtItem = (block_of mode AtItem).opening
+-- ---- their windows: on the activation's stack or in the processor's area; it writes its stack, and the word for RSP
 
-pub runs_to_end : (mode : Mode) (spot : Spot) → brun (block_of mode spot) (block_of mode spot).steps ≡ Some (end_of mode spot)
-runs_to_end Fred AtEntry = fred_ends.enter_run blocks.SystemCall
-runs_to_end Fred AtItem = refl
-runs_to_end Fred AtExit = fred_ends.leave_run blocks.SystemCall
-runs_to_end Idt AtEntry = idt_ends.enter_run blocks.SystemCall
-runs_to_end Idt AtItem = refl
-runs_to_end Idt AtExit = idt_ends.leave_run blocks.SystemCall
+abbrev pub is_plain : Form → Bool
+is_plain (OnStack n) = nat_le n 0x118
+is_plain (Stretch d n) = nat_le d 0x118 && nat_le n d
+is_plain (InArea lo n) = true
+is_plain f = false
 
--- an item's block has no instruction of its own
-pub no_steps : (mode : Mode) → (block_of mode AtItem).steps ≡ 0
-no_steps Fred = refl
-no_steps Idt = refl
+abbrev pub are_plain : List Form → Bool
+are_plain [] = true
+are_plain (f ∷ fs) = is_plain f && are_plain fs
 
--- the entry ends at the jump to the body, and the exit at the return to the task
-at_address : (e : Env) (n : ℕ) → e.base 1000 ≡ 0 → n % M ≡ n → addr e (absolute n) ≡ n
-at_address e n z small = let h : (e.base 1000 + n) % M ≡ n = omega arith in h
+abbrev pub is_written : Form → Bool
+is_written (OnStack n) = true
+is_written (Stretch d n) = true
+is_written (InArea lo n) = (lo == 8) && (n == 8)
+is_written f = false
 
-pub entry_ends : (mode : Mode) (e : Env) → e.base 1000 ≡ 0 → addr e (end_of mode AtEntry).rip ≡ body_jump mode
-entry_ends Fred e z = ap (addr e) (fred_ends.enter_rip blocks.SystemCall) ∙ at_address e 0xffffffff810002bd z refl
-entry_ends Idt e z = ap (addr e) (idt_ends.enter_rip blocks.SystemCall) ∙ at_address e 0xffffffff810031bb z refl
+abbrev pub are_written : List Form → Bool
+are_written [] = true
+are_written (f ∷ fs) = is_written f && are_written fs
 
-pub exit_ends : (mode : Mode) (e : Env) → e.base 1000 ≡ 0 → addr e (end_of mode AtExit).rip ≡ task_return mode
-exit_ends Fred e z = ap (addr e) (fred_ends.leave_rip blocks.SystemCall) ∙ at_address e 0xffffffff81000426 z refl
-exit_ends Idt e z = ap (addr e) (idt_ends.leave_rip blocks.SystemCall) ∙ at_address e 0xffffffff810034dd z refl
+pub record HasWindows (spot : Spot) : Type 0 where
+  pub known : are_plain (forms spot).known ≡ true
+  pub own : are_plain (forms spot).own ≡ true
+  pub written : are_written (forms spot).own ≡ true
 
-pub jumps_to_body : (mode : Mode) → sreg (end_of mode AtEntry) 0 ≡ X 24
-jumps_to_body Fred = ap (λ (xs : List V). get_or xs 0 (K 0)) (fred_ends.enter_regs blocks.SystemCall)
-jumps_to_body Idt = ap (λ (xs : List V). get_or xs 0 (K 0)) (idt_ends.enter_regs blocks.SystemCall)
+pub has_windows : (mode : Mode) (spot : Spot) → over_task mode spot ≡ true → HasWindows spot
+has_windows Fred (InFred (FromUser way)) h = record { known = refl; own = refl; written = refl }
+has_windows Fred (InFred (fred.Leaves FredToTask)) h = record { known = refl; own = refl; written = refl }
+has_windows Fred (InBody FredFrame AtTable) h = record { known = refl; own = refl; written = refl }
+has_windows Fred (InBody FredFrame AtJump) h = record { known = refl; own = refl; written = refl }
+has_windows Fred (InBody FredFrame AtItem) h = record { known = refl; own = refl; written = refl }
+has_windows Idt (InIdt Sys) h = record { known = refl; own = refl; written = refl }
+has_windows Idt (InIdt (idt.Leaves (IdtToTask by))) h = record { known = refl; own = refl; written = refl }
+has_windows Idt (InBody IdtFrame AtTable) h = record { known = refl; own = refl; written = refl }
+has_windows Idt (InBody IdtFrame AtJump) h = record { known = refl; own = refl; written = refl }
+has_windows Idt (InBody IdtFrame AtItem) h = record { known = refl; own = refl; written = refl }
+has_windows mode _ h = let clash : false ≡ true = h in absurd (cc)
 
--- ---- how a block opens
+-- ---- none switches to another task
 
-abbrev pub values_of : Mode → List V
-values_of Fred = fred.enter_values blocks.SystemCall
-values_of Idt = idt.enter_values blocks.SystemCall
+pub never_switches : (mode : Mode) (spot : Spot) → over_task mode spot ≡ true → blocks.switches spot ≡ false
+never_switches Fred (InFred (FromUser way)) h = refl
+never_switches Fred (InFred (fred.Leaves FredToTask)) h = refl
+never_switches Fred (InBody FredFrame AtTable) h = refl
+never_switches Fred (InBody FredFrame AtJump) h = refl
+never_switches Fred (InBody FredFrame AtItem) h = refl
+never_switches Idt (InIdt Sys) h = refl
+never_switches Idt (InIdt (idt.Leaves (IdtToTask by))) h = refl
+never_switches Idt (InBody IdtFrame AtTable) h = refl
+never_switches Idt (InBody IdtFrame AtJump) h = refl
+never_switches Idt (InBody IdtFrame AtItem) h = refl
+never_switches mode _ h = let clash : false ≡ true = h in absurd (cc)
 
-pub opens_item : (mode : Mode) → Joins (end_of mode AtEntry) (values_of mode) (ground_of mode).known (block_of mode AtItem).opening
-opens_item Fred = fred_ends.enter_joins blocks.SystemCall
-opens_item Idt = idt_ends.enter_joins blocks.SystemCall
+-- ---- their grounds and lines
 
--- an item opens at its address, with registers of its own
-pub record OpensItem (o : SS) : Type 0 where
-  pub rip : o.rip ≡ at_base 20 0
-  pub flags : o.flags ≡ FVar
-  pub blocked : o.blocked ≡ false
-  pub rsp : V
-  pub regs : o.regs ≡ all_regs rsp
+pub record HasGround (mode : Mode) (spot : Spot) : Type 0 where
+  pub fred : (block mode spot).ground.fred ≡ is_fred mode
+  pub descriptors : (block mode spot).ground.descriptors ≡ []
+  pub tops : (block mode spot).ground.tops ≡ []
 
-pub item_opening : (mode : Mode) → OpensItem (block_of mode AtItem).opening
-item_opening Fred = record { rip = refl; flags = refl; blocked = refl; rsp = P 16 (M - 0xc0); regs = refl }
-item_opening Idt = record { rip = refl; flags = refl; blocked = refl; rsp = P 16 (M - 0xb0); regs = refl }
+pub has_ground : (mode : Mode) (spot : Spot) → over_task mode spot ≡ true → HasGround mode spot
+has_ground Fred (InFred (FromUser way)) h = record { fred = refl; descriptors = refl; tops = refl }
+has_ground Fred (InFred (fred.Leaves FredToTask)) h = record { fred = refl; descriptors = refl; tops = refl }
+has_ground Fred (InBody FredFrame AtTable) h = record { fred = refl; descriptors = refl; tops = refl }
+has_ground Fred (InBody FredFrame AtJump) h = record { fred = refl; descriptors = refl; tops = refl }
+has_ground Fred (InBody FredFrame AtItem) h = record { fred = refl; descriptors = refl; tops = refl }
+has_ground Idt (InIdt Sys) h = record { fred = refl; descriptors = refl; tops = refl }
+has_ground Idt (InIdt (idt.Leaves (IdtToTask by))) h = record { fred = refl; descriptors = refl; tops = refl }
+has_ground Idt (InBody IdtFrame AtTable) h = record { fred = refl; descriptors = refl; tops = refl }
+has_ground Idt (InBody IdtFrame AtJump) h = record { fred = refl; descriptors = refl; tops = refl }
+has_ground Idt (InBody IdtFrame AtItem) h = record { fred = refl; descriptors = refl; tops = refl }
+has_ground mode _ h = let clash : false ≡ true = h in absurd (cc)
 
--- two environments in which a state says the same of a processor and memory, its place aside
-pub record SaysSame (e u : Env) (W : List Win) (o : SS) : Type 0 where
-  pub regs : map (eval e) o.regs ≡ map (eval u) o.regs
-  pub flags : eval_flags e o.flags ≡ eval_flags u o.flags
-  pub gs : eval e o.gs ≡ eval u o.gs
-  pub kernel_gs : eval e o.kernel_gs ≡ eval u o.kernel_gs
-  pub selector : eval e o.selector ≡ eval u o.selector
-  pub cr2 : (a : ℕ) → IsTold e o.cr2 a → IsTold u o.cr2 a
-  pub rsp0 : eval e o.rsp0 ≡ eval u o.rsp0
-  pub words : (m : NatMap ℕ) → Known e W m o.words → Known u W m o.words
+pub lines_stand : (mode : Mode) (code : Code) (e : Env) → e.base 1000 ≡ 0 → HasKernel mode code → (spot : Spot) → over_task mode spot ≡ true
+    → Stands code e (block mode spot).lines
+lines_stand Fred code e z k (InFred s) h = fred_stand code e z k s
+lines_stand Fred code e z k (InBody FredFrame AtTable) h = tt
+lines_stand Fred code e z k (InBody FredFrame AtJump) h = tt
+lines_stand Fred code e z k (InBody FredFrame AtItem) h = tt
+lines_stand Idt code e z k (InIdt Sys) h = idt_stand code e z k Sys tt
+lines_stand Idt code e z k (InIdt (idt.Leaves x)) h = idt_stand code e z k (idt.Leaves x) tt
+lines_stand Idt code e z k (InBody IdtFrame AtTable) h = tt
+lines_stand Idt code e z k (InBody IdtFrame AtJump) h = tt
+lines_stand Idt code e z k (InBody IdtFrame AtItem) h = tt
+lines_stand mode code e z k _ h = let clash : false ≡ true = h in absurd (cc)
 
--- only its place speaks of the item
-pub any_item : (mode : Mode) (p : ℕ) (σ : Seat) (ss : ℕ) (w : Processor) (extra extra' v : ℕ → ℕ) (f : Flags)
-    → SaysSame (here mode p SystemCall σ ss w extra v f) (here mode p SystemCall σ ss w extra' v f) (ground_of mode).known (block_of mode AtItem).opening
-unfolding eval eval_flags
-any_item Fred p σ ss w extra extra' v f = record {
-  regs = refl;
-  flags = refl;
-  gs = refl;
-  kernel_gs = refl;
-  selector = refl;
-  cr2 = λ a h. h;
-  rsp0 = refl;
-  words =
-      λ m h. h;
-}
-any_item Idt p σ ss w extra extra' v f = record {
-  regs = refl;
-  flags = refl;
-  gs = refl;
-  kernel_gs = refl;
-  selector = refl;
-  cr2 = λ a h. h;
-  rsp0 = refl;
-  words =
-      λ m h. h;
-}
+-- ---- where their blocks end
 
--- and the exit opens with what an item has
-pub exit_opening : (mode : Mode) → (block_of mode AtExit).opening ≡ record ((block_of mode AtItem).opening) {
-  rip =
-      absolute (other_exit mode);
-}
-exit_opening Fred = refl
-exit_opening Idt = refl
+pub exit_end : (by : IdtReturn) → (z : SS) × (brun (idt_block (idt.Leaves (IdtToTask by))) (idt_block (idt.Leaves (IdtToTask by))).steps ≡ Some z)
+exit_end BySysret = (_, idt_returns.to_task.runs)
+exit_end ByOtherRip = (_, idt_returns.to_task_by_rip.runs)
+exit_end ByOtherFlags = (_, idt_returns.to_task_by_flags.runs)
 
-pub exit_at : (mode : Mode) (e : Env) → e.base 1000 ≡ 0 → addr e (absolute (other_exit mode)) ≡ other_exit mode
-exit_at Fred e z = at_address e fexit z refl
-exit_at Idt e z = at_address e exit_entry z refl
+pub runs_to_end : (mode : Mode) (spot : Spot) → over_task mode spot ≡ true → (z : SS) × (brun (block mode spot) (block mode spot).steps ≡ Some z)
+runs_to_end Fred (InFred (FromUser way)) h = (_, (fred_enters.0 way).runs)
+runs_to_end Fred (InFred (fred.Leaves FredToTask)) h = (_, fred_returns.to_task.runs)
+runs_to_end Fred (InBody FredFrame AtTable) h = (_, refl)
+runs_to_end Fred (InBody FredFrame AtJump) h = (_, refl)
+runs_to_end Fred (InBody FredFrame AtItem) h = (_, refl)
+runs_to_end Idt (InIdt Sys) h = (_, idt_enters.call.runs)
+runs_to_end Idt (InIdt (idt.Leaves (IdtToTask by))) h = exit_end by
+runs_to_end Idt (InBody IdtFrame AtTable) h = (_, refl)
+runs_to_end Idt (InBody IdtFrame AtJump) h = (_, refl)
+runs_to_end Idt (InBody IdtFrame AtItem) h = (_, refl)
+runs_to_end mode _ h = let clash : false ≡ true = h in absurd (cc)
 
-pub exit_canonical : (mode : Mode) → is_canonical (other_exit mode) ≡ true
-exit_canonical Fred = refl
-exit_canonical Idt = refl
+-- ---- no instruction of theirs lies in REPEAT
 
--- `log` stores to a word that no block knows
-pub log_moves : (mode : Mode) (q next : ℕ) → sstep (ground_of mode) (GsStore (pos 0x28) q) (absolute next) (block_of mode AtItem).opening
-    ≡ Some (moved (block_of mode AtItem).opening (block_of mode AtItem).opening.regs (absolute next))
-log_moves Fred q next = refl
-log_moves Idt q next = refl
+-- a state at an absolute address that isn't in REPEAT
+abbrev pub is_elsewhere : SS → Bool
+is_elsewhere s = (s.rip.tag == absolute_tag) && (nat_lt s.rip.off M && not (is_in_repeat s.rip.off))
 
--- ---- what an activation's variables mean, from the entry to the item
+pub entry_elsewhere : (way : FredWay) → every is_elsewhere (fred_block (FromUser way)) ≡ true
+unfolding fred_lines fred_listings spelling four_bytes size places distance
+entry_elsewhere ByCall = refl
+entry_elsewhere ByInt3 = refl
+entry_elsewhere ByIntN = refl
+entry_elsewhere ByOther = refl
 
-module _ (image : Image) where
-  pub enters_body : (mode : Mode) (v : ℕ → ℕ) (w : Processor) (b : BodyContext) → Enters mode image mode v w b → (v 24 ≡ body_code b.body) × (b.place ≡ 0)
-  enters_body Fred v w b means = (means.code, means.place)
-  enters_body Idt v w b means = (means.code, means.place)
+pub fred_exit_elsewhere : every is_elsewhere (fred_block (fred.Leaves FredToTask)) ≡ true
+unfolding fred_lines fred_listings spelling four_bytes size places distance
+fred_exit_elsewhere = refl
 
-  pub means_item : (mode : Mode) (e : Env) (extra : ℕ → ℕ) (w : Processor) (b : BodyContext) (f : Flags) → Enters mode image mode e.var w b
-      → extra 20 ≡ item_place mode image b.body b.place → InItem mode image extra (env_after e (values_of mode) f).var w b
-  unfolding eval
-  means_item Fred e extra w b f means at = record {
-    place = at;
-    saved = record {
-      framed = record { rip = means.framed.rip; flags = means.framed.flags; gs = means.framed.gs; selector = means.framed.selector };
-      regs =
-          means.regs;
-    };
-    locals = means.locals ∙ (λ i. sym means.error i ∷ 0x100 ∷ sym means.info i ∷ 0 ∷ 0 ∷ 0 ∷ 0 ∷ 0 ∷ []);
-  }
-  means_item Idt e extra w b f means at = record {
-    place = at;
-    saved = record { framed = record { rip = means.rip; flags = means.flags; gs = means.gs; selector = means.selector }; regs = means.regs };
-    locals = means.locals;
-  }
+pub sys_elsewhere : every is_elsewhere (idt_block Sys) ≡ true
+unfolding sys_lines idt_places spelling four_bytes size places distance
+sys_elsewhere = refl
 
--- ---- the return
-
-pub controls : (mode : Mode) → bit 32 (control mode) ≡ is_fred mode
-controls Fred = refl
-controls Idt = refl
-
--- the last instruction of the exit is a visible return, which shows nothing and isn't that of an NMI's
-pub record IsReturn (cell : Cell) : Type 0 where
-  pub marked : cell.mark ≡ true
-  pub returns : is_return (Some cell.ins) ≡ true
-  pub silent : (p depth : ℕ) (c : Processor) (words : NatMap ℕ) → shown_always p depth c words (Some cell.ins) ≡ []
-
-pub task_returns : (mode : Mode) → IsReturn (task_return_cell mode)
-unfolding is_return shown_always
-task_returns Fred = record { marked = refl; returns = refl; silent = λ p d c m. refl }
-task_returns Idt = record { marked = refl; returns = refl; silent = λ p d c m. refl }
-
-pub not_repeated : (mode : Mode) (c w : Processor) → c.rip ≡ task_return mode → is_repeated c w ≡ false
-not_repeated Fred c w h = ap (λ y. (y == nlast_entry + 12) && (w.rip == repeat_entry) && not (is_user w)) h
-not_repeated Idt c w h = ap (λ y. (y == nlast_entry + 12) && (w.rip == repeat_entry) && not (is_user w)) h
-
--- ---- edges
-
-pub one_less : (mode : Mode) (spot : Spot) (k n : ℕ) → edges_of mode spot k ≤ n → k < (block_of mode spot).steps → edges_of mode spot (suc k) < n
-one_less Fred AtEntry k n h lt = omega arith
-one_less Fred AtItem k n h lt = absurd (omega arith)
-one_less Fred AtExit k n h lt = omega arith
-one_less Idt AtEntry k n h lt = omega arith
-one_less Idt AtItem k n h lt = absurd (omega arith)
-one_less Idt AtExit k n h lt = omega arith
-
-pub less_in_item : (mode : Mode) (n : ℕ) → edges_of mode AtEntry (block_of mode AtEntry).steps ≤ n → edges_of mode AtItem 0 < n
-less_in_item Fred n h = omega arith
-less_in_item Idt n h = omega arith
-
-pub less_in_exit : (mode : Mode) (k n : ℕ) → edges_of mode AtItem k ≤ n → edges_of mode AtExit 0 < n
-less_in_exit Fred k n h = omega arith
-less_in_exit Idt k n h = omega arith
-
-pub few_edges : (mode : Mode) (spot : Spot) (k : ℕ) → edges_of mode spot k ≤ 100
-few_edges Fred AtEntry k = omega arith
-few_edges Fred AtItem k = omega arith
-few_edges Fred AtExit k = omega arith
-few_edges Idt AtEntry k = omega arith
-few_edges Idt AtItem k = omega arith
-few_edges Idt AtExit k = omega arith
+pub idt_exit_elsewhere : (by : IdtReturn) → every is_elsewhere (idt_block (idt.Leaves (IdtToTask by))) ≡ true
+unfolding exit_lines idt_places spelling four_bytes size places distance
+idt_exit_elsewhere BySysret = refl
+idt_exit_elsewhere ByOtherRip = refl
+idt_exit_elsewhere ByOtherFlags = refl

@@ -28,7 +28,8 @@ use Rattle.ev_refine.proofs.Maps.{at_same, at_other}
 
 none_below : (n : ℕ) (set : NatSet) → ((v : ℕ) → v < n → set v ≡ false) → greatest_below n set ≡ None
 none_below zero set h = refl
-none_below (suc n) set h = ap (λ b. elim b [ true ↦ Some n | false ↦ greatest_below n set ]) (h n (omega arith)) ∙ none_below n set (λ v lt. h v (omega arith))
+none_below (suc n) set h = ap (λ b. elim b [ true ↦ Some n | false ↦ greatest_below n set ]) (h n (omega arith)) ∙ none_below n set
+    (λ v lt. h v (omega arith))
 
 -- an APIC that no vector came to
 idle : (a : Apic) → ((v : ℕ) → v < 256 → vectors_of a.irr v ≡ false) → next_vector a ≡ None

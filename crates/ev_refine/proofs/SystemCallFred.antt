@@ -1,58 +1,47 @@
 -- The delivery of a system call under FRED: the frame that it writes, and the activation that it begins.
-use Rattle.std.proofs.Common.{◌≡◌, ℕ, ◌+◌, ◌-◌, ◌%◌, ◌<◌, Bool, true, false, List, ◌∷◌, get_or, set, length, map, reverse, Some, None, refl, sym, ap, ◌∙◌, arith, inl, inr}
-use Rattle.std.specs.Prelude.{◌==◌, if◌then◌else◌}
+use Rattle.std.proofs.Common.{◌≡◌, ℕ, ◌+◌, ◌-◌, ◌%◌, ◌<◌, Bool, false, List, get_or, set, length, map, Some, refl, sym, ap, ◌∙◌, arith, inl, inr}
 use Rattle.std.proofs.lemmas.List.{length-set}
 use Rattle.ev_isa.specs.Word.{NatMap, wrap}
-use Rattle.ev_isa.specs.Flags.{Flags, no_status, flags_word}
+use Rattle.ev_isa.specs.Flags.{flags_word}
 use Rattle.ev_isa.specs.Instruction.{user_may}
-use Rattle.ev_isa.specs.Spelling.{spelling}
 use Rattle.ev_isa.specs.declared.instruction.Ins.TheVariants.{Syscall}
 use Rattle.ev_isa.specs.declared.mode.Mode.TheVariants.{Fred}
 use Rattle.ev_event.specs.Event.{type_number}
 use Rattle.ev_body.specs.declared.image.Image.{Image}
 use Rattle.ev_effect.specs.Task.{Task}
-use Rattle.ev_effect.specs.Frame.{addresses, placed, first_event}
+use Rattle.ev_effect.specs.Frame.{placed}
 use Rattle.ev_state.specs.Processor.{Processor}
-use Rattle.ev_state.specs.Outcome.{Went, below, frame_written}
-use Rattle.ev_mem.specs.Memory.{Memory, view}
+use Rattle.ev_mem.specs.Memory.{Memory}
 use Rattle.ev_apic.specs.declared.apic.Apic.{Apic}
-use Rattle.ev_fred.specs.FredDelivery.{fred_delivery, fred_frame, in_fred_handler, ss_word}
+use Rattle.ev_fred.specs.FredDelivery.{ss_word}
 use Rattle.ev_exec.specs.Exec.{exec}
 use Rattle.ev_proc.specs.declared.stepped.Stepped.{Stepped}
 use Rattle.ev_proc.specs.ProcessorStep.{after_arrival, deliveries, executed, special}
 use Rattle.ev_proc.proofs.Tries.{went}
-use Rattle.ev_listing.specs.AddressMap.{pcpu, task_selector, stack_top, stack_bytes, body_code}
+use Rattle.ev_listing.specs.AddressMap.{stack_top, stack_bytes}
 use Rattle.ev_concrete.specs.ConcreteRun.{acted}
 use Rattle.ev_built.specs.Built.{IsBuilt}
-use Rattle.ev_symbolic.specs.Value.{M, K, X}
-use Rattle.ev_symbolic.specs.Agrees.{Env, eval, eval_flags, Known, Open, Fits, Agrees, with_words}
-use Rattle.ev_symbolic.proofs.Blocks.{begins}
-use Rattle.ev_activation.specs.Activation.{AtEntry}
-use Rattle.ev_activation.specs.Activation as blocks
+use Rattle.ev_symbolic.specs.Value.{M, K}
+use Rattle.ev_symbolic.specs.State.{Block}
+use Rattle.ev_symbolic.specs.Agrees.{Env, eval, Agrees, with_words}
+use Rattle.ev_symbolic.proofs.Blocks.{at_end}
+use Rattle.ev_symbolic.proofs.Placed.{next_place, placed_other}
+use Rattle.ev_blocks.specs.Shapes.{fred_frame}
+use Rattle.ev_blocks.specs.Fred.{ByCall, FromUser, fred_block, way_values}
+use Rattle.ev_blocks.specs.Blocks.{InFred}
+use Rattle.ev_deliver.specs.FredDelivers.{fred_variables, no_flags, frame_at, fred_handler, fred_words, FredSite, FredBegins}
+use Rattle.ev_deliver.proofs.FredDelivers.{listed_is, fred_delivers, fred_facts}
+use Rattle.ev_deliver.proofs.Tops.{fred_from_task}
 use Rattle.ev_activation.specs.Seat.{SystemCall, Seat, top_at}
-use Rattle.ev_blocks_fred.specs.Blocks.{cs_of, ss_of, frame, fixed_words, fred_ground, enter}
 use Rattle.ev_table.specs.Table.{code_table}
-use Rattle.ev_refine.specs.Active.{item_place, here, Entering}
+use Rattle.ev_refine.specs.Active.{here, AtLoad}
 use Rattle.ev_refine.specs.Named.{Outside, Changes}
 use Rattle.ev_refine.proofs.Fits.{fits_at, opens_at}
 use Rattle.ev_refine.proofs.After.{kernel_names}
-use Rattle.ev_refine.proofs.UserFrame.{next_place, placed_known, placed_other, places_open, no_event, eight_open, eight_known, word_at_top}
 use Rattle.ev_refine.proofs.UserSafe.{overwrites_none}
 use Rattle.ev_refine.proofs.SystemCall as call
-use Rattle.ev_refine.proofs.SystemCall.{listed_is, call_event, arrival, Ready, Begins}
-
--- the variables of the entry block
-abbrev variables : Task → (next selector cr2 code : ℕ) → ℕ → ℕ
-variables t next selector cr2 code i =
-    if i == 16 then 0 else (if i == 17 then next else
-    (if i == 19 then flags_word t.flags else (if i == 20 then get_or t.regs 4 0 else (if i == 22 then 0 else (if i == 24 then code
-    else (if i == 60 then t.gs else (if i == 61 then selector else (if i == 62 then cr2 else get_or t.regs i 0))))))))
-
-abbrev no_flags : Flags
-no_flags = record { status = no_status; interrupts = false; alignment = false }
-
-frame_address : (top : ℕ) → (top + (M - 64)) % M ≡ below top 8
-frame_address top = ap (λ z. z % M) (let e : top + (M - 64) ≡ top + M - 64 = omega arith in e)
+use Rattle.ev_refine.proofs.SystemCall.{call_event, arrival, Ready, Begins}
+use Rattle.ev_refine.proofs.Facts.{word_of_flags}
 
 -- the frame lies on the task's stack, at its top
 on_stack : (p n : ℕ) → n ≡ 0 → p < 32 → (vs : List ℕ) → length vs ≡ 8 → (words : NatMap ℕ) → Changes p (record { stack = n; used = 0 }) (kernel_names p) words
@@ -65,8 +54,9 @@ on_stack p n hn hp vs hl words x off d = from ((top_at p (record { stack = n; us
     from a ha (inr h) = placed_other vs words a x (omega arith) (inr (omega arith))
 
 module _ (image : Image) (built : IsBuilt image) (p n : ℕ) (t : Task) (cr2 next body : ℕ) where
+  -- the task's processor at the next instruction
   abbrev caller : Processor
-  caller = call.caller Fred image p n t cr2 next body
+  caller = record (call.caller Fred image p n t cr2 next body) { rip = next }
 
   abbrev over : Processor
   over = call.over Fred image p n t cr2 next body
@@ -74,147 +64,107 @@ module _ (image : Image) (built : IsBuilt image) (p n : ℕ) (t : Task) (cr2 nex
   abbrev seat : Seat
   seat = call.seat Fred image p n t cr2 next body
 
-  -- the first item of the body
   abbrev place : ℕ → ℕ
-  place k = item_place Fred image body 0
-
-  abbrev var : ℕ → ℕ
-  var = variables t next (task_selector p n) cr2 (body_code body)
+  place = call.first_place Fred image p n t cr2 next body
 
   abbrev env : Env
-  env = here Fred p SystemCall seat 0x18 over place var no_flags
+  env = here Fred p SystemCall seat 0x18 over place (fred_variables caller call_event) no_flags
 
-  abbrev frame_at : ℕ
-  frame_at = (top_at p seat + (M - 64)) % M
-
-  -- nothing is in use above
-  top_is : stack_top p n ≡ top_at p seat
-  top_is = omega arith
-
-  abbrev handler : Processor
-  handler = in_fred_handler (record caller { rip = next }) call_event 0 frame_at
-
-  abbrev words_after : NatMap ℕ → NatMap ℕ
-  words_after words = placed words frame_at (map (eval env) (frame blocks.SystemCall))
-
-  frame_is : fred_frame (record caller { rip = next }) call_event false ≡ map (eval env) (frame blocks.SystemCall)
-  unfolding ss_word type_number eval
-  frame_is = refl
-
-  delivery_is : (m : Memory) → first_event (view m false) true (reverse (addresses frame_at 8)) ≡ None
-      → fred_delivery (record caller { rip = next }) m call_event false ≡ Went handler (words_after m.words) frame_at
-  unfolding fred_delivery
-  delivery_is m h =
-      let c : Processor = record caller { rip = next } in
-      ap (λ a. frame_written c (in_fred_handler c call_event 0 a) m.words a (fred_frame c call_event false)
-      (first_event (view m false) true (reverse (addresses a 8)))) (sym (frame_address (stack_top p n)) ∙ ap (λ z. (z + (M - 64)) % M) top_is)
-      ∙ ap (frame_written c handler m.words frame_at (fred_frame c call_event false)) h
-      ∙ ap (λ f. Went handler (placed m.words frame_at f) frame_at) frame_is
-
-  -- the instruction delivers it
-  runs : (a : Apic) (m : Memory) (nmi : Bool) → t.rip + length (spelling Syscall) ≡ next
-      → first_event (view m false) true (reverse (addresses frame_at 8)) ≡ None
-      → executed caller a m nmi (Some Syscall) ≡ arrival handler (words_after m.words) (Some frame_at) a nmi
-  unfolding exec special user_may
-  runs a m nmi hn h =
-      ap (λ x. after_arrival a nmi (deliveries 4 (record caller { rip = x }) t.rip m call_event false)) hn
-      ∙ ap (after_arrival a nmi)
-      (sym (went 3 4 (record caller { rip = next }) handler t.rip frame_at m (words_after m.words) call_event false refl (sym (delivery_is m h))))
-
-  -- ---- the activation that begins
+  abbrev entry : Block
+  entry = fred_block (FromUser ByCall)
 
   module _ (m : Memory) (ready : Ready Fred image p n t cr2 next body m) where
-    open_windows : Open env fred_ground.known m.regions × Open env fred_ground.shared m.regions
-    open_windows = opens_at Fred p seat (call.in_seat Fred image p n t cr2 next body ready.running) ready.small SystemCall 0x18 over place var no_flags image
-        ready.within m ready.regions_are
+    small : p < 32
+    small = let a = ready.within in let b = ready.few in omega arith
 
-    fit : Fits (code_table Fred image) env (enter blocks.SystemCall)
-    fit = fits_at Fred p seat (call.in_seat Fred image p n t cr2 next body ready.running) ready.small SystemCall 0x18 over place var no_flags image ready.facts
-        AtEntry refl
-
-    -- the kernel has access to the frame's words
-    frame_open : first_event (view m false) true (reverse (addresses frame_at 8)) ≡ None
-    frame_open = no_event m true (reverse (addresses frame_at 8))
-        (eight_open m.regions _ _ _ _ _ _ _ _ (places_open env fred_ground.known m.regions open_windows.0 8 (M - 64) refl))
-
-    -- the words that the entry reads: its frame, the table's word and the mark
-    known : Known env fred_ground.known (words_after m.words) (enter blocks.SystemCall).opening.words
-    unfolding eval
-    known = eight_known env fred_ground.known (words_after m.words)
-        (word_at_top (M - 8) (K 0)) (word_at_top (M - 16) (X 22)) (word_at_top (M - 24) (K (ss_of blocks.SystemCall))) (word_at_top (M - 32) (X 20))
-        (word_at_top (M - 40) (X 19)) (word_at_top (M - 48) (K (cs_of blocks.SystemCall))) (word_at_top (M - 56) (X 17))
-        (word_at_top (M - 64) (X 16)) fixed_words
-        (placed_known env fred_ground.known fred_ground.own fit.ground.sep (frame blocks.SystemCall) (M - 64) m.words fixed_words refl refl (
-          refl,
-          ready.table,
-          (
-            refl,
-            ap m.words (let small : p < 32 = ready.small in let e : (pcpu p + 0x20) % M ≡ pcpu p + 0x20 = omega arith in e)
-                ∙ ready.mark,
-            tt,
-          ),
-        ))
-
-    -- the frame's second word is the RIP that was saved
-    saved_is : words_after m.words (wrap (frame_at + 8)) ≡ next
-    unfolding eval
-    saved_is = ap (words_after m.words) (next_place (top_at p seat) (M - 64)) ∙ known.2.1
-
-    agrees : Agrees env fred_ground (enter blocks.SystemCall).opening handler (with_words m (words_after m.words))
-    unfolding eval eval_flags flags_word
-    agrees = let small : p < 32 = ready.small in let running : n ≡ 0 = ready.running in record {
-      regs = ap (λ xs. set xs 4 frame_at) (listed_is t.regs ready.long);
-      rip = refl;
+    -- the frame ends at the top of the task's stack
+    site : FredSite caller call_event env
+    site = record {
+      config = refl;
+      long = ready.long;
+      levels = refl;
+      top = fred_from_task caller call_event refl refl ∙ (let e : stack_top p n ≡ top_at p seat = omega arith in e);
+      area = refl;
+      area_small = let s = small in omega arith;
+      var = refl;
       flags = refl;
-      gs = (let e : pcpu p ≡ (pcpu p + 0) % M = omega arith in e);
-      kernel_gs = refl;
-      selector = refl;
-      cr2 = tt;
-      levels = ap (λ z. z ∷ env.rest.msrs.rsp) (let e : stack_top p n ≡ (top_at p seat + 0) % M = omega arith in e);
-      blocked = refl;
-      rest = refl;
-      words = known;
-      known_open = open_windows.0;
-      shared_open = open_windows.1;
     }
 
-    entering : Entering Fred image var over (call.context Fred image p n t cr2 next body)
-    entering = record {
-      framed = record { rip = refl; flags = refl; gs = refl; selector = refl };
-      regs = ap (λ xs. set (set xs 1 next) 11 (flags_word t.flags)) (listed_is t.regs ready.long);
-      error = refl;
-      info = refl;
-      code = refl;
+    begun : FredBegins (code_table Fred image) caller m call_event env
+    begun = fred_delivers (code_table Fred image) caller m call_event env site refl
+        (fits_at Fred image p seat (call.in_seat Fred image p n t cr2 next body ready.running) ready.within ready.few SystemCall 0x18 over place
+        (fred_variables caller call_event) no_flags ready.facts (InFred (FromUser ByCall)) refl refl (call.in_bodies Fred image p n t cr2 next body m ready)
+        (fred_facts caller call_event env refl (omega arith) (omega arith)))
+        (opens_at Fred image p seat (call.in_seat Fred image p n t cr2 next body ready.running) ready.within ready.few SystemCall 0x18 over place
+        (fred_variables caller call_event) no_flags (InFred (FromUser ByCall)) refl m ready.regions_are)
+
+    -- the instruction delivers it
+    runs : (a : Apic) (nmi : Bool) → executed (call.caller Fred image p n t cr2 next body) a m nmi (Some Syscall)
+        ≡ arrival (fred_handler caller call_event env) (fred_words env m.words) (Some (frame_at env)) a nmi
+    unfolding exec special user_may
+    runs a nmi =
+        ap (λ x. after_arrival a nmi (deliveries 4 (record caller { rip = x }) t.rip m call_event false)) ready.next_is
+        ∙ ap (after_arrival a nmi) (sym (went 3 4 caller (fred_handler caller call_event env) t.rip (frame_at env) m (fred_words env m.words) call_event false
+        refl (sym begun.went)))
+
+    agrees : Agrees env entry.ground entry.opening (fred_handler caller call_event env) (with_words m (fred_words env m.words))
+    agrees = at_end (code_table Fred image) entry 0 entry.opening refl env _ _ begun.at
+
+    -- the frame's second word is the RIP that was saved
+    saved_is : fred_words env m.words (wrap (frame_at env + 8)) ≡ next
+    unfolding eval
+    saved_is = ap (fred_words env m.words) (next_place (top_at p seat) (M - 64)) ∙ agrees.words.2.1
+
+    loads : AtLoad Fred image (λ i. eval env (get_or (way_values ByCall) i (K 0))) over (call.context Fred image p n t cr2 next body)
+    unfolding eval ss_word type_number
+    loads = record {
+      key = 0x100;
+      small = omega arith;
       place = refl;
+      found = ready.found;
+      begins = refl;
+      saved = record {
+        regs = ap (λ xs. set (set xs 1 next) 11 (flags_word t.flags)) (listed_is t.regs ready.long);
+        rcx = ready.next_small;
+        r11 = word_of_flags t.flags;
+        rip = refl;
+        cs = refl;
+        flags = refl;
+        ss = refl;
+        sti = refl;
+        gs = refl;
+        chosen = refl;
+        level = refl;
+      };
       locals = refl;
     }
 
     pub begins_call : Begins Fred image p n t cr2 next body m
     begins_call = record {
-      cpu = handler;
-      words = words_after m.words;
-      frame = Some frame_at;
-      runs = λ a nmi. runs a m nmi ready.next_is frame_open;
+      cpu = fred_handler caller call_event env;
+      words = fred_words env m.words;
+      frame = Some (frame_at env);
+      runs = runs;
       blocking = refl;
       active = λ f. record {
         stands = record {
-          spot = AtEntry;
+          spot = InFred (FromUser ByCall);
           k = 0;
           extra = place;
-          var = var;
+          var = fred_variables caller call_event;
           flags = no_flags;
           ss = 0x18;
           ss_is = inr refl;
           within = omega arith;
           enough = omega arith;
-          at = begins (code_table Fred image) (enter blocks.SystemCall) env handler (with_words m (words_after m.words)) fit agrees;
-          long = length-set t.regs 4 frame_at ∙ ready.long;
+          at = begun.at;
+          long = length-set t.regs 4 (frame_at env) ∙ ready.long;
         };
         switches = refl;
         knows = tt;
-        means = (entering, refl);
+        means = (loads, refl);
       };
-      changes = on_stack p n ready.running ready.small (map (eval env) (frame blocks.SystemCall)) refl m.words;
+      changes = on_stack p n ready.running small (map (eval env) fred_frame) refl m.words;
       saved = saved_is;
-      safe = λ s only k z. overwrites_none image built s only (acted k z p (Stepped.Delivered call_event (Some frame_at))).1;
+      safe = λ s only k z. overwrites_none image built s only (acted k z p (Stepped.Delivered call_event (Some (frame_at env)))).1;
     }

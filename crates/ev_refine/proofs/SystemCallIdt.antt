@@ -1,6 +1,6 @@
 -- The delivery of a system call under IDT: SYSCALL writes no word, and leaves RIP and the flags in RCX and R11; and the activation that it begins.
-use Rattle.std.proofs.Common.{◌≡◌, ℕ, ◌+◌, ◌-◌, ◌%◌, ◌<◌, Bool, ◌∷◌, get_or, set, length, Some, None, refl, ap, ◌∙◌, arith, inr}
-use Rattle.std.specs.Prelude.{◌==◌, if◌then◌else◌, bit_and}
+use Rattle.std.proofs.Common.{◌≡◌, ℕ, ◌+◌, ◌-◌, ◌^◌, ◌<◌, Bool, List, get_or, set, length, Some, None, refl, sym, ap, ◌∙◌, subst, arith, inr}
+use Rattle.std.specs.Prelude.{bit_and}
 use Rattle.std.proofs.lemmas.List.{length-set}
 use Rattle.ev_isa.specs.Flags.{Flags, flags_word, flags_of}
 use Rattle.ev_isa.specs.Instruction.{user_may}
@@ -15,33 +15,30 @@ use Rattle.ev_apic.specs.declared.apic.Apic.{Apic}
 use Rattle.ev_idt.specs.IdtDelivery.{syscall_idt}
 use Rattle.ev_exec.specs.Exec.{exec}
 use Rattle.ev_proc.specs.ProcessorStep.{executed, special}
-use Rattle.ev_listing.specs.AddressMap.{pcpu, task_selector, stack_top, body_code}
-use Rattle.ev_symbolic.specs.Value.{M}
-use Rattle.ev_symbolic.specs.Agrees.{Env, eval, eval_flags, Known, Open, Fits, Agrees}
-use Rattle.ev_symbolic.proofs.Blocks.{begins}
-use Rattle.ev_activation.specs.Activation.{AtEntry}
-use Rattle.ev_activation.specs.Activation as blocks
+use Rattle.ev_listing.specs.AddressMap.{stack_top}
+use Rattle.ev_symbolic.specs.Value.{K}
+use Rattle.ev_symbolic.specs.Agrees.{Env, eval, At}
+use Rattle.ev_blocks.specs.Idt.{Sys, idt_block, sys_values}
+use Rattle.ev_blocks.specs.Blocks.{InIdt}
+use Rattle.ev_deliver.specs.IdtDelivers.{call_variables, CallSite}
+use Rattle.ev_deliver.proofs.FredDelivers.{listed_is}
+use Rattle.ev_deliver.proofs.IdtDelivers.{call_delivers}
 use Rattle.ev_activation.specs.Seat.{SystemCall, Seat, top_at}
-use Rattle.ev_blocks_idt.specs.Blocks.{fixed_words, idt_ground, enter}
 use Rattle.ev_table.specs.Table.{code_table}
-use Rattle.ev_refine.specs.Active.{item_place, here, Called}
+use Rattle.ev_refine.specs.Active.{here, AtLoad}
 use Rattle.ev_refine.proofs.Fits.{fits_at, opens_at}
 use Rattle.ev_refine.proofs.SystemCall as call
-use Rattle.ev_refine.proofs.SystemCall.{listed_is, arrival, Ready, Begins}
-
--- the variables of the entry block
-abbrev variables : Task → (next selector cr2 code : ℕ) → ℕ → ℕ
-variables t next selector cr2 code i =
-    if i == 1 then next else (if i == 11 then flags_word t.flags else (if i == 24 then code
-    else (if i == 60 then t.gs else (if i == 61 then selector else (if i == 62 then cr2 else get_or t.regs i 0)))))
+use Rattle.ev_refine.proofs.SystemCall.{arrival, Ready, Begins}
+use Rattle.ev_refine.proofs.Facts.{word_of_flags}
 
 -- FMASK takes IF and AC from the flags
 abbrev masked_flags : Flags → Flags
 masked_flags f = flags_of (flags_word f - bit_and (flags_word f) 0x40200)
 
 module _ (image : Image) (p n : ℕ) (t : Task) (cr2 next body : ℕ) where
+  -- the task's processor at the next instruction
   abbrev caller : Processor
-  caller = call.caller Idt image p n t cr2 next body
+  caller = record (call.caller Idt image p n t cr2 next body) { rip = next }
 
   abbrev over : Processor
   over = call.over Idt image p n t cr2 next body
@@ -49,109 +46,106 @@ module _ (image : Image) (p n : ℕ) (t : Task) (cr2 next body : ℕ) where
   abbrev seat : Seat
   seat = call.seat Idt image p n t cr2 next body
 
-  -- the first item of the body
   abbrev place : ℕ → ℕ
-  place k = item_place Idt image body 0
-
-  abbrev var : ℕ → ℕ
-  var = variables t next (task_selector p n) cr2 (body_code body)
+  place = call.first_place Idt image p n t cr2 next body
 
   abbrev env : Env
-  env = here Idt p SystemCall seat 0x18 over place var (masked_flags t.flags)
-
-  abbrev handler : Processor
-  handler = syscall_idt (record caller { rip = next })
+  env = here Idt p SystemCall seat 0x18 over place (call_variables caller) (masked_flags t.flags)
 
   -- the instruction delivers it
   runs : (a : Apic) (m : Memory) (nmi : Bool) → t.rip + length (spelling Syscall) ≡ next
-      → executed caller a m nmi (Some Syscall) ≡ arrival handler m.words None a nmi
+      → executed (call.caller Idt image p n t cr2 next body) a m nmi (Some Syscall) ≡ arrival (syscall_idt caller) m.words None a nmi
   unfolding exec special user_may
   runs a m nmi hn = ap (λ x. arrival (syscall_idt (record caller { rip = x })) m.words None a nmi) hn
 
-  -- ---- the activation that begins
-
   module _ (m : Memory) (ready : Ready Idt image p n t cr2 next body m) where
-    open_windows : Open env idt_ground.known m.regions × Open env idt_ground.shared m.regions
-    open_windows = opens_at Idt p seat (call.in_seat Idt image p n t cr2 next body ready.running) ready.small SystemCall 0x18 over place var
-        (masked_flags t.flags) image ready.within m ready.regions_are
+    small : p < 32
+    small = let a = ready.within in let b = ready.few in omega arith
 
-    fit : Fits (code_table Idt image) env (enter blocks.SystemCall)
-    fit = fits_at Idt p seat (call.in_seat Idt image p n t cr2 next body ready.running) ready.small SystemCall 0x18 over place var (masked_flags t.flags)
-        image ready.facts AtEntry refl
-
-    -- the words that the entry reads: the table's word, the top of the task's stack and the mark
-    known : Known env idt_ground.known m.words fixed_words
-    unfolding eval
-    known =
-        let small : p < 32 = ready.small in
-        let running : n ≡ 0 = ready.running in (
-          refl,
-          ready.table,
-          (
-            refl,
-            ap m.words (let e : (pcpu p + 0x10) % M ≡ pcpu p + 0x10 = omega arith in e) ∙ ready.top_is ∙ (let e : stack_top p n ≡ (top_at p seat + 0) % M =
-                omega arith in e),
-            (refl, ap m.words (let e : (pcpu p + 0x20) % M ≡ pcpu p + 0x20 = omega arith in e) ∙ ready.mark, tt),
-          ),
-        )
-
-    agrees : Agrees env idt_ground (enter blocks.SystemCall).opening handler m
-    unfolding eval eval_flags syscall_idt
-    agrees = let small : p < 32 = ready.small in let running : n ≡ 0 = ready.running in record {
-      regs = ap (λ xs. set (set xs 1 next) 11 (flags_word t.flags)) (listed_is t.regs ready.long);
-      rip = refl;
-      flags = refl;
-      gs = refl;
-      kernel_gs = (let e : pcpu p ≡ (pcpu p + 0) % M = omega arith in e);
-      selector = refl;
-      cr2 = tt;
-      levels = ap (λ z. z ∷ env.rest.msrs.rsp) (let e : stack_top p 0 ≡ (top_at p seat + 0) % M = omega arith in e);
-      blocked = refl;
-      rest = refl;
-      words = known;
-      known_open = open_windows.0;
-      shared_open = open_windows.1;
+    site : CallSite caller m env
+    site = record {
+      entry = refl;
+      long = ready.long;
+      levels = refl;
+      area = refl;
+      area_small = let s = small in omega arith;
+      top = ready.top_is ∙ (let e : stack_top p n ≡ top_at p seat = omega arith in e);
+      top_small = let s = small in let r = ready.running in omega arith;
+      var = refl;
     }
 
-    called : Called Idt image var over (call.context Idt image p n t cr2 next body)
-    called = record {
-      rip = refl;
-      flags = refl;
-      gs = refl;
-      selector = refl;
-      regs = ap (λ xs. set (set xs 1 next) 11 (flags_word t.flags)) (listed_is t.regs ready.long);
-      code = refl;
+    at : At (code_table Idt image) (idt_block Sys) 0 env (syscall_idt caller) m
+    unfolding syscall_idt
+    at = call_delivers (code_table Idt image) caller m env site refl refl
+        (fits_at Idt image p seat (call.in_seat Idt image p n t cr2 next body ready.running) ready.within ready.few SystemCall 0x18 over place
+        (call_variables caller) (masked_flags t.flags) ready.facts (InIdt Sys) refl refl (call.in_bodies Idt image p n t cr2 next body m ready) tt)
+        (opens_at Idt image p seat (call.in_seat Idt image p n t cr2 next body ready.running) ready.within ready.few SystemCall 0x18 over place
+        (call_variables caller) (masked_flags t.flags) (InIdt Sys) refl m ready.regions_are)
+
+    -- RCX and R11 as SYSCALL leaves them
+    abbrev entered : List ℕ
+    entered = set (set t.regs 1 next) 11 (flags_word t.flags)
+
+    long : length entered ≡ 16
+    long = length-set (set t.regs 1 next) 11 (flags_word t.flags) ∙ length-set t.regs 1 next ∙ ready.long
+
+    rcx_is : get_or entered 1 0 ≡ next
+    rcx_is = ap (λ xs. get_or (set (set xs 1 next) 11 (flags_word t.flags)) 1 0) (listed_is t.regs ready.long)
+
+    r11_is : get_or entered 11 0 ≡ flags_word t.flags
+    r11_is = ap (λ xs. get_or (set (set xs 1 next) 11 (flags_word t.flags)) 11 0) (listed_is t.regs ready.long)
+
+    loads : AtLoad Idt image (λ i. eval env (get_or sys_values i (K 0))) over (call.context Idt image p n t cr2 next body)
+    unfolding eval
+    loads = record {
+      key = 0x100;
+      small = omega arith;
       place = refl;
+      found = ready.found;
+      begins = refl;
+      saved = record {
+        regs = listed_is entered long;
+        rcx = subst (λ a. a < 2 ^ 64) (sym rcx_is) ready.next_small;
+        r11 = subst (λ a. a < 2 ^ 64) (sym r11_is) (word_of_flags t.flags);
+        rip = rcx_is;
+        cs = refl;
+        flags = r11_is;
+        ss = refl;
+        sti = refl;
+        gs = refl;
+        chosen = refl;
+        level = refl;
+      };
       locals = refl;
     }
 
     pub begins_call : Begins Idt image p n t cr2 next body m
     unfolding syscall_idt
     begins_call = record {
-      cpu = handler;
+      cpu = syscall_idt caller;
       words = m.words;
       frame = None;
       runs = λ a nmi. runs a m nmi ready.next_is;
       blocking = refl;
       active = λ f. record {
         stands = record {
-          spot = AtEntry;
+          spot = InIdt Sys;
           k = 0;
           extra = place;
-          var = var;
+          var = call_variables caller;
           flags = masked_flags t.flags;
           ss = 0x18;
           ss_is = inr refl;
           within = omega arith;
           enough = omega arith;
-          at = begins (code_table Idt image) (enter blocks.SystemCall) env handler m fit agrees;
-          long = length-set (set t.regs 1 next) 11 (flags_word t.flags) ∙ length-set t.regs 1 next ∙ ready.long;
+          at = at;
+          long = long;
         };
         switches = refl;
         knows = tt;
-        means = (called, refl);
+        means = (loads, refl);
       };
       changes = λ a off d. refl;
-      saved = ap (λ xs. get_or (set (set xs 1 next) 11 (flags_word t.flags)) 1 0) (listed_is t.regs ready.long);
+      saved = rcx_is;
       safe = λ s only k z. refl;
     }

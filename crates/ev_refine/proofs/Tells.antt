@@ -23,14 +23,14 @@ use Rattle.ev_activation.specs.Seat.{Kind, SystemCall, FromTask, FromBody, NmiFr
 use Rattle.ev_refine.specs.Nmi.{Frame}
 use Rattle.ev_refine.specs.Active.{Active, rest_in}
 use Rattle.ev_refine.specs.Relation.{Stands, StandsOn, most_edges, keeps_cr2, chained, Chain, InTables}
-use Rattle.ev_refine.specs.Tasks.{RunsTask}
+use Rattle.ev_user.specs.Tasks.{RunsTask}
 use Rattle.ev_refine.specs.Claims.{Tells}
 use Rattle.ev_refine.proofs.Facts.{Facts, HasFixed}
 use Rattle.ev_refine.proofs.ModeFacts.{is_fred}
 use Rattle.ev_refine.proofs.Depth.{stands_depth}
 use Rattle.ev_refine.proofs.Stays.{over_any}
 use Rattle.ev_refine.proofs.After.{as_chain}
-use Rattle.ev_refine.proofs.CallKinds.{call_alone}
+use Rattle.ev_refine.proofs.CallKinds.{is_over_task, stands_alone}
 
 module _ (mode : Mode) (image : Image) where
   -- what no activation changes of the processor: whether FRED is on, and where the tables stand
@@ -69,8 +69,8 @@ module _ (mode : Mode) (image : Image) where
   chain_few p left r t f sw (b ∷ below) (a ∷ as') c m h = by_kind (kind_of image b below) refl h.6
     where
       by_kind : (κ : Kind) {σ : Seat} {g : Bool} → kind_of image b below ≡ κ → Active mode image p left κ σ f g h.0 b c m → length (b ∷ below) ≤ 32
-      by_kind SystemCall q act = let l = ap length (call_alone image b below q) in omega arith
-      by_kind FromTask q act = absurd act.means
+      by_kind SystemCall q act = let l = ap length (stands_alone image b below (ap is_over_task q)) in omega arith
+      by_kind FromTask q act = let l = ap length (stands_alone image b below (ap is_over_task q)) in omega arith
       by_kind FromBody q act = absurd act.means
       by_kind NmiFromTask q act = absurd act.means
       by_kind NmiFromBody q act = absurd act.means

@@ -20,7 +20,7 @@ use Rattle.ev_state.specs.Processor.{Processor, is_user}
 use Rattle.ev_mem.specs.Memory.{Memory}
 use Rattle.ev_proc.specs.ProcessorStep.{After, executed, has_fred, next_of}
 use Rattle.ev_proc.specs.declared.stepped.Stepped.{Stepped}
-use Rattle.ev_listing.specs.AddressMap.{pcpu, user_table, task_words, body_code}
+use Rattle.ev_listing.specs.AddressMap.{pcpu, task_words}
 use Rattle.ev_abstract.specs.Context.{BodyContext}
 use Rattle.ev_abstract.specs.declared.entry.Entry.{Entry}
 use Rattle.ev_abstract.specs.declared.entry.Entry.TheVariants.{Enter}
@@ -37,22 +37,23 @@ use Rattle.ev_built.specs.Program.{begins, leads_to}
 use Rattle.ev_symbolic.specs.Agrees.{with_words}
 use Rattle.ev_concrete.specs.Shown.{shown_by, saved_rip, key_of}
 use Rattle.ev_activation.specs.Seat.{SystemCall, kind_of, seat_by, seat_of, room_of}
-use Rattle.ev_refine.specs.Tasks.{IsTask, RunsTask, CurrentIs}
+use Rattle.ev_user.specs.Tasks.{IsTask, RunsTask}
+use Rattle.ev_refine.specs.Tasks.{CurrentIs}
 use Rattle.ev_refine.specs.Nmi.{Leads, inner_edges}
 use Rattle.ev_refine.specs.Domain.{IsInProgram}
 use Rattle.ev_refine.specs.Active.{Active}
-use Rattle.ev_refine.specs.Relation.{InTables, IsContext, Beneath, keeps_cr2, chained, switches_at, most_edges, Chain, Stands}
+use Rattle.ev_refine.specs.Relation.{IsContext, Beneath, keeps_cr2, chained, switches_at, most_edges, Chain, Stands}
 use Rattle.ev_refine.specs.Claims.{Simulated}
-use Rattle.ev_refine.proofs.Facts.{Facts}
-use Rattle.ev_refine.proofs.CallKinds.{call_no_nmi, call_of}
+use Rattle.ev_refine.proofs.Facts.{Facts, word_of_canonical}
+use Rattle.ev_refine.proofs.CallKinds.{is_over_task, plain_no_nmi, call_of}
 use Rattle.ev_refine.proofs.Domains.{one_task_each, with_cr2}
 use Rattle.ev_refine.proofs.Standing.{Moves, step_moves, delivery_moves}
 use Rattle.ev_refine.proofs.Depth.{stands_depth}
 use Rattle.ev_refine.proofs.UserState.{put_same, TurnsTo, makes_turn, is_safe, tells_bodies}
 use Rattle.ev_refine.proofs.UserPlain.{AtUser, at_user, user_after, plain_turn}
-use Rattle.ev_refine.proofs.SystemCall.{call_event, returning, arrival, caller, over, context, Ready, Begins}
+use Rattle.ev_refine.proofs.SystemCall.{call_event, call_edges, returning, arrival, caller, over, context, Ready, Begins}
 use Rattle.ev_refine.proofs.UserStep.{Makes, makes}
-use Rattle.ev_refine.proofs.UserBody.{IsSystemCall, is_system_call, table_word_is}
+use Rattle.ev_refine.proofs.UserBody.{IsSystemCall, is_system_call}
 use Rattle.ev_refine.proofs.UserSafe.{OnlyTask}
 use Rattle.ev_refine.proofs.SystemCallFred as fred
 use Rattle.ev_refine.proofs.SystemCallIdt as idt
@@ -132,20 +133,20 @@ module _ (mode : Mode) (image : Image) (formed : IsImage image) (built : IsBuilt
       let zero_is : p ≡ 0 = omega (arith, built.one_processor) in
       let first : n ≡ 0 = let l = u.on.running in let one = one_task_each image built p lt in omega arith in
       let words : NatMap ℕ = s.memory.words in
-      let table : words (user_table + 0x800) ≡ body_code body = h.fixed (user_table + 0x800) (InTables (omega arith) (omega arith))
-      ∙ table_word_is mode image built body found.1 in
       let current : CurrentIs mode p n words = u.on.current u.rest.still in
       let begun : Begins mode image p n t c.cr2 next body s.memory = begins_call mode image built p n t c.cr2 next body s.memory (record {
         running = first;
-        small = small;
         within = lt;
+        few = formed.count.1;
         facts = facts;
         long = u.rest.task.task.long;
         next_is = refl;
+        next_small = word_of_canonical next (sym (ap (λ i. is_canonical (leads_to t.rip i)) hi) ∙ u.canonical);
         regions_are = h.regions_are;
-        table = table;
+        found = found.1;
+        stands = call.body;
+        is = call.is;
         top_is = current.top;
-        mark = u.on.mark u.rest.still ∙ ap (λ b. if b then 1 else 0) u.domain.resched;
       }) in
       let d : Processor = begun.cpu in
       let words' : NatMap ℕ = begun.words in
@@ -169,22 +170,23 @@ module _ (mode : Mode) (image : Image) (formed : IsImage image) (built : IsBuilt
       let at : IsInProgram image back.rip = λ program is. sym (ap (λ i. begins program (leads_to t.rip i)) hi) ∙ u.leads program is in
       let mem : Memory = with_words s.memory words' in
       let under : RunsTask mode image p n back w = record { is = refl; task = good } in
-      let stood : Active mode image p 75 SystemCall (record { stack = n; used = 0 }) u.on.frame u.on.switching w b d mem
-      = subst (λ g. Active mode image p 75 SystemCall (record { stack = n; used = 0 }) u.on.frame g w b d mem) (sym u.rest.still)
+      let stood : Active mode image p call_edges SystemCall (record { stack = n; used = 0 }) u.on.frame u.on.switching w b d mem
+      = subst (λ g. Active mode image p call_edges SystemCall (record { stack = n; used = 0 }) u.on.frame g w b d mem) (sym u.rest.still)
       (begun.active u.on.frame) in
       let tail = subst (λ κ. Beneath mode image (keeps_cr2 mode image κ)
       (λ v. Chain mode image p (most_edges mode image) n back u.on.frame (chained mode image u.on.switching []) [] [] v mem) w
       × Leads mode p κ u.on.frame w mem.words
-      × Active mode image p 75 κ (seat_by mode κ n (seat_of mode image n []) (room_of mode image [])) u.on.frame
+      × Active mode image p call_edges κ (seat_by mode κ n (seat_of mode image n []) (room_of mode image [])) u.on.frame
       (switches_at mode image u.on.switching []) w b d mem) (sym kind)
       (λ a. (with_cr2 mode image p n back w a under, refl, refl), tt, stood) in
       let is_context : IsContext mode image b = record { item = call.item; is = call.first } in
-      let chain : Chain mode image p 75 n back u.on.frame u.on.switching (b ∷ []) (last ∷ []) d mem =
+      let chain : Chain mode image p call_edges n back u.on.frame u.on.switching (b ∷ []) (last ∷ []) d mem =
       (w, is_context, refl, tt, tail.0, tail.1, tail.2) in
-      let after = user_after mode image formed built facts left s s' m p lt h u d as' words' back (b ∷ []) 75 hb mv begun.changes good at
-      (begun.blocking ∙ sym (call_no_nmi image b kind)) (record { interrupts = refl; service = refl; calls = refl }, tt) (λ class. refl) (omega arith)
-      (λ q e. subst (λ ys. Chain mode image p 75 q back u.on.frame u.on.switching (b ∷ []) ys d (with_words s.memory words')) (sym begins_last)
-      (subst (λ z. Chain mode image p 75 z back u.on.frame u.on.switching (b ∷ []) (last ∷ []) d (with_words s.memory words')) (sym e) chain)) in
+      let after = user_after mode image formed built facts left s s' m p lt h u d as' words' back (b ∷ []) call_edges hb mv begun.changes good at
+      (begun.blocking ∙ sym (plain_no_nmi image b (ap is_over_task kind))) (record { interrupts = refl; service = refl; calls = refl }, tt) (λ class. refl)
+      (omega arith)
+      (λ q e. subst (λ ys. Chain mode image p call_edges q back u.on.frame u.on.switching (b ∷ []) ys d (with_words s.memory words')) (sym begins_last)
+      (subst (λ z. Chain mode image p call_edges z back u.on.frame u.on.switching (b ∷ []) (last ∷ []) d (with_words s.memory words')) (sym e) chain)) in
       let entries : List Entry = Enter p Sys Other User 1 0 0 (Some next) ∷ [] in
       let shallow : bodies_on s p ≡ 0 = stands_depth mode image facts p (left p) s x u.on ∙ ap length hb in
       let only : OnlyTask s = record {
@@ -200,7 +202,7 @@ module _ (mode : Mode) (image : Image) (formed : IsImage image) (built : IsBuilt
         turns = u.turns ∙ ap (λ i. task_step image m p (user.executed (user_view (user_memory image m)) t (t.rip + length (spelling i)) i)) hi
             ∙ call_steps image m p next body call hb found.1;
         seen = u.seen;
-        now_left = 75 + inner_edges (s.latches p);
+        now_left = call_edges + inner_edges (s.latches p);
         stands = after.1;
         counts = stands_depth mode image facts p _ s' _ after.0
             ∙ ap suc (sym shallow) ∙ sym (ap (λ i. if i then bodies_on s p else suc (bodies_on s p)) (ap (starts_inner s p) u.next));

@@ -1,8 +1,9 @@
 -- The body of system calls: it stands in the image, its key is that of SYSCALL, it has an item, and the table has its address.
-use Rattle.std.proofs.Common.{◌≡◌, ℕ, zero, suc, ◌+◌, ◌-◌, ◌*◌, ◌/◌, ◌%◌, ◌<◌, Bool, true, false, ◌&&◌, List, [], ◌∷◌, ◌++◌, length, Some, refl, ap, ◌∙◌, subst, arith}
+use Rattle.std.proofs.Common.{◌≡◌, ℕ, zero, suc, ◌+◌, ◌-◌, ◌*◌, ◌/◌, ◌%◌, ◌^◌, ◌<◌, ◌≤◌, Bool, true, false, ◌&&◌, List, [], ◌∷◌, ◌++◌, length, Some, refl, ap, ◌∙◌, subst, arith}
 use Rattle.std.specs.Prelude.{◌==◌, if◌then◌else◌, nat_lt, nat_le, slice_get, flat_map}
 use Rattle.std.specs.List.{list_all}
-use Rattle.std.proofs.lemmas.Bool.{eqb-true, ltb-true}
+use Rattle.std.proofs.lemmas.Bool.{eqb-true, eq-eqb, ltb-true, le-leb, lt-leb, lt-ltb, le-ltb}
+use Rattle.ev_isa.specs.Word.{is_aligned}
 use Rattle.ev_isa.specs.declared.mode.Mode.{Mode}
 use Rattle.ev_body.specs.declared.key.Key.{Key}
 use Rattle.ev_body.specs.declared.key.Key.TheVariants.{Sys, Irq}
@@ -14,10 +15,9 @@ use Rattle.ev_body.specs.declared.body.Body.{Body}
 use Rattle.ev_body.specs.declared.image.Image.{Image}
 use Rattle.ev_body.specs.Bodies.{key_number, covers, first_body}
 use Rattle.ev_body.specs.WellFormed.{IsImage, is_key, is_ret, ends_with, is_body}
-use Rattle.ev_listing.specs.AddressMap.{pcpu, user_table, body_code}
+use Rattle.ev_listing.specs.AddressMap.{pcpu, user_table, body_code, fred_page, stack_top, task_words}
 use Rattle.ev_abstract.specs.Run.{item_at}
-use Rattle.ev_concrete.specs.Opening.{opening_word, word_there, pcpu_word, body_address}
-use Rattle.ev_built.specs.Built.{IsBuilt}
+use Rattle.ev_concrete.specs.Opening.{opening_word, word_there, body_address}
 use Rattle.ev_symbolic.proofs.Values.{and_left, and_right}
 use Rattle.ev_refine.specs.Relation.{first_word}
 
@@ -83,12 +83,21 @@ is_system_call image formed n h =
           ap (λ o. item_at o 0) f.is ∙ i.1;
     }
 
--- its address is the word of the table for the event's key
-pub table_word_is : (mode : Mode) (image : Image) → IsBuilt image → (n : ℕ) → first_body 0 image.bodies 0x100 User ≡ Some n
-    → first_word mode image (user_table + 0x800) ≡ body_code n
+-- the address of a body is the word of the table of user events for its key
+pub table_word_is : (mode : Mode) (image : Image) → image.processors ≤ 8 → (key : ℕ) → key ≤ 0x100 → (n : ℕ) → first_body 0 image.bodies key User ≡ Some n
+    → first_word mode image (user_table + 8 * key) ≡ body_code n
 unfolding opening_word word_there
-table_word_is mode image built n h =
-    ap (λ (processors : ℕ). if nat_lt (user_table + 0x800) (pcpu 0 + 0x10000 * processors) then pcpu_word ((user_table + 0x800 - pcpu 0) / 0x10000)
-    ((user_table + 0x800) % 0x10000)
-    else body_address (first_body 0 image.bodies 0x100 User)) built.one_processor
-    ∙ ap body_address h
+table_word_is mode image few key small n h =
+    let a : ℕ = user_table + 8 * key in
+    let aligned : is_aligned a ≡ true = eq-eqb (a % 8) 0 (omega arith) in
+    let upper : nat_lt a (2 ^ 63) ≡ false = le-ltb a (2 ^ 63) (omega arith) in
+    let code : nat_le fred_page a ≡ false = lt-leb fred_page a (omega arith) in
+    let stacks : nat_le (stack_top 0 0 - 0x4000) a ≡ false = lt-leb (stack_top 0 0 - 0x4000) a (omega arith) in
+    let areas : nat_lt a (pcpu 0 + 0x10000 * image.processors) ≡ false = le-ltb a (pcpu 0 + 0x10000 * image.processors) (omega arith) in
+    let above : nat_le (pcpu 0) a ≡ true = le-leb (pcpu 0) a (omega arith) in
+    let tasks : nat_le (task_words 0 0) a ≡ false = lt-leb (task_words 0 0) a (omega arith) in
+    let from : nat_le user_table a ≡ true = le-leb user_table a (omega arith) in
+    let to : nat_lt a (user_table + 8 * 257) ≡ true = lt-ltb a (user_table + 8 * 257) (omega arith) in
+    let number : (a - user_table) / 8 ≡ key = omega arith in
+    rw (aligned, upper, code, stacks, areas, above, tasks, from, to)
+    (ap (λ k. body_address (first_body 0 image.bodies k User)) number ∙ ap body_address h)

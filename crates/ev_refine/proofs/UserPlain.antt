@@ -29,14 +29,14 @@ use Rattle.ev_built.specs.Built.{IsBuilt}
 use Rattle.ev_built.specs.Program.{begins, leads_to, is_built_instruction, IsProgram}
 use Rattle.ev_concrete.specs.Depth.{is_in_repeat, bodies_on, is_jump}
 use Rattle.ev_listing.specs.AddressMap.{nmi_entry, repeat_entry}
-use Rattle.ev_refine.specs.Tasks.{IsTask, task_processor, RunsTask}
+use Rattle.ev_user.specs.Tasks.{IsTask, task_processor, RunsTask}
 use Rattle.ev_refine.specs.Nmi.{inner_edges}
 use Rattle.ev_refine.specs.Named.{Changes}
 use Rattle.ev_refine.specs.Domain.{first_start, IsInProgram, AreQuiet, IsInDomain}
 use Rattle.ev_refine.specs.Relation.{Chain, serves, StandsOn, Stands}
 use Rattle.ev_refine.proofs.Maps.{at_same, at_other}
 use Rattle.ev_refine.proofs.Standing.{instruction_first, Moves, step_moves}
-use Rattle.ev_refine.proofs.After.{kernel_names, latch_parts, own_after, stands_after}
+use Rattle.ev_refine.proofs.After.{kernel_names, latch_parts, own_after, stands_after, few_inner}
 use Rattle.ev_refine.proofs.Domains.{four_tasks}
 use Rattle.ev_refine.proofs.Depth.{stands_depth}
 use Rattle.ev_refine.proofs.Tells.{AtRest, at_rest}
@@ -61,7 +61,8 @@ module _ (mode : Mode) (image : Image) (formed : IsImage image) (built : IsBuilt
     pub steps : step (s.cpus p) (s.apics p) s.memory (s.latches p)
         ≡ executed (task_processor mode image p (processor m p).running (task (processor m p)) (s.cpus p).cr2 false) (s.apics p) s.memory false (Some ins)
     pub turns : turn image m p
-        ≡ task_step image m p (user.executed (user_view (user_memory image m)) (task (processor m p)) ((task (processor m p)).rip + length (spelling ins)) ins)
+        ≡ task_step image m p
+        (user.executed (user_view (user_memory image m)) (task (processor m p)) ((task (processor m p)).rip + length (spelling ins)) ins)
     pub seen : is_visible (marks_of mode image) s p ≡ true
 
   pub at_user : (left : NatMap ℕ) (s : System) (m : Machine) → Stands mode image left s m → (p : ℕ) → p < image.processors → (processor m p).bodies ≡ []
@@ -130,7 +131,8 @@ module _ (mode : Mode) (image : Image) (formed : IsImage image) (built : IsBuilt
       let there : StandsOn mode image p (own + inner_edges (s.latches p)) s' y
       = own_after mode image p (left p) s s' x (record { stack = x.running; used = 0 }) cpu as' words (put_at x.tasks x.running t) bs own u.on small four mv
       (sym u.rest.returning) narrow changes (λ i d. others i (λ e. d (e ∙ sym u.rest.returning))) tasks blocked
-      (λ class. serving class ∙ sym (ap (list_any (λ (b : BodyContext). serves mode image class b.service)) hb)) few
+      (λ class. serving class ∙ sym (ap (list_any (λ (b : BodyContext). serves mode image class b.service)) hb))
+      (let f = few_inner mode image (s.latches p) in omega arith)
       (subst (λ k. Chain mode image p own u.on.returning k u.on.frame u.on.switching bs as' cpu (with_words s.memory words))
       (sym (at_same x.tasks x.running u.on.returning t u.rest.returning)) (chain u.on.returning u.rest.returning)) in
       let inside : IsInDomain image p y = record {
@@ -141,7 +143,8 @@ module _ (mode : Mode) (image : Image) (formed : IsImage image) (built : IsBuilt
         tasks = programs;
       } in (
         there,
-        stands_after mode image left s s' m (with_processor m p y) p (own + inner_edges (s.latches p)) y (record { stack = x.running; used = 0 }) cpu as' words
+        stands_after mode image left s s' m (with_processor m p y) p (own + inner_edges (s.latches p)) y (record { stack = x.running; used = 0 }) cpu as'
+            words
             eight (four_tasks image built) h lt mv narrow changes
             (record {
               own = at_same m.processors p p y refl;
@@ -212,7 +215,8 @@ module _ (mode : Mode) (image : Image) (formed : IsImage image) (built : IsBuilt
       let at : IsInProgram image k.task.rip = λ program is. ap (begins program) k.rip ∙ u.leads program is in
       let after = user_after left s s' m p lt h u d as' words k.task [] 0 hb mv (λ a off n. refl) good at refl tt (λ class. refl) (omega arith)
       (λ r e. (subst (λ z. RunsTask mode image p z k.task d) (sym e) (record { is = refl; task = good }), u.rest.still, none)) in
-      let same : record (with_task x k.task) { bodies = [] } ≡ with_task x k.task = ap (λ (bs : List BodyContext). record (with_task x k.task) { bodies = bs })
+      let same : record (with_task x k.task) { bodies = [] } ≡ with_task x k.task = ap
+      (λ (bs : List BodyContext). record (with_task x k.task) { bodies = bs })
       (sym hb) in
       let y : abstract.Processor = with_task x k.task in
       record {
@@ -220,7 +224,8 @@ module _ (mode : Mode) (image : Image) (formed : IsImage image) (built : IsBuilt
         steps = u.steps ∙ plain_runs mode image p x.running (task x) c.cr2 false u.ins k (s.apics p) s.memory false;
         machine = with_processor m p y;
         entries = [];
-        turns = u.turns ∙ ap (task_step image m p) (k.user (user_view (user_memory image m)) ∙ ap (step_of (task x)) (k.is (user_view (user_memory image m))));
+        turns = u.turns ∙ ap (task_step image m p)
+            (k.user (user_view (user_memory image m)) ∙ ap (step_of (task x)) (k.is (user_view (user_memory image m))));
         seen = u.seen;
         now_left = 0 + inner_edges (s.latches p);
         stands = subst (λ z. Stands mode image (put_at left p (0 + inner_edges (s.latches p))) s' (with_processor m p z)) same after.1;

@@ -36,7 +36,8 @@ module _ (mode : Mode) (image : Image) where
         → shown_by p (bodies_on s p) (is_user (s.cpus p)) (has_fred (s.cpus p)) told after.cpu after.words after.step ≡ entries
     pub counts : bodies_on (acted image.processors (after_step s p after) p after.step).0 p
         ≡ bodies_after (bodies_on s p) (starts_inner s p (next_of (s.cpus p) (s.apics p) (s.latches p)))
-        (ends_body (s.cpus p) (instruction_at s.memory.words (s.cpus p).rip)) (begins_body (s.cpus p) (instruction_at s.memory.words (s.cpus p).rip)) after.step
+        (ends_body (s.cpus p) (instruction_at s.memory.words (s.cpus p).rip)) (begins_body (s.cpus p) (instruction_at s.memory.words (s.cpus p).rip))
+        after.step
     pub safe : list_any (overwrites mode image s) (acted image.processors (after_step s p after) p after.step).1 ≡ false
 
   concrete_is : (left : NatMap ℕ) (s : System) (m : Machine) (p : ℕ) (t : TurnsTo left s m p)

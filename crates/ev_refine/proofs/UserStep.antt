@@ -33,7 +33,7 @@ use Rattle.ev_abstract.specs.UserCode as user
 use Rattle.ev_abstract.specs.Boundary.{Choice, Next as NextItem, choice, maskable, interrupt_or_next, is_nmi_body, open_to_interrupts, outranks}
 use Rattle.ev_abstract.specs.Run.{turn, chosen_step, next_step, task_step}
 use Rattle.ev_built.specs.Program.{leads_to, is_built_instruction}
-use Rattle.ev_refine.specs.Tasks.{task_processor}
+use Rattle.ev_user.specs.Tasks.{task_processor}
 
 -- ---- the boundary
 
@@ -66,7 +66,8 @@ task_turns image m p hn hp hb = ap (chosen_step image m p) (next_item image (pro
 
 -- the place of an address that isn't in the text
 abbrev outside : ℕ → Place
-outside a = if nat_le page_base a && nat_lt a (page_base + 0x1000 * 256) then Page ((a - page_base) / 0x1000) else (if nat_lt a (2 ^ 63) then Lower else Upper)
+outside a = if nat_le page_base a && nat_lt a (page_base + 0x1000 * 256) then Page ((a - page_base) / 0x1000) else
+    (if nat_lt a (2 ^ 63) then Lower else Upper)
 
 text_place : (a : ℕ) → text_base ≤ a → a < text_base + 0x10000 → place_of a ≡ Text
 unfolding place_of
@@ -109,17 +110,18 @@ makes t (MovImm d n) h k = let at : Task = record t { rip = t.rip + length (spel
   interrupts = refl;
   long = length-set t.regs d n;
 })
-makes t (Alu Add d s) h k = let at : Task = record t { rip = t.rip + length (spelling (Alu Add d s)) } in let r = alu Add (reg at d) (reg at s) in inr (record {
-  task = with_result at d r;
-  is = λ v. refl;
-  user = λ v. refl;
-  on_cpu = λ c m next. refl;
-  may = refl;
-  rip = refl;
-  gs = refl;
-  interrupts = refl;
-  long = length-set t.regs d r.0;
-})
+makes t (Alu Add d s) h k = let at : Task = record t { rip = t.rip + length (spelling (Alu Add d s)) } in let r = alu Add (reg at d) (reg at s) in inr
+    (record {
+      task = with_result at d r;
+      is = λ v. refl;
+      user = λ v. refl;
+      on_cpu = λ c m next. refl;
+      may = refl;
+      rip = refl;
+      gs = refl;
+      interrupts = refl;
+      long = length-set t.regs d r.0;
+    })
 makes t (Jmp n) h k = let next : ℕ = t.rip + length (spelling (Jmp n)) in let to : Task = record t { rip = displaced next n } in inr (record {
   task = to;
   is = λ v. ap (λ (b : Bool). (if b then Ok to else Err (gp 0)) >>= (λ (t' : Task). Ok (t', v.words))) k;
@@ -151,6 +153,7 @@ plain_runs mode image p running t cr2 blocked i k a m nmi =
     let c : Processor = task_processor mode image p running t cr2 blocked in
     let next : ℕ = t.rip + length (spelling i) in
     let done : exec c m i next ≡ Done (task_processor mode image p running k.task cr2 blocked) m.words
-    = k.on_cpu c m next ∙ ap (λ u. changed c (effect (view m true) u i)) (task_at mode image p running t cr2 blocked next) ∙ ap (changed c) (k.is (view m true))
+    = k.on_cpu c m next ∙ ap (λ u. changed c (effect (view m true) u i)) (task_at mode image p running t cr2 blocked next) ∙ ap (changed c)
+    (k.is (view m true))
     ∙ ap (λ z. Done z m.words) (processor_after mode image p running t k.task cr2 blocked k.gs) in
     ap (λ b. if not b then fault c a m nmi ud else after_exec c a m nmi next i (exec c m i next)) k.may ∙ ap (after_exec c a m nmi next i) done

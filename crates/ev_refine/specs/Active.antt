@@ -1,45 +1,34 @@
 -- Activations: at an instruction of a block, over the processor to which they will return; and what the variables of blocks are. Own.
-use Rattle.std.specs.Prelude.{◌≡◌, ◌⊎◌, ℕ, ◌≤◌, Bool, false, ◌==◌, if◌then◌else◌, List, [], ◌∷◌, length, slice_get, Option, Some, None}
-use Rattle.ev_isa.specs.Word.{NatMap}
+use Rattle.std.specs.Prelude.{◌≡◌, ◌⊎◌, ℕ, ◌+◌, ◌*◌, ◌^◌, ◌<◌, ◌≤◌, Bool, ◌==◌, if◌then◌else◌, [], ◌∷◌, length, get_or, slice_get, Option, Some, None}
+use Rattle.ev_isa.specs.Word.{NatMap, bit}
 use Rattle.ev_isa.specs.Flags.{Flags}
 use Rattle.ev_isa.specs.declared.mode.Mode.{Mode}
 use Rattle.ev_isa.specs.declared.mode.Mode.TheVariants.{Idt, Fred}
 use Rattle.ev_body.specs.declared.item.Item.TheVariants.{Ret}
+use Rattle.ev_body.specs.declared.key.Side.TheVariants.{User}
 use Rattle.ev_body.specs.declared.body.Body.{Body}
 use Rattle.ev_body.specs.declared.image.Image.{Image}
-use Rattle.ev_state.specs.Processor.{Processor}
+use Rattle.ev_body.specs.Bodies.{first_body}
+use Rattle.ev_state.specs.Processor.{Processor, selector}
 use Rattle.ev_mem.specs.Memory.{Memory}
-use Rattle.ev_listing.specs.AddressMap.{pcpu, body_code}
+use Rattle.ev_listing.specs.AddressMap.{pcpu, user_table, body_code}
 use Rattle.ev_listing.specs.Expansion.{item_address}
 use Rattle.ev_abstract.specs.Context.{BodyContext}
 use Rattle.ev_abstract.specs.Run.{item_at}
 use Rattle.ev_symbolic.specs.Agrees.{Env, untracked, At}
-use Rattle.ev_symbolic.specs.State.{Block}
+use Rattle.ev_symbolic.specs.Join.{env_after}
+use Rattle.ev_symbolic.specs.Names.{item_tag}
 use Rattle.ev_table.specs.Table.{code_table}
-use Rattle.ev_activation.specs.Activation as blocks
-use Rattle.ev_activation.specs.Activation.{Spot, AtEntry, AtItem, AtExit}
-use Rattle.ev_activation.specs.Seat.{Kind, SystemCall, NmiFromBody, Seat, top_at}
-use Rattle.ev_blocks_fred.specs.Blocks as fred
-use Rattle.ev_blocks_idt.specs.Blocks as idt
+use Rattle.ev_blocks.specs.Shapes.{FredFrame, IdtFrame}
+use Rattle.ev_blocks.specs.Fred.{FromUser, FredToTask, way_values}
+use Rattle.ev_blocks.specs.Fred as fred
+use Rattle.ev_blocks.specs.Idt.{IdtReturn, BySysret, Sys, IdtToTask, sys_values}
+use Rattle.ev_blocks.specs.Idt as idt
+use Rattle.ev_blocks.specs.Items.{AtTable, AtJump, AtItem}
+use Rattle.ev_blocks.specs.Blocks.{Spot, InFred, InIdt, InBody, block, edges}
+use Rattle.ev_blocks.specs.Blocks as blocks
+use Rattle.ev_activation.specs.Seat.{Kind, SystemCall, FromTask, NmiFromBody, Seat, top_at}
 use Rattle.ev_refine.specs.Nmi.{Frame, Knows}
-
--- ---- spots
-
--- the block at a spot, and how many edges are left at most from there until a visible step
-abbrev pub block_of : Mode → Spot → Block
-block_of Fred spot = fred.block blocks.SystemCall spot
-block_of Idt spot = idt.block blocks.SystemCall spot
-
-abbrev pub edges_of : Mode → Spot → ℕ → ℕ
-edges_of Fred spot k = fred.edges_left spot k
-edges_of Idt spot k = idt.edges_left spot k
-
--- whether the running task's words are being changed there, and whether the block knows the return frame of its NMI
-abbrev pub is_switching : Spot → Bool
-is_switching spot = false
-
-abbrev pub is_holding : Spot → Bool
-is_holding spot = false
 
 -- ---- bases, and what no block tells
 
@@ -87,68 +76,84 @@ module _ (mode : Mode) (image : Image) where
     pub flags : Flags
     pub ss : ℕ
     pub ss_is : IsKernelSs ss
-    pub within : k ≤ (block_of mode spot).steps
-    pub enough : edges_of mode spot k ≤ left
-    pub at : At (code_table mode image) (block_of mode spot) k (here mode p κ σ ss w extra var flags) c m
+    pub within : k ≤ (block mode spot).steps
+    pub enough : edges mode spot k ≤ left
+    pub at : At (code_table mode image) (block mode spot) k (here mode p κ σ ss w extra var flags) c m
     pub long : length c.regs ≡ 16
 
-  -- ---- what a block's variables are, where w is the processor to which the activation returns, and b its body's context
+  -- ---- what a block's variables are, where w is the task's processor to which the activation returns, and b its body's context
 
-  pub record Framed (v : ℕ → ℕ) (w : Processor) : Type 0 where
-    pub rip : v 17 ≡ w.rip
-    pub flags : v 19 ≡ w.flags
-    pub gs : v 60 ≡ w.msrs.gs_base
-    pub selector : v 61 ≡ w.gs
-
-  -- at the entry under FRED: the registers of the task are still there, and RCX and R11 are those that SYSCALL leaves
-  pub record Entering (v : ℕ → ℕ) (w : Processor) (b : BodyContext) : Type 0 where
-    pub framed : Framed v w
-    pub regs : w.regs ≡ v 0 ∷ v 17 ∷ v 2 ∷ v 3 ∷ v 20 ∷ v 5 ∷ v 6 ∷ v 7 ∷ v 8 ∷ v 9 ∷ v 10 ∷ v 19 ∷ v 12 ∷ v 13 ∷ v 14 ∷ v 15 ∷ []
-    pub error : v 16 ≡ 0
-    pub info : v 22 ≡ 0
-    pub code : v 24 ≡ body_code b.body
-    pub place : b.place ≡ 0
-    pub locals : b.locals ≡ 0 ∷ 0x100 ∷ 0 ∷ 0 ∷ 0 ∷ 0 ∷ 0 ∷ 0 ∷ []
-
-  -- at the entry under IDT: SYSCALL has left RIP in RCX, and the flags in R11
-  pub record Called (v : ℕ → ℕ) (w : Processor) (b : BodyContext) : Type 0 where
-    pub rip : v 1 ≡ w.rip
-    pub flags : v 11 ≡ w.flags
-    pub gs : v 60 ≡ w.msrs.gs_base
-    pub selector : v 61 ≡ w.gs
-    pub regs : w.regs ≡ v 0 ∷ v 1 ∷ v 2 ∷ v 3 ∷ v 4 ∷ v 5 ∷ v 6 ∷ v 7 ∷ v 8 ∷ v 9 ∷ v 10 ∷ v 11 ∷ v 12 ∷ v 13 ∷ v 14 ∷ v 15 ∷ []
-    pub code : v 24 ≡ body_code b.body
-    pub place : b.place ≡ 0
-    pub locals : b.locals ≡ 0 ∷ 0x100 ∷ 0 ∷ 0 ∷ 0 ∷ 0 ∷ 0 ∷ 0 ∷ []
-
-  -- the registers that the saved area and the frame give back; under IDT RCX and R11 are RIP and the flags, so that the exit takes SYSRETQ
-  abbrev pub saved_regs : Mode → (ℕ → ℕ) → List ℕ
-  saved_regs Fred v = v 30 ∷ v 31 ∷ v 32 ∷ v 33 ∷ v 20 ∷ v 35 ∷ v 36 ∷ v 37 ∷ v 38 ∷ v 39 ∷ v 40 ∷ v 41 ∷ v 42 ∷ v 43 ∷ v 44 ∷ v 45 ∷ []
-  saved_regs Idt v = v 30 ∷ v 17 ∷ v 32 ∷ v 33 ∷ v 20 ∷ v 35 ∷ v 36 ∷ v 37 ∷ v 38 ∷ v 39 ∷ v 40 ∷ v 19 ∷ v 42 ∷ v 43 ∷ v 44 ∷ v 45 ∷ []
-
+  -- The saved area, the frame, the other GS base, the selector and RSP of level 0 give back w. RCX and R11, which the exit compares, are words.
   pub record Saved (v : ℕ → ℕ) (w : Processor) : Type 0 where
-    pub framed : Framed v w
-    pub regs : w.regs ≡ saved_regs mode v
+    pub regs : w.regs ≡ v 30 ∷ v 31 ∷ v 32 ∷ v 33 ∷ v 20 ∷ v 35 ∷ v 36 ∷ v 37 ∷ v 38 ∷ v 39 ∷ v 40 ∷ v 41 ∷ v 42 ∷ v 43 ∷ v 44 ∷ v 45 ∷ []
+    pub rcx : v 31 < 2 ^ 64
+    pub r11 : v 41 < 2 ^ 64
+    pub rip : v 17 ≡ w.rip
+    pub cs : selector (v 18) ≡ w.cs
+    pub flags : v 19 ≡ w.flags
+    pub ss : selector (v 21) ≡ w.ss
+    pub sti : bit 16 (v 21) ≡ w.sti_blocked
+    pub gs : v 60 ≡ w.msrs.gs_base
+    pub chosen : v 61 ≡ w.gs
+    pub level : v 63 ≡ get_or w.msrs.rsp 0 0
 
-  pub record InItem (extra v : ℕ → ℕ) (w : Processor) (b : BodyContext) : Type 0 where
-    pub place : extra 20 ≡ item_place mode image b.body b.place
+  -- the locals are registers 6 to 13
+  abbrev pub Locals : (ℕ → ℕ) → BodyContext → Type 0
+  Locals v b = b.locals ≡ v 6 ∷ v 7 ∷ v 8 ∷ v 9 ∷ v 10 ∷ v 11 ∷ v 12 ∷ v 13 ∷ []
+
+  -- at the load of the body's address: RAX is the place of the key's word in the table of user events
+  pub record AtLoad (v : ℕ → ℕ) (w : Processor) (b : BodyContext) : Type 0 where
+    pub key : ℕ
+    pub small : key ≤ 0x100
+    pub place : v 0 ≡ user_table + 8 * key
+    pub found : first_body 0 image.bodies key User ≡ Some b.body
+    pub begins : b.place ≡ 0
     pub saved : Saved v w
-    pub locals : b.locals ≡ v 6 ∷ v 7 ∷ v 8 ∷ v 9 ∷ v 10 ∷ v 11 ∷ v 12 ∷ v 13 ∷ []
+    pub locals : Locals v b
+
+  -- at the jump to the body: RAX is its address
+  pub record AtStart (v : ℕ → ℕ) (w : Processor) (b : BodyContext) : Type 0 where
+    pub code : v 0 ≡ body_code b.body
+    pub begins : b.place ≡ 0
+    pub saved : Saved v w
+    pub locals : Locals v b
+
+  pub record InItem (v : ℕ → ℕ) (w : Processor) (b : BodyContext) : Type 0 where
+    pub saved : Saved v w
+    pub locals : Locals v b
 
   pub record Leaving (v : ℕ → ℕ) (w : Processor) (b : BodyContext) : Type 0 where
     pub saved : Saved v w
     pub ret : item_at (slice_get image.bodies b.body) b.place ≡ Some Ret
 
-  abbrev pub Enters : Mode → (ℕ → ℕ) → Processor → BodyContext → Type 0
-  Enters Fred v w b = Entering v w b
-  Enters Idt v w b = Called v w b
+  -- where the exit finds RIP in RCX and RFLAGS in R11, as SYSRETQ takes them
+  abbrev pub Matches : IdtReturn → (ℕ → ℕ) → Type 0
+  Matches BySysret v = (v 31 ≡ v 17) × (v 41 ≡ v 19)
+  Matches by v = Unit {0}
 
-  -- activations of other kinds than system calls stand at no spot yet
-  abbrev pub Means : Kind → Spot → (extra var : ℕ → ℕ) → Flags → Processor → BodyContext → NatMap ℕ → Type 0
-  Means SystemCall AtEntry extra v f w b words = Enters mode v w b × (extra 20 ≡ item_place mode image b.body b.place)
-  Means SystemCall AtItem extra v f w b words = InItem extra v w b
-  Means SystemCall AtExit extra v f w b words = Leaving v w b
-  Means κ spot extra v f w b words = ⊥
+  -- the item of the context is at its place
+  abbrev pub HasPlace : Env → BodyContext → Type 0
+  HasPlace e b = e.base item_tag ≡ item_place mode image b.body b.place
+
+  -- of an activation over a task, by its spot; in an entry the variables are told by those of the block behind it
+  abbrev pub OverTask : Mode → Spot → Env → Processor → BodyContext → Type 0
+  OverTask Fred (InFred (FromUser way)) e w b = AtLoad (env_after e (way_values way) e.flags).var w b × HasPlace e b
+  OverTask Fred (InFred (fred.Leaves FredToTask)) e w b = Leaving e.var w b
+  OverTask Fred (InBody FredFrame AtTable) e w b = AtLoad e.var w b × HasPlace e b
+  OverTask Fred (InBody FredFrame AtJump) e w b = AtStart e.var w b × HasPlace e b
+  OverTask Fred (InBody FredFrame AtItem) e w b = InItem e.var w b × HasPlace e b
+  OverTask Idt (InIdt Sys) e w b = AtLoad (env_after e sys_values e.flags).var w b × HasPlace e b
+  OverTask Idt (InIdt (idt.Leaves (IdtToTask by))) e w b = Leaving e.var w b × Matches by e.var
+  OverTask Idt (InBody IdtFrame AtTable) e w b = AtLoad e.var w b × HasPlace e b
+  OverTask Idt (InBody IdtFrame AtJump) e w b = AtStart e.var w b × HasPlace e b
+  OverTask Idt (InBody IdtFrame AtItem) e w b = InItem e.var w b × HasPlace e b
+  OverTask m spot e w b = ⊥
+
+  -- activations over others' stand at no spot yet
+  abbrev pub Means : Kind → Spot → Env → Processor → BodyContext → NatMap ℕ → Type 0
+  Means SystemCall spot e w b words = OverTask mode spot e w b
+  Means FromTask spot e w b words = OverTask mode spot e w b
+  Means κ spot e w b words = ⊥
 
   -- ---- the activation of a context
 
@@ -156,6 +161,6 @@ module _ (mode : Mode) (image : Image) where
   pub record Active (p left : ℕ) (κ : Kind) (σ : Seat) (f : Frame) (switching : Bool) (w : Processor) (b : BodyContext) (c : Processor)
       (m : Memory) : Type 0 where
     pub stands : IsAtSpot p left κ σ w c m
-    pub switches : is_switching stands.spot ≡ switching
-    pub knows : Knows mode κ (is_holding stands.spot) f
-    pub means : Means κ stands.spot stands.extra stands.var stands.flags w b m.words
+    pub switches : blocks.switches stands.spot ≡ switching
+    pub knows : Knows mode κ (blocks.holds stands.spot) f
+    pub means : Means κ stands.spot (here mode p κ σ stands.ss w stands.extra stands.var stands.flags) w b m.words

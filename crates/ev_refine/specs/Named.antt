@@ -1,10 +1,10 @@
 -- Words of memory that have a name: what others than one activation read or write. Each has an address, and some belong to a processor. Own.
-use Rattle.std.specs.Prelude.{◌≡◌, ◌≢◌, ◌⊎◌, ℕ, ◌+◌, ◌*◌, ◌-◌, ◌%◌, ◌<◌, ◌≤◌, true, List, [], ◌∷◌, Option, Some, None}
-use Rattle.ev_isa.specs.Word.{NatMap, is_aligned}
-use Rattle.ev_isa.specs.Pages.{text_base, page_base}
+use Rattle.std.specs.Prelude.{◌≡◌, ◌≢◌, ◌⊎◌, ℕ, ◌+◌, ◌*◌, ◌-◌, ◌%◌, ◌<◌, ◌≤◌, List, [], ◌∷◌, Option, Some, None}
+use Rattle.ev_isa.specs.Word.{NatMap}
 use Rattle.ev_mem.specs.Memory.{page_map}
 use Rattle.ev_listing.specs.AddressMap.{pcpu, slot_offset, record_address, cells_base, stack_top, stack_bytes}
 use Rattle.ev_activation.specs.Seat.{Seat, top_at}
+use Rattle.ev_user.specs.Sees.{IsPageWord, IsUserWord}
 
 -- The words of a processor's area: SYSCALL's RSP, the top of the running task's stack and its words, the reschedule mark, the port of `log`, the head of the
 -- queue of calls, the stack's top in the TSS, slots, and a word of a call record, at an offset. Then shared cells, presence of pages, and words of user code.
@@ -42,13 +42,6 @@ owner (TssTop p) = Some p
 owner (Slot p k) = Some p
 owner (RecordWord p k o) = Some p
 owner _ = None
-
--- words of the text and of the data pages
-abbrev pub IsPageWord : ℕ → Type 0
-IsPageWord a = (page_base ≤ a) × (a < page_base + 0x1000 * 256)
-
-abbrev pub IsUserWord : ℕ → Type 0
-IsUserWord a = (is_aligned a ≡ true) × (((text_base ≤ a) × (a < text_base + 0x10000)) ⊎ IsPageWord a)
 
 -- names within their bounds
 abbrev pub IsName : Named → Type 0

@@ -1,4 +1,5 @@
--- The return frame of an NMI under IDT: who knows its words; what stands on the bodies; and the NMI latch of the abstract machine by that of the hardware. Own.
+-- The return frame of an NMI under IDT: who knows its words; what stands on the bodies; and the NMI latch of the abstract machine by that of the hardware.
+-- Own.
 use Rattle.std.specs.Prelude.{◌≡◌, ◌≢◌, ℕ, Bool, true, false}
 use Rattle.ev_isa.specs.Word.{NatMap}
 use Rattle.ev_isa.specs.declared.mode.Mode.{Mode}

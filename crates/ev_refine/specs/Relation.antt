@@ -1,5 +1,6 @@
 -- When a state of the concrete machine stands for one of the abstract machine. Own.
--- The abstract machine's contexts are matched from the last down: an activation stands over the processor that its return restores. What several activations or
+-- The abstract machine's contexts are matched from the last down: an activation stands over the processor that its return restores. What several activations
+-- or
 -- processors read or write stands beside, word by word.
 use Rattle.std.specs.Prelude.{◌≡◌, ◌≢◌, ℕ, suc, ◌+◌, ◌*◌, ◌-◌, ◌/◌, ◌%◌, ◌<◌, ◌≤◌, Bool, true, false, ◌&&◌, ◌==◌, if◌then◌else◌, List, [], ◌∷◌, length, map, reverse, get_or, slice_get, Option, Some, None}
 use Rattle.std.specs.List.{list_any}
@@ -22,9 +23,10 @@ use Rattle.ev_abstract.specs.Run.{item_at}
 use Rattle.ev_concrete.specs.Opening.{listings, code_of, opening_word, tasks_of, regions}
 use Rattle.ev_concrete.specs.ConcreteRun.{System, Activation}
 use Rattle.ev_activation.specs.Seat.{Kind, NmiFromTask, NmiFromBody, kind_of, seat_of}
-use Rattle.ev_refine.specs.Tasks.{IsTask, RunsTask, IsSaved, CurrentIs}
+use Rattle.ev_user.specs.Tasks.{IsTask, RunsTask}
+use Rattle.ev_refine.specs.Tasks.{IsSaved, CurrentIs}
 use Rattle.ev_refine.specs.Nmi.{Frame, Leads, Layer, Plain, LatchIs, inner_edges}
-use Rattle.ev_refine.specs.Named.{IsUserWord}
+use Rattle.ev_user.specs.Sees.{IsUserWord}
 use Rattle.ev_refine.specs.Active.{Active}
 use Rattle.ev_refine.specs.Domain.{IsInDomain}
 

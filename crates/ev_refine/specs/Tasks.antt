@@ -1,47 +1,14 @@
 -- The tasks of a processor: the one that it runs is the processor's own state, and those that wait stand in the saved areas at the tops of their stacks. Own.
-use Rattle.std.specs.Prelude.{◌≡◌, ℕ, ◌+◌, ◌-◌, Bool, true, false, List, [], ◌∷◌, length, map, get_or}
-use Rattle.ev_isa.specs.Word.{NatMap, bit, is_canonical}
+use Rattle.std.specs.Prelude.{◌≡◌, ℕ, ◌+◌, ◌-◌, false, List, [], ◌∷◌, map, get_or}
+use Rattle.ev_isa.specs.Word.{NatMap, bit}
 use Rattle.ev_isa.specs.Flags.{flags_word}
 use Rattle.ev_isa.specs.declared.mode.Mode.{Mode}
 use Rattle.ev_isa.specs.declared.mode.Mode.TheVariants.{Idt, Fred}
-use Rattle.ev_body.specs.declared.image.Image.{Image}
 use Rattle.ev_effect.specs.Task.{Task}
 use Rattle.ev_effect.specs.Frame.{addresses}
-use Rattle.ev_state.specs.Processor.{Processor, selector}
-use Rattle.ev_listing.specs.AddressMap.{pcpu, task_words, task_selector, stack_top}
-use Rattle.ev_concrete.specs.Opening.{opening_cpu}
+use Rattle.ev_state.specs.Processor.{selector}
+use Rattle.ev_listing.specs.AddressMap.{pcpu, task_words, stack_top}
 use Rattle.ev_concrete.specs.LiveWords.{area_bytes}
-
--- what holds of every task, running or not
-pub record IsTask (t : Task) : Type 0 where
-  pub long : length t.regs ≡ 16
-  pub canonical : is_canonical t.rip ≡ true
-  pub interrupts : t.flags.interrupts ≡ true
-
--- RSP of level 0 while task r runs: under IDT that of task 0, since the kernel reads the stack's top from memory; the other levels never change
-abbrev pub level_zero : Mode → ℕ → ℕ → ℕ
-level_zero Fred p r = stack_top p r
-level_zero Idt p r = stack_top p 0
-
-abbrev pub level_rsps : Mode → ℕ → ℕ → List ℕ
-level_rsps mode p r = level_zero mode p r ∷ stack_top p 6 ∷ stack_top p 4 ∷ stack_top p 5 ∷ []
-
--- the processor p as its task r has it, where the task is t; CR2 and the blocking of NMIs are any
-abbrev pub task_processor : Mode → Image → ℕ → ℕ → Task → ℕ → Bool → Processor
-task_processor mode image p r t cr2 blocked = record (opening_cpu mode image p) {
-  regs = t.regs;
-  rip = t.rip;
-  flags = flags_word t.flags;
-  gs = task_selector p r;
-  cr2 = cr2;
-  nmi_blocked = blocked;
-  msrs = record ((opening_cpu mode image p).msrs) { gs_base = t.gs; rsp = level_rsps mode p r };
-}
-
--- the processor c runs task r, which is t
-pub record RunsTask (mode : Mode) (image : Image) (p r : ℕ) (t : Task) (c : Processor) : Type 0 where
-  pub is : c ≡ task_processor mode image p r t c.cr2 c.nmi_blocked
-  pub task : IsTask t
 
 -- the registers of a saved area, from its base up
 abbrev pub order : List ℕ

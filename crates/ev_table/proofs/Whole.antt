@@ -9,7 +9,7 @@ use Rattle.ev_isa.specs.Spelling.{spelling, four_bytes}
 use Rattle.ev_isa.specs.Word.{displaced, is_canonical}
 use Rattle.ev_isa.specs.declared.mode.Mode.{Mode}
 use Rattle.ev_isa.specs.declared.mode.Mode.TheVariants.{Idt, Fred}
-use Rattle.ev_isa.specs.declared.instruction.Ins.TheVariants.{GsStore, JmpReg, Jmp}
+use Rattle.ev_isa.specs.declared.instruction.Ins.TheVariants.{GsStore, Jmp}
 use Rattle.ev_body.specs.declared.key.Key.{Key}
 use Rattle.ev_body.specs.declared.key.Key.TheVariants.{Nmi}
 use Rattle.ev_body.specs.declared.item.Item.{Item}
@@ -24,21 +24,20 @@ use Rattle.ev_listing.specs.Expansion.{exit_of, item_address, expansion, expansi
 use Rattle.ev_listing.specs.Marks.{Mark, Never, Always, IfNonzero, IfEqual, Listing, stmts_of, all_places, all_marks}
 use Rattle.ev_concrete.specs.Opening.{kernel_listings, listings, body_listings}
 use Rattle.ev_concrete.specs.ConcreteRun.{Marks, marks_of, mark_at}
-use Rattle.ev_symbolic.specs.Agrees.{Env, Cell, Code, Stands}
+use Rattle.ev_symbolic.specs.Agrees.{Cell, Code}
 use Rattle.ev_symbolic.specs.Listed.{Cells, is_seen, cell_at, cells_from, cells_in, AllFound}
-use Rattle.ev_symbolic.proofs.Listed.{all_found, stands_in}
+use Rattle.ev_symbolic.proofs.Listed.{all_found}
 use Rattle.ev_symbolic.proofs.Values.{and_left, and_right}
-use Rattle.ev_symbolic.specs.State.{Line}
 use Rattle.ev_fetch.proofs.Regions.{Each}
 use Rattle.ev_fetch.proofs.Placed.{Disjoint}
 use Rattle.ev_fetch.proofs.Sizes.{items_size, few_items, listings_disjoint}
-use Rattle.ev_table.specs.Table.{code_table, lines_of_mode, other_exit, exit_address, RetCell, body_jump, task_return, task_return_cell, places_of, item_lines, item_cells, MarkedAt, AreMarked, is_call}
-use Rattle.ev_table.proofs.Cells.{found_first, found_rest, found_at}
+use Rattle.ev_table.specs.Table.{code_table, other_exit, exit_address, RetCell, places_of, item_lines, item_cells, MarkedAt, AreMarked, is_call}
+use Rattle.ev_table.proofs.Cells.{found_first, found_rest}
 use Rattle.ev_table.proofs.Distinct.{listings_distinct}
 use Rattle.ev_table.proofs.Expanded.{is_of_body, is_plain, same_sizes}
 use Rattle.ev_table.proofs.Items.{item_found, item_marked, next_size}
 use Rattle.ev_table.proofs.Labels.{place_behind, cells_in_same, exit_inner, all_places_append, cells_in_append}
-use Rattle.ev_table.proofs.Kernel.{kernel_cells, kernel_low, kernel_inner, kernel_unmarked, kernel_plain, kernel_lines, exit_is, body_jump_cell, task_return_is}
+use Rattle.ev_table.proofs.Kernel.{kernel_cells, kernel_inner, kernel_unmarked, kernel_plain, exit_is}
 use Rattle.ev_table.proofs.Bodies.{labels, unmarked, plain, body_found, body_marked}
 use Rattle.ev_table.proofs.Marked.{all_unmarked, all_plain, EachMarked, each_marked, seen_at, plain_at}
 
@@ -139,17 +138,6 @@ module _ (mode : Mode) (image : Image) where
     kernel_found = subst (AllFound (code_table mode image)) kernel_same
         (found_rest (code_table mode image) (cells_in env bodies) (cells_in env (kernel_listings mode)) found)
 
-    pub lines : (e : Env) → e.base 1000 ≡ 0 → Stands (code_table mode image) e (lines_of_mode mode)
-    unfolding kernel_cells
-    lines e z = subst (λ (ls : List Line). Stands (code_table mode image) e ls) (kernel_lines mode)
-        (stands_in (code_table mode image) e z (all_places (kernel_listings mode)) (kernel_listings mode) kernel_found (kernel_low mode))
-
-    pub body_jump_stands : code_table mode image (body_jump mode) ≡ Some (record { ins = JmpReg 0; next = body_jump mode + 2; mark = false })
-    body_jump_stands = found_at (code_table mode image) (kernel_cells mode) kernel_found (body_jump mode) _ (body_jump_cell mode)
-
-    pub task_return_stands : code_table mode image (task_return mode) ≡ Some (task_return_cell mode)
-    task_return_stands = found_at (code_table mode image) (kernel_cells mode) kernel_found (task_return mode) _ (task_return_is mode)
-
     -- ---- items
 
     pub item_stands : (n i : ℕ) (b : Body) (item : Item) → slice_get image.bodies n ≡ Some b → slice_get (body_items b) i ≡ Some item
@@ -165,7 +153,7 @@ module _ (mode : Mode) (image : Image) where
         i item k)
 
     -- where an item lies: 256 items have at most 512 bytes each
-    range : (n i : ℕ) (b : Body) → slice_get image.bodies n ≡ Some b → (0xffffffff82000000 ≤ item_address mode n b i)
+    pub range : (n i : ℕ) (b : Body) → slice_get image.bodies n ≡ Some b → (0xffffffff82000000 ≤ item_address mode n b i)
         × (item_address mode n b i ≤ 0xffffffff82800000)
     range n i b h =
         let few : n < length image.bodies = slice_get_within image.bodies n b h in

@@ -2,7 +2,7 @@
 use Rattle.std.specs.Prelude.{◌≡◌, ℤ, ℕ, pos, suc, ◌+◌, ◌^◌, ◌<◌, Bool, true, false, not, List, [], ◌∷◌, length, Some, slice_get}
 use Rattle.std.specs.List.{list_all}
 use Rattle.ev_isa.specs.Word.{displaced, is_canonical}
-use Rattle.ev_isa.specs.declared.instruction.Ins.TheVariants.{GsStore, Jmp, JmpReg, Sysretq, Eretu}
+use Rattle.ev_isa.specs.declared.instruction.Ins.TheVariants.{GsStore, Jmp}
 use Rattle.ev_isa.specs.declared.mode.Mode.{Mode}
 use Rattle.ev_isa.specs.declared.mode.Mode.TheVariants.{Idt, Fred}
 use Rattle.ev_body.specs.declared.key.Key.{Key}
@@ -20,23 +20,15 @@ use Rattle.ev_asm.specs.declared.statement.Stmt.TheVariants.{Label}
 use Rattle.ev_asm.specs.Assembly.{Places, place, size, total_size}
 use Rattle.ev_listing.specs.Expansion.{item_label, exit_of, item_address, expansion, function_address}
 use Rattle.ev_listing.specs.Marks.{Mark, Always, Marked, stmts_of, all_places}
-use Rattle.ev_concrete.specs.Opening.{listings}
+use Rattle.ev_concrete.specs.Opening.{kernel_listings, listings}
 use Rattle.ev_concrete.specs.ConcreteRun.{Marks, marks_of, mark_at}
-use Rattle.ev_symbolic.specs.State.{Line}
-use Rattle.ev_symbolic.specs.Agrees.{Env, Cell, Code, Spaced}
-use Rattle.ev_symbolic.specs.Agrees as agrees
-use Rattle.ev_symbolic.specs.Listed.{Cells, is_seen, cells_from, AllFound, code_of}
-use Rattle.ev_blocks_fred.specs.Blocks.{fred_lines, fexit}
-use Rattle.ev_blocks_idt.specs.Blocks.{idt_lines}
+use Rattle.ev_symbolic.specs.Agrees.{Cell, Code, Spaced}
+use Rattle.ev_symbolic.specs.Listed.{Cells, is_seen, cells_from, cells_in, AllFound, code_of}
+use Rattle.ev_blocks.specs.Fred.{fexit}
 
 -- the cells of an image's code by their addresses
 abbrev pub code_table : Mode → Image → Code
 code_table mode image = code_of (listings mode image)
-
--- the lines of the kernel's code
-abbrev pub lines_of_mode : Mode → List Line
-lines_of_mode Idt = idt_lines
-lines_of_mode Fred = fred_lines
 
 -- the kernel's exit of activations of NMIs and that of all others, and the one that the `ret` of a body of this key goes to
 abbrev pub nmi_exit : Mode → ℕ
@@ -50,19 +42,6 @@ other_exit Fred = fexit
 abbrev pub exit_address : Mode → Key → ℕ
 exit_address mode Nmi = nmi_exit mode
 exit_address mode _ = other_exit mode
-
--- the last instruction of the entry of system calls, that jumps to a body, and the last of the exit, that returns to the task
-abbrev pub body_jump : Mode → ℕ
-body_jump Idt = 0xffffffff810031bb
-body_jump Fred = 0xffffffff810002bd
-
-abbrev pub task_return : Mode → ℕ
-task_return Idt = 0xffffffff810034dd
-task_return Fred = 0xffffffff81000426
-
-abbrev pub task_return_cell : Mode → Cell
-task_return_cell Idt = record { ins = Sysretq; next = task_return Idt + 3; mark = true }
-task_return_cell Fred = record { ins = Eretu; next = task_return Fred + 4; mark = true }
 
 -- an unmarked jump to an exit
 pub record RetCell (code : Code) (a exit : ℕ) : Type 0 where
@@ -98,10 +77,10 @@ unfoldable pub is_call : Item → Bool
 is_call (Call site to func s) = true
 is_call _ = false
 
--- the kernel's lines stand in the table
-abbrev pub LinesStand : Type 0
-LinesStand = (mode : Mode) (image : Image) → IsImage image → (e : Env) → e.base 1000 ≡ 0
-    → agrees.Stands (code_table mode image) e (lines_of_mode mode)
+-- the kernel's cells stand in the table
+abbrev pub KernelStands : Type 0
+KernelStands = (mode : Mode) (image : Image) → IsImage image
+    → AllFound (code_table mode image) (cells_in (all_places (kernel_listings mode)) (kernel_listings mode))
 
 -- each cell leads to the address behind its bytes
 abbrev pub CellsAreSpaced : Type 0
@@ -162,14 +141,6 @@ abbrev pub MarkedCellsAreSeen : Type 0
 MarkedCellsAreSeen = (mode : Mode) (image : Image) → IsImage image
     → list_all (λ (b : Body). list_all (λ item. not (is_call item)) (body_items b)) image.bodies ≡ true
     → (a : ℕ) (x : Cell) → code_table mode image a ≡ Some x → x.mark ≡ true → mark_at (marks_of mode image) a ≡ Always
-
--- the ends of the entry and of the exit
-abbrev pub BodyJumpStands : Type 0
-BodyJumpStands = (mode : Mode) (image : Image) → IsImage image
-    → code_table mode image (body_jump mode) ≡ Some (record { ins = JmpReg 0; next = body_jump mode + 2; mark = false })
-
-abbrev pub TaskReturnStands : Type 0
-TaskReturnStands = (mode : Mode) (image : Image) → IsImage image → code_table mode image (task_return mode) ≡ Some (task_return_cell mode)
 
 -- keys other than that of NMIs have one exit
 abbrev pub OthersHaveOneExit : Type 0

@@ -1,13 +1,13 @@
-//! The code of an image in either mode as a table: what stands at the lines of the kernel and at
+//! The code of an image in either mode as a table: what stands at the cells of the kernel and at
 //! the items of bodies, and which cells the abstract machine sees.
 #![tactic(auto)]
 
-ghost use Rattle.ev_table.specs.Table.{LinesStand, CellsAreSpaced, ItemsStand, ItemsAreMarked, ItemsFollow, ItemLabelsArePlaced, ExitsArePlaced, LogStands, RetStands, OthersHaveOneExit, BodiesBeginWithItems, ItemsAreCanonical, CellsAreMarked, MarkedCellsAreSeen, BodyJumpStands, TaskReturnStands};
+ghost use Rattle.ev_table.specs.Table.{KernelStands, CellsAreSpaced, ItemsStand, ItemsAreMarked, ItemsFollow, ItemLabelsArePlaced, ExitsArePlaced, LogStands, RetStands, OthersHaveOneExit, BodiesBeginWithItems, ItemsAreCanonical, CellsAreMarked, MarkedCellsAreSeen};
 
-/// In both modes, for every image: the kernel's lines stand in the table, the cells of each item
+/// In both modes, for every image: the kernel's cells stand in the table, the cells of each item
 /// stand at its address with its marks, and an address is marked where its cell is. Own.
 pub fn table()
-    ensures lines { LinesStand }
+    ensures kernel { KernelStands }
     ensures spaced { CellsAreSpaced }
     ensures items { ItemsStand }
     ensures item_marks { ItemsAreMarked }
@@ -21,6 +21,4 @@ pub fn table()
     ensures canonical { ItemsAreCanonical }
     ensures marks { CellsAreMarked }
     ensures always { MarkedCellsAreSeen }
-    ensures body_jump { BodyJumpStands }
-    ensures task_return { TaskReturnStands }
 {}

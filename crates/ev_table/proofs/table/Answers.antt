@@ -1,13 +1,19 @@
 use Rattle.ev_concrete.specs.Opening.{listings}
 use Rattle.ev_listing.specs.Marks.{all_places}
 use Rattle.ev_symbolic.proofs.Listed.{spaced_in}
+use Rattle.ev_table.specs.Table.{KernelStands}
+use Rattle.ev_table.proofs.Kernel as kernel
 use Rattle.ev_table.proofs.LabelPlaces.{labels_placed}
 use Rattle.ev_table.proofs.Whole as whole
 use Rattle.ev_table.proofs.table.Goals as goal
 
+kernel_stands : KernelStands
+unfolding kernel.kernel_cells
+kernel_stands mode image given = whole.kernel_found mode image given
+
 pub returns : goal.returns
 returns c = record {
-  lines = λ mode image given e z. whole.lines mode image given e z;
+  kernel = kernel_stands;
   spaced = λ mode image. spaced_in (all_places (listings mode image)) (listings mode image);
   items = λ mode image given n i b item h k. whole.item_stands mode image given n i b item h k;
   item_marks = λ mode image given n i b item h k. whole.item_marks mode image given n i b item h k;
@@ -21,6 +27,4 @@ returns c = record {
   canonical = λ mode image given n i b h. whole.canonical_items mode image given n i b h;
   marks = λ mode image given a x h. whole.cell_seen mode image given a x h;
   always = λ mode image given none a x h m. whole.marked_seen mode image given none a x h m;
-  body_jump = λ mode image given. whole.body_jump_stands mode image given;
-  task_return = λ mode image given. whole.task_return_stands mode image given;
 }

@@ -17,7 +17,8 @@ start_is = refl
 
 pub invariant_of-result : goal.invariant_of-result
 invariant_of-result c = record {
-  rip_canonical = subst (λ (t : TaskSpec). is_canonical t.start ≡ true) (sym c.first_task-task.ensures) (first_fits c.args.image.now (subst IsImage c.image.view_is
+  rip_canonical = subst (λ (t : TaskSpec). is_canonical t.start ≡ true) (sym c.first_task-task.ensures)
+      (first_fits c.args.image.now (subst IsImage c.image.view_is
       c.image.invariant) c.args.p).0;
   flags_modelled = start_modelled;
   ring = inr refl;
