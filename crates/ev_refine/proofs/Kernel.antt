@@ -85,7 +85,7 @@ use Rattle.ev_refine.proofs.Bodies.{layout_of, body, Goes, loads, jumps, at_the_
 use Rattle.ev_refine.proofs.Instructions.{stays_inside}
 use Rattle.ev_refine.proofs.Standing.{instruction_first, hidden, seen, after_ran, Runs, ran_step, ran_writes, ran_safe, ran_shown, ran_stays, ran_returns, Moves, step_moves}
 use Rattle.ev_refine.proofs.Stays.{over_any, means_again}
-use Rattle.ev_refine.proofs.After.{kernel_names, few_inner, latch_parts, as_chain, returns_to, own_after, stands_after}
+use Rattle.ev_refine.proofs.After.{kernel_names, kernel_spares, kernel_user, few_inner, latch_parts, as_chain, returns_to, own_after, stands_after}
 use Rattle.ev_refine.proofs.CallKinds.{is_over_task, stands_alone, plain_no_nmi, means_by, means_of, knows_nothing, level_of, over_kind}
 use Rattle.ev_refine.proofs.Domains.{four_tasks, one_task_each, with_cr2_open}
 use Rattle.ev_refine.proofs.Return.{Exits, fred_exits, idt_exits}
@@ -208,12 +208,13 @@ module _ (mode : Mode) (image : Image) (built : IsBuilt image) (good : IsImage i
         let z = first_task in
         let there : StandsOn mode image p (now + inner_edges (s.latches p)) (after_ran s p cpu words) x
         = own_after mode image p (left p) s (after_ran s p cpu words) x seat cpu _ words x.tasks x.bodies now on small (four_tasks image built p hp)
-        (moves cpu words) refl (omega arith) changes (λ i d. refl) on.tasks
+        (moves cpu words) refl (omega arith) (kernel_names p) (kernel_spares p small) changes (λ i d. refl) on.tasks
         (hb ∙ sym (ap (list_any (is_nmi_body image)) bodies ∙ plain)) (λ class. refl) (let l = on.enough in let f = on.few in omega arith) chain in
         let all : Stands mode image (put_at left p (now + inner_edges (s.latches p))) (after_ran s p cpu words) m
         = stands_after mode image left s (after_ran s p cpu words) m m p (now + inner_edges (s.latches p)) x seat cpu _ words good.count.1
-        (four_tasks image built) h hp (moves cpu words) (omega arith) changes
-        (record { own = refl; others = λ q e. refl; words = refl; present = refl; cells = refl; mail = refl; mail_nmi = refl; records = refl; queue = refl })
+        (four_tasks image built) h hp (moves cpu words) (omega arith) (kernel_names p) (kernel_spares p small) changes
+        (kernel_user p seat small (omega arith) s.memory.words words m.words changes h.shares.user)
+        (record { own = refl; others = λ q e. refl; present = refl; cells = refl; mail = refl; mail_nmi = refl; records = refl; queue = refl })
         domain there in
         let bound = on.enough in record {
           safe = ran_safe mode image s p cpu words run;
@@ -249,18 +250,19 @@ module _ (mode : Mode) (image : Image) (built : IsBuilt image) (good : IsImage i
         let none : (class : ℕ) → list_any (λ (a : BodyContext). serves mode image class a.service) x.bodies ≡ false = nothing_served in
         let there : StandsOn mode image p (now + inner_edges (s.latches p)) (after_ran s p cpu words) y
         = own_after mode image p (left p) s (after_ran s p cpu words) x seat cpu _ words x.tasks bs now on small (four_tasks image built p hp)
-        (moves cpu words) refl (omega arith) changes (λ i d. refl) on.tasks (hb ∙ sym none_nmi) (λ class. serving class ∙ sym (none class))
+        (moves cpu words) refl (omega arith) (kernel_names p) (kernel_spares p small) changes (λ i d. refl) on.tasks (hb ∙ sym none_nmi)
+            (λ class. serving class ∙ sym (none class))
         (let f = few_inner mode image (s.latches p) in omega arith)
         chain in
         let inside : IsInDomain image p y
         = record { pending = domain.pending; nmi = domain.nmi; resched = domain.resched; bodies = quiet; tasks = domain.tasks } in
         let all : Stands mode image (put_at left p (now + inner_edges (s.latches p))) (after_ran s p cpu words) (with_processor m p y)
         = stands_after mode image left s (after_ran s p cpu words) m (with_processor m p y) p (now + inner_edges (s.latches p)) y seat cpu _ words
-        good.count.1 (four_tasks image built) h hp (moves cpu words) (omega arith) changes
+        good.count.1 (four_tasks image built) h hp (moves cpu words) (omega arith) (kernel_names p) (kernel_spares p small) changes
+        (kernel_user p seat small (omega arith) s.memory.words words m.words changes h.shares.user)
         (record {
           own = at_same m.processors p p y refl;
           others = λ q e. at_other m.processors p q y e;
-          words = refl;
           present = refl;
           cells = refl;
           mail = refl;
