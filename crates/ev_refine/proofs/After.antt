@@ -382,7 +382,7 @@ module _ (mode : Mode) (image : Image) where
         (λ e. subst (λ n. StandsOn mode image q n s' (processor m' q)) (sym (ap (λ b. elim b [ true ↦ now | false ↦ left q ]) e.0))
         (subst (StandsOn mode image q (left q) s') (sym (a.others q e.0))
         (other_stays p q (left q) s s' (processor m q) σ cpu as' words hp lq eight (four q lq) e.1 e.0 mv hs names sparing changes (h.each q lq))))
-            (eqb_tells q p);
+        (eqb_tells q p);
   }
     where
       hp : p < 32

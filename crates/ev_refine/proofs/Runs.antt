@@ -113,8 +113,7 @@ module _ (mode : Mode) (image : Image) where
             → Edges (suc k) left s m p
         go (inl e) next =
             let x = next e.now (step_of s p).0 m e.stands p lt in
-            let is : edges_of (suc k) s p ≡ with_frames (step_of s p).1 (edges_of k (step_of s p).0 p) = unrolled k s p ∙ ap (choose k s p) e.hidden in record
-                {
+            let is : edges_of (suc k) s p ≡ with_frames (step_of s p).1 (edges_of k (step_of s p).0 p) = unrolled k s p ∙ ap (choose k s p) e.hidden in record {
               now = x.now;
               stands = subst (λ (y : System × List FrameNote). Follows x.now y.0 m) (sym is) x.stands;
               few = subst (λ (y : System × List FrameNote). length y.1 ≤ frames_left (s.latches p)) (sym is)

@@ -217,7 +217,7 @@ module _ (mode : Mode) (image : Image) (formed : IsImage image) (built : IsBuilt
       let chain : Chain mode image p call_edges n back u.on.frame u.on.switching (b ∷ []) (last ∷ []) d mem =
       (w, is_context, refl, tt, tail.0, tail.1, tail.2) in
       let after = user_after mode image formed built facts left s s' m p lt h u d as' words' back (b ∷ []) call_edges hb mv (kernel_names p)
-          (kernel_spares p small) begun.changes m.words
+      (kernel_spares p small) begun.changes m.words
       (kernel_user p (record { stack = n; used = 0 }) small (omega arith) words words' m.words begun.changes h.shares.user) good at
       (begun.blocking ∙ sym (plain_no_nmi image b (ap is_over_task kind))) (record { interrupts = refl; service = refl; calls = refl }, tt) (λ class. refl)
       (omega arith)
