@@ -1,7 +1,7 @@
 -- What the proofs of steps use of an image's code: what stands where, its marks, and that memory holds its bytes.
-use Rattle.std.proofs.Common.{◌≡◌, ℕ, ◌+◌, ◌-◌, ◌/◌, ◌<◌, ◌≤◌, ◌^◌, Bool, true, false, ◌||◌, Some, refl, ap, ◌∙◌, arith}
+use Rattle.std.proofs.Common.{◌≡◌, ℕ, ◌+◌, ◌-◌, ◌/◌, ◌<◌, ◌≤◌, ◌^◌, Bool, true, false, ◌||◌, Some, refl, arith}
 use Rattle.std.specs.Prelude.{pos, suc, ◌==◌, slice_get}
-use Rattle.std.proofs.lemmas.Bool.{eqb-true, eq-eqb}
+use Rattle.std.proofs.lemmas.Bool.{eqb-true}
 use Rattle.ev_isa.specs.Word.{is_canonical, bit_if}
 use Rattle.ev_isa.specs.Flags.{Flags, flags_word}
 use Rattle.ev_isa.specs.declared.instruction.Ins.TheVariants.{GsStore}
@@ -78,12 +78,3 @@ word_of_canonical a h = pick (a / 2 ^ 47 == 0) refl h
       where
         high : (a : ℕ) → a / 140737488355328 ≡ 131071 → a < 2 ^ 64
         high a e = omega arith
-
--- addresses of the kernel are canonical
-pub kernel_canonical : (a : ℕ) → 0xffff800000000000 ≤ a → a < 2 ^ 64 → is_canonical a ≡ true
-kernel_canonical a h k = ap (λ b. (a / 2 ^ 47 == 0) || b) (eq-eqb (a / 2 ^ 47) (2 ^ 17 - 1) (let e : a / 140737488355328 ≡ 131071 = omega arith in e))
-    ∙ or_one (a / 2 ^ 47 == 0)
-  where
-    or_one : (b : Bool) → (b || true) ≡ true
-    or_one true = refl
-    or_one false = refl

@@ -55,7 +55,8 @@ use Rattle.ev_refine.specs.Domain.{IsInDomain}
 use Rattle.ev_refine.specs.Active.{item_place, here, IsKernelSs, Saved, AtLoad, AtStart, Matches, OverTask, Active}
 use Rattle.ev_refine.specs.Relation.{InTables, IsContext, keeps_cr2, switches_at, chained, most_edges, Chain, StandsOn, Stands}
 use Rattle.ev_refine.specs.Claims.{Simulated}
-use Rattle.ev_refine.proofs.Facts.{Facts, kernel_canonical}
+use Rattle.ev_refine.proofs.Facts.{Facts}
+use Rattle.ev_tables.proofs.Gates.{upper_canonical}
 use Rattle.ev_refine.proofs.ModeFacts.{is_fred}
 use Rattle.ev_refine.proofs.Spots.{means_over, never_switches}
 use Rattle.ev_refine.proofs.Fits.{IsSeat}
@@ -160,7 +161,7 @@ module _ (mode : Mode) (image : Image) (built : IsBuilt image) (good : IsImage i
           let access : IsOpen s.memory.regions a = record {
             kernel = subst (λ rs. place_in rs a ≡ KernelWord) (sym h.regions_are)
                 (user_table_covered image 0 0x808 (omega arith) a (record { from = omega arith; to = omega arith }));
-            canonical = kernel_canonical a (omega arith) (omega arith);
+            canonical = upper_canonical a (omega arith) (omega arith);
             aligned = eq-eqb (a % 8) 0 (omega arith);
           } in
           let word : s.memory.words a ≡ body_code b.body = h.fixed a (InTables (omega arith) (omega arith))
