@@ -1,1 +1,5 @@
+pub mod ProbeLine
+pub mod Told
 pub mod Probe
+pub mod Answer
+pub mod BareMemory

@@ -1,2 +1,20 @@
-//! A delivery or a return on its own, as definitions.
+//! One delivery or return on a bare processor: its line, what comes of it, and the text of that.
 #![tactic(auto)]
+
+mod allowed;
+mod cpu;
+mod grammar;
+mod line;
+mod memory;
+mod probing;
+mod report;
+mod run;
+mod stacks;
+mod text;
+
+pub use probing::{ProbeFault, probe};
+pub use report::{ProbeEnd, Report, Try};
+pub use text::print_report;
+
+#[cfg(test)]
+mod tests;
