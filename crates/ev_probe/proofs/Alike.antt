@@ -92,7 +92,7 @@ carried k o o' p p' g h s =
     subst P (sym g) (subst Q (sym h) s)
 
 -- a frame that ends among the stacks, and the accesses to it
-abbrev EndsWell : ℕ → Type 0
+abbrev pub EndsWell : ℕ → Type 0
 EndsWell r = (stack_top 0 0 - 0x2100 ≤ r) × (r ≤ stack_top 0 6)
 
 frame_in : (r n : ℕ) → n ≤ 8 → EndsWell r → AllIn (addresses (below r n) n)
@@ -116,7 +116,7 @@ gate_of words v h l =
     ap (λ (x : ℕ). gate_in x (words (idt_base + 16 * v + 8))) low ∙ ap (gate_in (idt_word (2 * v))) high ∙ gate_is v l
 
 -- the stack that a gate leads to, whether it is that of NMIs or of double faults
-abbrev stack_by : Processor → Bool → Bool → ℕ
+abbrev pub stack_by : Processor → Bool → Bool → ℕ
 stack_by c true double = stack_top 0 4
 stack_by c false true = stack_top 0 5
 stack_by c false false = if is_user c then stack_top 0 0 else rsp c
@@ -132,13 +132,13 @@ stack_is c words false false b h =
     let tss = b.tss in
     ap (λ (x : ℕ). if is_user c then x else rsp c) (ap words (let e : c.tss + 4 ≡ pcpu 0 + 0x408 = omega arith in e) ∙ h.rsp0)
 
-abbrev aligned : ℕ → ℕ
+abbrev pub aligned : ℕ → ℕ
 aligned a = a - a % 16
 
-abbrev end_by : Processor → ℕ → ℕ
+abbrev pub end_by : Processor → ℕ → ℕ
 end_by c v = aligned (stack_by c (v == 2) (v == 8))
 
-end_is : (c : Processor) (words : NatMap ℕ) (v : ℕ) → IsBare c → HoldsStacks words → new_rsp c words (gate v) ≡ end_by c v
+pub end_is : (c : Processor) (words : NatMap ℕ) (v : ℕ) → IsBare c → HoldsStacks words → new_rsp c words (gate v) ≡ end_by c v
 end_is c words v b h = ap aligned (stack_is c words (v == 2) (v == 8) b h)
 
 user_or : (t : Bool) (x y : ℕ) → (t ≡ true) ⊎ ((stack_top 0 0 - 0x2000 ≤ y) × (y ≤ stack_top 0 6)) → x ≡ stack_top 0 0
@@ -151,17 +151,17 @@ stack_in c true double b = (omega arith, omega arith)
 stack_in c false true b = (omega arith, omega arith)
 stack_in c false false b = user_or (is_user c) (stack_top 0 0) (rsp c) b.stack refl
 
-end_in : (c : Processor) (v : ℕ) → IsBare c → EndsWell (end_by c v)
+pub end_in : (c : Processor) (v : ℕ) → IsBare c → EndsWell (end_by c v)
 end_in c v b = let s = stack_in c (v == 2) (v == 8) b in let lo = s.0 in let hi = s.1 in (omega arith, omega arith)
 
-abbrev idt_size : Event → ℕ
+abbrev pub idt_size : Event → ℕ
 idt_size e = if is_hardware e.kind && has_error_code e.vector then 6 else 5
 
 size_by : (t : Bool) (x : ℕ) (xs : List ℕ) → length xs ≡ 5 → length ((if t then x ∷ [] else []) ++ xs) ≡ (if t then 6 else 5)
 size_by true x xs h = omega (arith, h)
 size_by false x xs h = h
 
-size_small : (t : Bool) → (if t then 6 else 5) ≤ 8
+pub size_small : (t : Bool) → (if t then 6 else 5) ≤ 8
 size_small true = omega arith
 size_small false = omega arith
 
@@ -169,10 +169,10 @@ idt_length : (c : Processor) (e : Event) → length (idt_frame c e) ≡ idt_size
 idt_length c e = size_by (is_hardware e.kind && has_error_code e.vector) e.error (c.rip ∷ c.cs ∷ c.flags ∷ rsp c ∷ c.ss ∷ []) refl
 
 -- a delivery through a gate whose frame has so many words from this address on
-abbrev pushed : Processor → Memory → Event → Gate → ℕ → ℕ → Outcome
+abbrev pub pushed : Processor → Memory → Event → Gate → ℕ → ℕ → Outcome
 pushed c m e g a k = frame_written c (in_handler c g e.kind a) m.words a (idt_frame c e) (first_event (view m false) true (reverse (addresses a k)))
 
-gate_is_pushed : (c : Processor) (m : Memory) (e : Event) (g : Gate) (r : ℕ) → new_rsp c m.words g ≡ r
+pub gate_is_pushed : (c : Processor) (m : Memory) (e : Event) (g : Gate) (r : ℕ) → new_rsp c m.words g ≡ r
     → through_gate c m e g ≡ pushed c m e g (below r (idt_size e)) (idt_size e)
 gate_is_pushed c m e g r h =
     ap (λ (k : ℕ). pushed c m e g (below (new_rsp c m.words g) k) k) (idt_length c e) ∙ ap (λ (x : ℕ). pushed c m e g (below x (idt_size e)) (idt_size e)) h
@@ -193,7 +193,7 @@ gate_same m n c e h b =
     (written_same k c d m.words n.words a (idt_frame c e) (first_event (view m false) true (reverse (addresses a k))) b h.words p
     (first_small (view m false) true (reverse (addresses a k))))
 
-abbrev by_gate : Processor → Memory → Event → Gate → Outcome
+abbrev pub by_gate : Processor → Memory → Event → Gate → Outcome
 by_gate c m e g = if is_gated e.kind && is_user c && nat_lt g.dpl 3 then Met c (gp (8 * e.vector + 2)) else through_gate (with_cr2 c e) m e g
 
 same_choice : (k : ℕ) (t : Bool) (o p q : Outcome) → AreSameOutcomes k o o → AreSameOutcomes k p q → AreSameOutcomes k (if t then o else p)
@@ -201,7 +201,8 @@ same_choice : (k : ℕ) (t : Bool) (o p q : Outcome) → AreSameOutcomes k o o �
 same_choice k true o p q x y = x
 same_choice k false o p q x y = y
 
-idt_is : (c : Processor) (m : Memory) (e : Event) → IsBare c → HoldsGates 512 m.words → e.vector < 256 → idt_delivery c m e ≡ by_gate c m e (gate e.vector)
+pub idt_is : (c : Processor) (m : Memory) (e : Event) → IsBare c → HoldsGates 512 m.words → e.vector < 256 → idt_delivery c m e ≡ by_gate c m e
+    (gate e.vector)
 unfolding idt_delivery
 idt_is c m e b h l =
     ap (by_gate c m e) (ap (λ (x : ℕ). gate_at m.words x e.vector) b.idt ∙ gate_of m.words e.vector h l)
@@ -228,7 +229,7 @@ event_level_small : (c : Processor) (kind : EventType) (vector : ℕ) → event_
 event_level_small c External vector = omega arith
 event_level_small c _ vector = level_small c.msrs.stklvls vector
 
-new_level_small : (c : Processor) (e : Event) (nested : Bool) → c.level < 4 → new_level c e nested < 4
+pub new_level_small : (c : Processor) (e : Event) (nested : Bool) → c.level < 4 → new_level c e nested < 4
 new_level_small c e nested l =
     by (is_user c && not nested && not (is_hardware e.kind && (e.vector == 8))) (event_level c.msrs e.kind e.vector) (event_level_small c e.kind e.vector)
   where
@@ -244,10 +245,7 @@ rsp_in (suc (suc zero)) l = (omega arith, omega arith)
 rsp_in (suc (suc (suc zero))) l = (omega arith, omega arith)
 rsp_in (suc (suc (suc (suc n)))) l = absurd (omega (arith, l))
 
-below_rsp : ℕ → ℕ
-below_rsp r = let a : ℕ = wrap (r + 2 ^ 64 - 64) in a - a % 64
-
-top_in : (c : Processor) (level : ℕ) → IsBare c → level < 4 → EndsWell (frame_top c level)
+pub top_in : (c : Processor) (level : ℕ) → IsBare c → level < 4 → EndsWell (frame_top c level)
 top_in c level b l =
     by (is_user c) (nat_lt c.level level) b.stack (get_or c.msrs.rsp level 0)
     (let P : List ℕ → Type 0 = λ x. EndsWell (get_or x level 0) in subst P (sym b.rsps) (rsp_in level l)) (decrement c.msrs.config)

@@ -12,5 +12,6 @@ pub mod Clear
 pub mod Filling
 pub mod Opened
 pub mod Same
+pub mod Four
 pub mod Answers
 mod Rows

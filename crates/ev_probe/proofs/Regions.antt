@@ -42,9 +42,9 @@ all_few P bad a t s =
     All-cons P area (table ∷ stacks_in bad (numbers_from 0 7)) a (All-cons P table (stacks_in bad (numbers_from 0 7)) t
     (All-filter (is_mapped bad) P (map stack (numbers_from 0 7)) (All-map P stack (numbers_from 0 7)
     (All-cons Q 0 (numbers_from 1 6) (s 0 (omega arith))
-        (All-cons Q 1 (numbers_from 2 5) (s 1 (omega arith)) (All-cons Q 2 (numbers_from 3 4) (s 2 (omega arith))
+    (All-cons Q 1 (numbers_from 2 5) (s 1 (omega arith)) (All-cons Q 2 (numbers_from 3 4) (s 2 (omega arith))
     (All-cons Q 3 (numbers_from 4 3) (s 3 (omega arith))
-        (All-cons Q 4 (numbers_from 5 2) (s 4 (omega arith)) (All-cons Q 5 (numbers_from 6 1) (s 5 (omega arith))
+    (All-cons Q 4 (numbers_from 5 2) (s 4 (omega arith)) (All-cons Q 5 (numbers_from 6 1) (s 5 (omega arith))
     (All-cons Q 6 [] (s 6 (omega arith)) (All-nil Q)))))))))))
   where
     Q : ℕ → Type 0
@@ -67,7 +67,7 @@ stacks_apart : (k m bad : ℕ) → AllApart (stacks_in bad (numbers_from m k))
 stacks_apart zero m bad = tt
 stacks_apart (suc k) m bad =
     one_more_apart (is_mapped bad (stack m)) (stack m) (stacks_in bad (numbers_from (suc m) k)) (later k m (suc m) bad (omega arith))
-        (stacks_apart k (suc m) bad)
+    (stacks_apart k (suc m) bad)
 
 no_text : (rs : List Region) → All (λ (r : Region). is_text r.kind ≡ false) rs → count_by (λ (r : Region). is_text r.kind) rs ≡ 0
 no_text [] h = refl
@@ -204,7 +204,7 @@ whole_is bad =
 pub same_place : (bad a : ℕ) → IsInStacks a → place_in (few_regions bad) a ≡ place_in (filter (is_mapped bad) (regions bare)) a
 same_place bad a h =
     stacks_place bad a h ∙ sym
-        (ap (λ (rs : List Region). place_in rs a) (whole_is bad) ∙ place_append (stacks_in bad (numbers_from 0 7)) others a h others_elsewhere)
+    (ap (λ (rs : List Region). place_in rs a) (whole_is bad) ∙ place_append (stacks_in bad (numbers_from 0 7)) others a h others_elsewhere)
 
 -- a place that the kernel has, or that is in no region of the upper half
 abbrev IsPlain : Place → Type 0

@@ -100,7 +100,7 @@ alike_return mode m m' bad a ws h e lo hi =
 
 -- ---- what is told
 
-bare_cpu : (l : ProbeLine) → AreValues l.mode Op.Deliver l.values → IsBare (probe_cpu (probe_of l))
+pub bare_cpu : (l : ProbeLine) → AreValues l.mode Op.Deliver l.values → IsBare (probe_cpu (probe_of l))
 unfolding probe_of
 bare_cpu l v = record {
   idt = refl;
@@ -123,7 +123,7 @@ in_return v a k s lo hi =
     let l = o.low in let h = o.high in let n = o.number in
     in_addresses k a (omega arith) (omega arith)
 
-vector_small : (v : Values) → v.vector < 256 → (event_of v).vector < 256
+pub vector_small : (v : Values) → v.vector < 256 → (event_of v).vector < 256
 unfolding event_of
 vector_small v h = h
 

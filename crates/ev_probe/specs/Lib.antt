@@ -3,3 +3,4 @@ pub mod Told
 pub mod Probe
 pub mod Answer
 pub mod BareMemory
+pub mod Laws

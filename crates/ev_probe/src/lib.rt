@@ -4,6 +4,7 @@
 mod allowed;
 mod cpu;
 mod grammar;
+mod laws;
 mod line;
 mod memory;
 mod probing;
@@ -12,6 +13,7 @@ mod run;
 mod stacks;
 mod text;
 
+pub use laws::tries_end;
 pub use probing::{ProbeFault, probe};
 pub use report::{ProbeEnd, Report, Try};
 pub use text::print_report;

@@ -10,7 +10,7 @@ returns-in_err-place c =
     let p = err_from_is_err_and c.from_residual.result c.from_residual.ensures.1 in
     rw (p.1, p.2)
     (sym (c.loop-t.invariant ∙ ap (λ xs. settings_from c.loop-t.given (map (λ t. t.now) xs))
-        (drop_more c.args.tokens.now c.loop-t.t-index _ c.loop-t-test.true)
+    (drop_more c.args.tokens.now c.loop-t.t-index _ c.loop-t-test.true)
     ∙ settings_stop c.loop-t.given _ _ _ (sym c.setting_value.ensures.is ∙ c.in_err-place.was)))
 
 pub loop-t-preserved : goal.loop-t-preserved

@@ -13,7 +13,7 @@ set_word-requires-clause-aligned c = eq-eqb _ 0 (omega arith)
 pub set_word-requires-clause-mapped : goal.set_word-requires-clause-mapped
 set_word-requires-clause-mapped c =
     subst (λ (rs : List Region). is_some (slot_in rs (idt_base + 8 * c.loop-n.n)) ≡ true) (sym c.loop-n.invariant.regions)
-        (table_slot c.args.bad (idt_base + 8 * c.loop-n.n) (omega arith, omega arith))
+    (table_slot c.args.bad (idt_base + 8 * c.loop-n.n) (omega arith, omega arith))
 
 pub loop-n-preserved : goal.loop-n-preserved
 loop-n-preserved c = record {

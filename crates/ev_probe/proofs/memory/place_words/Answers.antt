@@ -10,5 +10,5 @@ unreachable-requires c =
     let v = are_values _ _ _ c.requires.allowed in
     let few : length c.args.l.now.values.words ≤ 8 = search rules in
     no_some _ _
-        (return_clear (memory c.args.mem.now) c.args.l.now.values (length c.args.l.now.values.words) (same_regions c.args.mem.now ∙ c.requires.regions)
+    (return_clear (memory c.args.mem.now) c.args.l.now.values (length c.args.l.now.values.words) (same_regions c.args.mem.now ∙ c.requires.regions)
     (return_stack _ _ c.requires.op v.stack) few) c.in-Err.ensures.met

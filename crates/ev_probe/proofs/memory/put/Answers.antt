@@ -13,7 +13,7 @@ set_word-requires-clause-aligned c = eq-eqb _ 0 (omega arith)
 pub set_word-requires-clause-mapped : goal.set_word-requires-clause-mapped
 set_word-requires-clause-mapped c =
     subst (λ (rs : List Region). is_some (slot_in rs (pcpu 0 + c.args.offset)) ≡ true) (sym c.requires.regions)
-        (area_slot c.args.bad (pcpu 0 + c.args.offset) (omega arith) (omega arith))
+    (area_slot c.args.bad (pcpu 0 + c.args.offset) (omega arith) (omega arith))
 
 pub returns-clause-regions : goal.returns-clause-regions
 returns-clause-regions c = regions_kept _ _ _ _ c.set_word.ensures ∙ c.requires.regions
