@@ -14,4 +14,5 @@ pub mod Opened
 pub mod Same
 pub mod Four
 pub mod Answers
+pub mod Inputs
 mod Rows

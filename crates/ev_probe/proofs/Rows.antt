@@ -16,14 +16,14 @@ use Rattle.ev_io.specs.Tokens.{pieces, tokens_of}
 use Rattle.ev_line.specs.Operands.{number}
 use Rattle.ev_concrete.specs.Opening.{idt_word, opening_word, pcpu_word, word_there}
 use Rattle.ev_probe.specs.ProbeLine.{at_equals, event_of, is_allowed, is_idt_delivery, is_return, is_stack_pointer, mode_of, op_in, probe_line, setting_value, settings_from, values_of}
-use Rattle.ev_probe.specs.Probe.{report, report_text}
+use Rattle.ev_probe.specs.Probe.{report}
 use Rattle.ev_probe.specs.Answer.{answer_to, probe_of, probe_text, told_from, told_of}
 
 unfoldable probing : Unit {0}
 unfolding digits below_word flags_of flags_word fault_at combine fault_class type_number access_event gate_bytes gate_in idt_delivery iretq erets eretu
     fred_delivery ss_word
     digit digits_number is_decimal is_digits is_hexadecimal number_of value pieces tokens_of number idt_word opening_word pcpu_word word_there at_equals
-    event_of is_allowed is_idt_delivery is_return is_stack_pointer mode_of op_in probe_line setting_value settings_from values_of report report_text answer_to
+    event_of is_allowed is_idt_delivery is_return is_stack_pointer mode_of op_in probe_line setting_value settings_from values_of report answer_to
     probe_of probe_text told_from told_of
 probing = tt
 

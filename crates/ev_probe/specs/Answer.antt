@@ -52,7 +52,7 @@ unfoldable pub answer_to : List ℕ → Result Told Cause
 answer_to text = then_make told_of (probe_line (tokens_of text))
 
 -- a fault with its cause; that memory was refused is free
-abbrev pub Refuses : Result Told Cause → ProbeFault → Type 0
+abbrev pub Refuses : {X : Type 0} → Result X Cause → ProbeFault → Type 0
 Refuses answer (ProbeFault.BadLine cause) = answer ≡ Err cause
 Refuses answer ProbeFault.NoMemory = Unit {0}
 

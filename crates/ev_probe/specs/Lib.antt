@@ -3,4 +3,5 @@ pub mod Told
 pub mod Probe
 pub mod Answer
 pub mod BareMemory
+pub mod Input
 pub mod Laws

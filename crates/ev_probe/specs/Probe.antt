@@ -131,5 +131,5 @@ end_text (ProbeEnd.Raised t) = event_text (codes "raise") t
 end_text ProbeEnd.Shutdown = line (codes "shutdown" ∷ [])
 
 -- the text of what is told
-unfoldable pub report_text : Told → Text
+abbrev pub report_text : Told → Text
 report_text r = flat_map try_text r.tries ++ frame_text r.frame ++ end_text r.end

@@ -4,6 +4,7 @@
 mod allowed;
 mod cpu;
 mod grammar;
+mod input;
 mod laws;
 mod line;
 mod memory;
@@ -13,6 +14,7 @@ mod run;
 mod stacks;
 mod text;
 
+pub use input::{InputFault, read_probe};
 pub use laws::tries_end;
 pub use probing::{ProbeFault, probe};
 pub use report::{ProbeEnd, Report, Try};

@@ -1,7 +1,8 @@
 // A probe line and what comes of it.
 
 ghost use Rattle.std.specs.Prelude.{◌≡◌, true, IfOk, MatchResult, Ok};
-ghost use Rattle.ev_probe.specs.ProbeLine.{is_allowed};
+ghost use Rattle.ev_probe.specs.ProbeLine.{is_allowed, probe_line};
+ghost use Rattle.ev_io.specs.Tokens.{tokens_of};
 ghost use Rattle.ev_probe.specs.Told.{told};
 ghost use Rattle.ev_probe.specs.Answer.{Refuses, answer_to, told_of};
 
@@ -27,8 +28,24 @@ pub enum ProbeFault {
     NoMemory,
 }
 
+/// The probe line that a text says, or its cause. NoMemory means that memory was refused.
+pub fn line_of(alloc: Global, text: &[u8]) -> Result<ProbeLine, ProbeFault>
+    ensures is { MatchResult result (λ l. probe_line (tokens_of text.now) ≡ Ok l)
+        (Refuses (probe_line (tokens_of text.now))) }
+    ensures allowed { IfOk result (λ l. is_allowed l.mode l.op l.values ≡ true) }
+{
+    let tokens = match all_tokens(alloc, text) {
+        Ok(tokens) => tokens,
+        Err(_) => return Err(ProbeFault::NoMemory),
+    };
+    match probe_line(tokens.as_slice()) {
+        Ok(line) => Ok(line),
+        Err(cause) => Err(ProbeFault::BadLine(cause)),
+    }
+}
+
 /// What comes of a line.
-fn report_of(alloc: Global, l: &ProbeLine) -> Result<Report, NoMemory>
+pub fn report_of(alloc: Global, l: &ProbeLine) -> Result<Report, NoMemory>
     requires { is_allowed l.now.mode l.now.op l.now.values ≡ true }
     ensures { IfOk result (λ r. told r ≡ told_of l.now) }
 {
@@ -49,15 +66,9 @@ pub fn probe(alloc: Global, line: &[u8]) -> Result<Report, ProbeFault>
     ensures { MatchResult result
         (λ r. answer_to line.now ≡ Ok (told r)) (Refuses (answer_to line.now)) }
 {
-    let tokens = match all_tokens(alloc, line) {
-        Ok(tokens) => tokens,
-        Err(_) => return Err(ProbeFault::NoMemory),
-    };
-    match probe_line(tokens.as_slice()) {
-        Ok(l) => match report_of(alloc, &l) {
-            Ok(report) => Ok(report),
-            Err(_) => Err(ProbeFault::NoMemory),
-        },
-        Err(cause) => Err(ProbeFault::BadLine(cause)),
+    let l = line_of(alloc, line)?;
+    match report_of(alloc, &l) {
+        Ok(report) => Ok(report),
+        Err(_) => Err(ProbeFault::NoMemory),
     }
 }

@@ -1,8 +1,9 @@
-// Probe lines with their reports as text, and lines that are refused.
+// Probe lines with their reports as text, lines that are refused, and inputs.
 
-use crate::{ProbeFault, print_report, probe};
+use crate::{InputFault, ProbeFault, print_report, probe, read_probe};
 use arrayvec::ArrayString;
-use ev_io::Cause;
+use ev_io::{Cause, Lines, MemSource};
+use std::test::Fail;
 
 #[test]
 fn reports(rt: HostRuntime) {
@@ -75,4 +76,41 @@ fn refusals(rt: HostRuntime) {
             Err(fault) => assert_eq!(rt; fault, ProbeFault::BadLine(cause), "{line}"),
         }
     }
+}
+
+#[test]
+fn inputs(rt: HostRuntime) -> Result<(), Fail> {
+    let cases: [(&[u8], Option<InputFault>); 6] = [
+        (
+            b"# a probe\n\n probe idt deliver vector=3 type=6 \n#\n",
+            None,
+        ),
+        (b"probe fred deliver bad=0x21", None),
+        (b"\n# none\n", Some(InputFault::BadLine(2, Cause::NoEnd))),
+        (
+            b"probe idt deliver\n#\nprobe idt deliver",
+            Some(InputFault::BadLine(3, Cause::AfterEnd)),
+        ),
+        (
+            b"#\nprobe idt\tdeliver",
+            Some(InputFault::BadLine(2, Cause::NotAscii)),
+        ),
+        (
+            b"#\nprobe idt iretq",
+            Some(InputFault::BadLine(2, Cause::Limit)),
+        ),
+    ];
+    for (bytes, fault) in cases {
+        let mut src = MemSource {
+            bytes: bytes.to_vec(rt.alloc())?,
+            at: 0,
+            calls: 0,
+            faults: 0,
+            fails: Vec::new(rt.alloc()),
+        };
+        let mut lines = Lines::new(rt.alloc())?;
+        let read = read_probe(rt.alloc(), &mut lines, &mut src);
+        assert_eq!(rt; read.err(), fault, "{bytes:?}");
+    }
+    Ok(())
 }

@@ -150,7 +150,6 @@ fn push_end(end: &ProbeEnd, out: &mut ArrayString<1024>)
 /// Writes the text of a report into `out`, which is empty: a line for each delivery that was tried,
 /// the line of the frame, and that of the processor, of the event that was raised, or of shutdown.
 /// Own.
-#[tactic(auto, unfolding(crate::specs::Probe::report_text))]
 pub fn print_report(r: &Report, out: &mut ArrayString<1024>)
     requires { out.old.bytes ≡ [] }
     ensures text { out.new.bytes ≡ report_text (told r.now) }

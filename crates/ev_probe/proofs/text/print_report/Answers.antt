@@ -7,7 +7,6 @@ use Rattle.ev_probe.proofs.Answers.{prints}
 use Rattle.ev_probe.proofs.text.print_report.Goals as goal
 
 pub returns-clause-line : goal.returns-clause-line
-unfolding report_text
 returns-clause-line c line h =
     prints line c.push_end.new.out.bytes (told c.args.r.now)
     (c.push_end.ensures ∙ ap (λ (x : List ℕ). x ++ end_text c.args.r.now.end)
