@@ -1,6 +1,6 @@
 -- Probe lines with their answers, worked out by the definitions: the text of the report, or the cause. The answers come from a program that was written
 -- apart from these definitions.
-use Rattle.std.specs.Prelude.{◌≡◌, refl, ℕ, List, [], ◌∷◌, ◌++◌, map, codes, Result, Ok, Err}
+use Rattle.std.specs.Prelude.{◌≡◌, refl, ℕ, List, [], ◌∷◌, ◌++◌, ◌*◌, ◌-◌, map, replicate, false, codes, Result, Ok, Err}
 use Rattle.std.specs.Fmt.{digits}
 use Rattle.ev_isa.specs.Flags.{flags_of, flags_word}
 use Rattle.ev_isa.specs.Pages.{fault_at}
@@ -12,11 +12,17 @@ use Rattle.ev_idt.specs.IdtDelivery.{idt_delivery, iretq}
 use Rattle.ev_fred.specs.FredDelivery.{erets, eretu, fred_delivery, ss_word}
 use Rattle.ev_io.specs.declared.cause.Cause.{Cause}
 use Rattle.ev_io.specs.Number.{below_word, digit, digits_number, is_decimal, is_digits, is_hexadecimal, number_of, value}
-use Rattle.ev_io.specs.Tokens.{pieces, tokens_of}
+use Rattle.ev_io.specs.InputLines.{byte_fault, fault_from, lines_of, text_of}
+use Rattle.ev_io.specs.Follow.{line_follows, read, tokens_follow}
+use Rattle.ev_io.specs.Tokens.{is_passed_over, pieces, tokens_of}
+use Rattle.ev_state.specs.Outcome.{Outcome, Went, Met}
+use Rattle.ev_isa.specs.declared.mode.Mode.{Mode}
+use Rattle.ev_isa.specs.declared.mode.Mode.TheVariants.{Idt, Fred}
 use Rattle.ev_line.specs.Operands.{number}
 use Rattle.ev_concrete.specs.Opening.{idt_word, opening_word, pcpu_word, word_there}
 use Rattle.ev_probe.specs.ProbeLine.{at_equals, event_of, is_allowed, is_idt_delivery, is_return, is_stack_pointer, mode_of, op_in, probe_line, setting_value, settings_from, values_of}
-use Rattle.ev_probe.specs.Probe.{report}
+use Rattle.ev_probe.specs.Probe.{Probe, probe_cpu, probe_memory, report}
+use Rattle.ev_probe.specs.Input.{follows, input_text, read_line, read_told, whole}
 use Rattle.ev_probe.specs.Answer.{answer_to, probe_of, probe_text, told_from, told_of}
 
 unfoldable probing : Unit {0}
@@ -777,3 +783,94 @@ returns_rows = (
 returns : answered returns_rows ≡ returns_rows
 unfolding returns_rows probing
 returns = refl
+
+-- ---- whole inputs
+
+abbrev InputRow : Type 0
+InputRow = List ℕ × Result (List ℕ) (ℕ × Cause)
+
+abbrev read_inputs : List InputRow → List InputRow
+read_inputs rows = map (λ (row : InputRow). (row.0, input_text row.0)) rows
+
+unfoldable input_rows : List InputRow
+input_rows =
+    ([], Err (0, Cause.NoEnd))
+    ∷ (codes "\n", Err (1, Cause.NoEnd))
+    ∷ (codes "# only\n\n", Err (2, Cause.NoEnd))
+    ∷ (
+      codes "probe idt deliver\n",
+      Ok (codes "try 14 error 0\n"
+          ++ codes "frame ffffc90000003fd0 0 400000 33 40202 0 2b\n"
+          ++ codes "cpu rip ffffffff810020e0 cs 10 ss 0 flags 40002 rsp ffffc90000003fd0 level 0 nmi 0 cr2 0\n"),
+    )
+    ∷ (
+      codes "probe idt deliver",
+      Ok (codes "try 14 error 0\n"
+          ++ codes "frame ffffc90000003fd0 0 400000 33 40202 0 2b\n"
+          ++ codes "cpu rip ffffffff810020e0 cs 10 ss 0 flags 40002 rsp ffffc90000003fd0 level 0 nmi 0 cr2 0\n"),
+    )
+    ∷ (
+      codes "  probe  idt   deliver  ",
+      Ok (codes "try 14 error 0\n"
+          ++ codes "frame ffffc90000003fd0 0 400000 33 40202 0 2b\n"
+          ++ codes "cpu rip ffffffff810020e0 cs 10 ss 0 flags 40002 rsp ffffc90000003fd0 level 0 nmi 0 cr2 0\n"),
+    )
+    ∷ (codes "# a\n\n probe fred deliver bad=0x21\n# b\n \n", Ok (codes "try 14 error 0\ntry 8 error 0\nshutdown\n"))
+    ∷ (codes "probe idt deliver\nprobe idt deliver\n", Err (2, Cause.AfterEnd))
+    ∷ (codes "probe idt deliver\n#\nx\n", Err (3, Cause.AfterEnd))
+    ∷ (codes "# a\nprobe idt\n", Err (2, Cause.Count))
+    ∷ (codes "probe idt deliver\n" ++ 7 ∷ codes "\n", Err (2, Cause.NotAscii))
+    ∷ (codes "#" ++ 7 ∷ codes "\nprobe idt deliver\n", Err (1, Cause.NotAscii))
+    ∷ (codes "probe idt iretq rsp=0xffffc90000003f00 w1=0x33\n# end", Ok (codes "raise 13 error 0\n"))
+    ∷ []
+
+inputs : read_inputs input_rows ≡ input_rows
+unfolding input_rows probing is_passed_over byte_fault fault_from text_of line_follows lines_of read_line read_told follows whole input_text read tokens_follow
+inputs = refl
+
+-- ---- returns whose words can't all be read, which no line asks for
+
+-- the event that a return meets: its vector, its error code, its address, and CR2 after it
+abbrev met : Outcome → List ℕ
+met (Went c words frame) = []
+met (Met c e) = e.vector ∷ e.error ∷ e.info ∷ c.cr2 ∷ []
+
+abbrev at_rsp : Mode → ℕ → ℕ → Probe
+at_rsp mode rsp bad = record {
+  mode = mode;
+  cpl = 0;
+  rip = 0xffffffff81003400;
+  flags = 2;
+  rsp = rsp;
+  level = 0;
+  sti = false;
+  nmi = false;
+  stklvls = 0x30020;
+  bad = bad;
+  words = [];
+}
+
+abbrev by_iretq : ℕ → ℕ → List ℕ
+by_iretq rsp bad = met (iretq (probe_cpu (at_rsp Idt rsp bad)) (probe_memory (at_rsp Idt rsp bad)))
+
+abbrev by_eretu : ℕ → ℕ → List ℕ
+by_eretu rsp bad = met (eretu (probe_cpu (at_rsp Fred rsp bad)) (probe_memory (at_rsp Fred rsp bad)))
+
+-- each word in turn is the first above the stack's top
+iretq_words : map (λ k. by_iretq (0xffffc90000004000 - 8 * k) 0) (0 ∷ 1 ∷ 2 ∷ 3 ∷ 4 ∷ [])
+    ≡ replicate 5 (14 ∷ 0 ∷ 0xffffc90000004000 ∷ 0xffffc90000004000 ∷ [])
+unfolding probing
+iretq_words = refl
+
+-- ERETU reads from the second word on
+eretu_words : map (λ k. by_eretu (0xffffc90000003ff8 - 8 * k) 0) (0 ∷ 1 ∷ 2 ∷ 3 ∷ 4 ∷ [])
+    ≡ replicate 5 (14 ∷ 0 ∷ 0xffffc90000004000 ∷ 0xffffc90000004000 ∷ [])
+unfolding probing
+eretu_words = refl
+
+-- on an unmapped stack, at an address that isn't canonical, at one that is no multiple of 8, and below the stacks
+iretq_stacks : map (λ rsp. by_iretq rsp 1) (0xffffc90000003f00 ∷ 0x800000000000 ∷ 0xffffc90000007f04 ∷ 0xffffc90000000000 ∷ [])
+    ≡ (14 ∷ 0 ∷ 0xffffc90000003f00 ∷ 0xffffc90000003f00 ∷ []) ∷ (12 ∷ 0 ∷ 0 ∷ 0 ∷ []) ∷ (17 ∷ 0 ∷ 0 ∷ 0 ∷ [])
+    ∷ (14 ∷ 0 ∷ 0xffffc90000000000 ∷ 0xffffc90000000000 ∷ []) ∷ []
+unfolding probing
+iretq_stacks = refl

@@ -86,10 +86,10 @@ fn only_line<S: Source>(
     }
 }
 
-/// Reads the input of a probe to its end and makes its delivery or return: one probe line, and beside
-/// it only lines that are passed over. A line that doesn't follow is answered with its number and its
-/// one cause: a further line is AfterEnd, and where there is no probe line NoEnd names the last line
-/// read. Own.
+/// Reads the input of a probe to its end and makes its delivery or return: one probe line, and
+/// beside it only lines that are passed over. A line that doesn't follow is answered with its
+/// number and its one cause: a further line is AfterEnd, and where there is no probe line NoEnd
+/// names the last line read. Own.
 pub fn read_probe<S: Source>(
     alloc: Global,
     lines: &mut Lines,

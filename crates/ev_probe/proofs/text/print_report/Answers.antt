@@ -2,7 +2,7 @@ use Rattle.std.proofs.Common.{◌++◌, ◌∙◌, ap, List, ℕ}
 use Rattle.std.specs.Prelude.{flat_map}
 use Rattle.std.specs.Option.{option_map}
 use Rattle.ev_probe.specs.Told.{noted, told}
-use Rattle.ev_probe.specs.Probe.{end_text, frame_text, report_text, try_text}
+use Rattle.ev_probe.specs.Probe.{end_text, frame_text, try_text}
 use Rattle.ev_probe.proofs.Answers.{prints}
 use Rattle.ev_probe.proofs.text.print_report.Goals as goal
 
