@@ -13,6 +13,7 @@ pub mod Filling
 pub mod Opened
 pub mod Same
 pub mod Four
+pub mod FramesRead
 pub mod Answers
 pub mod Inputs
 mod Rows

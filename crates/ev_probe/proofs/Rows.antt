@@ -825,7 +825,8 @@ input_rows =
     ∷ []
 
 inputs : read_inputs input_rows ≡ input_rows
-unfolding input_rows probing is_passed_over byte_fault fault_from text_of line_follows lines_of read_line read_told follows whole input_text read tokens_follow
+unfolding input_rows probing is_passed_over byte_fault fault_from text_of line_follows lines_of read_line read_told follows whole input_text read
+    tokens_follow
 inputs = refl
 
 -- ---- returns whose words can't all be read, which no line asks for
