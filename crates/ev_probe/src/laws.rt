@@ -9,7 +9,8 @@ pub fn tries_end()
 {}
 
 /// The eight words that FRED delivery writes, as bytes, are read as the frame of the event: no
-/// reserved bit is set, and each field is where it is read (FRED specification, "FRED stack frame").
+/// reserved bit is set, and each field is where it is read (FRED specification, "FRED stack
+/// frame").
 pub fn frames_read()
     ensures { FredFramesAreRead }
 {}

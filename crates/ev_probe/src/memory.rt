@@ -64,8 +64,8 @@ fn regions(alloc: Global, bad: u64) -> Result<Vec<Region>, AllocError>
     Ok(regions)
 }
 
-/// The gate of a vector: that of NMIs names IST 1 and that of double faults IST 2, and user code may
-/// go through that of INT3.
+/// The gate of a vector: that of NMIs names IST 1 and that of double faults IST 2, and user code
+/// may go through that of INT3.
 fn gate(v: u64) -> Gate
     requires { v < 256 }
     ensures is { result ≡ gate v }
