@@ -1,5 +1,5 @@
 -- The lines of a probe's input, one after another.
-use Rattle.std.proofs.Common.{◌≡◌, ℕ, ◌+◌, ◌≤◌, List, length, Option, Some, None, Ok, Err, refl, ap, sym, ◌∙◌, arith}
+use Rattle.std.proofs.Common.{◌≡◌, ℕ, ◌+◌, ◌≤◌, List, length, Option, Some, None, Result, Ok, Err, refl, ap, sym, ◌∙◌, arith}
 use Rattle.ev_io.specs.declared.cause.Cause.{Cause}
 use Rattle.ev_io.specs.declared.lines.LineFault.{LineFault}
 use Rattle.ev_io.specs.Transfer.{Rose}
@@ -12,8 +12,9 @@ use Rattle.ev_line.specs.Operands.{then_make}
 use Rattle.ev_probe.specs.declared.line.ProbeLine.{ProbeLine}
 use Rattle.ev_probe.specs.ProbeLine.{probe_line}
 use Rattle.ev_probe.specs.Told.{Told}
+use Rattle.ev_probe.specs.Probe.{report_text}
 use Rattle.ev_probe.specs.Answer.{told_of}
-use Rattle.ev_probe.specs.Input.{OnRead, Refuses, fault_of, follows, read_line, read_told, then_told, whole}
+use Rattle.ev_probe.specs.Input.{OnRead, Refuses, fault_of, follows, input_text, read_line, read_told, then_told, whole}
 
 -- ---- what a line does
 
@@ -90,3 +91,15 @@ read_cause U LineFault.ReadFault a b c h k = omega (arith, h, k)
 read_cause U (LineFault.TooLarge n) a b c h k = tt
 read_cause U (LineFault.TooLong n) a b c h k = tt
 read_cause U (LineFault.NotAscii n m) a b c h k = tt
+
+-- ---- the text of an input
+
+-- the text of what is read
+pub input_prints : (bytes out : List ℕ) (t : Told) → out ≡ report_text t → read_told 0 0 (lines_of bytes) ≡ Ok t → input_text bytes ≡ Ok out
+unfolding input_text
+input_prints bytes out t e h = ap (then_told report_text) h ∙ ap (λ (x : List ℕ). Ok x) (sym e)
+
+-- an input that is refused has no text
+pub input_refused : (bytes : List ℕ) (refusal : ℕ × Cause) → read_line 0 0 (lines_of bytes) ≡ Err refusal → input_text bytes ≡ Err refusal
+unfolding input_text read_told
+input_refused bytes refusal h = ap (λ (x : Result ProbeLine (ℕ × Cause)). then_told report_text (then_told told_of x)) h

@@ -1,6 +1,8 @@
 -- What is proved of all probe lines, as the contract of a public function states it.
-use Rattle.std.specs.Prelude.{◌≡◌, ◌≤◌, ◌<◌, ◌^◌, ◌&&◌, ◌==◌, not, Bool, true, false, ℕ, flat_map, if◌then◌else◌, Ok}
+use Rattle.std.specs.Prelude.{◌≡◌, ◌≤◌, ◌<◌, ◌^◌, ◌&&◌, ◌==◌, not, Bool, true, false, ℕ, List, flat_map, if◌then◌else◌, Ok, Err}
 use Rattle.std.specs.Int.{w64, to_le_bytes}
+use Rattle.ev_io.specs.declared.cause.Cause.{Cause}
+use Rattle.ev_io.specs.InputLines.{lines_of}
 use Rattle.ev_event.specs.declared.event.Event.{Event}
 use Rattle.ev_event.specs.Event.{has_error_code, is_hardware, is_nmi_type, type_number}
 use Rattle.ev_frame.specs.declared.frame.Frame64.{Frame64}
@@ -11,6 +13,7 @@ use Rattle.ev_probe.specs.declared.line.ProbeLine.{ProbeLine}
 use Rattle.ev_probe.specs.ProbeLine.{event_of, is_allowed, is_return}
 use Rattle.ev_probe.specs.Probe.{probe_cpu, probe_memory, report}
 use Rattle.ev_probe.specs.Answer.{probe_of, told_of}
+use Rattle.ev_probe.specs.Input.{input_text, read_line}
 
 -- No delivery is tried more than four times: where more tries are allowed the same is told of each line.
 abbrev pub FourTriesSuffice : Type 0
@@ -57,3 +60,7 @@ pub record AreWithin (c : Processor) (e : Event) : Type 0 where
 abbrev pub FredFramesAreRead : Type 0
 FredFramesAreRead = (c : Processor) (e : Event) (nested : Bool) → AreWithin c e
     → read_frame (flat_map (to_le_bytes w64) (fred_frame c e nested)) ≡ Ok (frame_of c e nested)
+
+-- An input of which a line doesn't follow has no text: it is refused with that line and its cause.
+abbrev pub RefusedInputsHaveNoText : Type 0
+RefusedInputsHaveNoText = (bytes : List ℕ) (refusal : ℕ × Cause) → read_line 0 0 (lines_of bytes) ≡ Err refusal → input_text bytes ≡ Err refusal

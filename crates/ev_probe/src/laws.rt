@@ -1,6 +1,6 @@
 // What holds of all probe lines.
 
-ghost use Rattle.ev_probe.specs.Laws.{FourTriesSuffice, FredFramesAreRead};
+ghost use Rattle.ev_probe.specs.Laws.{FourTriesSuffice, FredFramesAreRead, RefusedInputsHaveNoText};
 
 /// No delivery of a probe line is tried more than four times: the event, a fault that it meets, one
 /// that this meets, and #DF. So the limit on tries cuts nothing off. Own.
@@ -13,4 +13,9 @@ pub fn tries_end()
 /// frame").
 pub fn frames_read()
     ensures { FredFramesAreRead }
+{}
+
+/// What a reader refuses of a whole input is what the input's text refuses. Own.
+pub fn refused_inputs()
+    ensures { RefusedInputsHaveNoText }
 {}

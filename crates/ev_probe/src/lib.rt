@@ -15,7 +15,7 @@ mod stacks;
 mod text;
 
 pub use input::{InputFault, read_probe};
-pub use laws::{frames_read, tries_end};
+pub use laws::{frames_read, refused_inputs, tries_end};
 pub use probing::{ProbeFault, probe};
 pub use report::{ProbeEnd, Report, Try};
 pub use text::print_report;

@@ -4,12 +4,14 @@ ghost use Rattle.std.specs.Prelude.{◌≡◌, ℕ, List, Ok, ◌+◌, ◌*◌, 
 ghost use Rattle.std.specs.Option.{option_map};
 ghost use Rattle.arrayvec.specs.ArrayString.{array_string_len};
 ghost use Rattle.ev_isa.specs.Word.{bit_if};
+ghost use Rattle.ev_io.specs.InputLines.{lines_of};
 ghost use Rattle.ev_abstract.specs.EntryText.{hex};
 ghost use Rattle.ev_trace.specs.Spaced.{spaced};
 ghost use Rattle.ev_state.specs.Processor.{rsp};
 ghost use Rattle.ev_probe.specs.Told.{noted, told};
 ghost use Rattle.ev_probe.specs.Probe.{cpu_text, end_text, event_text, frame_text, report_text, try_text};
 ghost use Rattle.ev_probe.specs.Answer.{answer_to, probe_text};
+ghost use Rattle.ev_probe.specs.Input.{input_text, read_told};
 
 use crate::report::{ProbeEnd, Report, Try};
 use arrayvec::ArrayString;
@@ -156,6 +158,9 @@ pub fn print_report(r: &Report, out: &mut ArrayString<1024>)
     // so what is printed of a line's report is the line's text
     ensures line { (line : List ℕ) → answer_to line ≡ Ok (told r.now)
         → probe_text line ≡ Ok out.new.bytes }
+    // and what is printed of an input's report is the input's text
+    ensures input { (bytes : List ℕ) → read_told 0 0 (lines_of bytes) ≡ Ok (told r.now)
+        → input_text bytes ≡ Ok out.new.bytes }
 {
     push_tries(r.tries.as_slice(), out);
     push_frame(&r.frame, out);
