@@ -5,6 +5,7 @@ use Rattle.std.proofs.Common.{arith, ap, sym, ◌∙◌, subst}
 use Rattle.std.proofs.lemmas.Bool.{and_parts, and_from, eqb-true, eq-eqb, leb-true, ltb-true, le-leb, lt-leb, lt-ltb, le-ltb, eqb-false}
 use Rattle.std.proofs.lemmas.List.Sums.{sum_by-cons, sum_by-append}
 use Rattle.ev_abstract.specs.Context.{CallId}
+use Rattle.ev_law.proofs.Places.{both_ways}
 use Rattle.ev_call_law.specs.Calls.{is_id, one_if, times}
 
 -- ---- lists
@@ -66,26 +67,11 @@ times_append k xs ys = count_append (is_id k) xs ys
 
 -- ---- one or none
 
-pub one : (t : Bool) → t ≡ true → one_if t ≡ 1
-one t q = ap (λ (t : Bool). one_if t) q
-
-pub none : (t : Bool) → t ≡ false → one_if t ≡ 0
-none t q = ap (λ (t : Bool). one_if t) q
-
 pub is_one : (t : Bool) → 0 < one_if t → t ≡ true
 is_one true h = refl
 is_one false h = absurd (omega (arith, h))
 
-pub not_one : (t : Bool) → one_if t ≡ 0 → t ≡ false
-not_one true h = absurd (cc)
-not_one false h = refl
-
 -- ---- numbers of calls
-
-both_ways : (x y : Bool) → (x ≡ true → y ≡ true) → (y ≡ true → x ≡ true) → x ≡ y
-both_ways true y f g = sym (f refl)
-both_ways false true f g = g refl
-both_ways false false f g = refl
 
 pub equal_sym : (a b : ℕ) → (a == b) ≡ (b == a)
 equal_sym a b = both_ways (a == b) (b == a) (λ h. eq-eqb b a (sym (eqb-true a b h))) (λ h. eq-eqb a b (sym (eqb-true b a h)))

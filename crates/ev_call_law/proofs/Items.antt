@@ -94,9 +94,9 @@ enter_plain image p x e past = pick (first_body 0 image.bodies (event_key e.kind
 
 -- ---- a return
 
-dropped_queue : (image : Image) (c : BodyContext) (x : Processor) (below : List BodyContext)
+dropped_rest : (image : Image) (c : BodyContext) (x : Processor) (below : List BodyContext)
     → ((dropped image c x below).queue ≡ x.queue) × ((dropped image c x below).bodies ≡ below)
-dropped_queue image c x [] = pick (x.resched && not (is_nmi_body image c))
+dropped_rest image c x [] = pick (x.resched && not (is_nmi_body image c))
   where
     switch : (y : Processor) (ts : List ℕ) → ((switched y ts).queue ≡ y.queue) × ((switched y ts).bodies ≡ y.bodies)
     switch y [] = (refl, refl)
@@ -106,7 +106,7 @@ dropped_queue image c x [] = pick (x.resched && not (is_nmi_body image c))
         × ((if b then rescheduled (record x { bodies = [] }) else record x { bodies = [] }).bodies ≡ [])
     pick true = switch (record x { bodies = []; resched = false }) (x.waiting ++ x.running ∷ [])
     pick false = (refl, refl)
-dropped_queue image c x (b ∷ bs) = (refl, refl)
+dropped_rest image c x (b ∷ bs) = (refl, refl)
 
 no_calls : (ks : List CallId) → runs_calls ks ≡ false → ks ≡ []
 no_calls [] h = refl
@@ -299,7 +299,7 @@ module _ (image : Image) (ruled : (n : ℕ) (b : Body) → slice_get image.bodie
         → KeptStep image past (with_processor m p (dropped image c (processor m p) (below_last (processor m p).bodies)), [])
     return_kept e =
         let x : Processor = dropped image c (processor m p) (below_last (processor m p).bodies) in
-        let d = dropped_queue image c (processor m p) (below_last (processor m p).bodies) in
+        let d = dropped_rest image c (processor m p) (below_last (processor m p).bodies) in
         let b : x.bodies ≡ below = d.1 ∙ ap below_last here in
         let nothing : c.calls ≡ [] = nothing_here (is_parted.ret c.place e) in
         same_kept image m (with_processor m p x) past [] keeps

@@ -124,15 +124,15 @@ not_free Taken h = absurd (cc)
 
 -- ---- another last context
 
+context_records : (n : Machine) (p : ℕ) (d : BodyContext) (k : CallId) → record_of (with_context n p d) k ≡ record_of n k
+context_records n p d k = ap (λ (f : NatMap CallRecord). f k.site)
+    (put_field (λ y. y.records) n p (record (processor n p) { bodies = replace_last d (processor n p).bodies }) refl k.from)
+
+context_queue : (n : Machine) (p : ℕ) (d : BodyContext) (q : ℕ) → (processor (with_context n p d) q).queue ≡ (processor n q).queue
+context_queue n p d q = put_field (λ y. y.queue) n p (record (processor n p) { bodies = replace_last d (processor n p).bodies }) refl q
+
 module _ (m n : Machine) (p : ℕ) (c d : BodyContext) (below : List BodyContext) (same : (q : ℕ) → (processor n q).bodies ≡ (processor m q).bodies)
     (here : (processor m p).bodies ≡ c ∷ below) where
-  context_records : (k : CallId) → record_of (with_context n p d) k ≡ record_of n k
-  context_records k = ap (λ (f : NatMap CallRecord). f k.site)
-      (put_field (λ y. y.records) n p (record (processor n p) { bodies = replace_last d (processor n p).bodies }) refl k.from)
-
-  context_queue : (q : ℕ) → (processor (with_context n p d) q).queue ≡ (processor n q).queue
-  context_queue q = put_field (λ y. y.queue) n p (record (processor n p) { bodies = replace_last d (processor n p).bodies }) refl q
-
   context_lists : (q : ℕ) → to_run (processor (with_context n p d) q).bodies ≡ (if q == p then d.calls ++ to_run below else to_run (processor m q).bodies)
   context_lists q = pick (q == p)
     where
@@ -201,13 +201,13 @@ module _ (image : Image) (m : Machine) (past : List Entry) (keeps : KeepsCallRec
     call_record : (j : CallId) → record_of call_after j ≡ (if is_id j k then r else record_of m j)
     unfolding made r call_after
     call_record j = let n : Machine = with_record m k r in
-        context_records m made p c d below made_bodies here j ∙ with_queue_records n r.to ((processor n r.to).queue ++ k ∷ []) j ∙ with_record_at m k r j
+        context_records made p d j ∙ with_queue_records n r.to ((processor n r.to).queue ++ k ∷ []) j ∙ with_record_at m k r j
 
     call_queue : (j : CallId) (q : ℕ) → times j (processor call_after q).queue ≡ times j (processor m q).queue + one_if (is_id j k && (q == to))
     unfolding made r call_after
     call_queue j q =
         let n : Machine = with_record m k r in
-        ap (times j) (context_queue m made p c d below made_bodies here q ∙ with_queue_at n r.to ((processor n r.to).queue ++ k ∷ []) q) ∙ pick (q == to) refl
+        ap (times j) (context_queue made p d q ∙ with_queue_at n r.to ((processor n r.to).queue ++ k ∷ []) q) ∙ pick (q == to) refl
       where
         pick : (b : Bool) → q == to ≡ b
             → times j (if b then (processor (with_record m k r) r.to).queue ++ k ∷ [] else (processor (with_record m k r) q).queue)
@@ -333,13 +333,13 @@ module _ (image : Image) (m : Machine) (past : List Entry) (keeps : KeepsCallRec
     take_record : (j : CallId) → record_of take_after j ≡ (if waits j then in_state (record_of m j) Taken else record_of m j)
     unfolding took emptied take_after waits
     take_record j =
-        context_records m emptied p c d below emptied_bodies here j ∙ with_queue_records took p [] j ∙ taken_records (processor m p).queue m j
+        context_records emptied p d j ∙ with_queue_records took p [] j ∙ taken_records (processor m p).queue m j
         ∙ ap (λ b. if b then in_state (record_of m j) Taken else record_of m j) (in_list j (processor m p).queue (waits j) ((keeps.placed j).queue p))
 
     take_queue : (j : CallId) (q : ℕ) → times j (processor take_after q).queue ≡ (if q == p then 0 else times j (processor m q).queue)
     unfolding took emptied take_after
     take_queue j q =
-        ap (times j) (context_queue m emptied p c d below emptied_bodies here q ∙ with_queue_at took p [] q) ∙ pick (q == p)
+        ap (times j) (context_queue emptied p d q ∙ with_queue_at took p [] q) ∙ pick (q == p)
       where
         pick : (b : Bool) → times j (if b then [] else (processor took q).queue) ≡ (if b then 0 else times j (processor m q).queue)
         pick true = refl
@@ -455,11 +455,11 @@ module _ (image : Image) (m : Machine) (past : List Entry) (keeps : KeepsCallRec
 
     finish_record : (j : CallId) → record_of finish_after j ≡ (if is_id j k then in_state (record_of m k) Free else record_of m j)
     unfolding freed finish_after
-    finish_record j = context_records m freed p c d below freed_bodies here j ∙ with_record_at m k (in_state (record_of m k) Free) j
+    finish_record j = context_records freed p d j ∙ with_record_at m k (in_state (record_of m k) Free) j
 
     finish_queue : (q : ℕ) → (processor finish_after q).queue ≡ (processor m q).queue
     unfolding freed finish_after
-    finish_queue q = context_queue m freed p c d below freed_bodies here q ∙ with_record_queue m k (in_state (record_of m k) Free) q
+    finish_queue q = context_queue freed p d q ∙ with_record_queue m k (in_state (record_of m k) Free) q
 
     finish_list : (j : CallId) (q : ℕ) → times j (to_run (processor finish_after q).bodies)
         ≡ (if q == p then times j ks + times j (to_run below) else times j (to_run (processor m q).bodies))
