@@ -32,7 +32,7 @@ use Rattle.ev_abstract.specs.UserCode.{executed, user_step}
 use Rattle.ev_abstract.specs.declared.entry.Entry.{Entry}
 use Rattle.ev_abstract.specs.declared.script_line.Line.{Line}
 use Rattle.ev_abstract.specs.declared.script_line.Line.TheVariants.{Accept, Arrive, Turn}
-use Rattle.ev_call_law.specs.Calls.{first_function, function_at, has_run, is_free, is_queued, one_if, is_taken, times, to_run, was_queued}
+use Rattle.ev_call_law.specs.Calls.{first_function, function_at, has_run, is_call_of, is_free, is_queued, one_if, is_taken, times, to_run, was_queued}
 
 -- ---- the invariant as a test
 
@@ -59,7 +59,8 @@ abbrev is_told : Machine → List Entry → CallId → ℕ → Bool
 is_told m entries k n =
     (count_by (is_call k.from k.site n) entries == one_if (was_queued (record_of m k) n))
     && (count_by (is_ran k.from k.site n) entries == one_if (has_run (record_of m k) n))
-    && (not (nat_lt 0 (record_of m k).number) || list_any (is_entry_of k (record_of m k)) entries)
+    && (count_by (is_call_of k) entries == (record_of m k).number) &&
+    (not (nat_lt 0 (record_of m k).number) || list_any (is_entry_of k (record_of m k)) entries)
 
 abbrev same_option : Option ℕ → Option ℕ → Bool
 same_option None o = is_none o

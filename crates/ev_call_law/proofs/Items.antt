@@ -1,5 +1,5 @@
 -- Each item keeps the records of calls.
-use Rattle.std.specs.Prelude.{◌≡◌, refl, ℕ, suc, ◌<◌, Bool, true, false, not, ◌&&◌, ◌||◌, ◌==◌, ◌+◌, if◌then◌else◌, List, [], ◌∷◌, ◌++◌, Option, Some, None, slice_get, nat_lt, nat_le}
+use Rattle.std.specs.Prelude.{◌≡◌, refl, ℕ, suc, ◌<◌, ◌≤◌, length, Bool, true, false, not, ◌&&◌, ◌||◌, ◌==◌, ◌+◌, if◌then◌else◌, List, [], ◌∷◌, ◌++◌, Option, Some, None, slice_get, nat_lt, nat_le}
 use Rattle.std.specs.List.{list_any, list_all}
 use Rattle.std.proofs.Common.{arith, ap, sym, ◌∙◌, subst, append-nil}
 use Rattle.std.proofs.lemmas.Bool.{and_parts, and_from, not-false, ltb-true, lt-leb, le-leb, or_right}
@@ -41,15 +41,15 @@ use Rattle.ev_call_law.proofs.Steps.{emptied_func, freed_func, call_kept, take_k
 
 log_plain : (p v : ℕ) → IsPlain (Entry.Log p v)
 unfolding is_call is_ran
-log_plain p v = record { call = λ f s n. refl; ran = λ f s n. refl }
+log_plain p v = record { call = λ f s n. refl; ran = λ f s n. refl; made = λ k. refl }
 
 busy_plain : (p s : ℕ) → IsPlain (Entry.Busy p s)
 unfolding is_call is_ran
-busy_plain p s = record { call = λ f s n. refl; ran = λ f s n. refl }
+busy_plain p s = record { call = λ f s n. refl; ran = λ f s n. refl; made = λ k. refl }
 
 done_plain : (p s x : ℕ) → IsPlain (Entry.Done p s x)
 unfolding is_call is_ran
-done_plain p s x = record { call = λ f s n. refl; ran = λ f s n. refl }
+done_plain p s x = record { call = λ f s n. refl; ran = λ f s n. refl; made = λ k. refl }
 
 -- ---- a delivery
 
@@ -78,18 +78,20 @@ delivered_lists image p x e = pick (first_body 0 image.bodies (event_key e.kind 
     pick None = refl
     pick (Some n) = with n (slice_get image.bodies n) refl
 
-enter_plain : (image : Image) (p : ℕ) (x : Processor) (e : Event) (past : List Entry)
-    → ArePlain (delivered image p x e).1 × AllFit past (delivered image p x e).1
+-- entries that move no call, at most one
+abbrev IsQuiet : List Entry → List Entry → Type 0
+IsQuiet past es = ArePlain es × AllFit past es × (length es ≤ 1)
+
+enter_plain : (image : Image) (p : ℕ) (x : Processor) (e : Event) (past : List Entry) → IsQuiet past (delivered image p x e).1
 unfolding delivered is_call is_ran
 enter_plain image p x e past = pick (first_body 0 image.bodies (event_key e.kind e.vector) (side_of x.bodies))
   where
-    with : (n : ℕ) (o : Option Body) → slice_get image.bodies n ≡ o
-        → ArePlain (entered p x e (side_of x.bodies) (Some n) image.bodies).1 × AllFit past (entered p x e (side_of x.bodies) (Some n) image.bodies).1
-    with n None q = rw q (tt, tt)
-    with n (Some b) q = rw q ((record { call = λ f s n. refl; ran = λ f s n. refl }, tt), (tt, tt))
+    with : (n : ℕ) (o : Option Body) → slice_get image.bodies n ≡ o → IsQuiet past (entered p x e (side_of x.bodies) (Some n) image.bodies).1
+    with n None q = rw q (tt, tt, omega arith)
+    with n (Some b) q = rw q ((record { call = λ f s n. refl; ran = λ f s n. refl; made = λ k. refl }, tt), (tt, tt), omega arith)
 
-    pick : (o : Option ℕ) → ArePlain (entered p x e (side_of x.bodies) o image.bodies).1 × AllFit past (entered p x e (side_of x.bodies) o image.bodies).1
-    pick None = (tt, tt)
+    pick : (o : Option ℕ) → IsQuiet past (entered p x e (side_of x.bodies) o image.bodies).1
+    pick None = (tt, tt, omega arith)
     pick (Some n) = with n (slice_get image.bodies n) refl
 
 -- ---- a return
@@ -152,7 +154,7 @@ module _ (image : Image) (ruled : (n : ℕ) (b : Body) → slice_get image.bodie
       same_kept image m (with_processor n p (delivered image p x e).0) past (delivered image p x e).1 keeps
       (put_calls image m n p (delivered image p x e).0 same (delivered_records image p x e ∙ r) (delivered_queue image p x e ∙ u)
       (delivered_lists image p x e ∙ ap to_run b) (λ h. delivered_runs m p x e (subst (RunTheirCalls image m) (sym b) h)))
-      plain.0 plain.1
+      plain.0 plain.1 plain.2
 
   pub raised_kept : (m : Machine) (p : ℕ) (e : Event) (past : List Entry) → KeepsCallRecords image m past → KeptStep image past (raised image m p e)
   raised_kept m p e past keeps = delivered_kept m m p (processor m p) e past keeps (same_self m) refl refl refl
@@ -188,20 +190,22 @@ module _ (image : Image) (ruled : (n : ℕ) (b : Body) → slice_get image.bodie
     }
 
     shows : (n : Machine) (d : BodyContext) (es : List Entry) → Same m n → d.body ≡ c.body → d.calls ≡ c.calls
-        → function_at top.0.body d.place ≡ function_at top.0.body c.place → ArePlain es → AllFit past es → KeptStep image past (with_context n p d, es)
-    shows n d es same body calls e plain fit =
+        → function_at top.0.body d.place ≡ function_at top.0.body c.place → ArePlain es → AllFit past es → length es ≤ 1
+        → KeptStep image past (with_context n p d, es)
+    shows n d es same body calls e plain fit short =
         same_kept image m (with_context n p d) past es keeps (goes_on image m n p c d below same here calls (λ h. stands d body calls e)) plain fit
+        short
 
     next : (n : Machine) (d : BodyContext) (item : Item) → Same m n → slice_get (body_items top.0.body) c.place ≡ Some item
         → is_ret item ≡ false → is_finish item ≡ false → d.body ≡ c.body → d.calls ≡ c.calls → d.place ≡ suc c.place
         → KeptStep image past (with_context n p d, [])
     next n d item same e r f body calls q =
-        shows n d [] same body calls (ap (function_at top.0.body) q ∙ is_parted.next c.place item e r f) tt tt
+        shows n d [] same body calls (ap (function_at top.0.body) q ∙ is_parted.next c.place item e r f) tt tt (omega arith)
 
     jumps : (d : BodyContext) (item : Item) (n : ℕ) → slice_get (body_items top.0.body) c.place ≡ Some item → jump_target item ≡ Some n
         → d.body ≡ c.body → d.calls ≡ c.calls → d.place ≡ n → KeptStep image past (with_context m p d, [])
     jumps d item n e j body calls q =
-        shows m d [] (same_self m) body calls (ap (function_at top.0.body) q ∙ is_parted.leads c.place item n e j) tt tt
+        shows m d [] (same_self m) body calls (ap (function_at top.0.body) q ∙ is_parted.leads c.place item n e j) tt tt (omega arith)
 
     -- ---- `call` and `wait`
 
@@ -222,7 +226,7 @@ module _ (image : Image) (ruled : (n : ℕ) (b : Body) → slice_get image.bodie
         (record { from = l; site = t; to = range.1; func = range.2; number = omega arith }))
     called_kept k _ site to func s from at busy e r f =
         shows m (onward (with_local (unknown_flags c) s 0)) (Entry.Busy p k.site ∷ []) (same_self m) refl refl
-        (is_parted.next c.place (Call site to func s) e r f) (busy_plain p k.site, tt) (tt, tt)
+        (is_parted.next c.place (Call site to func s) e r f) (busy_plain p k.site, tt) (tt, tt) (omega arith)
 
     waited_kept : (k : CallId) (state : CallState) (site : ℕ) → k.from ≡ p → (record_of m k).state ≡ state
         → slice_get (body_items top.0.body) c.place ≡ Some (Wait site) → is_ret (Wait site) ≡ false → is_finish (Wait site) ≡ false
@@ -239,8 +243,8 @@ module _ (image : Image) (ruled : (n : ℕ) (b : Body) → slice_get image.bodie
               (or_right (nat_lt number number) (is_free (record_of m k).state) (ap is_free free))) in
               omega (arith, l, o))),
           tt,
-        )
-    waited_kept k _ site from busy e r f = shows m (unknown_flags c) [] (same_self m) refl refl refl tt tt
+        ) (omega arith)
+    waited_kept k _ site from busy e r f = shows m (unknown_flags c) [] (same_self m) refl refl refl tt tt (omega arith)
 
     -- ---- `take` and `finish`
 
@@ -279,7 +283,7 @@ module _ (image : Image) (ruled : (n : ℕ) (b : Body) → slice_get image.bodie
 
     finish_item : (cs : List CallId) → c.calls ≡ cs → list_all (knows image m) cs ≡ true → slice_get (body_items top.0.body) c.place ≡ Some Finish
         → is_ret Take ≡ false → is_finish Take ≡ false → KeptStep image past (finished image m p c cs)
-    finish_item [] q known e r f = same_kept image m m past [] keeps (same_calls image m m (same_self m)) tt tt
+    finish_item [] q known e r f = same_kept image m m past [] keeps (same_calls image m m (same_self m)) tt tt (omega arith)
     finish_item (k ∷ ks) q known e r f =
         let n : Machine = with_record m k (in_state (record_of m k) Free) in
         let t = (is_ruled.part c.place top.0.at.place (is_ruled.finish c.place e)).1 in
@@ -306,7 +310,7 @@ module _ (image : Image) (ruled : (n : ℕ) (b : Body) → slice_get image.bodie
         (put_calls image m m p x (same_self m) (dropped_records image c (processor m p) (below_last (processor m p).bodies)) d.0
         (ap to_run b ∙ sym (ap to_run here ∙ ap (λ ks. ks ++ to_run below) nothing))
         (λ h. subst (RunTheirCalls image m) (sym b) (subst (RunTheirCalls image m) here h).1))
-        tt tt
+        tt tt (omega arith)
 
     jcc_kept : (cond : Cond) (n : ℕ) (t : Bool) → slice_get (body_items top.0.body) c.place ≡ Some (Jcc cond n) → jump_target (Jcc cond n) ≡ Some n
         → is_ret (Jcc cond n) ≡ false → is_finish (Jcc cond n) ≡ false → KeptStep image past (with_context m p (if t then at_place c n else onward c), [])
@@ -323,7 +327,7 @@ module _ (image : Image) (ruled : (n : ℕ) (b : Body) → slice_get image.bodie
     item_kept (Goto n) e = jumps (at_place c n) (Goto n) n e refl refl refl refl
     item_kept Nop e = next m (onward c) Nop (same_self m) e refl refl refl refl refl
     item_kept (Log s) e = shows m (onward c) (Entry.Log p (local c s) ∷ []) (same_self m) refl refl (is_parted.next c.place (Log s) e refl refl)
-        (log_plain p (local c s), tt) (tt, tt)
+        (log_plain p (local c s), tt) (tt, tt) (omega arith)
     item_kept (Cpu d) e = next m (onward (with_local c d p)) (Cpu d) (same_self m) e refl refl refl refl refl
     item_kept (Slot d k) e = next m (onward (with_local c d ((processor m p).slots k))) (Slot d k) (same_self m) e refl refl refl refl refl
     item_kept (Put k s) e = next (with_slot m p k (local c s)) (onward c) (Put k s)

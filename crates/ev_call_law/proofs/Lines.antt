@@ -1,6 +1,6 @@
 -- Each line of a script keeps the records of calls.
 use Rattle.std.specs.Prelude.{◌≡◌, refl, ℕ, ◌<◌, true, false, List, [], ◌∷◌, Option, Some, None, slice_get}
-use Rattle.std.proofs.Common.{sym, subst}
+use Rattle.std.proofs.Common.{arith, sym, subst}
 use Rattle.std.proofs.lemmas.Bool.{ltb-true}
 use Rattle.ev_isa.specs.Word.{put_at}
 use Rattle.ev_event.specs.Event.{nmi_event, interrupt_event}
@@ -35,12 +35,12 @@ module _ (image : Image) (ruled : (n : ℕ) (b : Body) → slice_get image.bodie
     (parted : (n : ℕ) (b : Body) → slice_get image.bodies n ≡ Some b → IsParted b) where
   module _ (m : Machine) (past : List Entry) (keeps : KeepsCallRecords image m past) where
     unchanged : (n : Machine) → Same m n → KeptStep image past (n, [])
-    unchanged n same = same_kept image m n past [] keeps (same_calls image m n same) tt tt
+    unchanged n same = same_kept image m n past [] keeps (same_calls image m n same) tt tt (omega arith)
 
     task_kept : (p : ℕ) (s : UserStep) → KeptStep image past (task_step image m p s)
     task_kept p (Goes t words) = let n : Machine = record m { words = words } in
         same_kept image m (with_processor n p (with_task (processor m p) t)) past [] keeps
-        (put_calls image m n p (with_task (processor m p) t) (same_words m words) refl refl refl (λ h. h)) tt tt
+        (put_calls image m n p (with_task (processor m p) t) (same_words m words) refl refl refl (λ h. h)) tt tt (omega arith)
     task_kept p (Raises saved e) = delivered_kept image ruled parted m m p
         (with_task (processor m p) (saved_by e.kind (record (task (processor m p)) { rip = saved }))) e past keeps (same_self m) refl refl refl
 

@@ -1,5 +1,5 @@
 -- Steps that leave each call where it is and each context in its function: records, queues and lists stay.
-use Rattle.std.specs.Prelude.{◌≡◌, refl, ℕ, ◌+◌, ◌<◌, Bool, true, false, ◌&&◌, ◌==◌, if◌then◌else◌, List, [], ◌∷◌, ◌++◌, Some, count_by}
+use Rattle.std.specs.Prelude.{◌≡◌, refl, ℕ, ◌+◌, ◌<◌, ◌≤◌, length, Bool, true, false, ◌&&◌, ◌==◌, if◌then◌else◌, List, [], ◌∷◌, ◌++◌, Some, count_by}
 use Rattle.std.specs.List.{list_any}
 use Rattle.std.proofs.Common.{arith, ap, sym, ◌∙◌, subst, append_assoc}
 use Rattle.std.proofs.lemmas.Bool.{eqb-true}
@@ -15,7 +15,7 @@ use Rattle.ev_abstract.specs.declared.entry.Entry.{Entry}
 use Rattle.ev_abstract.specs.declared.entry.Entry.TheVariants.{Ran, Done}
 use Rattle.ev_abstract.specs.CallLaws.{is_call, is_ran}
 use Rattle.ev_abstract.specs.ItemMeaning.{Step, replace_last, with_context, with_cell, with_page, mailed, with_mail}
-use Rattle.ev_call_law.specs.Calls.{HasEntry, one_if, times, to_run, is_queued, is_taken, is_free, IsInRange, IsPlaced, IsTold, first_function, RunsItsCall, RunTheirCalls, KeepsCallRecords}
+use Rattle.ev_call_law.specs.Calls.{HasEntry, is_call_of, one_if, times, to_run, is_queued, is_taken, is_free, IsInRange, IsPlaced, IsTold, first_function, RunsItsCall, RunTheirCalls, KeepsCallRecords}
 use Rattle.ev_call_law.proofs.Counts.{count_append, count_cons, count_push, times_append, times_same}
 use Rattle.ev_law.proofs.Machines.{mailed_same}
 
@@ -36,6 +36,7 @@ AllFit past (e ∷ es) = Fits past e × AllFit (past ++ e ∷ []) es
 pub record IsPlain (e : Entry) : Type 0 where
   pub call : (from site number : ℕ) → is_call from site number e ≡ false
   pub ran : (from site number : ℕ) → is_ran from site number e ≡ false
+  pub made : (k : CallId) → is_call_of k e ≡ false
 
 abbrev pub ArePlain : List Entry → Type 0
 ArePlain [] = Unit {0}
@@ -63,15 +64,18 @@ pub told_more : (k : CallId) (r : CallRecord) (past es : List Entry) → IsTold 
 told_more k r past es t h = record {
   calls = λ n. plain_more (is_call k.from k.site n) past es (λ e p. p.call k.from k.site n) h ∙ t.calls n;
   runs = λ n. plain_more (is_ran k.from k.site n) past es (λ e p. p.ran k.from k.site n) h ∙ t.runs n;
+  total = plain_more (is_call_of k) past es (λ e p. p.made k) h ∙ t.total;
   last = λ l. said_more k r.number r.to r.func r.arg past es (t.last l);
 }
 
 -- the same of one entry, for one call
 pub told_past : (k : CallId) (r : CallRecord) (past : List Entry) (e : Entry) → ((n : ℕ) → is_call k.from k.site n e ≡ false)
-    → ((n : ℕ) → is_ran k.from k.site n e ≡ false) → IsTold k r past → IsTold k r (past ++ e ∷ [])
-told_past k r past e f g t = record {
+    → ((n : ℕ) → is_ran k.from k.site n e ≡ false) → is_call_of k e ≡ false → IsTold k r past
+    → IsTold k r (past ++ e ∷ [])
+told_past k r past e f g h t = record {
   calls = λ n. count_push (is_call k.from k.site n) past e ∙ ap (λ t. count_by (is_call k.from k.site n) past + one_if t) (f n) ∙ omega arith ∙ t.calls n;
   runs = λ n. count_push (is_ran k.from k.site n) past e ∙ ap (λ t. count_by (is_ran k.from k.site n) past + one_if t) (g n) ∙ omega arith ∙ t.runs n;
+  total = count_push (is_call_of k) past e ∙ ap (λ t. count_by (is_call_of k) past + one_if t) h ∙ omega arith ∙ t.total;
   last = λ l. said_more k r.number r.to r.func r.arg past (e ∷ []) (t.last l);
 }
 
@@ -206,10 +210,11 @@ module _ (image : Image) where
   pub record KeptStep (past : List Entry) (s : Step) : Type 0 where
     pub kept : KeepsCallRecords image s.0 (past ++ s.1)
     pub fit : AllFit past s.1
+    pub short : length s.1 ≤ 1
 
-  pub same_kept : (m n : Machine) (past es : List Entry) → KeepsCallRecords image m past → SameCalls m n → ArePlain es → AllFit past es
+  pub same_kept : (m n : Machine) (past es : List Entry) → KeepsCallRecords image m past → SameCalls m n → ArePlain es → AllFit past es → length es ≤ 1
       → KeptStep past (n, es)
-  same_kept m n past es k s plain fit = record {
+  same_kept m n past es k s plain fit short = record {
     kept = record {
       placed = λ j. placed_by image n j (record_of m j) (same_record m n s j) (λ q. ap (times j) (s.queues q) ∙ (k.placed j).queue q)
           (λ q. ap (times j) (s.lists q) ∙ (k.placed j).list q) (k.placed j).fits;
@@ -217,4 +222,5 @@ module _ (image : Image) where
       runs = λ q. runs_under m n (processor n q).bodies (λ j l. ap (λ (r : CallRecord). r.func) (same_record m n s j)) (s.runs q (k.runs q));
     };
     fit = fit;
+    short = short;
   }

@@ -1,7 +1,8 @@
 -- Runs keep the records of calls; what follows of traces and of contexts.
-use Rattle.std.specs.Prelude.{◌≡◌, refl, ℕ, ◌≤◌, ◌<◌, ◌+◌, Bool, true, false, ◌&&◌, ◌||◌, ◌==◌, nat_le, nat_lt, List, [], ◌∷◌, ◌++◌, Some}
+use Rattle.std.specs.Prelude.{◌≡◌, refl, ℕ, ◌≤◌, ◌<◌, ◌+◌, Bool, true, false, ◌&&◌, ◌||◌, ◌==◌, nat_le, nat_lt, List, [], ◌∷◌, ◌++◌, length, Some}
 use Rattle.std.specs.List.{list_all}
-use Rattle.std.proofs.Common.{arith, ap, sym, ◌∙◌, subst, append_assoc, append-nil}
+use Rattle.std.proofs.Common.{arith, ap, sym, ◌∙◌, subst, append_assoc, append-nil, length-append}
+use Rattle.std.proofs.lemmas.List.Sums.{count_by-le-length}
 use Rattle.std.proofs.lemmas.Bool.{and_parts, eqb-true, false_from_ne_true, leb-true}
 use Rattle.ev_body.specs.declared.image.Image.{Image}
 use Rattle.ev_body.specs.WellFormed.{IsImage}
@@ -17,8 +18,8 @@ use Rattle.ev_abstract.specs.declared.entry.Entry.TheVariants.{Ran, Done}
 use Rattle.ev_abstract.specs.declared.script_line.Line.{Line}
 use Rattle.ev_abstract.specs.Run.{line_step, after, entries_from, run, trace}
 use Rattle.ev_law.specs.Legal.{Legal, runs_calls}
-use Rattle.ev_call_law.specs.Calls.{one_if, times, to_run, is_taken, has_run, RunsItsCall, RunTheirCalls, KeepsCallRecords}
-use Rattle.ev_call_law.specs.Laws.{OpeningKeepsCalls, LinesKeepCalls, RunsKeepCalls, CallsRunOnTheirTargets, ContextsRunTheirCalls, HasACall, FinishesHaveCalls}
+use Rattle.ev_call_law.specs.Calls.{is_call_of, one_if, times, to_run, is_taken, has_run, RunsItsCall, RunTheirCalls, KeepsCallRecords}
+use Rattle.ev_call_law.specs.Laws.{TracesAreShort, NumbersAreBounded, OpeningKeepsCalls, LinesKeepCalls, RunsKeepCalls, CallsRunOnTheirTargets, ContextsRunTheirCalls, HasACall, FinishesHaveCalls}
 use Rattle.ev_law.proofs.Ruled.{body_ruled}
 use Rattle.ev_call_law.proofs.Functions.{body_parted}
 use Rattle.ev_law.proofs.Lines.{lines_keep_legal}
@@ -41,6 +42,7 @@ opening_keeps_calls image = record {
   told = λ k. record {
     calls = λ n. sym (ap one_if (none_queued n));
     runs = λ n. sym (ap (λ t. one_if (t && (nat_lt n 0 || true))) (none_queued n));
+    total = refl;
     last = λ l. absurd (omega (arith, l));
   };
   runs = λ q. tt;
@@ -54,18 +56,19 @@ step_kept image m past l is accepted k legal keeps =
 pub lines_keep_calls : LinesKeepCalls
 lines_keep_calls image m entries l is accepted k legal keeps = (step_kept image m entries l is accepted k legal keeps).kept
 
-record KeptRun (image : Image) (m : Machine) (past entries : List Entry) : Type 0 where
+record KeptRun (image : Image) (m : Machine) (past entries : List Entry) (lines : ℕ) : Type 0 where
   kept : KeepsCallRecords image m (past ++ entries)
   fit : AllFit past entries
+  short : length entries ≤ lines
 
 fit_then : (past xs ys : List Entry) → AllFit past xs → AllFit (past ++ xs) ys → AllFit past (xs ++ ys)
 fit_then past [] ys h k = subst (λ p. AllFit p ys) (append-nil past) k
 fit_then past (x ∷ xs) ys h k = (h.0, fit_then (past ++ x ∷ []) xs ys h.1 (subst (λ p. AllFit p ys) (sym (append_assoc past (x ∷ []) xs)) k))
 
 after_kept : (image : Image) (ls : List Line) (m : Machine) (past : List Entry) → IsImage image → IsAccepted image → list_all (is_line image) ls ≡ true
-    → Legal image m → KeepsCallRecords image m past → KeptRun image (after image m ls) past (entries_from image m ls)
+    → Legal image m → KeepsCallRecords image m past → KeptRun image (after image m ls) past (entries_from image m ls) (length ls)
 after_kept image [] m past is accepted s legal keeps =
-    record { kept = subst (KeepsCallRecords image m) (sym (append-nil past)) keeps; fit = tt }
+    record { kept = subst (KeepsCallRecords image m) (sym (append-nil past)) keeps; fit = tt; short = omega arith }
 after_kept image (l ∷ ls) m past is accepted s legal keeps =
     let k = and_parts (is_line image l) _ s in
     let next : Machine = (line_step image m l).0 in
@@ -75,10 +78,11 @@ after_kept image (l ∷ ls) m past is accepted s legal keeps =
     record {
       kept = subst (KeepsCallRecords image (after image next ls)) (append_assoc past es (entries_from image next ls)) rest.kept;
       fit = fit_then past es (entries_from image next ls) one.fit rest.fit;
+      short = (let t = length-append es (entries_from image next ls) in let a = one.short in let b = rest.short in omega (arith, t, a, b));
     }
 
 run_kept : (image : Image) (script : List Line) → IsImage image → IsAccepted image → IsScript image script
-    → KeptRun image (run image script) [] (trace image script)
+    → KeptRun image (run image script) [] (trace image script) (length script)
 run_kept image script is accepted s =
     after_kept image script (opening image) [] is accepted s (opening_is_legal image) (opening_keeps_calls image)
 
@@ -107,6 +111,18 @@ calls_are_kept image script is accepted s = let k = run_kept image script is acc
 pub calls_run_on_their_targets : CallsRunOnTheirTargets
 calls_run_on_their_targets image script is accepted s before rest p from site number q =
     (fit_at [] before (Ran p from site number) rest (subst (AllFit []) q (run_kept image script is accepted s).fit)).1
+
+-- ---- numbers
+
+pub traces_are_short : TracesAreShort
+traces_are_short image script is accepted s = (run_kept image script is accepted s).short
+
+pub numbers_are_bounded : NumbersAreBounded
+numbers_are_bounded image script k is accepted s =
+    let r = run_kept image script is accepted s in
+    let total = (r.kept.told k).total in
+    let some = count_by-le-length (is_call_of k) (trace image script) in
+    let short = r.short in omega (arith, total, some, short)
 
 -- ---- contexts
 

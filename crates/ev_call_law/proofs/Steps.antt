@@ -11,7 +11,7 @@ use Rattle.ev_abstract.specs.CrossCall.{record_of, with_record, in_state, with_q
 use Rattle.ev_abstract.specs.declared.entry.Entry.{Entry}
 use Rattle.ev_abstract.specs.CallLaws.{is_call, is_ran}
 use Rattle.ev_abstract.specs.ItemMeaning.{replace_last, with_context}
-use Rattle.ev_call_law.specs.Calls.{HasEntry, is_id, one_if, times, to_run, is_queued, is_taken, is_free, was_queued, IsInRange, IsPlaced, IsTold, RunsItsCall, RunTheirCalls, KeepsCallRecords}
+use Rattle.ev_call_law.specs.Calls.{HasEntry, is_call_of, is_id, one_if, times, to_run, is_queued, is_taken, is_free, was_queued, IsInRange, IsPlaced, IsTold, RunsItsCall, RunTheirCalls, KeepsCallRecords}
 use Rattle.ev_call_law.proofs.Counts.{count_push, any_counted, counted_any, same_call, id_self, id_sym, times_same, times_other, times_append, equal_sym, is_one, queued_more, queued_runs, runs_more}
 use Rattle.ev_call_law.proofs.Records.{AllFit, put_field, runs_under, placed_by, said_more, told_more, told_past, KeptStep}
 
@@ -272,6 +272,8 @@ module _ (image : Image) (m : Machine) (past : List Entry) (keeps : KeepsCallRec
       runs = λ n. pushed (is_ran k.from k.site n) past (Entry.Call k.from k.site (suc number) to func arg) false (call_not_ran k k n (suc number) to func arg)
           ∙ omega arith ∙ (keeps.told k).runs n
           ∙ ap (λ (s : CallState). one_if ((nat_le 1 n && nat_le n number) && (nat_lt n number || is_free s))) free ∙ sym (queued_runs number n);
+      total = pushed (is_call_of k) past (Entry.Call k.from k.site (suc number) to func arg) (is_id k k) refl
+          ∙ ap (λ t. count_by (is_call_of k) past + one_if t) (id_self k) ∙ (let z = (keeps.told k).total in omega (arith, z));
       last = λ l. record { before = past; rest = []; stands = refl };
     }
 
@@ -279,7 +281,8 @@ module _ (image : Image) (m : Machine) (past : List Entry) (keeps : KeepsCallRec
     unfolding r entry
     call_told_other j e = let number : ℕ = suc (record_of m k).number in
         told_past j (record_of m j) past (Entry.Call k.from k.site number to func arg)
-        (λ n. call_test k j n number to func arg ∙ ap (λ t. t && (number == n)) (id_sym k j ∙ e)) (λ n. call_not_ran k j n number to func arg) (keeps.told j)
+        (λ n. call_test k j n number to func arg ∙ ap (λ t. t && (number == n)) (id_sym k j ∙ e)) (λ n. call_not_ran k j n number to func arg)
+        (id_sym k j ∙ e) (keeps.told j)
 
     pub call_kept : KeptStep image past (
       with_context (queued m k (new_record (record_of m k) to func arg)) p d,
@@ -289,6 +292,7 @@ module _ (image : Image) (m : Machine) (past : List Entry) (keeps : KeepsCallRec
     call_kept = record {
       kept = record { placed = λ j. placed j (is_id j k) refl; told = λ j. told j (is_id j k) refl; runs = runs_after };
       fit = (tt, tt);
+      short = omega arith;
     }
       where
         placed : (j : CallId) (b : Bool) → is_id j k ≡ b → IsPlaced image call_after j
@@ -420,6 +424,7 @@ module _ (image : Image) (m : Machine) (past : List Entry) (keeps : KeepsCallRec
         pick true w = let a = and_parts (is_queued r.state) (r.to == p) w in record {
           calls = (keeps.told j).calls;
           runs = λ n. (keeps.told j).runs n ∙ ap (λ t. one_if (was_queued r n && (nat_lt n r.number || t))) (not_free r.state a.0);
+          total = (keeps.told j).total;
           last = (keeps.told j).last;
         }
         pick false w = keeps.told j
@@ -434,6 +439,7 @@ module _ (image : Image) (m : Machine) (past : List Entry) (keeps : KeepsCallRec
             ∙ func (waits j) (record_of m j)) (context_runs m emptied p c d below emptied_bodies here image runs keeps.runs q);
       };
       fit = tt;
+      short = omega arith;
     }
       where
         func : (b : Bool) (r : CallRecord) → (if b then in_state r Taken else r).func ≡ r.func
@@ -537,6 +543,7 @@ module _ (image : Image) (m : Machine) (past : List Entry) (keeps : KeepsCallRec
               ∙ ap (λ x. x + one_if (number == n)) ((keeps.told k).runs n
               ∙ ap (λ t. one_if (was_queued (record_of m k) n && (nat_lt n number || t))) (taken_not_free (record_of m k).state was_taken.0))
               ∙ runs_more number n range.number;
+          total = pushed (is_call_of k) past (Entry.Ran p k.from k.site number) false refl ∙ omega arith ∙ (keeps.told k).total;
           last = λ l. said_more k number (record_of m k).to (record_of m k).func (record_of m k).arg past (Entry.Ran p k.from k.site number ∷ [])
               ((keeps.told k).last l);
         }
@@ -544,7 +551,7 @@ module _ (image : Image) (m : Machine) (past : List Entry) (keeps : KeepsCallRec
     finish_told_other : (j : CallId) → is_id j k ≡ false → IsTold j (record_of m j) (past ++ Entry.Ran p k.from k.site (record_of m k).number ∷ [])
     finish_told_other j e = let number : ℕ = (record_of m k).number in
         told_past j (record_of m j) past (Entry.Ran p k.from k.site number)
-        (λ n. ran_not_call k j p n number) (λ n. ran_test k j p n number ∙ ap (λ t. t && (number == n)) (id_sym k j ∙ e)) (keeps.told j)
+        (λ n. ran_not_call k j p n number) (λ n. ran_test k j p n number ∙ ap (λ t. t && (number == n)) (id_sym k j ∙ e)) refl (keeps.told j)
 
     -- it was queued before
     finish_fits : AllFit past (Entry.Ran p k.from k.site (record_of m k).number ∷ [])
@@ -571,6 +578,7 @@ module _ (image : Image) (m : Machine) (past : List Entry) (keeps : KeepsCallRec
             (context_runs m freed p c d below freed_bodies here image runs keeps.runs q);
       };
       fit = finish_fits;
+      short = omega arith;
     }
       where
         entries : List Entry

@@ -1,5 +1,5 @@
--- Where the calls of the abstract machine are, which function a context runs, and what a trace tells
--- of calls. Own.
+-- Where the calls of the abstract machine are, which function a context runs, and what a trace
+-- tells of calls. Own.
 use Rattle.std.specs.Prelude.{◌≡◌, ℕ, ◌+◌, ◌<◌, Bool, true, false, ◌&&◌, ◌||◌, nat_lt, nat_le, ◌==◌, if◌then◌else◌, List, [], ◌∷◌, ◌++◌, length, flat_map, Option, Some, None, slice_get, count_by}
 use Rattle.ev_body.specs.declared.body.Part.{Part}
 use Rattle.ev_body.specs.declared.body.Body.{Body}
@@ -52,8 +52,8 @@ pub record IsInRange (image : Image) (k : CallId) (r : CallRecord) : Type 0 wher
   pub func : r.func < 8
   pub number : 0 < r.number
 
--- A call is free and nowhere, or queued and once in the queue of its target alone, or taken and once
--- in the lists of its target's contexts alone.
+-- A call is free and nowhere, or queued and once in the queue of its target alone, or taken and
+-- once in the lists of its target's contexts alone.
 pub record IsPlaced (image : Image) (m : Machine) (k : CallId) : Type 0 where
   pub queue : (q : ℕ) → times k (processor m q).queue
       ≡ one_if (is_queued (record_of m k).state && ((record_of m k).to == q))
@@ -71,17 +71,23 @@ was_queued r n = nat_le 1 n && nat_le n r.number
 abbrev pub has_run : CallRecord → ℕ → Bool
 has_run r n = was_queued r n && (nat_lt n r.number || is_free r.state)
 
+-- whether the entry says that a call of this site was queued
+abbrev pub is_call_of : CallId → Entry → Bool
+is_call_of k (Entry.Call p site number to func arg) = (p == k.from) && (site == k.site)
+is_call_of k _ = false
+
 -- the entries have this call, with its target, function and argument
 pub record HasEntry (k : CallId) (number to func arg : ℕ) (entries : List Entry) : Type 0 where
   pub before : List Entry
   pub rest : List Entry
   pub stands : entries ≡ before ++ Entry.Call k.from k.site number to func arg ∷ rest
 
--- The entries have each call that the site queued, and each that ran, just once. The record has of
--- the last one what its entry says.
+-- The entries have each call that the site queued, and each that ran, just once, and the record has
+-- their number. It has of the last one what its entry says.
 pub record IsTold (k : CallId) (r : CallRecord) (entries : List Entry) : Type 0 where
   pub calls : (n : ℕ) → count_by (is_call k.from k.site n) entries ≡ one_if (was_queued r n)
   pub runs : (n : ℕ) → count_by (is_ran k.from k.site n) entries ≡ one_if (has_run r n)
+  pub total : count_by (is_call_of k) entries ≡ r.number
   pub last : 0 < r.number → HasEntry k r.number r.to r.func r.arg entries
 
 -- ---- which function runs

@@ -1,5 +1,5 @@
 -- The laws of calls in the runs of accepted images. Own.
-use Rattle.std.specs.Prelude.{◌≡◌, ℕ, true, List, [], ◌∷◌, ◌++◌, Some, slice_get}
+use Rattle.std.specs.Prelude.{◌≡◌, ℕ, ◌≤◌, true, List, [], ◌∷◌, ◌++◌, length, Some, slice_get}
 use Rattle.ev_body.specs.declared.item.Item.TheVariants.{Finish}
 use Rattle.ev_body.specs.declared.body.Body.{Body}
 use Rattle.ev_body.specs.declared.image.Image.{Image}
@@ -44,6 +44,19 @@ RunsOnItsTarget entries = (before rest : List Entry) (p from site number : ℕ)
 abbrev pub CallsRunOnTheirTargets : Type 0
 CallsRunOnTheirTargets = (image : Image) (script : List Line) → IsImage image → IsAccepted image
     → IsScript image script → RunsOnItsTarget (trace image script)
+
+-- ---- what follows of numbers
+
+-- a line adds at most one entry, so that a trace is no longer than its script
+abbrev pub TracesAreShort : Type 0
+TracesAreShort = (image : Image) (script : List Line) → IsImage image → IsAccepted image
+    → IsScript image script → length (trace image script) ≤ length script
+
+-- and no site's number exceeds the number of lines
+abbrev pub NumbersAreBounded : Type 0
+NumbersAreBounded = (image : Image) (script : List Line) (k : CallId) → IsImage image
+    → IsAccepted image → IsScript image script
+    → (record_of (run image script) k).number ≤ length script
 
 -- ---- what follows of each context
 

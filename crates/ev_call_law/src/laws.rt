@@ -3,7 +3,8 @@
 ghost use Rattle.ev_abstract.specs.Claims.{CallsAreKept};
 ghost use Rattle.ev_call_law.specs.Laws.{CallsRunOnTheirTargets, ContextsRunTheirCalls};
 ghost use Rattle.ev_call_law.specs.Laws.{FinishesHaveCalls, LinesKeepCalls};
-ghost use Rattle.ev_call_law.specs.Laws.{OpeningKeepsCalls, RunsKeepCalls};
+ghost use Rattle.ev_call_law.specs.Laws.{NumbersAreBounded, OpeningKeepsCalls, RunsKeepCalls};
+ghost use Rattle.ev_call_law.specs.Laws.{TracesAreShort};
 
 /// With an accepted image each call is free, or once in the queue of its target, or once in the
 /// lists of its target's contexts, and nowhere else; its record says which, and its numbers are in
@@ -17,12 +18,15 @@ pub fn keeps_calls()
 {}
 
 /// What follows: in the trace of every script each call runs at most once, on the processor for
-/// which it was queued before, and has run before it is reported. A context with calls to run stands
-/// in the function of the first one, any other in the main part, and at a `finish` there is a call,
-/// which its processor has taken.
+/// which it was queued before, and has run before it is reported. A trace has at most as many
+/// entries as its script has lines, and no site's number is greater. A context with calls to run
+/// stands in the function of the first one, any other in the main part, and at a `finish` there is
+/// a call, which its processor has taken.
 pub fn calls_run_once()
     ensures trace { CallsAreKept }
     ensures target { CallsRunOnTheirTargets }
+    ensures short { TracesAreShort }
+    ensures numbers { NumbersAreBounded }
     ensures contexts { ContextsRunTheirCalls }
     ensures finish { FinishesHaveCalls }
 {}
