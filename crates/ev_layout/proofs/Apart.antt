@@ -88,7 +88,7 @@ half_part r s p h =
     let l = p.words in
     subst (λ (k : RegionKind). IsInHalf k r.base (r.base + 8 * r.words)) (sym p.kind)
     (subst (λ (x : ℕ). IsInHalf s.kind x (r.base + 8 * r.words)) (sym b)
-        (half_less s.kind s.base (s.base + 8 * s.words) (r.base + 8 * r.words) (omega arith) h))
+    (half_less s.kind s.base (s.base + 8 * s.words) (r.base + 8 * r.words) (omega arith) h))
 
 abbrev has_number : RegionKind → Bool
 has_number Kernel = true

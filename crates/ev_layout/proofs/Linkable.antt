@@ -155,7 +155,7 @@ blocks_append env [] ys = refl
 blocks_append env (x ∷ xs) ys = ap (λ (l : List Block). block_of env x ∷ l) (blocks_append env xs ys)
 
 all_placed_in : (env : Places) (mode : Mode) (image : Image) → IsImage image
-  → are_placed (length image.bodies) (map (block_of env) (listings mode image)) ≡ true
+    → are_placed (length image.bodies) (map (block_of env) (listings mode image)) ≡ true
 unfolding listings
 all_placed_in env mode image is =
     let n : ℕ = length image.bodies in

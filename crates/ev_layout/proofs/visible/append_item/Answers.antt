@@ -30,7 +30,7 @@ loop-line-preserved c = record {
 pub returns-clause-noted : goal.returns-clause-noted
 returns-clause-noted c = λ mode b key f n.
     line_end mode b key n c.as_slice-line-items.result.now c.loop-line.line-index c.loop-line.at _ _ c.loop-line-test.false
-        (c.loop-line.invariant.noted mode b key n)
+    (c.loop-line.invariant.noted mode b key n)
     ∙ ap (λ (ls : List Marked). marks_in c.args.places.now ++ marks c.args.address ls)
     (ap (lines_of mode b key n) c.as_slice-line-items.ensures.value ∙ c.expansion-lines.ensures mode b key (λ f. 0) n no_addresses)
     ∙ ap (λ (x : Found). marks_in c.args.places.now ++ x) (same_marks mode b key (λ f. 0) f n c.args.address c.args.item.now)
