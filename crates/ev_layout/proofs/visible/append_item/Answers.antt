@@ -4,7 +4,6 @@ use Rattle.ev_body.specs.declared.key.Key.TheVariants.{Sys}
 use Rattle.ev_asm.specs.Assembly.{total_size}
 use Rattle.ev_listing.specs.Marks.{Marked, stmts_of, marks}
 use Rattle.ev_items.specs.Lines.{lines_of}
-use Rattle.ev_listing.specs.Expansion.{expansion}
 use Rattle.ev_items.proofs.Counts.{counted_at, lines_step, lines_end, no_addresses, same_size, same_marks}
 use Rattle.ev_layout.specs.Marks.{marks_in}
 use Rattle.ev_layout.proofs.Marked.{Found, line_step, line_end}
