@@ -25,7 +25,7 @@ use Rattle.ev_symbolic.proofs.Blocks.{begins, levels_split}
 use Rattle.ev_symbolic.proofs.Placed.{listed_known, places_open, no_event, eight_open}
 use Rattle.ev_blocks.specs.Shapes.{from_top, fred_frame}
 use Rattle.ev_blocks.specs.Fred.{ByInt3, ByIntN, FromKernel, event_type, event_vector, way_facts, fred_block}
-use Rattle.ev_deliver.specs.FredDelivers.{way_by, entry_by, entry_of, other_base, faulted, fred_variables, FredSite, frame_at, fred_handler, fred_words, FredFacts, FredDelivers}
+use Rattle.ev_deliver.specs.FredDelivers.{way_by, entry_by, entry_of, other_base, faulted, fred_variables, FredSite, frame_at, fred_handler, fred_words, FredFacts, FramesTell, FredDelivers}
 
 -- ---- sixteen registers, one by one
 
@@ -290,3 +290,63 @@ module _ (c : Processor) (e : Event) (env : Env) (var : env.var ≡ fred_variabl
 
 pub fred_facts : FredFacts
 fred_facts c e env var h k = by_origin c e env var h k (is_user c)
+
+-- ---- what the frame tells
+
+-- a bit as a number
+abbrev one_if : Bool → ℕ
+one_if b = if b then 1 else 0
+
+bit_is : (k : ℕ) (b : Bool) → bit_if k b ≡ one_if b * 2 ^ k
+bit_is k true = omega arith
+bit_is k false = omega arith
+
+one_small : (b : Bool) → one_if b < 2
+one_small true = omega arith
+one_small false = omega arith
+
+one_is : (b : Bool) → (one_if b == 1) ≡ b
+one_is true = refl
+one_is false = refl
+
+-- SS's word by its parts
+abbrev parts : (w x y z v t l : ℕ) → ℕ
+parts w x y z v t l = (w + x * 2 ^ 16 + y * 2 ^ 17 + z * 2 ^ 18 + 2 ^ 32 * v + 2 ^ 48 * t + 2 ^ 57) + 2 ^ 60 * l
+
+ss_part : (w x y z v t l : ℕ) → w < 2 ^ 16 → parts w x y z v t l % 2 ^ 16 ≡ w
+ss_part w x y z v t l h = omega arith
+
+sti_part : (w x y z v t l : ℕ) → w < 2 ^ 16 → x < 2 → parts w x y z v t l / 2 ^ 16 % 2 ≡ x
+sti_part w x y z v t l h i = omega arith
+
+nmi_part : (w x y z v t l : ℕ) → w < 2 ^ 16 → x < 2 → y < 2 → z < 2 → parts w x y z v t l / 2 ^ 18 % 2 ≡ z
+nmi_part w x y z v t l h i j k = omega arith
+
+level_part : (w l : ℕ) → w < 2 ^ 16 → l < 4 → (w + 2 ^ 16 * l) / 2 ^ 16 % 4 ≡ l
+level_part w l h i = omega arith
+
+cs_part : (w l : ℕ) → w < 2 ^ 16 → (w + 2 ^ 16 * l) % 2 ^ 16 ≡ w
+cs_part w l h = omega arith
+
+pub frames_tell : FramesTell
+unfolding eval
+frames_tell c e env var cs_small level_small ss_small small =
+    let x : ℕ = one_if c.sti_blocked in
+    let y : ℕ = one_if (is_software e.kind) in
+    let z : ℕ = one_if (is_nmi_type e.kind) in
+    let l : ℕ = counted c e env var ss_small small in
+    let ss : env.var 21 ≡ parts c.ss x y z e.vector (type_number e.kind) l
+    = ap (λ f. f 21) var ∙ word_is c e env var ss_small small
+    ∙ (λ i. (c.ss + bit_is 16 c.sti_blocked i + bit_is 17 (is_software e.kind) i + bit_is 18 (is_nmi_type e.kind) i + 2 ^ 32 * e.vector
+    + 2 ^ 48 * type_number e.kind + 2 ^ 57) + 2 ^ 60 * l) in
+    let cs : env.var 18 ≡ c.cs + 2 ^ 16 * c.level = ap (λ f. f 18) var in record {
+      vector = vector_is c e env var ss_small small;
+      cs = ap (λ n. n % 2 ^ 16) cs ∙ cs_part c.cs c.level cs_small;
+      level = ap (λ n. n / 2 ^ 16 % 4) cs ∙ level_part c.cs c.level cs_small level_small;
+      ss = ap (λ n. n % 2 ^ 16) ss ∙ ss_part c.ss x y z e.vector (type_number e.kind) l ss_small;
+      sti = ap (λ n. n / 2 ^ 16 % 2 == 1) ss ∙ ap (λ n. n == 1) (sti_part c.ss x y z e.vector (type_number e.kind) l ss_small (one_small c.sti_blocked))
+          ∙ one_is c.sti_blocked;
+      nmi = ap (λ n. n / 2 ^ 18 % 2 == 1) ss
+          ∙ ap (λ n. n == 1) (nmi_part c.ss x y z e.vector (type_number e.kind) l ss_small (one_small c.sti_blocked) (one_small (is_software e.kind))
+          (one_small (is_nmi_type e.kind))) ∙ one_is (is_nmi_type e.kind);
+    }

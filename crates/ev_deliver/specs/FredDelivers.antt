@@ -1,22 +1,23 @@
 -- The delivery of any event under FRED: its frame, and the block that begins, with what its variables are. FRED specification, chapter "FRED event delivery".
-use Rattle.std.specs.Prelude.{◌≡◌, ℕ, ◌+◌, ◌-◌, ◌*◌, ◌%◌, ◌^◌, ◌<◌, Bool, true, false, ◌&&◌, ◌==◌, if◌then◌else◌, get_or, length, map}
-use Rattle.ev_isa.specs.Word.{NatMap}
+use Rattle.std.specs.Prelude.{◌≡◌, ℕ, ◌+◌, ◌-◌, ◌*◌, ◌/◌, ◌%◌, ◌^◌, ◌<◌, Bool, true, false, ◌&&◌, ◌==◌, if◌then◌else◌, get_or, length, map}
+use Rattle.ev_isa.specs.Word.{NatMap, bit}
 use Rattle.ev_isa.specs.Flags.{Flags, no_status}
 use Rattle.ev_event.specs.declared.event.Event.{Event}
 use Rattle.ev_event.specs.declared.event.EventType.{EventType}
 use Rattle.ev_event.specs.declared.event.EventType.TheVariants.{SoftInt, Other}
-use Rattle.ev_event.specs.Event.{has_error_code, is_hardware}
+use Rattle.ev_event.specs.Event.{has_error_code, is_hardware, is_nmi_type}
 use Rattle.ev_effect.specs.Frame.{placed}
 use Rattle.ev_state.specs.Outcome.{Went}
-use Rattle.ev_state.specs.Processor.{Processor, is_user, rsp}
+use Rattle.ev_state.specs.Processor.{Processor, is_user, rsp, selector}
 use Rattle.ev_mem.specs.Memory.{Memory}
 use Rattle.ev_fred.specs.FredDelivery.{fred_delivery, in_fred_handler, new_level, frame_top, ss_word}
 use Rattle.ev_symbolic.specs.Value.{M}
 use Rattle.ev_symbolic.specs.State.{top_tag}
 use Rattle.ev_symbolic.specs.Agrees.{Env, eval, untracked, Open, Code, FactsHold, At, Fits, with_words}
 use Rattle.ev_symbolic.specs.Openings.{gs_tag}
+use Rattle.ev_symbolic.specs.Names.{frame_cs, frame_ss}
 use Rattle.ev_blocks.specs.Shapes.{fred_frame}
-use Rattle.ev_blocks.specs.Fred.{FredWay, ByCall, ByInt3, ByIntN, ByOther, FredSpot, FromUser, FromKernel, fred_block}
+use Rattle.ev_blocks.specs.Fred.{FredWay, ByCall, ByInt3, ByIntN, ByOther, FredSpot, FromUser, FromKernel, fred_block, event_vector}
 
 -- ---- which block begins
 
@@ -99,6 +100,21 @@ fred_words env words = placed words (frame_at env) (map (eval env) fred_frame)
 abbrev pub FredFacts : Type 0
 FredFacts = (c : Processor) (e : Event) (env : Env) → env.var ≡ fred_variables c e → c.ss < 2 ^ 16 → e.vector < 2 ^ 8
     → FactsHold env (fred_block (entry_of c e)).ground.facts
+
+-- What the frame tells of the event and of what it interrupted, whatever else stands in its words: the vector; the selectors of CS, with the stack level
+-- above it, and of SS; the blocking by STI; and whether the event is an NMI.
+pub record FrameTells (c : Processor) (e : Event) (env : Env) : Type 0 where
+  pub vector : eval env event_vector ≡ e.vector
+  pub cs : selector (eval env frame_cs) ≡ c.cs
+  pub level : eval env frame_cs / 2 ^ 16 % 4 ≡ c.level
+  pub ss : selector (eval env frame_ss) ≡ c.ss
+  pub sti : bit 16 (eval env frame_ss) ≡ c.sti_blocked
+  pub nmi : bit 18 (eval env frame_ss) ≡ is_nmi_type e.kind
+
+-- so it is for every event
+abbrev pub FramesTell : Type 0
+FramesTell = (c : Processor) (e : Event) (env : Env) → env.var ≡ fred_variables c e → c.cs < 2 ^ 16 → c.level < 4 → c.ss < 2 ^ 16 → e.vector < 2 ^ 8
+    → FrameTells c e env
 
 -- the delivery goes on at the entry's first instruction, with the frame placed
 pub record FredBegins (code : Code) (c : Processor) (m : Memory) (e : Event) (env : Env) : Type 0 where

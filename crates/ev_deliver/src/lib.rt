@@ -2,17 +2,19 @@
 //! entry to the body's first item.
 #![tactic(auto)]
 
-ghost use Rattle.ev_deliver.specs.FredDelivers.{FredDelivers, FredFacts};
+ghost use Rattle.ev_deliver.specs.FredDelivers.{FramesTell, FredDelivers, FredFacts};
 ghost use Rattle.ev_deliver.specs.GoesOn.{EntriesContinue, StubsGoOn, TableLoads, BodyJumps};
 ghost use Rattle.ev_deliver.specs.IdtDelivers.{IdtDelivers, IdtRefuses, NmiDelivers, CallDelivers};
 ghost use Rattle.ev_deliver.specs.Tops.{FredFromTask, FredFromBody, FredToLevel, IdtFromTask, IdtFromBody, IdtFromNmiBody, IdtOfNmi};
 
 /// Under FRED the delivery of any event, from a task or from the kernel, places its frame and goes
-/// on at the first instruction of the entry that its type and vector say; and where its frame
-/// ends. FRED specification, chapter "FRED event delivery".
+/// on at the first instruction of the entry that its type and vector say; where its frame ends; and
+/// what that tells of the event and of what it interrupted. FRED specification, chapter "FRED event
+/// delivery".
 pub fn fred_events()
     ensures begins { FredDelivers }
     ensures facts { FredFacts }
+    ensures frames { FramesTell }
     ensures from_task { FredFromTask }
     ensures from_body { FredFromBody }
     ensures to_level { FredToLevel }

@@ -36,7 +36,7 @@ taken f zero m a h = refl
 taken f (suc n) zero a h = absurd (omega arith)
 taken f (suc n) (suc m) a h = ap (λ x. f a ∷ x) (taken f n m (suc a) (omega arith))
 
-small_at : (f : ℕ → ℕ) → ((a : ℕ) → f a < 256) → (a n i : ℕ) → get_or (bytes_from f a n) i 0 < 256
+pub small_at : (f : ℕ → ℕ) → ((a : ℕ) → f a < 256) → (a n i : ℕ) → get_or (bytes_from f a n) i 0 < 256
 small_at f h a zero i = omega arith
 small_at f h a (suc n) zero = h a
 small_at f h a (suc n) (suc i) = small_at f h (suc a) n i

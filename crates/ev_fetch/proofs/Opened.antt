@@ -11,15 +11,15 @@ use Rattle.ev_concrete.specs.Opening.{Placed, code_of, listings, word_there, ope
 use Rattle.ev_fetch.specs.Claims.{HoldsCode, HoldsText}
 use Rattle.ev_fetch.proofs.Regions.{and_both}
 
-only_if : {X : Type 0} (t : Bool) (x y : X) → t ≡ true → (if t then x else y) ≡ x
+pub only_if : {X : Type 0} (t : Bool) (x y : X) → t ≡ true → (if t then x else y) ≡ x
 only_if true x y h = refl
 only_if false x y h = absurd (cc)
 
-only_else : {X : Type 0} (t : Bool) (x y : X) → t ≡ false → (if t then x else y) ≡ y
+pub only_else : {X : Type 0} (t : Bool) (x y : X) → t ≡ false → (if t then x else y) ≡ y
 only_else true x y h = absurd (cc)
 only_else false x y h = refl
 
-not_below : (a b : ℕ) → b ≤ a → nat_lt a b ≡ false
+pub not_below : (a b : ℕ) → b ≤ a → nat_lt a b ≡ false
 not_below a b h = by (nat_lt a b) refl
   where
     by : (t : Bool) → nat_lt a b ≡ t → nat_lt a b ≡ false

@@ -78,7 +78,7 @@ passed (x ∷ xs) ys a h l = pick (nat_le x.base a && nat_lt a (x.base + 8 * x.w
 -- ---- the regions of the opening
 
 -- those of stacks and areas, those of tables and code, and those of user code
-abbrev area_regions : Image → List Region
+abbrev pub area_regions : Image → List Region
 area_regions image = flat_map stack_regions (numbers_from 0 image.processors) ++ map (λ p. region (pcpu p) 0x10000 Kernel) (numbers_from 0 image.processors)
 
 abbrev table_regions : Image → List Region
@@ -96,7 +96,7 @@ user_regions = region text_base 0x10000 RegionKind.Text ∷ map (λ i. region (p
 as_listed : (image : Image) → area_regions image ++ (table_regions image ++ (code_regions image ++ user_regions)) ≡ regions image
 as_listed image = refl
 
-areas_high : (image : Image) → IsImage image → Each IsHigh (area_regions image)
+pub areas_high : (image : Image) → IsImage image → Each IsHigh (area_regions image)
 areas_high image is =
     let few = is.count.1 in
     each_append IsHigh (flat_map stack_regions (numbers_from 0 image.processors)) (map (λ p. region (pcpu p) 0x10000 Kernel) (numbers_from 0 image.processors))

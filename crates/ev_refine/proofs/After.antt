@@ -1,10 +1,10 @@
 -- The relation after a step of one processor: of that processor, of the others, and of the words that all share.
-use Rattle.std.proofs.Common.{◌≡◌, ◌⊎◌, inl, inr, ⊎_elim, ℕ, ◌+◌, ◌*◌, ◌%◌, ◌<◌, ◌≤◌, Bool, true, false, List, [], ◌∷◌, length, map, get_or, Some, refl, sym, ap, ◌∙◌, subst, arith}
+use Rattle.std.proofs.Common.{◌≡◌, ◌⊎◌, inl, inr, ⊎_elim, ℕ, ◌+◌, ◌*◌, ◌%◌, ◌<◌, ◌≤◌, Bool, true, false, List, [], ◌∷◌, length, map, get_or, Option, Some, None, refl, sym, ap, ◌∙◌, subst, arith}
 use Rattle.std.specs.Prelude.{if◌then◌else◌, ◌==◌, ◌&&◌, ◌/◌, reverse}
 use Rattle.std.specs.List.{list_any}
 use Rattle.std.proofs.lemmas.Bool.Decides.{eqb_tells, leb_tells}
 use Rattle.std.proofs.lemmas.Nat.{mod_below}
-use Rattle.ev_isa.specs.Word.{NatMap, put_at, numbers_from}
+use Rattle.ev_isa.specs.Word.{NatMap, NatSet, put_at, numbers_from}
 use Rattle.ev_isa.specs.declared.mode.Mode.{Mode}
 use Rattle.ev_isa.specs.declared.mode.Mode.TheVariants.{Idt, Fred}
 use Rattle.ev_body.specs.declared.image.Image.{Image}
@@ -26,8 +26,8 @@ use Rattle.ev_activation.specs.Seat.{Seat}
 use Rattle.ev_user.specs.Tasks.{IsTask}
 use Rattle.ev_refine.specs.Tasks.{IsSaved, TssIs, CurrentIs}
 use Rattle.ev_refine.specs.Nmi.{Frame, Held, Layer, Plain, LatchIs, inner_edges}
-use Rattle.ev_user.specs.Sees.{IsUserWord}
-use Rattle.ev_refine.specs.Named.{Named, UserRsp, Port, Outside, NotNamed, Changes}
+use Rattle.ev_user.specs.Sees.{IsUserWord, IsWrite}
+use Rattle.ev_refine.specs.Named.{Named, UserRsp, Port, UserWord, Outside, NotNamed, AreWritten, NoneOf, Changes}
 use Rattle.ev_refine.specs.Domain.{IsInDomain}
 use Rattle.ev_refine.specs.Relation.{Chain, Runs, serves, StandsOn, RecordIs, Linked, Shares, Stands, most_edges}
 use Rattle.ev_refine.proofs.Maps.{at_same}
@@ -64,21 +64,61 @@ area_word p q o o' h k d = go (in_order p q)
 abbrev pub IsOther : ℕ → Type 0
 IsOther o = (o < 0x10000) × ((o < 8) ⊎ (0x10 ≤ o)) × ((o < 0x28) ⊎ (0x30 ≤ o))
 
-pub area_spared : (p q o : ℕ) → IsOther o → NotNamed (kernel_names p) (pcpu q + o)
-area_spared p q o h = (area_word p q 8 o (omega arith) h.0 h.1, (area_word p q 0x28 o (omega arith) h.0 h.2, tt))
+-- What is asked of the names of a step of p: they are written ones, no other processor's, and no word of an area but SYSCALL's RSP and the port, nor of the
+-- page map or the cells.
+pub record AreSparing (p : ℕ) (names : List Named) : Type 0 where
+  pub written : AreWritten names
+  pub own : (q : ℕ) → (q ≡ p → ⊥) → NoneOf q names
+  pub areas : (q o : ℕ) → IsOther o → NotNamed names (pcpu q + o)
+  pub maps : (a : ℕ) → 0xffff888000200000 ≤ a → a < 0xffffc90000000000 → NotNamed names a
 
-pub far_spared : (p a : ℕ) → p < 32 → (a < 0xffff888000000000) ⊎ (0xffff888000200000 ≤ a) → NotNamed (kernel_names p) a
-far_spared p a hp (inl h) = (inl (omega arith), (inl (omega arith), tt))
-far_spared p a hp (inr h) = (inr (omega arith), (inr (omega arith), tt))
+pub kernel_spares : (p : ℕ) → p < 32 → AreSparing p (kernel_names p)
+kernel_spares p hp = record {
+  written = (hp, (hp, tt));
+  own = λ q d. ((λ f. d (sym (some_same p q f))), ((λ f. d (sym (some_same p q f))), tt));
+  areas = λ q o h. (area_word p q 8 o (omega arith) h.0 h.1, (area_word p q 0x28 o (omega arith) h.0 h.2, tt));
+  maps = λ a l h. (inr (omega arith), (inr (omega arith), tt));
+}
+  where
+    some_same : (a b : ℕ) → Some a ≡ Some b → a ≡ b
+    some_same a b h = cc
+
+-- a word of a data page, or none
+abbrev pub word_names : Option (ℕ × ℕ) → List Named
+word_names None = []
+word_names (Some w) = UserWord w.0 ∷ []
+
+pub word_spares : (p : ℕ) (present : NatSet) (w : Option (ℕ × ℕ)) → IsWrite present w → AreSparing p (word_names w)
+word_spares p present None h = record { written = tt; own = λ q d. tt; areas = λ q o k. tt; maps = λ a l k. tt }
+word_spares p present (Some w) h =
+    let page = h.1.1 in
+    record {
+      written = (h.1, tt);
+      own = λ q d. (λ f. let clash : None ≡ Some q = f in cc, tt);
+      areas = λ q o k. (inr (omega arith), tt);
+      maps = λ a l k. (inr (omega arith), tt);
+    }
+
+-- what a step of kernel code leaves of user words
+pub kernel_user : (p : ℕ) (σ : Seat) → p < 32 → σ.stack < 7 → (m n user : NatMap ℕ) → Changes p σ (kernel_names p) m n
+    → ((b : ℕ) → IsUserWord b → m b ≡ user b) → (b : ℕ) → IsUserWord b → n b ≡ user b
+kernel_user p σ hp hs m n user changes same b u = below_areas (lower u) ∙ same b u
+  where
+    lower : IsUserWord b → b < 0x20000000
+    lower u = ⊎_elim (λ t. let k = t.1 in omega arith) (λ t. let k = t.1 in omega arith) u.1
+
+    below_areas : b < 0x20000000 → n b ≡ m b
+    below_areas l = changes b (inl (omega arith)) (inl (omega arith), (inl (omega arith), tt))
 
 -- ---- what a step of p says of memory
 
-module _ (p : ℕ) (σ : Seat) (hp : p < 32) (hs : σ.stack < 7) (m n : NatMap ℕ) (changes : Changes p σ (kernel_names p) m n) where
+module _ (p : ℕ) (σ : Seat) (names : List Named) (hp : p < 32) (hs : σ.stack < 7) (m n : NatMap ℕ) (spares : AreSparing p names)
+    (changes : Changes p σ names m n) where
   pub area_same : (q o : ℕ) → q < 32 → IsOther o → n (pcpu q + o) ≡ m (pcpu q + o)
-  area_same q o hq h = let small = h.0 in changes (pcpu q + o) (inl (omega arith)) (area_spared p q o h)
+  area_same q o hq h = let small = h.0 in changes (pcpu q + o) (inl (omega arith)) (spares.areas q o h)
 
-  pub low_same : (a : ℕ) → a < 0xffffc90000000000 → (a < 0xffff888000000000) ⊎ (0xffff888000200000 ≤ a) → n a ≡ m a
-  low_same a l h = changes a (inl (omega arith)) (far_spared p a hp h)
+  pub map_same : (a : ℕ) → 0xffff888000200000 ≤ a → a < 0xffffc90000000000 → n a ≡ m a
+  map_same a l h = changes a (inl (omega arith)) (spares.maps a l h)
 
   record_same : (q k o : ℕ) → q < 32 → k < 8 → o < 0x40 → n (record_address q k + o) ≡ m (record_address q k + o)
   record_same q k o hq hk ho =
@@ -166,7 +206,8 @@ module _ (mode : Mode) (image : Image) where
   -- Its bodies, and its returning task, are new; of the rest the step leaves all.
   pub own_after : (p left : ℕ) (s s' : System) (x : abstract.Processor) (σ : Seat) (cpu : Processor) (as' : List Activation) (words : NatMap ℕ)
       (ts : NatMap Task) (bs : List BodyContext) (own : ℕ) (on : StandsOn mode image p left s x) → p < 32 → length (tasks_of image p) ≤ 4
-      → Moves p s s' cpu as' words → σ.stack ≡ on.returning → σ.stack < 7 → Changes p σ (kernel_names p) s.memory.words words
+      → Moves p s s' cpu as' words → σ.stack ≡ on.returning → σ.stack < 7 → (names : List Named) → AreSparing p names
+      → Changes p σ names s.memory.words words
       → ((i : ℕ) → (i ≡ on.returning → ⊥) → ts i ≡ x.tasks i) → ((i : ℕ) → i < length (tasks_of image p) → IsTask (ts i))
       → cpu.nmi_blocked ≡ list_any (is_nmi_body image) bs
       → ((class : ℕ) → list_any (λ (b : BodyContext). serves mode image class b.service) bs
@@ -174,7 +215,7 @@ module _ (mode : Mode) (image : Image) where
       → own + inner_edges (s.latches p) ≤ most_edges mode image
       → Chain mode image p own on.returning (ts on.returning) on.frame on.switching bs as' cpu (with_words s.memory words)
       → StandsOn mode image p (own + inner_edges (s.latches p)) s' (record x { tasks = ts; bodies = bs })
-  own_after p left s s' x σ cpu as' words ts bs own on hp four mv at hs changes same good blocked serving few chain = record {
+  own_after p left s s' x σ cpu as' words ts bs own on hp four mv at hs names sparing changes same good blocked serving few chain = record {
     few = few;
     own = own;
     more = 0;
@@ -187,11 +228,11 @@ module _ (mode : Mode) (image : Image) where
     marked = on.marked;
     returning = on.returning;
     is_returning = on.is_returning;
-    current = λ e. in_words (CurrentIs mode p x.running) (current_is p σ hp hs s.memory.words words changes mode p x.running hp (on.current e));
-    mark = λ e. ap (λ w. w (pcpu p + 0x20)) mv.words_are ∙ mark_is p σ hp hs s.memory.words words changes p hp ∙ on.mark e;
+    current = λ e. in_words (CurrentIs mode p x.running) (current_is p σ names hp hs s.memory.words words sparing changes mode p x.running hp (on.current e));
+    mark = λ e. ap (λ w. w (pcpu p + 0x20)) mv.words_are ∙ mark_is p σ names hp hs s.memory.words words sparing changes p hp ∙ on.mark e;
     saved = λ i lt d. in_words (IsSaved mode p i (ts i)) (subst (λ t. IsSaved mode p i t words) (sym (same i d))
         (saved_stays mode p i (x.tasks i) s.memory.words words hp (omega arith)
-        (stack_stays p σ (kernel_names p) s.memory.words words hp hs (hp, (hp, tt)) changes i (λ e. d (e ∙ at)))
+        (stack_stays p σ names s.memory.words words hp hs sparing.written changes i (λ e. d (e ∙ at)))
         (on.saved i lt d)));
     tasks = good;
     latch = latch_again on.layer on.frame (list_any (is_nmi_body image) x.bodies) (list_any (is_nmi_body image) bs) (s.latches p) (s'.latches p)
@@ -199,7 +240,8 @@ module _ (mode : Mode) (image : Image) where
     pending = λ v lt. ap (λ (a : Apic). vectors_of a.irr v) mv.apic ∙ on.pending v lt;
     service = λ class. ap (λ (a : Apic). list_any (λ v. vectors_of a.isr v && (v / 16 == class)) (numbers_from 0 256)) mv.apic
         ∙ on.service class ∙ sym (serving class);
-    slots = λ k lt. ap (λ w. w (pcpu p + slot_offset k)) mv.words_are ∙ slot_is p σ hp hs s.memory.words words changes p k hp lt ∙ on.slots k lt;
+    slots = λ k lt. ap (λ w. w (pcpu p + slot_offset k)) mv.words_are ∙ slot_is p σ names hp hs s.memory.words words sparing changes p k hp lt ∙ on.slots k
+        lt;
     runs = as_runs on.layer p own 0 on.returning (ts on.returning) on.frame on.switching bs (s'.activations p) (s'.cpus p) s'.memory
         (moved (λ a c w r. Chain mode image p own on.returning (ts on.returning) on.frame on.switching bs a c (record { regions = r; words = w })) chain);
   }
@@ -217,9 +259,9 @@ module _ (mode : Mode) (image : Image) where
 
   pub other_stays : (p q left : ℕ) (s s' : System) (x : abstract.Processor) (σ : Seat) (cpu : Processor) (as' : List Activation) (words : NatMap ℕ)
       → p < 32 → q < image.processors → image.processors ≤ 8 → length (tasks_of image q) ≤ 4 → (q ≡ p → ⊥) → (q == p) ≡ false
-      → Moves p s s' cpu as' words → σ.stack < 7
-      → Changes p σ (kernel_names p) s.memory.words words → StandsOn mode image q left s x → StandsOn mode image q left s' x
-  other_stays p q left s s' x σ cpu as' words hp lq eight four d e mv hs changes on = record {
+      → Moves p s s' cpu as' words → σ.stack < 7 → (names : List Named) → AreSparing p names
+      → Changes p σ names s.memory.words words → StandsOn mode image q left s x → StandsOn mode image q left s' x
+  other_stays p q left s s' x σ cpu as' words hp lq eight four d e mv hs names sparing changes on = record {
     few = on.few;
     own = on.own;
     more = on.more;
@@ -232,33 +274,30 @@ module _ (mode : Mode) (image : Image) where
     marked = on.marked;
     returning = on.returning;
     is_returning = on.is_returning;
-    current = λ f. in_words (CurrentIs mode q x.running) (current_is p σ hp hs s.memory.words words changes mode q x.running hq (on.current f));
-    mark = λ f. ap (λ w. w (pcpu q + 0x20)) mv.words_are ∙ mark_is p σ hp hs s.memory.words words changes q hq ∙ on.mark f;
+    current = λ f. in_words (CurrentIs mode q x.running) (current_is p σ names hp hs s.memory.words words sparing changes mode q x.running hq (on.current f));
+    mark = λ f. ap (λ w. w (pcpu q + 0x20)) mv.words_are ∙ mark_is p σ names hp hs s.memory.words words sparing changes q hq ∙ on.mark f;
     saved = λ i lt f. in_words (IsSaved mode q i (x.tasks i)) (saved_stays mode q i (x.tasks i) s.memory.words words hq (omega arith)
-        (λ a h k. stacks_stay p σ (kernel_names p) s.memory.words words hp hs (hp, (hp, tt)) changes q d a (omega arith) (omega arith)) (on.saved i lt f));
+        (λ a h k. stacks_stay p σ names s.memory.words words hp hs sparing.written changes q d a (omega arith) (omega arith)) (on.saved i lt f));
     tasks = on.tasks;
     latch = subst (λ b. LatchIs on.layer on.frame (list_any (is_nmi_body image) x.bodies) (s'.latches q) b x.nmi)
         (sym (ap (λ (c : Processor). c.nmi_blocked) (mv.other_cpu q e)))
         (subst (λ b. LatchIs on.layer on.frame (list_any (is_nmi_body image) x.bodies) b (s.cpus q).nmi_blocked x.nmi) (sym (mv.other_latch q e)) on.latch);
     pending = λ v lt. ap (λ (a : Apic). vectors_of a.irr v) (mv.other_apic q e) ∙ on.pending v lt;
     service = λ class. ap (λ (a : Apic). list_any (λ v. vectors_of a.isr v && (v / 16 == class)) (numbers_from 0 256)) (mv.other_apic q e) ∙ on.service class;
-    slots = λ k lt. ap (λ w. w (pcpu q + slot_offset k)) mv.words_are ∙ slot_is p σ hp hs s.memory.words words changes q k hq lt ∙ on.slots k lt;
+    slots = λ k lt. ap (λ w. w (pcpu q + slot_offset k)) mv.words_are ∙ slot_is p σ names hp hs s.memory.words words sparing changes q k hq lt ∙ on.slots k
+        lt;
     runs = as_runs on.layer q on.own on.more on.returning (x.tasks on.returning) on.frame on.switching x.bodies (s'.activations q) (s'.cpus q) s'.memory
         (moved (λ a c w r. Chain mode image q on.own on.returning (x.tasks on.returning) on.frame on.switching x.bodies a c
         (record { regions = r; words = w }))
         (chain_stays mode image q on.own on.returning (x.tasks on.returning) on.frame on.switching x.bodies (s.activations q) (s.cpus q) s.memory words lq
         eight returning_small
-        (others_spared p q σ (kernel_names p) s.memory.words words hp hs hq d (hp, (hp, tt))
-        ((λ f. d (sym (some_same p q f))), ((λ f. d (sym (some_same p q f))), tt)) changes)
+        (others_spared p q σ names s.memory.words words hp hs hq d sparing.written (sparing.own q d) changes)
         (as_chain on.layer q on.own on.more on.returning (x.tasks on.returning) on.frame on.switching x.bodies (s.activations q) (s.cpus q) s.memory
         on.runs)));
   }
     where
       hq : q < 32
       hq = omega arith
-
-      some_same : (a b : ℕ) → Some a ≡ Some b → a ≡ b
-      some_same a b h = cc
 
       in_words : (P : NatMap ℕ → Type 0) → P words → P s'.memory.words
       in_words P h = subst P (sym mv.words_are) h
@@ -279,7 +318,6 @@ module _ (mode : Mode) (image : Image) where
   pub record Alike (p : ℕ) (m m' : Machine) (x : abstract.Processor) : Type 0 where
     pub own : processor m' p ≡ x
     pub others : (q : ℕ) → (q == p) ≡ false → processor m' q ≡ processor m q
-    pub words : m'.words ≡ m.words
     pub present : m'.present ≡ m.present
     pub cells : m'.cells ≡ m.cells
     pub mail : x.mail ≡ (processor m p).mail
@@ -293,24 +331,26 @@ module _ (mode : Mode) (image : Image) where
       (λ e. ap f (a.others q e.0)) (eqb_tells q p)
 
   shares_after : (p : ℕ) (s s' : System) (m m' : Machine) (x : abstract.Processor) (σ : Seat) (cpu : Processor) (as' : List Activation) (words : NatMap ℕ)
-      → p < 32 → image.processors ≤ 8 → Moves p s s' cpu as' words → σ.stack < 7 → Changes p σ (kernel_names p) s.memory.words words → Alike p m m' x
+      → p < 32 → image.processors ≤ 8 → Moves p s s' cpu as' words → σ.stack < 7 → (names : List Named) → AreSparing p names
+      → Changes p σ names s.memory.words words → ((b : ℕ) → IsUserWord b → words b ≡ m'.words b) → Alike p m m' x
       → Shares mode image s m → Shares mode image s' m'
-  shares_after p s s' m m' x σ cpu as' words hp eight mv hs changes a h = record {
-    user = λ b u. at b ∙ user_same b u ∙ h.user b u ∙ sym (ap (λ w. w b) a.words);
-    pages = λ i lt. at (page_map + 8 * i) ∙ low (page_map + 8 * i) (omega arith) (inr (omega arith)) ∙ h.pages i lt
+  shares_after p s s' m m' x σ cpu as' words hp eight mv hs names sparing changes user a h = record {
+    user = λ b u. at b ∙ user b u;
+    pages = λ i lt. at (page_map + 8 * i) ∙ low (page_map + 8 * i) (omega arith) (omega arith) ∙ h.pages i lt
         ∙ sym (ap (λ w. if w i then 1 else 0) a.present);
-    cells = λ k lt. at (cells_base + 8 * k) ∙ low (cells_base + 8 * k) (omega arith) (inr (omega arith)) ∙ h.cells k lt ∙ sym (ap (λ w. w k) a.cells);
+    cells = λ k lt. at (cells_base + 8 * k) ∙ low (cells_base + 8 * k) (omega arith) (omega arith) ∙ h.cells k lt ∙ sym (ap (λ w. w k) a.cells);
     mail = λ q v lt l. ap (λ b. vectors_of (b q).vectors v) mv.inboxes ∙ h.mail q v lt l ∙ sym (ap (λ w. w v) (component (λ y. y.mail) p q m m' x a a.mail));
     mail_nmi = λ q lt. ap (λ b. (b q).nmi) mv.inboxes ∙ h.mail_nmi q lt ∙ sym (component (λ y. y.mail_nmi) p q m m' x a a.mail_nmi);
-    numbers = λ q k lt l. at (record_address q k + 0x28) ∙ record_same p σ hp hs s.memory.words words changes q k 0x28 (omega arith) l (omega arith)
+    numbers = λ q k lt l. at (record_address q k + 0x28) ∙ record_same p σ names hp hs s.memory.words words sparing changes q k 0x28 (omega arith) l
+        (omega arith)
         ∙ h.numbers q k lt l ∙ sym (ap (λ w. (w k).number) (component (λ y. y.records) p q m m' x a a.records));
     records = λ q k lt l. in_words (λ w. RecordIs w (record_address q k) ((processor m' q).records k) ((processor m' q).records k).state)
         (subst (λ r. RecordIs words (record_address q k) (r k) (r k).state) (sym (component (λ y. y.records) p q m m' x a a.records))
-        (record_is p σ hp hs s.memory.words words changes q k ((processor m q).records k) ((processor m q).records k).state (omega arith) l
+        (record_is p σ names hp hs s.memory.words words sparing changes q k ((processor m q).records k) ((processor m q).records k).state (omega arith) l
         (h.records q k lt l)));
     queues = λ q lt. in_words (λ w. Linked w (w (pcpu q + 0x30)) (reverse (processor m' q).queue))
         (subst (λ ks. Linked words (words (pcpu q + 0x30)) (reverse ks)) (sym (component (λ y. y.queue) p q m m' x a a.queue))
-        (queue_is p σ hp hs s.memory.words words changes q (reverse (processor m q).queue) (omega arith) (h.queues q lt)));
+        (queue_is p σ names hp hs s.memory.words words sparing changes q (reverse (processor m q).queue) (omega arith) (h.queues q lt)));
   }
     where
       in_words : (P : NatMap ℕ → Type 0) → P words → P s'.memory.words
@@ -319,23 +359,21 @@ module _ (mode : Mode) (image : Image) where
       at : (b : ℕ) → s'.memory.words b ≡ words b
       at b = ap (λ w. w b) mv.words_are
 
-      low : (b : ℕ) → b < 0xffffc90000000000 → (b < 0xffff888000000000) ⊎ (0xffff888000200000 ≤ b) → words b ≡ s.memory.words b
-      low b l d = low_same p σ hp hs s.memory.words words changes b l d
-
-      user_same : (b : ℕ) → IsUserWord b → words b ≡ s.memory.words b
-      user_same b u = ⊎_elim (λ t. let k = t.1 in low b (omega arith) (inl (omega arith))) (λ t. let k = t.1 in low b (omega arith) (inl (omega arith))) u.1
+      low : (b : ℕ) → 0xffff888000200000 ≤ b → b < 0xffffc90000000000 → words b ≡ s.memory.words b
+      low b l d = map_same p σ names hp hs s.memory.words words sparing changes b l d
 
   -- ---- the whole
 
   pub stands_after : (left : NatMap ℕ) (s s' : System) (m m' : Machine) (p now : ℕ) (x : abstract.Processor) (σ : Seat) (cpu : Processor)
       (as' : List Activation) (words : NatMap ℕ) → image.processors ≤ 8 → ((q : ℕ) → q < image.processors → length (tasks_of image q) ≤ 4)
-      → Stands mode image left s m → p < image.processors → Moves p s s' cpu as' words → σ.stack < 7
-      → Changes p σ (kernel_names p) s.memory.words words → Alike p m m' x → IsInDomain image p x → StandsOn mode image p now s' x
+      → Stands mode image left s m → p < image.processors → Moves p s s' cpu as' words → σ.stack < 7 → (names : List Named) → AreSparing p names
+      → Changes p σ names s.memory.words words → ((b : ℕ) → IsUserWord b → words b ≡ m'.words b) → Alike p m m' x → IsInDomain image p x
+      → StandsOn mode image p now s' x
       → Stands mode image (put_at left p now) s' m'
-  stands_after left s s' m m' p now x σ cpu as' words eight four h lt mv hs changes a domain on = record {
+  stands_after left s s' m m' p now x σ cpu as' words eight four h lt mv hs names sparing changes user a domain on = record {
     regions_are = mv.regions ∙ h.regions_are;
-    fixed = λ b f. ap (λ w. w b) mv.words_are ∙ fixed_stays p σ (kernel_names p) s.memory.words words hp hs (hp, (hp, tt)) changes b f ∙ h.fixed b f;
-    shares = shares_after p s s' m m' x σ cpu as' words hp eight mv hs changes a h.shares;
+    fixed = λ b f. ap (λ w. w b) mv.words_are ∙ fixed_stays p σ names s.memory.words words hp hs sparing.written changes b f ∙ h.fixed b f;
+    shares = shares_after p s s' m m' x σ cpu as' words hp eight mv hs names sparing changes user a h.shares;
     domain = λ q lq. ⊎_elim (λ e. subst (λ r. IsInDomain image r (processor m' r)) (sym e.1) (subst (IsInDomain image p) (sym a.own) domain))
         (λ e. subst (IsInDomain image q) (sym (a.others q e.0)) (h.domain q lq)) (eqb_tells q p);
     each = λ q lq. ⊎_elim
@@ -343,7 +381,8 @@ module _ (mode : Mode) (image : Image) where
         (subst (λ n. StandsOn mode image p n s' (processor m' p)) (sym (at_same left p p now refl)) (subst (StandsOn mode image p now s') (sym a.own) on)))
         (λ e. subst (λ n. StandsOn mode image q n s' (processor m' q)) (sym (ap (λ b. elim b [ true ↦ now | false ↦ left q ]) e.0))
         (subst (StandsOn mode image q (left q) s') (sym (a.others q e.0))
-        (other_stays p q (left q) s s' (processor m q) σ cpu as' words hp lq eight (four q lq) e.1 e.0 mv hs changes (h.each q lq)))) (eqb_tells q p);
+        (other_stays p q (left q) s s' (processor m q) σ cpu as' words hp lq eight (four q lq) e.1 e.0 mv hs names sparing changes (h.each q lq))))
+        (eqb_tells q p);
   }
     where
       hp : p < 32

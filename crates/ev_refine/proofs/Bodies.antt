@@ -59,8 +59,8 @@ goes_by code c m b e j k a g rip cell h =
     let same : edge_cell g.ins g.next ≡ edge_cell j k = unsome _ _ (sym g.cell ∙ ap code rip ∙ cell) in
     record { step = g; inner = ap (λ (y : Cell). is_return (Some y.ins)) same ∙ h }
 
--- where the load and the jump stand
-at_code : (e : Env) (n : ℕ) → e.base 1000 ≡ 0 → n % M ≡ n → addr e (absolute n) ≡ n
+-- an absolute address is the number
+pub at_code : (e : Env) (n : ℕ) → e.base 1000 ≡ 0 → n % M ≡ n → addr e (absolute n) ≡ n
 at_code e n z small = let h : (e.base 1000 + n) % M ≡ n = omega arith in h
 
 -- the load of the body's address leads to the jump

@@ -23,7 +23,6 @@ use Rattle.ev_table.proofs.Kernel as kernel
 use Rattle.ev_paths.specs.Lines.{HasKernel}
 use Rattle.ev_table.proofs.Whole as whole
 use Rattle.ev_fetch.proofs.Kernel.{kernel_fetches}
-use Rattle.ev_fetch.proofs.Text.{text_fetches}
 use Rattle.ev_fetch.proofs.InCode.{stays_in_code}
 use Rattle.ev_fetch.proofs.AllSpelled.{bodies_are_spelled}
 use Rattle.ev_fetch.proofs.Ruled.{IsLogOrRet, bodies_plain, without_parts}
@@ -124,6 +123,6 @@ module _ (mode : Mode) (image : Image) (given : IsImage image) (built : IsBuilt 
     unmarked = λ a x h m. whole.unmarked_edge mode image given a x h m;
     marked = λ a x h m. whole.marked_seen mode image given (never_call image.bodies built.bodies) a x h m;
     fetches = λ m e f. kernel_fetches mode image m given spells e (holds_code mode image m.words (λ a l. f a (InCode l)));
-    user_fetch = λ m e f. text_fetches image m given e (holds_text mode image m.words (λ a l k. f a (InText l k)));
+    holds = λ m f. holds_text mode image m.words (λ a l k. f a (InText l k));
     in_code = λ m e c. stays_in_code image m c given e;
   }

@@ -1,31 +1,28 @@
 -- What the proofs of steps use of an image's code: what stands where, its marks, and that memory holds its bytes.
-use Rattle.std.proofs.Common.{◌≡◌, ℕ, ◌+◌, ◌-◌, ◌/◌, ◌<◌, ◌≤◌, ◌^◌, Bool, true, false, ◌||◌, length, Some, None, refl, ap, ◌∙◌, arith}
+use Rattle.std.proofs.Common.{◌≡◌, ℕ, ◌+◌, ◌-◌, ◌/◌, ◌<◌, ◌≤◌, ◌^◌, Bool, true, false, ◌||◌, Some, refl, arith}
 use Rattle.std.specs.Prelude.{pos, suc, ◌==◌, slice_get}
-use Rattle.std.proofs.lemmas.Bool.{eqb-true, eq-eqb}
+use Rattle.std.proofs.lemmas.Bool.{eqb-true}
 use Rattle.ev_isa.specs.Word.{is_canonical, bit_if}
 use Rattle.ev_isa.specs.Flags.{Flags, flags_word}
-use Rattle.ev_isa.specs.Pages.{text_base}
-use Rattle.ev_isa.specs.Reading.{reading}
 use Rattle.ev_isa.specs.declared.instruction.Ins.TheVariants.{GsStore}
 use Rattle.ev_isa.specs.declared.mode.Mode.{Mode}
 use Rattle.ev_body.specs.declared.item.Item.TheVariants.{Log, Ret}
 use Rattle.ev_body.specs.declared.body.Body.{Body}
 use Rattle.ev_body.specs.declared.image.Image.{Image}
-use Rattle.ev_mem.specs.Memory.{Memory, page_fault}
+use Rattle.ev_mem.specs.Memory.{Memory}
 use Rattle.ev_state.specs.Processor.{Processor}
 use Rattle.ev_listing.specs.AddressMap.{body_code}
 use Rattle.ev_listing.specs.Expansion.{item_address}
 use Rattle.ev_listing.specs.Marks.{Never, Always}
 use Rattle.ev_abstract.specs.Run.{item_at}
-use Rattle.ev_abstract.specs.UserCode.{text_bytes}
 use Rattle.ev_concrete.specs.Opening.{regions}
 use Rattle.ev_concrete.specs.ConcreteRun.{marks_of, mark_at}
-use Rattle.ev_proc.specs.ProcessorStep.{instruction_at}
 use Rattle.ev_proc.specs.Conditions.{IsInCode}
 use Rattle.ev_symbolic.specs.Agrees.{Cell, Spaced}
 use Rattle.ev_symbolic.specs.Machine.{Fetches}
 use Rattle.ev_paths.specs.Lines.{HasKernel}
 use Rattle.ev_table.specs.Table.{code_table, other_exit, RetCell}
+use Rattle.ev_fetch.specs.Claims.{HoldsText}
 use Rattle.ev_refine.specs.Relation.{first_word, IsFixed}
 
 -- the words that nothing writes are those of the opening
@@ -47,8 +44,7 @@ pub record Facts (mode : Mode) (image : Image) : Type 0 where
   pub unmarked : (a : ℕ) (x : Cell) → code_table mode image a ≡ Some x → x.mark ≡ false → mark_at (marks_of mode image) a ≡ Never
   pub marked : (a : ℕ) (x : Cell) → code_table mode image a ≡ Some x → x.mark ≡ true → mark_at (marks_of mode image) a ≡ Always
   pub fetches : (m : Memory) → m.regions ≡ regions image → HasFixed mode image m → Fetches (code_table mode image) m
-  pub user_fetch : (m : Memory) → m.regions ≡ regions image → HasFixed mode image m → (a : ℕ) → text_base ≤ a → a < text_base + length image.text
-      → (page_fault m (record { user = true; write = false; fetch = true }) a ≡ None) × (instruction_at m.words a ≡ reading (text_bytes image.text a))
+  pub holds : (m : Memory) → HasFixed mode image m → HoldsText image.text m.words
   pub in_code : (m : Memory) → m.regions ≡ regions image → (c : Processor) → IsInCode c m
 
 -- ---- numbers below 2 ^ 64
@@ -82,12 +78,3 @@ word_of_canonical a h = pick (a / 2 ^ 47 == 0) refl h
       where
         high : (a : ℕ) → a / 140737488355328 ≡ 131071 → a < 2 ^ 64
         high a e = omega arith
-
--- addresses of the kernel are canonical
-pub kernel_canonical : (a : ℕ) → 0xffff800000000000 ≤ a → a < 2 ^ 64 → is_canonical a ≡ true
-kernel_canonical a h k = ap (λ b. (a / 2 ^ 47 == 0) || b) (eq-eqb (a / 2 ^ 47) (2 ^ 17 - 1) (let e : a / 140737488355328 ≡ 131071 = omega arith in e))
-    ∙ or_one (a / 2 ^ 47 == 0)
-  where
-    or_one : (b : Bool) → (b || true) ≡ true
-    or_one true = refl
-    or_one false = refl

@@ -17,6 +17,8 @@ pub mod Bodies
 pub mod Return
 pub mod Items
 pub mod Instructions
+pub mod KernelStep
+pub mod KernelItems
 pub mod Kernel
 pub mod UserText
 pub mod UserState

@@ -17,7 +17,7 @@ use Rattle.ev_concrete.specs.ConcreteRun.{is_return}
 use Rattle.ev_concrete.specs.Shown.{shown_always}
 use Rattle.ev_idt.specs.IdtDelivery as idt_delivery
 use Rattle.ev_symbolic.specs.Value.{M, V, P}
-use Rattle.ev_symbolic.specs.State.{SS, Block, top_tag, absolute}
+use Rattle.ev_symbolic.specs.State.{SS, Block, top_tag}
 use Rattle.ev_symbolic.specs.Openings.{gs_tag}
 use Rattle.ev_symbolic.specs.Names.{frame_rip, frame_cs, frame_flags, frame_rsp, frame_ss, saved, other_gs, gs_selector, level_rsp, top_less}
 use Rattle.ev_symbolic.specs.Agrees.{Env, Code, untracked, eval, addr, Agrees, At}
@@ -36,6 +36,7 @@ use Rattle.ev_return.specs.Returns.{LeadsBack, Restores, IretWords, EretuWords}
 use Rattle.ev_return.proofs.ByReturn.{iret_returns, sysret_returns, eretu_returns}
 use Rattle.ev_activation.specs.Seat.{Kind, Seat}
 use Rattle.ev_user.specs.Tasks.{RunsTask}
+use Rattle.ev_refine.proofs.Bodies.{at_code}
 use Rattle.ev_refine.specs.Active.{Saved, Matches, here, level_in}
 
 -- the processor c stands at a visible return that is no NMI's, and that leads back to w
@@ -50,10 +51,6 @@ pub record Exits (code : Code) (c : Processor) (m : Memory) (w : Processor) : Ty
   pub unlike : (place == nlast_entry + 12) ≡ false
   pub silent : (p depth : ℕ) (d : Processor) (words : NatMap ℕ) → shown_always p depth d words (Some ins) ≡ []
   pub back : LeadsBack c m ins w false
-
--- a return stands at its place
-at_place : (e : Env) (n : ℕ) → e.base 1000 ≡ 0 → n % M ≡ n → addr e (absolute n) ≡ n
-at_place e n z small = let h : (e.base 1000 + n) % M ≡ n = omega arith in h
 
 module _ (image : Image) (mode : Mode) (p : ℕ) (hp : p < 32) (κ : Kind) (σ : Seat) (q : ℕ) (t : Task) (w : Processor) (r : RunsTask mode image p q t w)
     (level : level_in mode κ w ≡ w.level) (kss : ℕ) (extra v : ℕ → ℕ) (f : Flags) (saved_is : Saved mode image v w) where
@@ -142,7 +139,7 @@ module _ (image : Image) (p : ℕ) (hp : p < 32) (κ : Kind) (σ : Seat) (q : �
         ins = Eretu;
         next = eretu_place + 4;
         place = eretu_place;
-        rip = a.rip ∙ ap (addr e) z.rip ∙ at_place e eretu_place refl refl;
+        rip = a.rip ∙ ap (addr e) z.rip ∙ at_code e eretu_place refl refl;
         cell = (fred_cells code k).eretu;
         is = refl;
         outside = refl;
@@ -171,7 +168,7 @@ module _ (image : Image) (p : ℕ) (hp : p < 32) (κ : Kind) (σ : Seat) (q : �
         ins = Sysretq;
         next = sysretq_place + 3;
         place = sysretq_place;
-        rip = a.rip ∙ ap (addr e) z.rip ∙ at_place e sysretq_place refl refl;
+        rip = a.rip ∙ ap (addr e) z.rip ∙ at_code e sysretq_place refl refl;
         cell = (idt_cells code k).sysretq;
         is = refl;
         outside = refl;
@@ -191,7 +188,7 @@ module _ (image : Image) (p : ℕ) (hp : p < 32) (κ : Kind) (σ : Seat) (q : �
         ins = Iretq;
         next = iretq_place + 2;
         place = iretq_place;
-        rip = a.rip ∙ ap (addr e) returns.rip ∙ at_place e iretq_place refl refl;
+        rip = a.rip ∙ ap (addr e) returns.rip ∙ at_code e iretq_place refl refl;
         cell = (idt_cells code k).iretq;
         is = refl;
         outside = refl;

@@ -3,8 +3,6 @@ use Rattle.std.proofs.Common.{◌≡◌, ℕ, ◌+◌, ◌^◌, ◌<◌, ◌≤�
 use Rattle.std.specs.Prelude.{slice_get}
 use Rattle.std.specs.List.{list_any}
 use Rattle.ev_isa.specs.Word.{NatMap}
-use Rattle.ev_isa.specs.Spelling.{spelling}
-use Rattle.ev_isa.specs.declared.instruction.Ins.TheVariants.{Syscall}
 use Rattle.ev_isa.specs.declared.mode.Mode.{Mode}
 use Rattle.ev_event.specs.declared.event.Event.{Event}
 use Rattle.ev_event.specs.declared.event.EventType.TheVariants.{Other}
@@ -18,7 +16,7 @@ use Rattle.ev_state.specs.Processor.{Processor}
 use Rattle.ev_mem.specs.Memory.{Memory}
 use Rattle.ev_apic.specs.declared.apic.Apic.{Apic}
 use Rattle.ev_proc.specs.declared.stepped.Stepped.{Stepped}
-use Rattle.ev_proc.specs.ProcessorStep.{After, executed, has_fred}
+use Rattle.ev_proc.specs.ProcessorStep.{After, system_call, has_fred}
 use Rattle.ev_listing.specs.AddressMap.{pcpu, stack_top}
 use Rattle.ev_abstract.specs.Context.{BodyContext}
 use Rattle.ev_abstract.specs.Delivery.{body_at_start, saved_by}
@@ -76,7 +74,7 @@ module _ (mode : Mode) (image : Image) (p n : ℕ) (t : Task) (cr2 next body : �
     pub few : image.processors ≤ 8
     pub facts : Facts mode image
     pub long : length t.regs ≡ 16
-    pub next_is : t.rip + length (spelling Syscall) ≡ next
+    pub next_is : t.rip + 2 ≡ next
     pub next_small : next < 2 ^ 64
     pub regions_are : m.regions ≡ regions image
     pub found : first_body 0 image.bodies 0x100 User ≡ Some body
@@ -97,7 +95,7 @@ module _ (mode : Mode) (image : Image) (p n : ℕ) (t : Task) (cr2 next body : �
     pub cpu : Processor
     pub words : NatMap ℕ
     pub frame : Option ℕ
-    pub runs : (a : Apic) (nmi : Bool) → executed caller a m nmi (Some Syscall) ≡ arrival cpu words frame a nmi
+    pub runs : (a : Apic) (nmi : Bool) → system_call caller a m nmi (t.rip + 2) ≡ arrival cpu words frame a nmi
     pub blocking : cpu.nmi_blocked ≡ false
     pub active : (f : Frame) → Active mode image p call_edges SystemCall seat f false over context cpu (with_words m words)
     pub changes : Changes p seat (kernel_names p) m.words words

@@ -3,8 +3,6 @@ use Rattle.std.proofs.Common.{◌≡◌, ℕ, ◌+◌, ◌-◌, ◌%◌, ◌<◌
 use Rattle.std.proofs.lemmas.List.{length-set}
 use Rattle.ev_isa.specs.Word.{NatMap, wrap}
 use Rattle.ev_isa.specs.Flags.{flags_word}
-use Rattle.ev_isa.specs.Instruction.{user_may}
-use Rattle.ev_isa.specs.declared.instruction.Ins.TheVariants.{Syscall}
 use Rattle.ev_isa.specs.declared.mode.Mode.TheVariants.{Fred}
 use Rattle.ev_event.specs.Event.{type_number}
 use Rattle.ev_body.specs.declared.image.Image.{Image}
@@ -14,9 +12,8 @@ use Rattle.ev_state.specs.Processor.{Processor}
 use Rattle.ev_mem.specs.Memory.{Memory}
 use Rattle.ev_apic.specs.declared.apic.Apic.{Apic}
 use Rattle.ev_fred.specs.FredDelivery.{ss_word}
-use Rattle.ev_exec.specs.Exec.{exec}
 use Rattle.ev_proc.specs.declared.stepped.Stepped.{Stepped}
-use Rattle.ev_proc.specs.ProcessorStep.{after_arrival, deliveries, executed, special}
+use Rattle.ev_proc.specs.ProcessorStep.{after_arrival, deliveries, system_call}
 use Rattle.ev_proc.proofs.Tries.{went}
 use Rattle.ev_listing.specs.AddressMap.{stack_top, stack_bytes}
 use Rattle.ev_concrete.specs.ConcreteRun.{acted}
@@ -99,9 +96,8 @@ module _ (image : Image) (built : IsBuilt image) (p n : ℕ) (t : Task) (cr2 nex
         (fred_variables caller call_event) no_flags (InFred (FromUser ByCall)) refl m ready.regions_are)
 
     -- the instruction delivers it
-    runs : (a : Apic) (nmi : Bool) → executed (call.caller Fred image p n t cr2 next body) a m nmi (Some Syscall)
+    runs : (a : Apic) (nmi : Bool) → system_call (call.caller Fred image p n t cr2 next body) a m nmi (t.rip + 2)
         ≡ arrival (fred_handler caller call_event env) (fred_words env m.words) (Some (frame_at env)) a nmi
-    unfolding exec special user_may
     runs a nmi =
         ap (λ x. after_arrival a nmi (deliveries 4 (record caller { rip = x }) t.rip m call_event false)) ready.next_is
         ∙ ap (after_arrival a nmi) (sym (went 3 4 caller (fred_handler caller call_event env) t.rip (frame_at env) m (fred_words env m.words) call_event false

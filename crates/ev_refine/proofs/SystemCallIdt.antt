@@ -1,11 +1,8 @@
 -- The delivery of a system call under IDT: SYSCALL writes no word, and leaves RIP and the flags in RCX and R11; and the activation that it begins.
-use Rattle.std.proofs.Common.{◌≡◌, ℕ, ◌+◌, ◌-◌, ◌^◌, ◌<◌, Bool, List, get_or, set, length, Some, None, refl, sym, ap, ◌∙◌, subst, arith, inr}
+use Rattle.std.proofs.Common.{◌≡◌, ℕ, ◌+◌, ◌-◌, ◌^◌, ◌<◌, Bool, List, get_or, set, length, None, refl, sym, ap, ◌∙◌, subst, arith, inr}
 use Rattle.std.specs.Prelude.{bit_and}
 use Rattle.std.proofs.lemmas.List.{length-set}
 use Rattle.ev_isa.specs.Flags.{Flags, flags_word, flags_of}
-use Rattle.ev_isa.specs.Instruction.{user_may}
-use Rattle.ev_isa.specs.Spelling.{spelling}
-use Rattle.ev_isa.specs.declared.instruction.Ins.TheVariants.{Syscall}
 use Rattle.ev_isa.specs.declared.mode.Mode.TheVariants.{Idt}
 use Rattle.ev_body.specs.declared.image.Image.{Image}
 use Rattle.ev_effect.specs.Task.{Task}
@@ -13,8 +10,7 @@ use Rattle.ev_state.specs.Processor.{Processor}
 use Rattle.ev_mem.specs.Memory.{Memory}
 use Rattle.ev_apic.specs.declared.apic.Apic.{Apic}
 use Rattle.ev_idt.specs.IdtDelivery.{syscall_idt}
-use Rattle.ev_exec.specs.Exec.{exec}
-use Rattle.ev_proc.specs.ProcessorStep.{executed, special}
+use Rattle.ev_proc.specs.ProcessorStep.{system_call}
 use Rattle.ev_listing.specs.AddressMap.{stack_top}
 use Rattle.ev_symbolic.specs.Value.{K}
 use Rattle.ev_symbolic.specs.Agrees.{Env, eval, At}
@@ -53,9 +49,8 @@ module _ (image : Image) (p n : ℕ) (t : Task) (cr2 next body : ℕ) where
   env = here Idt p SystemCall seat 0x18 over place (call_variables caller) (masked_flags t.flags)
 
   -- the instruction delivers it
-  runs : (a : Apic) (m : Memory) (nmi : Bool) → t.rip + length (spelling Syscall) ≡ next
-      → executed (call.caller Idt image p n t cr2 next body) a m nmi (Some Syscall) ≡ arrival (syscall_idt caller) m.words None a nmi
-  unfolding exec special user_may
+  runs : (a : Apic) (m : Memory) (nmi : Bool) → t.rip + 2 ≡ next
+      → system_call (call.caller Idt image p n t cr2 next body) a m nmi (t.rip + 2) ≡ arrival (syscall_idt caller) m.words None a nmi
   runs a m nmi hn = ap (λ x. arrival (syscall_idt (record caller { rip = x })) m.words None a nmi) hn
 
   module _ (m : Memory) (ready : Ready Idt image p n t cr2 next body m) where

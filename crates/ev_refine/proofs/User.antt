@@ -8,7 +8,10 @@ use Rattle.ev_isa.specs.Spelling.{spelling}
 use Rattle.ev_isa.specs.declared.instruction.Ins.TheVariants.{Syscall}
 use Rattle.ev_isa.specs.declared.mode.Mode.{Mode}
 use Rattle.ev_isa.specs.declared.mode.Mode.TheVariants.{Idt, Fred}
-use Rattle.ev_event.specs.declared.event.EventType.TheVariants.{Other}
+use Rattle.ev_isa.specs.Pages.{UserMemory}
+use Rattle.ev_event.specs.declared.event.Event.{Event}
+use Rattle.ev_event.specs.declared.event.EventType.{EventType}
+use Rattle.ev_event.specs.declared.event.EventType.TheVariants.{Hardware, SoftInt, Other}
 use Rattle.ev_body.specs.declared.key.Key.TheVariants.{Sys}
 use Rattle.ev_body.specs.declared.key.Side.TheVariants.{User, Kernel}
 use Rattle.ev_body.specs.declared.body.Body.{Body}
@@ -18,7 +21,7 @@ use Rattle.ev_body.specs.WellFormed.{IsImage}
 use Rattle.ev_effect.specs.Task.{Task}
 use Rattle.ev_state.specs.Processor.{Processor, is_user}
 use Rattle.ev_mem.specs.Memory.{Memory}
-use Rattle.ev_proc.specs.ProcessorStep.{After, executed, has_fred, next_of}
+use Rattle.ev_proc.specs.ProcessorStep.{After, step, system_call, has_fred, next_of}
 use Rattle.ev_proc.specs.declared.stepped.Stepped.{Stepped}
 use Rattle.ev_listing.specs.AddressMap.{pcpu, task_words}
 use Rattle.ev_abstract.specs.Context.{BodyContext}
@@ -27,7 +30,7 @@ use Rattle.ev_abstract.specs.declared.entry.Entry.TheVariants.{Enter}
 use Rattle.ev_abstract.specs.Machine.{Machine, processor, with_processor, task, with_task, user_memory}
 use Rattle.ev_abstract.specs.Machine as abstract
 use Rattle.ev_abstract.specs.Delivery.{body_at_start, delivered, entered}
-use Rattle.ev_abstract.specs.UserCode.{user_view}
+use Rattle.ev_abstract.specs.UserCode.{Raises, user_view}
 use Rattle.ev_abstract.specs.UserCode as user
 use Rattle.ev_abstract.specs.Run.{task_step}
 use Rattle.ev_concrete.specs.ConcreteRun.{System, Activation, acted, after_step, activations_by, interrupted, starts_inner}
@@ -37,7 +40,10 @@ use Rattle.ev_built.specs.Program.{begins, leads_to}
 use Rattle.ev_symbolic.specs.Agrees.{with_words}
 use Rattle.ev_concrete.specs.Shown.{shown_by, saved_rip, key_of}
 use Rattle.ev_activation.specs.Seat.{SystemCall, kind_of, seat_by, seat_of, room_of}
-use Rattle.ev_user.specs.Tasks.{IsTask, RunsTask}
+use Rattle.ev_user.specs.Tasks.{IsTask, task_processor, RunsTask}
+use Rattle.ev_user.specs.Causes.{Undefined, Stack, Protection, Page, Alignment, Cause, Faulted, Debug, Breakpoint, Three, Refused, Call, raised_event, raising}
+use Rattle.ev_user.specs.Claims.{Raised}
+use Rattle.ev_user.proofs.Follows.{user_raises}
 use Rattle.ev_refine.specs.Tasks.{CurrentIs}
 use Rattle.ev_refine.specs.Nmi.{Leads, inner_edges}
 use Rattle.ev_refine.specs.Domain.{IsInProgram}
@@ -48,6 +54,7 @@ use Rattle.ev_refine.proofs.Facts.{Facts, word_of_canonical}
 use Rattle.ev_refine.proofs.CallKinds.{is_over_task, plain_no_nmi, call_of}
 use Rattle.ev_refine.proofs.Domains.{one_task_each, with_cr2}
 use Rattle.ev_refine.proofs.Standing.{Moves, step_moves, delivery_moves}
+use Rattle.ev_refine.proofs.After.{kernel_names, kernel_spares, kernel_user}
 use Rattle.ev_refine.proofs.Depth.{stands_depth}
 use Rattle.ev_refine.proofs.UserState.{put_same, TurnsTo, makes_turn, is_safe, tells_bodies}
 use Rattle.ev_refine.proofs.UserPlain.{AtUser, at_user, user_after, plain_turn}
@@ -109,6 +116,29 @@ shown_is p depth user fred told c words frame next hu hd hs =
     ∙ ap (λ d. Enter p Sys Other User (suc d) 0 0 (Some (saved_rip fred c words call_event frame)) ∷ []) hd
     ∙ ap (λ n. Enter p Sys Other User 1 0 0 (Some n) ∷ []) hs
 
+-- ---- what SYSCALL raises, and what the processor's step delivers
+
+call_bytes : length (spelling Syscall) ≡ 2
+unfolding spelling
+call_bytes = refl
+
+call_raises : (t : Task) (next : ℕ) (u : UserMemory) → user.executed (user_view u) t next Syscall ≡ Raises next call_event
+unfolding user.executed
+call_raises t next u = refl
+
+-- nothing else raises its event
+is_call : (cause : Cause) → call_event ≡ raised_event cause → cause ≡ Call
+is_call Call h = refl
+is_call (Faulted Undefined) h = let clash : Other ≡ Hardware = ap (λ (e : Event). e.kind) h in absurd (cc)
+is_call (Faulted Stack) h = let clash : Other ≡ Hardware = ap (λ (e : Event). e.kind) h in absurd (cc)
+is_call (Faulted Protection) h = let clash : Other ≡ Hardware = ap (λ (e : Event). e.kind) h in absurd (cc)
+is_call (Faulted (Page code address)) h = let clash : Other ≡ Hardware = ap (λ (e : Event). e.kind) h in absurd (cc)
+is_call (Faulted Alignment) h = let clash : Other ≡ Hardware = ap (λ (e : Event). e.kind) h in absurd (cc)
+is_call Debug h = let clash : Other ≡ EventType.Int1 = ap (λ (e : Event). e.kind) h in absurd (cc)
+is_call Breakpoint h = let clash : Other ≡ EventType.Int3 = ap (λ (e : Event). e.kind) h in absurd (cc)
+is_call Three h = let clash : Other ≡ SoftInt = ap (λ (e : Event). e.kind) h in absurd (cc)
+is_call (Refused n) h = let clash : Other ≡ Hardware = ap (λ (e : Event). e.kind) h in absurd (cc)
+
 -- ---- what the delivery comes to, by the mode
 
 begins_call : (mode : Mode) (image : Image) (built : IsBuilt image) (p n : ℕ) (t : Task) (cr2 next body : ℕ) (m : Memory)
@@ -134,13 +164,17 @@ module _ (mode : Mode) (image : Image) (formed : IsImage image) (built : IsBuilt
       let first : n ≡ 0 = let l = u.on.running in let one = one_task_each image built p lt in omega arith in
       let words : NatMap ℕ = s.memory.words in
       let current : CurrentIs mode p n words = u.on.current u.rest.still in
+      let raised : Raised t c (s.apics p) s.memory (s.latches p) next call_event (step c (s.apics p) s.memory (s.latches p))
+      = user_raises mode image p n t (user_memory image m) c (s.apics p) s.memory (s.latches p) u.site next call_event
+      (u.reads ∙ ap (λ i. user.executed (user_view (user_memory image m)) t (t.rip + length (spelling i)) i) hi ∙ call_raises t next (user_memory image m)) in
+      let is_caller : c ≡ caller mode image p n t c.cr2 next body = u.rest.task.is ∙ ap (task_processor mode image p n t c.cr2) u.open_to in
       let begun : Begins mode image p n t c.cr2 next body s.memory = begins_call mode image built p n t c.cr2 next body s.memory (record {
         running = first;
         within = lt;
         few = formed.count.1;
         facts = facts;
         long = u.rest.task.task.long;
-        next_is = refl;
+        next_is = ap (λ k. t.rip + k) (sym call_bytes);
         next_small = word_of_canonical next (sym (ap (λ i. is_canonical (leads_to t.rip i)) hi) ∙ u.canonical);
         regions_are = h.regions_are;
         found = found.1;
@@ -182,7 +216,9 @@ module _ (mode : Mode) (image : Image) (formed : IsImage image) (built : IsBuilt
       let is_context : IsContext mode image b = record { item = call.item; is = call.first } in
       let chain : Chain mode image p call_edges n back u.on.frame u.on.switching (b ∷ []) (last ∷ []) d mem =
       (w, is_context, refl, tt, tail.0, tail.1, tail.2) in
-      let after = user_after mode image formed built facts left s s' m p lt h u d as' words' back (b ∷ []) call_edges hb mv begun.changes good at
+      let after = user_after mode image formed built facts left s s' m p lt h u d as' words' back (b ∷ []) call_edges hb mv (kernel_names p)
+      (kernel_spares p small) begun.changes m.words
+      (kernel_user p (record { stack = n; used = 0 }) small (omega arith) words words' m.words begun.changes h.shares.user) good at
       (begun.blocking ∙ sym (plain_no_nmi image b (ap is_over_task kind))) (record { interrupts = refl; service = refl; calls = refl }, tt) (λ class. refl)
       (omega arith)
       (λ q e. subst (λ ys. Chain mode image p call_edges q back u.on.frame u.on.switching (b ∷ []) ys d (with_words s.memory words')) (sym begins_last)
@@ -196,10 +232,13 @@ module _ (mode : Mode) (image : Image) (formed : IsImage image) (built : IsBuilt
       } in
       record {
         after = r;
-        steps = u.steps ∙ ap (λ i. executed (caller mode image p n t c.cr2 next body) (s.apics p) s.memory false (Some i)) hi ∙ begun.runs (s.apics p) false;
+        steps = raised.step_is ∙ ap (raising c (s.apics p) s.memory (s.latches p)) (is_call raised.cause raised.event)
+            ∙ ap (λ nmi. system_call c (s.apics p) s.memory nmi (c.rip + 2)) u.latch
+            ∙ ap (λ z. system_call z (s.apics p) s.memory false (z.rip + 2)) is_caller ∙ begun.runs (s.apics p) false;
         machine = with_processor m p (called x next body);
         entries = entries;
-        turns = u.turns ∙ ap (λ i. task_step image m p (user.executed (user_view (user_memory image m)) t (t.rip + length (spelling i)) i)) hi
+        turns = u.turns ∙ ap (task_step image m p) u.reads ∙ ap
+            (λ i. task_step image m p (user.executed (user_view (user_memory image m)) t (t.rip + length (spelling i)) i)) hi
             ∙ call_steps image m p next body call hb found.1;
         seen = u.seen;
         now_left = call_edges + inner_edges (s.latches p);

@@ -1,5 +1,5 @@
 -- A turn of the task: what both machines make of it, and the turns that raise no event.
-use Rattle.std.proofs.Common.{◌≡◌, ℕ, suc, ◌+◌, ◌-◌, ◌<◌, ◌≤◌, Bool, true, false, ◌&&◌, not, List, [], length, Some, refl, ⊎_elim, sym, ap, ◌∙◌, subst, arith}
+use Rattle.std.proofs.Common.{◌≡◌, ℕ, suc, ◌+◌, ◌-◌, ◌<◌, ◌≤◌, Bool, true, false, ◌&&◌, not, List, [], length, Option, Some, None, refl, inl, inr, ⊎_elim, sym, ap, ◌∙◌, subst, arith}
 use Rattle.std.specs.List.{list_any}
 use Rattle.std.proofs.lemmas.Bool.Decides.{eqb_tells}
 use Rattle.std.specs.Prelude.{◌||◌, if◌then◌else◌, nat_le, nat_lt}
@@ -12,15 +12,14 @@ use Rattle.ev_body.specs.WellFormed.{IsImage}
 use Rattle.ev_effect.specs.Task.{Task}
 use Rattle.ev_state.specs.Processor.{Processor, is_user}
 use Rattle.ev_event.specs.declared.boundary.Next.TheVariants.{Instruction}
-use Rattle.ev_mem.specs.Memory.{page_fault}
 use Rattle.ev_proc.specs.declared.stepped.Stepped.{Stepped}
-use Rattle.ev_proc.specs.ProcessorStep.{After, step, executed, ran, next_of, instruction_at}
+use Rattle.ev_proc.specs.ProcessorStep.{After, step, ran, next_of, instruction_at}
 use Rattle.ev_abstract.specs.Machine.{Machine, processor, with_processor, task, with_task, user_memory}
 use Rattle.ev_abstract.specs.Machine as abstract
 use Rattle.ev_abstract.specs.Boundary.{is_nmi_body}
 use Rattle.ev_abstract.specs.Context.{BodyContext}
 use Rattle.ev_symbolic.specs.Agrees.{with_words}
-use Rattle.ev_abstract.specs.UserCode.{user_view, step_of}
+use Rattle.ev_abstract.specs.UserCode.{Goes, user_step, user_view, step_of}
 use Rattle.ev_abstract.specs.UserCode as user
 use Rattle.ev_abstract.specs.Run.{turn, task_step}
 use Rattle.ev_concrete.specs.Opening.{tasks_of}
@@ -31,39 +30,44 @@ use Rattle.ev_concrete.specs.Depth.{is_in_repeat, bodies_on, is_jump}
 use Rattle.ev_listing.specs.AddressMap.{nmi_entry, repeat_entry}
 use Rattle.ev_user.specs.Tasks.{IsTask, task_processor, RunsTask}
 use Rattle.ev_refine.specs.Nmi.{inner_edges}
-use Rattle.ev_refine.specs.Named.{Changes}
+use Rattle.ev_refine.specs.Named.{Named, Outside, Changes}
+use Rattle.ev_user.specs.Sees.{IsUserWord, with_write}
+use Rattle.ev_user.specs.Claims.{Site, GoesOn}
+use Rattle.ev_user.proofs.Follows.{user_goes_on}
+use Rattle.ev_symbolic.proofs.Words.{put_other}
+use Rattle.ev_activation.specs.Seat.{Seat}
 use Rattle.ev_refine.specs.Domain.{first_start, IsInProgram, AreQuiet, IsInDomain}
 use Rattle.ev_refine.specs.Relation.{Chain, serves, StandsOn, Stands}
 use Rattle.ev_refine.proofs.Maps.{at_same, at_other}
 use Rattle.ev_refine.proofs.Standing.{instruction_first, Moves, step_moves}
-use Rattle.ev_refine.proofs.After.{kernel_names, latch_parts, own_after, stands_after, few_inner}
+use Rattle.ev_refine.proofs.After.{AreSparing, word_names, word_spares, latch_parts, own_after, stands_after, few_inner}
 use Rattle.ev_refine.proofs.Domains.{four_tasks}
 use Rattle.ev_refine.proofs.Depth.{stands_depth}
 use Rattle.ev_refine.proofs.Tells.{AtRest, at_rest}
 use Rattle.ev_refine.proofs.Facts.{Facts}
 use Rattle.ev_refine.proofs.UserText.{Reads, reads, task_canonical, first_program, leads_again}
 use Rattle.ev_refine.proofs.UserState.{TurnsTo}
-use Rattle.ev_refine.proofs.UserStep.{user_steps, task_turns, user_reads, Makes, plain_runs}
+use Rattle.ev_refine.proofs.UserStep.{task_turns, user_reads, Makes}
 
 module _ (mode : Mode) (image : Image) (formed : IsImage image) (built : IsBuilt image) (facts : Facts mode image) where
-  -- the instruction of the task that comes next, on both sides
+  -- the task that runs, what it sees of memory, and its instruction, on both sides
   pub record AtUser (left : NatMap ℕ) (s : System) (m : Machine) (p : ℕ) : Type 0 where
     pub on : StandsOn mode image p (left p) s (processor m p)
     pub rest : AtRest mode image p (left p) s (processor m p) on
     pub domain : IsInDomain image p (processor m p)
     pub latch : s.latches p ≡ false
+    pub open_to : (s.cpus p).nmi_blocked ≡ false
     pub at_cpl3 : is_user (s.cpus p) ≡ true
     pub next : next_of (s.cpus p) (s.apics p) (s.latches p) ≡ Instruction
+    pub site : Site mode image p (processor m p).running (task (processor m p)) (user_memory image m) (s.cpus p) (s.apics p) s.memory (s.latches p)
+    pub turns : turn image m p ≡ task_step image m p (user_step (user_memory image m) (task (processor m p)))
+    pub seen : is_visible (marks_of mode image) s p ≡ true
     pub ins : Ins
     pub is_built : is_built_instruction ins ≡ true
     pub leads : IsInProgram image (leads_to (task (processor m p)).rip ins)
     pub canonical : is_canonical (leads_to (task (processor m p)).rip ins) ≡ true
-    pub steps : step (s.cpus p) (s.apics p) s.memory (s.latches p)
-        ≡ executed (task_processor mode image p (processor m p).running (task (processor m p)) (s.cpus p).cr2 false) (s.apics p) s.memory false (Some ins)
-    pub turns : turn image m p
-        ≡ task_step image m p
-        (user.executed (user_view (user_memory image m)) (task (processor m p)) ((task (processor m p)).rip + length (spelling ins)) ins)
-    pub seen : is_visible (marks_of mode image) s p ≡ true
+    pub reads : user_step (user_memory image m) (task (processor m p))
+        ≡ user.executed (user_view (user_memory image m)) (task (processor m p)) ((task (processor m p)).rip + length (spelling ins)) ins
 
   pub at_user : (left : NatMap ℕ) (s : System) (m : Machine) → Stands mode image left s m → (p : ℕ) → p < image.processors → (processor m p).bodies ≡ []
       → AtUser left s m p
@@ -77,14 +81,10 @@ module _ (mode : Mode) (image : Image) (formed : IsImage image) (built : IsBuilt
       let rest : AtRest mode image p (left p) s x on = at_rest mode image p (left p) s x on hb in
       let latches = latch_parts on.layer on.frame _ (s.latches p) c.nmi_blocked x.nmi on.latch in
       let latch : s.latches p ≡ false = sym latches.0 ∙ domain.nmi in
-      let open_to : c.nmi_blocked ≡ false = latches.1 ∙ ap (list_any (is_nmi_body image)) hb in
-      let is : c ≡ task_processor mode image p x.running t c.cr2 false = rest.task.is ∙ ap (task_processor mode image p x.running t c.cr2) open_to in
       let is_program : IsProgram image.text (first_start image) built.program = first_program image built in
       let reads_it : Reads built.program image.text t.rip =
       reads image.text (first_start image) built.program is_program t.rip (domain.tasks x.running on.running built.program is_program) in
-      let rip : c.rip ≡ t.rip = ap (λ (z : Processor). z.rip) is in
-      let is_it : is_user c ≡ true = ap is_user is in
-      let fetch = facts.user_fetch s.memory h.regions_are h.fixed t.rip reads_it.from reads_it.to in
+      let is_it : is_user c ≡ true = ap is_user rest.task.is in
       let next : next_of c (s.apics p) (s.latches p) ≡ Instruction
       = instruction_first c (s.apics p) (s.latches p) latch (λ v l. on.pending v l ∙ ap (λ q. q v) domain.pending) in
       record {
@@ -92,21 +92,28 @@ module _ (mode : Mode) (image : Image) (formed : IsImage image) (built : IsBuilt
         rest = rest;
         domain = domain;
         latch = latch;
+        open_to = latches.1 ∙ ap (list_any (is_nmi_body image)) hb;
         at_cpl3 = is_it;
         next = next;
+        site = record {
+          formed = formed;
+          runs = rest.task;
+          sees = record {
+            regions_are = h.regions_are;
+            text_is = refl;
+            holds = facts.holds s.memory h.fixed;
+            words = h.shares.user;
+            pages = h.shares.pages;
+          };
+          chosen = next;
+        };
+        turns = task_turns image m p domain.nmi domain.pending hb;
+        seen = ap (is_visible_by (marks_of mode image) s p c) next ∙ ap (λ b. b || is_seen (mark_at (marks_of mode image) c.rip) s c) is_it;
         ins = reads_it.ins;
         is_built = reads_it.built;
         leads = λ program k. leads_again image t.rip reads_it.ins program k reads_it.is (domain.tasks x.running on.running program k);
         canonical = task_canonical image formed (first_start image) built.program is_program (leads_to t.rip reads_it.ins) reads_it.leads;
-        steps = user_steps c (s.apics p) s.memory (s.latches p) reads_it.ins next is_it
-            (ap (page_fault s.memory (record { user = true; write = false; fetch = true })) rip ∙ fetch.0)
-            (ap (instruction_at s.memory.words) rip ∙ fetch.1 ∙ reads_it.is)
-            ∙ ap (λ (z : Processor). executed z (s.apics p) s.memory (s.latches p) (Some reads_it.ins)) is
-            ∙ ap (λ n. executed (task_processor mode image p x.running t c.cr2 false) (s.apics p) s.memory n (Some reads_it.ins)) latch;
-        turns = task_turns image m p domain.nmi domain.pending hb
-            ∙ ap (task_step image m p)
-            (user_reads (user_memory image m) t reads_it.ins reads_it.from (omega (arith, reads_it.to, formed.text_fits)) reads_it.is);
-        seen = ap (is_visible_by (marks_of mode image) s p c) next ∙ ap (λ b. b || is_seen (mark_at (marks_of mode image) c.rip) s c) is_it;
+        reads = user_reads (user_memory image m) t reads_it.ins reads_it.from (omega (arith, reads_it.to, formed.text_fits)) reads_it.is;
       }
 
   -- ---- the relation after a step of the task
@@ -115,13 +122,16 @@ module _ (mode : Mode) (image : Image) (formed : IsImage image) (built : IsBuilt
   pub user_after : (left : NatMap ℕ) (s s' : System) (m : Machine) (p : ℕ) (lt : p < image.processors) (h : Stands mode image left s m)
       (u : AtUser left s m p) (cpu : Processor) (as' : List Activation) (words : NatMap ℕ) (t : Task) (bs : List BodyContext) (own : ℕ)
       → (processor m p).bodies ≡ []
-      → Moves p s s' cpu as' words → Changes p (record { stack = (processor m p).running; used = 0 }) (kernel_names p) s.memory.words words
+      → Moves p s s' cpu as' words → (names : List Named) → AreSparing p names
+      → Changes p (record { stack = (processor m p).running; used = 0 }) names s.memory.words words
+      → (memory : NatMap ℕ) → ((a : ℕ) → IsUserWord a → words a ≡ memory a)
       → IsTask t → IsInProgram image t.rip → cpu.nmi_blocked ≡ list_any (is_nmi_body image) bs → AreQuiet bs
       → ((class : ℕ) → list_any (λ (b : BodyContext). serves mode image class b.service) bs ≡ false) → own ≤ 500
       → ((r : ℕ) → r ≡ (processor m p).running → Chain mode image p own r t u.on.frame u.on.switching bs as' cpu (with_words s.memory words))
       → (StandsOn mode image p (own + inner_edges (s.latches p)) s' (record (with_task (processor m p) t) { bodies = bs }))
-      × Stands mode image (put_at left p (own + inner_edges (s.latches p))) s' (with_processor m p (record (with_task (processor m p) t) { bodies = bs }))
-  user_after left s s' m p lt h u cpu as' words t bs own hb mv changes good at blocked quiet serving few chain =
+      × Stands mode image (put_at left p (own + inner_edges (s.latches p))) s'
+      (with_processor (record m { words = memory }) p (record (with_task (processor m p) t) { bodies = bs }))
+  user_after left s s' m p lt h u cpu as' words t bs own hb mv names sparing changes memory user good at blocked quiet serving few chain =
       let x : abstract.Processor = processor m p in
       let y : abstract.Processor = record (with_task x t) { bodies = bs } in
       let small : p < 32 = omega (arith, built.one_processor) in
@@ -130,7 +140,7 @@ module _ (mode : Mode) (image : Image) (formed : IsImage image) (built : IsBuilt
       let narrow : x.running < 7 = let l = u.on.running in omega arith in
       let there : StandsOn mode image p (own + inner_edges (s.latches p)) s' y
       = own_after mode image p (left p) s s' x (record { stack = x.running; used = 0 }) cpu as' words (put_at x.tasks x.running t) bs own u.on small four mv
-      (sym u.rest.returning) narrow changes (λ i d. others i (λ e. d (e ∙ sym u.rest.returning))) tasks blocked
+      (sym u.rest.returning) narrow names sparing changes (λ i d. others i (λ e. d (e ∙ sym u.rest.returning))) tasks blocked
       (λ class. serving class ∙ sym (ap (list_any (λ (b : BodyContext). serves mode image class b.service)) hb))
       (let f = few_inner mode image (s.latches p) in omega arith)
       (subst (λ k. Chain mode image p own u.on.returning k u.on.frame u.on.switching bs as' cpu (with_words s.memory words))
@@ -143,13 +153,13 @@ module _ (mode : Mode) (image : Image) (formed : IsImage image) (built : IsBuilt
         tasks = programs;
       } in (
         there,
-        stands_after mode image left s s' m (with_processor m p y) p (own + inner_edges (s.latches p)) y (record { stack = x.running; used = 0 }) cpu as'
+        stands_after mode image left s s' m (with_processor (record m { words = memory }) p y) p (own + inner_edges (s.latches p)) y
+            (record { stack = x.running; used = 0 }) cpu as'
             words
-            eight (four_tasks image built) h lt mv narrow changes
+            eight (four_tasks image built) h lt mv narrow names sparing changes user
             (record {
               own = at_same m.processors p p y refl;
               others = λ q e. at_other m.processors p q y e;
-              words = refl;
               present = refl;
               cells = refl;
               mail = refl;
@@ -193,45 +203,56 @@ module _ (mode : Mode) (image : Image) (formed : IsImage image) (built : IsBuilt
       pick false true = refl
       pick false false = refl
 
-  -- a turn that raises no event
-  pub plain_turn : (left : NatMap ℕ) (s : System) (m : Machine) → Stands mode image left s m → (p : ℕ) → p < image.processors → (processor m p).bodies ≡ []
-      → (u : AtUser left s m p) → Makes (task (processor m p)) u.ins
-      → TurnsTo mode image left s m p
-  plain_turn left s m h p lt hb u k =
+  -- where user code goes on: it writes one word of a data page, or none
+  writes : (p : ℕ) (σ : Seat) (w : Option (ℕ × ℕ)) (m : NatMap ℕ) → Changes p σ (word_names w) m (with_write m w)
+  writes p σ None m a off d = refl
+  writes p σ (Some w) m a off d = put_other m w.0 w.1 a (apart d.0)
+    where
+      apart : Outside w.0 (w.0 + 8) a → a ≡ w.0 → ⊥
+      apart (inl l) q = omega arith
+      apart (inr l) q = omega arith
+
+  pub goes_turn : (left : NatMap ℕ) (s : System) (m : Machine) → Stands mode image left s m → (p : ℕ) → p < image.processors → (processor m p).bodies ≡ []
+      → (u : AtUser left s m p) (t : Task) (memory : NatMap ℕ) → user_step (user_memory image m) (task (processor m p)) ≡ Goes t memory
+      → IsInProgram image t.rip → TurnsTo mode image left s m p
+  goes_turn left s m h p lt hb u t memory goes at =
       let x : abstract.Processor = processor m p in
       let c : Processor = s.cpus p in
-      let d : Processor = task_processor mode image p x.running k.task c.cr2 false in
-      let words : NatMap ℕ = s.memory.words in
-      let r : After = ran d (s.apics p) words false in
+      let g : GoesOn mode image p x.running (task x) (user_memory image m) c (s.apics p) s.memory (s.latches p) t memory
+      (step c (s.apics p) s.memory (s.latches p))
+      = user_goes_on mode image p x.running (task x) (user_memory image m) c (s.apics p) s.memory (s.latches p) u.site t memory goes in
+      let d : Processor = task_processor mode image p x.running t c.cr2 c.nmi_blocked in
+      let words : NatMap ℕ = with_write s.memory.words g.write in
+      let r : After = ran d (s.apics p) words (s.latches p) in
       let s' : System = after_step s p r in
-      let good : IsTask k.task = record {
-        long = k.long ∙ u.rest.task.task.long;
-        canonical = ap is_canonical k.rip ∙ u.canonical;
-        interrupts = k.interrupts ∙ u.rest.task.task.interrupts;
-      } in
       let as' : List Activation = activations_by s p (s.activations p) d Stepped.Ran in
       let none : as' ≡ [] = same_activations s p (s.activations p) d u.at_cpl3 ∙ u.rest.none in
-      let mv : Moves p s s' d as' words = step_moves s p r refl (sym u.latch) in
-      let at : IsInProgram image k.task.rip = λ program is. ap (begins program) k.rip ∙ u.leads program is in
-      let after = user_after left s s' m p lt h u d as' words k.task [] 0 hb mv (λ a off n. refl) good at refl tt (λ class. refl) (omega arith)
-      (λ r e. (subst (λ z. RunsTask mode image p z k.task d) (sym e) (record { is = refl; task = good }), u.rest.still, none)) in
-      let same : record (with_task x k.task) { bodies = [] } ≡ with_task x k.task = ap
-      (λ (bs : List BodyContext). record (with_task x k.task) { bodies = bs })
-      (sym hb) in
-      let y : abstract.Processor = with_task x k.task in
+      let mv : Moves p s s' d as' words = step_moves s p r refl refl in
+      let after = user_after left s s' m p lt h u d as' words t [] 0 hb mv (word_names g.write) (word_spares p m.present g.write g.place)
+      (writes p (record { stack = x.running; used = 0 }) g.write s.memory.words) memory g.sees.words g.runs.task at u.open_to tt (λ class. refl) (omega arith)
+      (λ r e. (subst (λ z. RunsTask mode image p z t d) (sym e) g.runs, u.rest.still, none)) in
+      let same : record (with_task x t) { bodies = [] } ≡ with_task x t = ap (λ (bs : List BodyContext). record (with_task x t) { bodies = bs }) (sym hb) in
       record {
         after = r;
-        steps = u.steps ∙ plain_runs mode image p x.running (task x) c.cr2 false u.ins k (s.apics p) s.memory false;
-        machine = with_processor m p y;
+        steps = g.step_is;
+        machine = with_processor (record m { words = memory }) p (with_task x t);
         entries = [];
-        turns = u.turns ∙ ap (task_step image m p)
-            (k.user (user_view (user_memory image m)) ∙ ap (step_of (task x)) (k.is (user_view (user_memory image m))));
+        turns = u.turns ∙ ap (task_step image m p) goes;
         seen = u.seen;
         now_left = 0 + inner_edges (s.latches p);
-        stands = subst (λ z. Stands mode image (put_at left p (0 + inner_edges (s.latches p))) s' (with_processor m p z)) same after.1;
+        stands = subst (λ z. Stands mode image (put_at left p (0 + inner_edges (s.latches p))) s' (with_processor (record m { words = memory }) p z)) same
+            after.1;
         shows = λ told. ap (λ b. if b then [] else told) u.at_cpl3;
         counts = stands_depth mode image facts p _ s' _ after.0 ∙ sym (stands_depth mode image facts p (left p) s x u.on ∙ ap length hb)
             ∙ sym (user_leaves (is_return (instruction_at s.memory.words c.rip)) (nat_le nmi_entry c.rip && nat_lt c.rip repeat_entry)
             (is_jump (instruction_at s.memory.words c.rip)) (is_in_repeat c.rip) (is_user c) (bodies_on s p) u.at_cpl3);
         safe = refl;
       }
+
+  -- so it does for today's instructions but SYSCALL
+  pub plain_turn : (left : NatMap ℕ) (s : System) (m : Machine) → Stands mode image left s m → (p : ℕ) → p < image.processors → (processor m p).bodies ≡ []
+      → (u : AtUser left s m p) → Makes (task (processor m p)) u.ins → TurnsTo mode image left s m p
+  plain_turn left s m h p lt hb u k =
+      goes_turn left s m h p lt hb u k.task m.words
+      (u.reads ∙ k.user (user_view (user_memory image m)) ∙ ap (step_of (task (processor m p))) (k.is (user_view (user_memory image m))))
+      (λ program is. ap (begins program) k.rip ∙ u.leads program is)

@@ -1,11 +1,10 @@
--- A step of user code that raises no event: the processor and the task make the same effect.
-use Rattle.std.proofs.Common.{◌≡◌, ℕ, ◌+◌, ◌-◌, ◌*◌, ◌/◌, ◌^◌, ◌<◌, ◌≤◌, ◌⊎◌, inl, inr, Bool, true, false, ◌&&◌, not, [], length, Some, None, Ok, Err, refl, sym, ap, ◌∙◌}
+-- A step of user code: the abstract machine's, and what today's instructions make of the task.
+use Rattle.std.proofs.Common.{◌≡◌, ℕ, ◌+◌, ◌-◌, ◌*◌, ◌/◌, ◌^◌, ◌<◌, ◌≤◌, ◌⊎◌, inl, inr, Bool, true, false, ◌&&◌, not, [], length, Some, None, Ok, Err, refl, ap, ◌∙◌}
 use Rattle.std.specs.Prelude.{if◌then◌else◌, nat_lt, nat_le}
 use Rattle.std.specs.List.{list_any, list_all}
 use Rattle.std.proofs.lemmas.Bool.{le-leb, lt-ltb}
-use Rattle.std.proofs.lemmas.List.{length-set}
 use Rattle.ev_isa.specs.Word.{displaced, is_canonical, no_numbers, greatest_below}
-use Rattle.ev_isa.specs.Flags.{Flags, alu}
+use Rattle.ev_isa.specs.Flags.{alu}
 use Rattle.ev_isa.specs.Pages.{text_base, View, Place, Text, Page, Lower, Upper, page_base, place_of, fault_at, UserMemory}
 use Rattle.ev_isa.specs.Instruction.{user_may}
 use Rattle.ev_isa.specs.Spelling.{spelling}
@@ -13,19 +12,10 @@ use Rattle.ev_isa.specs.Reading.{reading}
 use Rattle.ev_isa.specs.declared.instruction.AluOp.TheVariants.{Add}
 use Rattle.ev_isa.specs.declared.instruction.Ins.{Ins}
 use Rattle.ev_isa.specs.declared.instruction.Ins.TheVariants.{MovImm, Alu, Jmp, Syscall}
-use Rattle.ev_isa.specs.declared.mode.Mode.{Mode}
 use Rattle.ev_event.specs.Event.{gp}
-use Rattle.ev_event.specs.declared.boundary.Next.TheVariants.{Instruction}
 use Rattle.ev_body.specs.declared.image.Image.{Image}
 use Rattle.ev_effect.specs.Task.{Task, reg, with_reg}
 use Rattle.ev_effect.specs.Effect.{effect, with_result, ◌>>=◌}
-use Rattle.ev_state.specs.Processor.{Processor, is_user, task_of, with_effect}
-use Rattle.ev_state.proofs.FlagLaws.{flags_of-flags_word}
-use Rattle.ev_mem.specs.Memory.{Memory, view, page_fault}
-use Rattle.ev_apic.specs.declared.apic.Apic.{Apic}
-use Rattle.ev_exec.specs.Exec.{Done, exec, changed, completed}
-use Rattle.ev_proc.specs.ProcessorStep.{step, step_by, fetched, executed, after_exec, fault, ran, next_of, instruction_at}
-use Rattle.ev_event.specs.Event.{ud}
 use Rattle.ev_abstract.specs.Machine.{Machine, processor, task, user_memory}
 use Rattle.ev_abstract.specs.Machine as abstract
 use Rattle.ev_abstract.specs.UserCode.{UserStep, Goes, step_of, user_step, fetch_step, read_step, user_view, text_bytes}
@@ -33,18 +23,8 @@ use Rattle.ev_abstract.specs.UserCode as user
 use Rattle.ev_abstract.specs.Boundary.{Choice, Next as NextItem, choice, maskable, interrupt_or_next, is_nmi_body, open_to_interrupts, outranks}
 use Rattle.ev_abstract.specs.Run.{turn, chosen_step, next_step, task_step}
 use Rattle.ev_built.specs.Program.{leads_to, is_built_instruction}
-use Rattle.ev_user.specs.Tasks.{task_processor}
 
 -- ---- the boundary
-
--- the step of user code at RIP
-pub user_steps : (c : Processor) (a : Apic) (m : Memory) (nmi : Bool) (i : Ins) → next_of c a nmi ≡ Instruction → is_user c ≡ true
-    → page_fault m (record { user = true; write = false; fetch = true }) c.rip ≡ None → instruction_at m.words c.rip ≡ Some i
-    → step c a m nmi ≡ executed c a m nmi (Some i)
-unfolding step
-user_steps c a m nmi i hn hu hp hi =
-    ap (step_by c a m nmi) hn ∙ ap (λ b. fetched c a m nmi (page_fault m (record { user = b; write = false; fetch = true }) c.rip)) hu
-    ∙ ap (fetched c a m nmi) hp ∙ ap (executed c a m nmi) hi
 
 -- the abstract machine chooses it too
 next_item : (image : Image) (x : abstract.Processor) → x.nmi ≡ false → x.pending ≡ no_numbers → choice image x ≡ NextItem
@@ -84,76 +64,34 @@ user_reads u t i h k r =
 
 -- ---- instructions that raise no event
 
--- what the instruction makes of the task: its effect on whatever memory it sees, and the same where it is executed by user code or by a processor
+-- what the instruction makes of the task: its effect on whatever memory it sees, which is what user code makes
 pub record Makes (t : Task) (i : Ins) : Type 0 where
   pub task : Task
   pub is : (v : View) → effect v (record t { rip = t.rip + length (spelling i) }) i ≡ Ok (task, v.words)
   pub user : (v : View) → user.executed v t (t.rip + length (spelling i)) i ≡ step_of t (effect v (record t { rip = t.rip + length (spelling i) }) i)
-  pub on_cpu : (c : Processor) (m : Memory) (next : ℕ) → exec c m i next ≡ changed c (effect (view m (is_user c)) (record (task_of c) { rip = next }) i)
-  pub may : user_may i ≡ true
   pub rip : task.rip ≡ leads_to t.rip i
-  pub gs : task.gs ≡ t.gs
-  pub interrupts : task.flags.interrupts ≡ t.flags.interrupts
-  pub long : length task.regs ≡ length t.regs
 
 -- one clause for each form
 pub makes : (t : Task) (i : Ins) → is_built_instruction i ≡ true → is_canonical (leads_to t.rip i) ≡ true → (i ≡ Syscall) ⊎ Makes t i
-unfolding is_built_instruction effect exec user_may user.executed
+unfolding is_built_instruction effect user_may user.executed
 makes t (MovImm d n) h k = let at : Task = record t { rip = t.rip + length (spelling (MovImm d n)) } in inr (record {
   task = with_reg at d n;
   is = λ v. refl;
   user = λ v. refl;
-  on_cpu = λ c m next. refl;
-  may = refl;
   rip = refl;
-  gs = refl;
-  interrupts = refl;
-  long = length-set t.regs d n;
 })
 makes t (Alu Add d s) h k = let at : Task = record t { rip = t.rip + length (spelling (Alu Add d s)) } in let r = alu Add (reg at d) (reg at s) in inr
     (record {
       task = with_result at d r;
       is = λ v. refl;
       user = λ v. refl;
-      on_cpu = λ c m next. refl;
-      may = refl;
       rip = refl;
-      gs = refl;
-      interrupts = refl;
-      long = length-set t.regs d r.0;
     })
 makes t (Jmp n) h k = let next : ℕ = t.rip + length (spelling (Jmp n)) in let to : Task = record t { rip = displaced next n } in inr (record {
   task = to;
   is = λ v. ap (λ (b : Bool). (if b then Ok to else Err (gp 0)) >>= (λ (t' : Task). Ok (t', v.words))) k;
   user = λ v. refl;
-  on_cpu = λ c m next. refl;
-  may = refl;
   rip = refl;
-  gs = refl;
-  interrupts = refl;
-  long = refl;
 })
 makes t Syscall h k = inl refl
 makes t _ h k = absurd (cc)
-
--- the processor that runs the task is then the one that runs the task made
-processor_after : (mode : Mode) (image : Image) (p running : ℕ) (t u : Task) (cr2 : ℕ) (blocked : Bool) → u.gs ≡ t.gs
-    → with_effect (completed (task_processor mode image p running t cr2 blocked)) u ≡ task_processor mode image p running u cr2 blocked
-processor_after mode image p running t u cr2 blocked h = ap (λ g. task_processor mode image p running (record u { gs = g }) cr2 blocked) (sym h)
-
-pub task_at : (mode : Mode) (image : Image) (p running : ℕ) (t : Task) (cr2 : ℕ) (blocked : Bool) (next : ℕ)
-    → record (task_of (task_processor mode image p running t cr2 blocked)) { rip = next } ≡ record t { rip = next }
-task_at mode image p running t cr2 blocked next = ap (λ (f : Flags). record t { rip = next; flags = f }) (flags_of-flags_word t.flags)
-
-pub plain_runs : (mode : Mode) (image : Image) (p running : ℕ) (t : Task) (cr2 : ℕ) (blocked : Bool) (i : Ins) (k : Makes t i) (a : Apic) (m : Memory)
-    (nmi : Bool)
-    → executed (task_processor mode image p running t cr2 blocked) a m nmi (Some i)
-    ≡ ran (task_processor mode image p running k.task cr2 blocked) a m.words nmi
-plain_runs mode image p running t cr2 blocked i k a m nmi =
-    let c : Processor = task_processor mode image p running t cr2 blocked in
-    let next : ℕ = t.rip + length (spelling i) in
-    let done : exec c m i next ≡ Done (task_processor mode image p running k.task cr2 blocked) m.words
-    = k.on_cpu c m next ∙ ap (λ u. changed c (effect (view m true) u i)) (task_at mode image p running t cr2 blocked next) ∙ ap (changed c)
-    (k.is (view m true))
-    ∙ ap (λ z. Done z m.words) (processor_after mode image p running t k.task cr2 blocked k.gs) in
-    ap (λ b. if not b then fault c a m nmi ud else after_exec c a m nmi next i (exec c m i next)) k.may ∙ ap (after_exec c a m nmi next i) done

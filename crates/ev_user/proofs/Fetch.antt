@@ -14,7 +14,7 @@ use Rattle.ev_proc.specs.ProcessorStep.{instruction_at}
 use Rattle.ev_abstract.specs.UserCode.{text_bytes}
 use Rattle.ev_symbolic.proofs.Values.{and_left, and_right}
 use Rattle.ev_fetch.specs.Claims.{HoldsText}
-use Rattle.ev_fetch.proofs.Bytes.{bytes_from, at_place, same_word}
+use Rattle.ev_fetch.proofs.Bytes.{bytes_from, at_place, same_word, small_at}
 use Rattle.ev_fetch.proofs.Regions.{all_small}
 use Rattle.ev_fetch.proofs.Text.{text_fetches}
 use Rattle.ev_user.specs.Claims.{ReadsAlike}
@@ -58,11 +58,6 @@ at_front (x ∷ xs) ys (suc i) h = at_front xs ys i (omega arith)
 
 abbrev byte_at : List ℕ → ℕ → ℕ
 byte_at text x = get_or text (x - text_base) 0
-
-small_at : (f : ℕ → ℕ) → ((a : ℕ) → f a < 256) → (a n i : ℕ) → get_or (bytes_from f a n) i 0 < 256
-small_at f h a zero i = omega arith
-small_at f h a (suc n) zero = h a
-small_at f h a (suc n) (suc i) = small_at f h (suc a) n i
 
 -- the bytes of a word of the text
 word_bytes : (text : List ℕ) (words : NatMap ℕ) (b : ℕ) → ((i : ℕ) → get_or text i 0 < 256) → HoldsText text words → is_aligned b ≡ true → text_base ≤ b
@@ -130,9 +125,14 @@ zeros_small zero i = omega arith
 zeros_small (suc n) zero = omega arith
 zeros_small (suc n) (suc i) = zeros_small n i
 
-pub byte_small : (text : List ℕ) (a i : ℕ) → ((j : ℕ) → get_or text j 0 < 256) → i < 15 → get_or (text_bytes text a) i 0 < 256
-byte_small text a i h l =
-    let e = get_or-take 15 (drop (a - text_base) text ++ replicate 15 0) i 0 l in
-    let k = small_append (drop (a - text_base) text) (replicate 15 0)
-    (λ j. let f = get_or-drop (a - text_base) text j 0 in let g = h (a - text_base + j) in omega arith) (zeros_small 15) i in
-    omega arith
+small_take : (n : ℕ) (xs : List ℕ) → ((i : ℕ) → get_or xs i 0 < 256) → (i : ℕ) → get_or (take n xs) i 0 < 256
+small_take zero xs h i = omega arith
+small_take (suc n) [] h i = omega arith
+small_take (suc n) (x ∷ xs) h zero = h 0
+small_take (suc n) (x ∷ xs) h (suc i) = small_take n xs (λ j. h (suc j)) i
+
+pub byte_small : (text : List ℕ) (a i : ℕ) → ((j : ℕ) → get_or text j 0 < 256) → get_or (text_bytes text a) i 0 < 256
+byte_small text a i h =
+    small_take 15 (drop (a - text_base) text ++ replicate 15 0)
+    (small_append (drop (a - text_base) text) (replicate 15 0)
+    (λ j. let f = get_or-drop (a - text_base) text j 0 in let g = h (a - text_base + j) in omega arith) (zeros_small 15)) i

@@ -173,7 +173,7 @@ module _ (mode : Mode) (image : Image) (p r : ℕ) (t : Task) (u : UserMemory) (
       instruction i
       (λ n e. let byte : n ≡ get_or (text_bytes image.text t.rip) 1 0 = vector_byte (text_bytes u.text t.rip) n (q ∙ ap Some e)
       ∙ ap (λ bytes. get_or (text_bytes bytes t.rip) 1 0) sees.text_is in
-      let small = byte_small image.text t.rip 1 (all_small image.text formed.text_bytes) (omega arith) in omega arith)
+      let small = byte_small image.text t.rip 1 (all_small image.text formed.text_bytes) in omega arith)
       (low_canonical (t.rip + length (spelling i)) (let l : length (spelling i) ≤ 15 = spelling_length i in omega arith))
 
   by_fetch : (o : Option ℕ) → fault_at u.present (record { user = true; write = false; fetch = true }) (place_of t.rip) ≡ o

@@ -7,3 +7,4 @@ pub mod Follows
 pub mod Deliver
 pub mod Examples
 pub mod Opened
+pub mod Words

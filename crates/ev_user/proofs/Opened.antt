@@ -13,25 +13,9 @@ use Rattle.ev_abstract.specs.Machine.{opening}
 use Rattle.ev_concrete.specs.Opening.{Placed, code_of, listings, within, word_there, opening_word}
 use Rattle.ev_symbolic.proofs.Values.{and_left, and_right}
 use Rattle.ev_fetch.proofs.Regions.{and_both}
-use Rattle.ev_fetch.proofs.Opened.{holds_text}
+use Rattle.ev_fetch.proofs.Opened.{only_if, only_else, not_below, holds_text}
 use Rattle.ev_user.specs.Sees.{IsPageWord, IsUserWord}
 use Rattle.ev_user.specs.Claims.{OpeningSees}
-
--- what a test that is known picks
-yes : {X : Type 0} (t : Bool) (x y : X) → t ≡ true → (if t then x else y) ≡ x
-yes true x y h = refl
-yes false x y h = absurd (cc)
-
-no : {X : Type 0} (t : Bool) (x y : X) → t ≡ false → (if t then x else y) ≡ y
-no true x y h = absurd (cc)
-no false x y h = refl
-
-not_below : (a b : ℕ) → b ≤ a → nat_lt a b ≡ false
-not_below a b h = by (nat_lt a b) refl
-  where
-    by : (t : Bool) → nat_lt a b ≡ t → nat_lt a b ≡ false
-    by true q = absurd (let l = ltb-true a b q in omega arith)
-    by false q = q
 
 not_above : (a b : ℕ) → b < a → nat_le a b ≡ false
 not_above a b h = by (nat_le a b) refl
@@ -57,18 +41,18 @@ unfolding opening_word word_there
 mapped es mode image is i h =
     let a : ℕ = page_map + 8 * i in
     let few = is.count.1 in
-    yes (is_aligned a) _ _ (eq-eqb (a % 8) 0 (let e : a % 8 ≡ 0 = omega arith in e))
-    ∙ no (nat_lt a (2 ^ 63)) _ _ (not_below a (2 ^ 63) (omega arith))
-    ∙ no (nat_le fred_page a) _ _ (not_above fred_page a (omega arith))
-    ∙ no (within (stack_top 0 0 - 0x4000) (0x100000 * image.processors) a) _ _
+    only_if (is_aligned a) _ _ (eq-eqb (a % 8) 0 (let e : a % 8 ≡ 0 = omega arith in e))
+    ∙ only_else (nat_lt a (2 ^ 63)) _ _ (not_below a (2 ^ 63) (omega arith))
+    ∙ only_else (nat_le fred_page a) _ _ (not_above fred_page a (omega arith))
+    ∙ only_else (within (stack_top 0 0 - 0x4000) (0x100000 * image.processors) a) _ _
     (outside (stack_top 0 0 - 0x4000) (0x100000 * image.processors) a (inl (omega arith)))
-    ∙ no (within (pcpu 0) (0x10000 * image.processors) a) _ _ (outside (pcpu 0) (0x10000 * image.processors) a (inr (omega arith)))
-    ∙ no (within (task_words 0 0) (0x100 * image.processors) a) _ _
+    ∙ only_else (within (pcpu 0) (0x10000 * image.processors) a) _ _ (outside (pcpu 0) (0x10000 * image.processors) a (inr (omega arith)))
+    ∙ only_else (within (task_words 0 0) (0x100 * image.processors) a) _ _
     (outside (task_words 0 0) (0x100 * image.processors) a (inl (omega arith)))
-    ∙ no (within user_table (8 * 257) a) _ _ (outside user_table (8 * 257) a (inr (omega arith)))
-    ∙ no (within kernel_table (8 * 257) a) _ _ (outside kernel_table (8 * 257) a (inr (omega arith)))
-    ∙ no (within idt_base (16 * 256) a) _ _ (outside idt_base (16 * 256) a (inr (omega arith)))
-    ∙ yes (within page_map (8 * 256) a) _ _ (and_both _ _ (le-leb page_map a (omega arith)) (lt-ltb a (page_map + 8 * 256) (omega arith)))
+    ∙ only_else (within user_table (8 * 257) a) _ _ (outside user_table (8 * 257) a (inr (omega arith)))
+    ∙ only_else (within kernel_table (8 * 257) a) _ _ (outside kernel_table (8 * 257) a (inr (omega arith)))
+    ∙ only_else (within idt_base (16 * 256) a) _ _ (outside idt_base (16 * 256) a (inr (omega arith)))
+    ∙ only_if (within page_map (8 * 256) a) _ _ (and_both _ _ (le-leb page_map a (omega arith)) (lt-ltb a (page_map + 8 * 256) (omega arith)))
     ∙ ap (λ k. if members image.pages k then 1 else 0) (let e : (a - page_map) / 8 ≡ i = omega arith in e)
 
 user_small : (a : ℕ) → IsUserWord a → a < 2 ^ 63
@@ -82,6 +66,6 @@ opening_sees mode image is = record {
   regions_are = refl;
   text_is = refl;
   holds = holds_text mode image (opening_word (code_of (listings mode image)) mode image) (λ a h k. refl);
-  words = λ a h. yes (is_aligned a) _ _ h.0 ∙ yes (nat_lt a (2 ^ 63)) _ _ (lt-ltb a (2 ^ 63) (user_small a h));
+  words = λ a h. only_if (is_aligned a) _ _ h.0 ∙ only_if (nat_lt a (2 ^ 63)) _ _ (lt-ltb a (2 ^ 63) (user_small a h));
   pages = λ i h. mapped (code_of (listings mode image)) mode image is i h;
 }

@@ -1,6 +1,6 @@
 -- For user code the place of an address is the one that the regions give it.
 use Rattle.std.proofs.Common.{◌≡◌, ℕ, zero, suc, ◌+◌, ◌-◌, ◌*◌, ◌/◌, ◌^◌, ◌<◌, ◌≤◌, Bool, true, false, ◌&&◌, List, [], ◌∷◌, ◌++◌, map, length, refl, sym, ap, ◌∙◌, arith, ◌⊎◌, inl, inr, ⊎_elim}
-use Rattle.std.specs.Prelude.{nat_lt, nat_le, ◌==◌, if◌then◌else◌, flat_map}
+use Rattle.std.specs.Prelude.{nat_lt, nat_le, ◌==◌, if◌then◌else◌}
 use Rattle.std.proofs.lemmas.Bool.{le-leb, leb-true, ltb-true, leb-false, ltb-false}
 use Rattle.ev_isa.specs.Word.{NatSet, numbers_from}
 use Rattle.ev_isa.specs.Pages.{Place, Text, Page, KernelWord, Lower, Upper, Access, fault_at, text_base, page_base, place_of, UserMemory}
@@ -10,10 +10,10 @@ use Rattle.ev_mem.specs.declared.region.Region.{Region}
 use Rattle.ev_mem.specs.declared.region.RegionKind.{RegionKind}
 use Rattle.ev_mem.specs.declared.region.RegionKind.TheVariants.{Kernel}
 use Rattle.ev_mem.specs.Memory.{Memory, place_by, place_in, present_in, page_map}
-use Rattle.ev_listing.specs.AddressMap.{pcpu, user_table, kernel_table, idt_base, cells_base, task_words, stack_top, fred_page, body_code, code_end}
+use Rattle.ev_listing.specs.AddressMap.{user_table, kernel_table, idt_base, cells_base, task_words, fred_page, body_code, code_end}
 use Rattle.ev_symbolic.proofs.Values.{and_left, and_right}
-use Rattle.ev_concrete.specs.Opening.{region, stack_regions, regions}
-use Rattle.ev_fetch.proofs.Regions.{Each, each_append, numbered, grouped, IsHigh, text_place}
+use Rattle.ev_concrete.specs.Opening.{region, regions}
+use Rattle.ev_fetch.proofs.Regions.{Each, numbered, IsHigh, area_regions, areas_high, text_place}
 use Rattle.ev_user.specs.Sees.{Sees}
 use Rattle.ev_user.specs.Claims.{PagesFaultAlike}
 
@@ -63,9 +63,6 @@ low_apart a (r ∷ rs) l h = (inl (let f = h.0.from in omega arith), low_apart a
 
 -- ---- the regions of the opening
 
-abbrev area_regions : Image → List Region
-area_regions image = flat_map stack_regions (numbers_from 0 image.processors) ++ map (λ p. region (pcpu p) 0x10000 Kernel) (numbers_from 0 image.processors)
-
 abbrev table_regions : Image → List Region
 table_regions image =
     region user_table (8 * 257) Kernel ∷ region kernel_table (8 * 257) Kernel ∷ region idt_base 0x1000 Kernel ∷ region page_map (8 * 257) Kernel
@@ -86,15 +83,6 @@ user_regions = text_region ∷ page_regions
 
 as_listed : (image : Image) → area_regions image ++ (table_regions image ++ user_regions) ≡ regions image
 as_listed image = refl
-
-areas_high : (image : Image) → IsImage image → Each IsHigh (area_regions image)
-areas_high image is =
-    let few = is.count.1 in
-    each_append IsHigh (flat_map stack_regions (numbers_from 0 image.processors)) (map (λ p. region (pcpu p) 0x10000 Kernel) (numbers_from 0 image.processors))
-    (grouped IsHigh stack_regions 0 image.processors
-    (λ p h. numbered IsHigh (λ n. region (stack_top p n - 0x2000) 0x2000 Kernel) 0 7
-    (λ n k. record { from = omega arith; to = omega arith; kind = refl })))
-    (numbered IsHigh (λ p. region (pcpu p) 0x10000 Kernel) 0 image.processors (λ p h. record { from = omega arith; to = omega arith; kind = refl }))
 
 abbrev as_high : (base bytes : ℕ) → 0xffff800000000000 ≤ base → base + 8 * (bytes / 8) ≤ 0xfffffffff0000000 → IsHigh (region base bytes Kernel)
 as_high base bytes h k = record { from = h; to = k; kind = refl }

@@ -3,3 +3,4 @@ pub mod Sees
 pub mod Causes
 pub mod Claims
 pub mod Deliveries
+pub mod Words

@@ -5,6 +5,7 @@
 ghost use Rattle.ev_user.specs.Claims.{OpeningSees, PagesFaultAlike, ReadsAlike, UserGoesOn, UserRaises};
 ghost use Rattle.ev_user.specs.Deliveries.{EventsAreOwn, EventsPass, EventsAreDeliverable};
 ghost use Rattle.ev_user.specs.Deliveries.{ArrivesAtOnce, CallArrives, RefusalArrives};
+ghost use Rattle.ev_user.specs.Words.{UserKeepsWords};
 
 /// What user code sees of memory: the same on both sides at the opening, and then the page rules
 /// and the bytes at RIP are.
@@ -17,11 +18,12 @@ pub fn reads()
 /// One step of a processor that runs a task, where the boundary chooses the instruction. Where the
 /// abstract machine's user code goes on, the processor is that of the task after the step, and the
 /// same word is written, if any; where it raises an event, the step is the event's delivery, with
-/// the RIP that is saved. Of INT n other than INT 3, which the abstract machine raises as a general
+/// the RIP that is saved; and where registers and memory hold words, they still do. Of INT n other than INT 3, which the abstract machine raises as a general
 /// protection fault, the step delivers the processor's own event of that vector.
 pub fn steps()
     ensures goes { UserGoesOn }
     ensures raises { UserRaises }
+    ensures words { UserKeepsWords }
 {}
 
 /// The events that user code raises, as their deliveries find them: none is an NMI or an interrupt,
