@@ -330,7 +330,6 @@ is_built d f = record {
   no_cells = refl;
   task = record { start = place (places text_base (statements d)) d.task; gs = 0; regs = replicate 16 0 };
   one_task = refl;
-  no_base = refl;
   program = program_of (places text_base (statements d)) text_base d.code;
   is_program = is_program d f;
   bodies = ap (λ (b : Bool). b && true) (bodies_built d.logged);
