@@ -1,7 +1,8 @@
 -- What the definitions say of a list of statements, one statement further.
 use Rattle.std.proofs.Common.{◌≡◌, ℕ, zero, suc, ◌+◌, ◌-◌, ◌<◌, ◌≤◌, Bool, true, false, ◌&&◌, cond, ltb, List, [], ◌∷◌, ◌++◌, length, get_or, take, drop, Option, Some, None, refl, sym, ap, ◌∙◌, arith, drop-cons, append_assoc}
 use Rattle.std.proofs.lemmas.List.{drop_all, append-nil}
-use Rattle.std.proofs.lemmas.Bool.{lt-ltb, le-ltb, ltb-false}
+use Rattle.std.specs.Prelude.{nat_le}
+use Rattle.std.proofs.lemmas.Bool.{lt-ltb, le-ltb, ltb-false, le-leb}
 use Rattle.std.proofs.Math.Seq.{take-suc}
 use Rattle.std.specs.List.{list_all}
 use Rattle.std.specs.Str.{bytes_eq}
@@ -11,6 +12,7 @@ use Rattle.ev_asm.specs.declared.statement.Stmt.{Stmt}
 use Rattle.ev_asm.specs.declared.statement.Stmt.TheVariants.{Label, Plain, Jump}
 use Rattle.ev_asm.specs.Assembly.{Name, Places, is_name, size, total_size, places, place, stmt_bytes, code}
 use Rattle.ev_asm.specs.Assembled.{is_encoded, are_instructions, gives_label, stmt_labels, is_new_name, first_at, first_too_large, leads_nowhere, addresses_of}
+use Rattle.ev_asm.specs.Linked.{reaches}
 
 -- the statement at n, and those behind it
 pub split_at : (stmts : List Stmt) (n : ℕ) (s : Stmt) → n < length stmts → s ≡ get_or stmts n s → drop n stmts ≡ s ∷ drop (suc n) stmts
@@ -72,7 +74,8 @@ unfolding first_too_large
 large_step stmts n m left less s W lt k e le l w =
     let d = split_at stmts n s lt e in
     let h : ltb left (size s) ≡ false = le-ltb _ _ le in
-    let here : first_too_large n left (s ∷ drop (suc n) stmts) ≡ first_too_large (suc n) (left - size s) (drop (suc n) stmts) = rw (h, first_too_large) refl in
+    let here : first_too_large n left (s ∷ drop (suc n) stmts) ≡ first_too_large (suc n) (left - size s) (drop (suc n) stmts) = rw (h, first_too_large) refl
+    in
     rw (k, l) (sym here ∙ ap (first_too_large n left) (sym d) ∙ w)
 
 pub large_stop : (stmts : List Stmt) (n left : ℕ) (s : Stmt) (W : Option ℕ) → n < length stmts → s ≡ get_or stmts n s → left < size s
@@ -243,6 +246,18 @@ pub near : (stmts : List Stmt) (base at k : ℕ) (s : Stmt) (c : Option Cond) (n
 near stmts base at k s c name p e l h t starts ends q =
     let r = place_bounds stmts base name (leads_to (stmt_labels stmts) s c name e h) in
     (omega (arith, r.0, r.1), omega (arith, r.0, r.1))
+
+-- so 32 bits reach from it to its label
+pub reached : (stmts : List Stmt) (base at : ℕ) (s : Stmt) → leads_nowhere (stmt_labels stmts) s ≡ false → total_size stmts ≤ 131072
+    → base ≤ at → at + size s ≤ base + total_size stmts → reaches (places base stmts) at s ≡ true
+unfolding reaches
+reached stmts base at (Label n) h t starts ends = refl
+reached stmts base at (Plain i) h t starts ends = refl
+reached stmts base at (Jump c name) h t starts ends =
+    let r = near stmts base at (size (Jump c name)) (Jump c name) c name (place (places base stmts) name) refl refl h t starts ends refl in
+    let forward : nat_le (place (places base stmts) name) (at + size (Jump c name) + 2147483647) ≡ true = le-leb _ _ (omega (arith, r.0)) in
+    let back : nat_le (at + size (Jump c name)) (place (places base stmts) name + 2147483647) ≡ true = le-leb _ _ (omega (arith, r.1)) in
+    rw (forward, back) refl
 
 -- what holds of every statement of the list holds where none stands in the way
 pub all_lead : (stmts : List Stmt) → first_at (λ before s. leads_nowhere (stmt_labels stmts) s) 0 [] stmts ≡ None → (k : ℕ) (s : Stmt) → k < length stmts

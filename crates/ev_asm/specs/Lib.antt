@@ -1,3 +1,4 @@
 pub mod Assembly
 pub mod Assembled
+pub mod LabelTable
 pub mod Linked

@@ -6,10 +6,12 @@ ghost use Rattle.ev_isa.specs.Instruction.{is_instruction};
 ghost use Rattle.ev_isa.specs.Spelling.{spelling};
 ghost use Rattle.ev_asm.specs.declared.statement.Stmt.{Stmt};
 ghost use Rattle.ev_asm.specs.Assembly.{size, total_size, places, place, distance, jump, stmt_bytes, code};
+ghost use Rattle.ev_asm.specs.Linked.{reaches};
 ghost use Rattle.ev_asm.specs.Assembled.{is_encoded, are_instructions, stmt_labels, leads_nowhere, addresses_of, text_of, assembled};
 
 use crate::fault::AsmFault;
-use crate::labels::{lost_jump, place_of, second_label};
+use crate::label_table::Labels;
+use crate::labels::{labels_of, lost_jump};
 use crate::size::too_large;
 use crate::statement::Stmt;
 use crate::text::Text;
@@ -55,30 +57,27 @@ pub fn jump_size(condition: Option<Cond>) -> u64
     }
 }
 
-/// The bytes of a statement that stands at this address.
-#[tactic(auto, unfolding(crate::specs::Assembly::stmt_bytes, crate::specs::Assembly::size, crate::specs::Assembled::is_encoded, crate::specs::Assembled::leads_nowhere))]
-fn statement(stmts: &[Stmt], base: u64, at: u64, s: &Stmt) -> ArrayVec<u8, 15>
-    requires counts { are_instructions stmts.now ≡ true }
-    requires count { is_encoded s.now ≡ true }
-    requires leads { leads_nowhere (stmt_labels stmts.now) s.now ≡ false }
-    requires limit { total_size stmts.now ≤ 131072 }
-    requires room { base + total_size stmts.now < 2 ^ 64 }
-    requires starts { base ≤ at }
-    requires ends { at + size s.now ≤ base + total_size stmts.now }
-    ensures { result.items ≡ stmt_bytes (places base stmts.now) at s.now }
+/// The bytes of a statement that stands at this address, where the labels have these places.
+#[tactic(auto, unfolding(crate::specs::Assembly::stmt_bytes, crate::specs::Assembly::size, crate::specs::Assembled::is_encoded, crate::specs::Linked::reaches))]
+fn statement(labels: &Labels, at: u64, s: &Stmt) -> ArrayVec<u8, 15>
+    requires counts { is_encoded s.now ≡ true }
+    requires reaches { reaches labels.now at s.now ≡ true }
+    requires room { at + size s.now < 2 ^ 64 }
+    ensures { result.items ≡ stmt_bytes labels.now at s.now }
 {
     match s {
         Stmt::Label(_) => ArrayVec::new(),
         Stmt::Plain(i) => encode(i),
         Stmt::Jump(condition, name) => {
             let next = at + jump_size(*condition);
-            jump(*condition, distance(place_of(stmts, base, name), next))
+            jump(*condition, distance(labels.place_of(name), next))
         }
     }
 }
 
 /// The bytes and the places of statements that can be assembled.
-fn written(alloc: Global, stmts: &[Stmt], base: u64) -> Result<Text, AsmFault>
+fn written(alloc: Global, stmts: &[Stmt], labels: &Labels, base: u64) -> Result<Text, AsmFault>
+    requires labels { labels.now ≡ places base stmts.now }
     requires counts { are_instructions stmts.now ≡ true }
     requires leads { (k : ℕ) (s : Stmt) → k < length stmts.now → s ≡ slice_index_or stmts.now k s
         → leads_nowhere (stmt_labels stmts.now) s ≡ false }
@@ -90,7 +89,7 @@ fn written(alloc: Global, stmts: &[Stmt], base: u64) -> Result<Text, AsmFault>
     let mut places = Vec::new(alloc);
     let mut at = base;
     for s in stmts {
-        let code = statement(stmts, base, at, s);
+        let code = statement(labels, at, s);
         if places.push(at).is_err() {
             return Err(AsmFault::NoMemory);
         }
@@ -117,14 +116,12 @@ pub fn assemble(alloc: Global, stmts: &[Stmt], base: u64, limit: usize) -> Resul
     // Only want of memory is free.
     ensures { (result ≡ Err AsmFault.NoMemory) ⊎ (result ≡ assembled stmts.now base limit) }
 {
-    if let Some(n) = second_label(stmts) {
-        return Err(AsmFault::DoubleLabel(n));
-    }
-    if let Some(n) = lost_jump(stmts) {
+    let labels = labels_of(alloc, stmts, base)?;
+    if let Some(n) = lost_jump(&labels, stmts) {
         return Err(AsmFault::NoLabel(n));
     }
     if let Some(n) = too_large(stmts, limit) {
         return Err(AsmFault::TooLarge(n));
     }
-    written(alloc, stmts, base)
+    written(alloc, stmts, &labels, base)
 }

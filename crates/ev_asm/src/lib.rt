@@ -4,6 +4,7 @@
 mod assembly;
 mod block;
 mod fault;
+mod label_table;
 mod labels;
 mod linking;
 mod size;
@@ -13,6 +14,7 @@ mod text;
 pub use assembly::assemble;
 pub use block::{Block, Blocks};
 pub use fault::AsmFault;
+pub use label_table::Labels;
 pub use linking::{Section, link};
 pub use size::size as statement_size;
 pub use statement::Stmt;

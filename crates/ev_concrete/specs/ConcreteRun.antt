@@ -37,6 +37,8 @@ pub record Activation : Type 0 where
   pub rip : ℕ
   pub inner : Bool
 
+-- The machine: processors with their local APICs and NMI latches, mail, memory, totals, and what stands on each processor. RSP and RIP of a list's first
+-- activation are those of when it was last interrupted: the processor has its own.
 pub record System : Type 0 where
   pub cpus : NatMap Processor
   pub apics : NatMap Apic
@@ -50,9 +52,11 @@ pub record System : Type 0 where
 abbrev pub Marks : Type 0
 Marks = List (ℕ × Mark)
 
+-- the marks of the code of an image
 abbrev pub marks_of : Mode → Image → Marks
 marks_of mode image = all_marks (listings mode image)
 
+-- the mark of an address
 abbrev pub mark_at : Marks → ℕ → Mark
 mark_at [] a = Never
 mark_at (e ∷ es) a = if e.0 == a then e.1 else mark_at es a
@@ -72,6 +76,7 @@ is_seen Always s c = true
 is_seen IfNonzero s c = not (s.memory.words (register c 3) == 0)
 is_seen IfEqual s c = s.memory.words (register c 2) == register c 0
 
+-- the same by what comes next at p
 abbrev pub is_visible_by : Marks → System → ℕ → Processor → Next → Bool
 is_visible_by marks s p c Next.Nmi = not (is_inner_nmi s p c)
 is_visible_by marks s p c (Interrupt v) = true
@@ -83,6 +88,7 @@ is_visible marks s p = is_visible_by marks s p (s.cpus p) (next_of (s.cpus p) (s
 
 -- ---- how a step of p changes its activations: a delivery begins one, and a return ends the last
 
+-- whether the instruction ends an activation
 unfoldable pub is_return : Option Ins → Bool
 is_return (Some Sysretq) = true
 is_return (Some Iretq) = true
@@ -95,6 +101,7 @@ abbrev pub interrupted : Processor → List Activation → List Activation
 interrupted c [] = []
 interrupted c (a ∷ as') = record a { rsp = rsp c; rip = c.rip } ∷ as'
 
+-- the activations below the last one
 abbrev pub without_last : List Activation → List Activation
 without_last [] = []
 without_last (a ∷ as') = as'
@@ -108,6 +115,7 @@ abbrev pub starts_inner : System → ℕ → Next → Bool
 starts_inner s p Next.Nmi = is_inner_nmi s p (s.cpus p)
 starts_inner s p _ = false
 
+-- what stands on p behind a step that came to this
 abbrev pub activations_by : System → ℕ → List Activation → Processor → Stepped → List Activation
 activations_by s p as' c' (Stepped.Delivered e frame) =
     record { rsp = 0; rip = 0; inner = starts_inner s p (next_of (s.cpus p) (s.apics p) (s.latches p)) } ∷ interrupted (s.cpus p) as'
@@ -117,20 +125,24 @@ activations_by s p as' c' _ = as'
 
 -- ---- steps
 
+-- the processors that an interrupt command of p goes to, of n; one that isn't there gets none
 abbrev pub targets : ℕ → ℕ → Target → List ℕ
 targets n p (One t) = if nat_lt t n then t ∷ [] else []
 targets n p Myself = p ∷ []
 targets n p All = numbers_from 0 n
 targets n p Others = filter (λ q. not (q == p)) (numbers_from 0 n)
 
+-- what was sent stands in the mail of each
 abbrev pub posted : System → SendKey → List ℕ → System
 posted s key [] = s
 posted s key (t ∷ ts) = posted (record s { inboxes = put_at s.inboxes t (mailed (s.inboxes t) key) }) key ts
 
+-- the lower of two frame addresses
 abbrev pub lower : ℕ → Option ℕ → Option ℕ
 lower a None = Some a
 lower a (Some b) = Some (min a b)
 
+-- how many words a delivery writes
 abbrev pub frame_size : Processor → Event → ℕ
 frame_size c e = if has_fred c then 8 else (if is_hardware e.kind && has_error_code e.vector then 6 else 5)
 
@@ -145,6 +157,7 @@ acted n s p (Stepped.Delivered e (Some a)) = (
   record { address = a; words = record { items = map s.memory.words (addresses a (frame_size (s.cpus p) e)) } } ∷ [],
 )
 
+-- the machine behind a step of p, but for mail and totals
 abbrev pub after_step : System → ℕ → After → System
 after_step s p r = record {
   cpus = put_at s.cpus p r.cpu;
@@ -160,6 +173,7 @@ after_step s p r = record {
 unfoldable pub concrete_step : ℕ → System → ℕ → System × List FrameNote
 concrete_step n s p = let r : After = step (s.cpus p) (s.apics p) s.memory (s.latches p) in acted n (after_step s p r) p r.step
 
+-- frames before those of what follows
 abbrev pub with_frames : List FrameNote → System × List FrameNote → System × List FrameNote
 with_frames fs r = (r.0, fs ++ r.1)
 
@@ -175,6 +189,7 @@ edges (suc k) marks n s p = elim (is_visible marks s p) [
 abbrev pub settled : Marks → ℕ → System → ℕ → System × List FrameNote
 settled marks n s p = edges 1024 marks n s p
 
+-- edges of p and then one visible step
 abbrev pub concrete_turn : Marks → ℕ → System → ℕ → System × List FrameNote
 concrete_turn marks n s p = let r : System × List FrameNote = settled marks n s p in with_frames r.1 (concrete_step n r.0 p)
 
@@ -191,24 +206,29 @@ accept_mail s p = record s {
   inboxes = put_at s.inboxes p no_mail;
 }
 
+-- a line of the script
 unfoldable pub concrete_line : Marks → ℕ → System → Line → System × List FrameNote
 concrete_line marks n s (Turn p) = concrete_turn marks n s p
 concrete_line marks n s (Edge p k) = edges k marks n s p
 concrete_line marks n s (Arrive p key) = (arrived_at s p key, [])
 concrete_line marks n s (Accept p) = (accept_mail s p, [])
 
+-- frames with their processor
 abbrev pub noted : ℕ → List FrameNote → List Noted
 noted p fs = map (λ f. (p, f)) fs
 
+-- the processor that a line names
 abbrev pub processor_of : Line → ℕ
 processor_of (Turn p) = p
 processor_of (Edge p k) = p
 processor_of (Arrive p key) = p
 processor_of (Accept p) = p
 
+-- noted frames before those of what follows
 abbrev pub behind : List Noted → System × List Noted → System × List Noted
 behind fs r = (r.0, fs ++ r.1)
 
+-- lines of the script, one after the other
 abbrev pub concrete_lines : Marks → ℕ → System → List Line → System × List Noted
 concrete_lines marks n s [] = (s, [])
 concrete_lines marks n s (l ∷ ls) = let r : System × List FrameNote = concrete_line marks n s l in
@@ -219,6 +239,7 @@ abbrev pub all_settled : Marks → ℕ → System → List ℕ → System × Lis
 all_settled marks n s [] = (s, [])
 all_settled marks n s (p ∷ ps) = let r : System × List FrameNote = settled marks n s p in behind (noted p r.1) (all_settled marks n r.0 ps)
 
+-- the machine before the script
 unfoldable pub opening_system : Mode → Image → System
 opening_system mode image = record {
   cpus = opening_cpu mode image;
@@ -230,10 +251,11 @@ opening_system mode image = record {
   activations = λ p. [];
 }
 
--- the run of a script, and with settling at its end
+-- the run of a script
 abbrev pub concrete_run : Mode → Image → List Line → System × List Noted
 concrete_run mode image script = let marks : Marks = marks_of mode image in concrete_lines marks image.processors (opening_system mode image) script
 
+-- the run of a script, and every processor settled at its end
 abbrev pub settled_run : Mode → Image → List Line → System × List Noted
 settled_run mode image script =
     let marks : Marks = marks_of mode image in

@@ -31,6 +31,7 @@ unfoldable pub is_jump : Option Ins → Bool
 is_jump (Some (Jmp n)) = true
 is_jump _ = false
 
+-- the same, told from the processor before the jump
 abbrev pub begins_body : Processor → Option Ins → Bool
 begins_body c i = is_jump i && not (is_user c) && is_in_repeat c.rip
 

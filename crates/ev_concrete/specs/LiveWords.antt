@@ -27,6 +27,7 @@ is_homeless Idt words rip = (rip == sys_entry) || (rip == sys_entry + 3) || (rip
     is_sysret (Some Sysretq) = nat_le exit_entry rip
     is_sysret _ = false
 
+-- whether an activation stands on stack n
 abbrev pub stands_on : Mode → NatMap ℕ → ℕ → ℕ → Activation → Bool
 stands_on mode words p n a = not (is_homeless mode words a.rip) && nat_le (stack_top p n - stack_bytes) a.rsp && nat_le a.rsp (stack_top p n)
 
@@ -43,6 +44,7 @@ lowest (x ∷ xs) = Some (least x xs)
 abbrev pub standing : Mode → System → ℕ → ℕ → List Activation
 standing mode s p n = filter (stands_on mode s.memory.words p n) (interrupted (s.cpus p) (s.activations p))
 
+-- from the lowest number on
 abbrev pub is_from : Option ℕ → ℕ → Bool
 is_from None address = false
 is_from (Some low) address = nat_le low address
@@ -66,9 +68,11 @@ abbrev pub area_bytes : Mode → ℕ
 area_bytes Idt = 0xb0
 area_bytes Fred = 0xc0
 
+-- whether p is in user code of its task i
 abbrev pub runs_task : System → ℕ → ℕ → Bool
 runs_task s p i = is_user (s.cpus p) && (s.memory.words (pcpu p + 0x18) == task_words p i)
 
+-- whether the address is in the saved area of task i of p, which waits
 abbrev pub is_kept : Mode → System → ℕ → ℕ → ℕ → Bool
 is_kept mode s p i address =
     nat_le (stack_top p i - area_bytes mode) address && nat_lt address (stack_top p i)

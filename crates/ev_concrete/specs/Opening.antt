@@ -18,7 +18,7 @@ use Rattle.ev_mem.specs.declared.region.Region.{Region}
 use Rattle.ev_mem.specs.Memory.{Memory, page_map}
 use Rattle.ev_gate.specs.declared.gate.Gate.{Gate}
 use Rattle.ev_gate.specs.Gate.{gate_bytes}
-use Rattle.ev_listing.specs.AddressMap.{pcpu, record_address, user_table, kernel_table, idt_base, cells_base, task_words, task_selector, stack_top, no_body, fred_page, vector_stub, sys_entry, nmi_entry, body_code, code_end}
+use Rattle.ev_listing.specs.AddressMap.{pcpu, top_offset, current_offset, records_offset, rsp0_offset, record_address, user_table, kernel_table, idt_base, cells_base, task_words, task_selector, stack_top, no_body, fred_page, vector_stub, sys_entry, nmi_entry, body_code, code_end}
 use Rattle.ev_asm.specs.Assembly.{Places, code}
 use Rattle.ev_listing.specs.Marks.{Listing, stmts_of, all_places}
 use Rattle.ev_listing.specs.IdtCode.{idt_listings}
@@ -29,6 +29,7 @@ use Rattle.ev_listing.specs.Expansion.{body_stmts}
 
 -- ---- code
 
+-- the code that no image changes
 abbrev pub kernel_listings : Mode → List Listing
 kernel_listings Idt = idt_listings
 kernel_listings Fred = fred_listings
@@ -38,6 +39,7 @@ abbrev pub body_listings : Mode → Image → ℕ → List Body → List Listing
 body_listings mode image n [] = []
 body_listings mode image n (b ∷ bs) = record { address = body_code n; lines = body_stmts mode image n b } ∷ body_listings mode image (suc n) bs
 
+-- all code of an image
 unfoldable pub listings : Mode → Image → List Listing
 listings mode image = body_listings mode image 0 image.bodies ++ kernel_listings mode
 
@@ -45,30 +47,36 @@ listings mode image = body_listings mode image 0 image.bodies ++ kernel_listings
 abbrev pub Placed : Type 0
 Placed = List (ℕ × List ℕ)
 
+-- the bytes of listings, where all labels have these places
 abbrev pub placed_code : Places → List Listing → Placed
 placed_code env [] = []
 placed_code env (b ∷ bs) = (b.address, code env b.address (stmts_of b.lines)) ∷ placed_code env bs
 
+-- the bytes of listings, with their own labels
 abbrev pub code_of : List Listing → Placed
 code_of bs = placed_code (all_places bs) bs
 
--- the byte at an address, and the word
+-- the byte at an address
 abbrev pub byte_of : Placed → ℕ → ℕ
 byte_of [] a = 0
 byte_of (e ∷ es) a = if nat_le e.0 a && nat_lt a (e.0 + length e.1) then get_or e.1 (a - e.0) 0 else byte_of es a
 
+-- the word at an address
 unfoldable pub code_word : Placed → ℕ → ℕ
 code_word es a = from_le_bytes w64 (map (byte_of es) (numbers_from a 8))
 
 -- ---- tables
 
+-- where the code of a body stands, if there is one
 abbrev pub body_address : Option ℕ → ℕ
 body_address None = no_body
 body_address (Some n) = body_code n
 
+-- the word of a key in the table of a side
 abbrev pub table_word : Image → Side → ℕ → ℕ
 table_word image side key = body_address (first_body 0 image.bodies key side)
 
+-- gate v: NMI on IST 1, #DF on IST 2, and user code may raise vector 3 alone
 abbrev pub gate : ℕ → Gate
 gate v = record {
   offset = if v == 2 then nmi_entry else vector_stub v;
@@ -85,15 +93,18 @@ idt_word n = from_le_bytes w64 (drop (8 * (n % 2)) (gate_bytes (gate (n / 2))))
 
 -- ---- the areas of processors and tasks
 
+-- word o of call record k of p: its owner and its site
 abbrev pub record_word : ℕ → ℕ → ℕ → ℕ
 record_word p k o = if o == 0x20 then p else (if o == 0x30 then k else 0)
 
+-- Word o of the area of p. From 404H on it is the TSS, of 104 bytes, whose I/O map begins at its end.
 unfoldable pub pcpu_word : ℕ → ℕ → ℕ
 pcpu_word p o =
-    if o == 0 then p else (if o == 0x10 then stack_top p 0 else (if o == 0x18 then task_words p 0 else (if o == 0x38 then record_address p 0
-    else (if o == 0x408 then stack_top p 0 else (if o == 0x428 then stack_top p 4 else (if o == 0x430 then stack_top p 5 else (if o == 0x468 then 104 * 2 ^ 16
+    if o == 0 then p else (if o == top_offset then stack_top p 0 else (if o == current_offset then task_words p 0
+    else (if o == records_offset then record_address p 0 else (if o == rsp0_offset then stack_top p 0 else (if o == 0x428 then stack_top p 4 else (if o == 0x430 then stack_top p 5 else (if o == 0x468 then 104 * 2 ^ 16
     else (if nat_le 0x800 o && nat_lt o 0xa00 then record_word p ((o - 0x800) / 0x40) (o % 0x40) else 0))))))))
 
+-- the tasks of p
 abbrev pub tasks_of : Image → ℕ → List TaskSpec
 tasks_of image p = get_or image.tasks p []
 
@@ -115,12 +126,14 @@ saved_words mode t =
 abbrev pub below_top : List ℕ → ℕ → ℕ
 below_top ws o = if nat_le o (8 * length ws) then get_or ws (length ws - o / 8) 0 else 0
 
+-- the word so many bytes below the top of stack n of p
 abbrev pub stack_word : Mode → Image → ℕ → ℕ → ℕ → ℕ
 stack_word mode image p n o =
     if nat_lt 0 n && nat_lt n (length (tasks_of image p)) then below_top (saved_words mode (get_or (tasks_of image p) n no_task)) o else 0
 
 -- ---- the words of memory
 
+-- whether an address is among so many bytes from a base on
 abbrev pub within : ℕ → ℕ → ℕ → Bool
 within base bytes a = nat_le base a && nat_lt a (base + bytes)
 
@@ -146,12 +159,15 @@ opening_word es mode image a = if is_aligned a then word_there es mode image a e
 
 -- ---- regions
 
+-- bytes of a kind from a base on
 abbrev pub region : ℕ → ℕ → RegionKind → Region
 region base bytes kind = record { base = base; words = bytes / 8; kind = kind }
 
+-- the stacks of p
 abbrev pub stack_regions : ℕ → List Region
 stack_regions p = map (λ n. region (stack_top p n - 0x2000) 0x2000 RegionKind.Kernel) (numbers_from 0 7)
 
+-- all memory: what isn't listed is absent
 abbrev pub regions : Image → List Region
 regions image =
     flat_map stack_regions (numbers_from 0 image.processors)
@@ -165,18 +181,22 @@ regions image =
 
 -- ---- processors
 
+-- a GS descriptor for each task of p from number i on
 abbrev pub descriptors_of : ℕ → ℕ → List TaskSpec → List (ℕ × ℕ)
 descriptors_of p i [] = []
 descriptors_of p i (t ∷ ts) = (task_selector p i, t.gs) ∷ descriptors_of p (suc i) ts
 
+-- those of the processors from p on; every processor has them all
 abbrev pub all_descriptors : ℕ → List (List TaskSpec) → List (ℕ × ℕ)
 all_descriptors p [] = []
 all_descriptors p (ts ∷ rest) = descriptors_of p 0 ts ++ all_descriptors (suc p) rest
 
+-- CR4, whose bit 32 turns FRED on
 abbrev pub control : Mode → ℕ
 control Idt = 0
 control Fred = 2 ^ 32
 
+-- processor p, at CPL 3 in its task 0
 abbrev pub opening_cpu : Mode → Image → ℕ → Processor
 opening_cpu mode image p = let t : TaskSpec = get_or (tasks_of image p) 0 no_task in record {
   regs = t.regs;
@@ -206,8 +226,10 @@ opening_cpu mode image p = let t : TaskSpec = get_or (tasks_of image p) 0 no_tas
   gdt = all_descriptors 0 image.tasks;
 }
 
+-- a local APIC with nothing pending or in service
 abbrev pub opening_apic : Apic
 opening_apic = record { irr = 0 ∷ 0 ∷ 0 ∷ 0 ∷ []; isr = 0 ∷ 0 ∷ 0 ∷ 0 ∷ []; tpr = 0 }
 
+-- memory with all regions and words
 abbrev pub opening_memory : Mode → Image → Memory
 opening_memory mode image = let es : Placed = code_of (listings mode image) in record { regions = regions image; words = opening_word es mode image }

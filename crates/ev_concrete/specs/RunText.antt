@@ -17,26 +17,30 @@ pub record ModeRun : Type 0 where
   pub marks : Marks
   pub system : System
 
+-- a mode before the script
 abbrev pub opened : Image → Mode → ModeRun
 opened image mode = record { mode = mode; marks = marks_of mode image; system = opening_system mode image }
 
+-- the text of frames, where they are asked for
 abbrev pub shown_frames : Bool → Mode → List Noted → Text
 shown_frames frames mode fs = if frames then frames_text (mode_text mode) fs else []
 
--- the sides after a line of the script, and the line's text: of each mode the frames and then the entries
+-- a mode after a line of the script
 abbrev pub side_after : Image → Line → ModeRun → ModeRun
 side_after image l s = record s { system = (concrete_line s.marks image.processors s.system l).0 }
 
+-- the text of a script line, of each mode the frames and then the entries
 abbrev pub line_text_of : Image → Bool → List Entry → Line → List ModeRun → Text
 line_text_of image frames es l [] = []
 line_text_of image frames es l (s ∷ ss) =
     shown_frames frames s.mode (noted (processor_of l) (concrete_line s.marks image.processors s.system l).1) ++ trace_text (mode_text s.mode) es
     ++ line_text_of image frames es l ss
 
--- the end of a mode's text: the frames of settling, the tasks or `busy` of the abstract machine, the totals
+-- a mode with every processor settled
 abbrev pub settling : Image → ModeRun → System × List Noted
 settling image s = all_settled s.marks image.processors s.system (numbers_from 0 image.processors)
 
+-- the end of the text of each mode: the frames of settling, the tasks or `busy` of the abstract machine, the totals
 abbrev pub end_text : Image → Bool → Machine → List ModeRun → Text
 end_text image frames m [] = []
 end_text image frames m (s ∷ ss) =
@@ -44,10 +48,12 @@ end_text image frames m (s ∷ ss) =
     (settling image s).0.totals
     ++ end_text image frames m ss
 
+-- the text of script lines and of the end
 abbrev pub script_text : Image → Bool → Machine → List ModeRun → List Line → Text
 script_text image frames m sides [] = end_text image frames m sides
 script_text image frames m sides (l ∷ ls) =
     line_text_of image frames (line_step image m l).1 l sides ++ script_text image frames (line_step image m l).0 (map (side_after image l) sides) ls
 
+-- the text of a run in these modes, with or without frames
 unfoldable pub run_text : Image → List Line → List Mode → Bool → Text
 run_text image script modes frames = script_text image frames (opening image) (map (opened image) modes) script

@@ -46,21 +46,27 @@ abbrev pub is_soft : EventType → Bool
 is_soft SoftInt = true
 is_soft _ = false
 
+-- whether an event is such an INT n
 abbrev pub is_refused : Bool → Event → Bool
 is_refused fred e = is_soft e.kind && fred && not (e.vector == 3)
 
+-- the event that an entry tells
 abbrev pub told_event : Bool → Event → Event
 told_event refused e = if refused then gp (8 * e.vector + 2) else e
 
+-- the RIP that it tells
 abbrev pub told_rip : Bool → ℕ → ℕ
 told_rip refused rip = if refused then wrap (rip + (2 ^ 64 - 2)) else rip
 
+-- it is shown of user code alone
 abbrev pub shown_rip : Bool → ℕ → Option ℕ
 shown_rip user rip = if user then Some rip else None
 
+-- the entry of an event at p
 abbrev pub shown_event : ℕ → ℕ → Bool → Event → ℕ → Entry
 shown_event p depth user e rip = Enter p (key_of e.kind e.vector) e.kind (if user then User else Kernel) depth e.error e.info (shown_rip user rip)
 
+-- the entry of a delivery, which wrote a frame at this address
 abbrev pub shown_delivery : ℕ → ℕ → Bool → Bool → Processor → NatMap ℕ → Event → Option ℕ → Entry
 shown_delivery p depth user fred c words e frame =
     shown_event p (suc depth) user (told_event (is_refused fred e) e) (told_rip (is_refused fred e) (saved_rip fred c words e frame))
@@ -71,6 +77,7 @@ shown_delivery p depth user fred c words e frame =
 abbrev pub record_word : Processor → NatMap ℕ → ℕ → ℕ
 record_word c words o = words (wrap (register c 3 + o))
 
+-- the site of that record
 abbrev pub record_site : Processor → NatMap ℕ → ℕ
 record_site c words = record_word c words 0x30 % 2 ^ 8
 
@@ -78,6 +85,7 @@ record_site c words = record_word c words 0x30 % 2 ^ 8
 abbrev pub queue_owner : Processor → ℕ
 queue_owner c = wrap (register c 2 + (2 ^ 64 - (pcpu 0 + 0x30))) / 0x10000 % 2 ^ 32
 
+-- the entry of a call that was put into a queue
 abbrev pub shown_call : ℕ → Processor → NatMap ℕ → Entry
 shown_call p c words =
     Call p (record_site c words) (record_word c words 0x28) (queue_owner c) (record_word c words 0x38 % 2 ^ 32) (record_word c words 0x10)
@@ -86,6 +94,7 @@ shown_call p c words =
 abbrev pub shown_wait : ℕ → Processor → NatMap ℕ → List Entry
 shown_wait p c words = if record_word c words 0 == 0 then Done p (record_site c words) (record_word c words 0x28) ∷ [] else []
 
+-- the entry of a call whose function has run
 abbrev pub shown_ran : ℕ → Processor → NatMap ℕ → Entry
 shown_ran p c words = Ran p (record_word c words 0x20 % 2 ^ 32) (record_site c words) (record_word c words 0x28)
 

@@ -14,6 +14,10 @@ use Rattle.ev_listing.specs.Expansion.{exit_of}
 use Rattle.ev_listing.specs.IdtCode.{idt_listings, stubs}
 use Rattle.ev_listing.specs.FredCode.{fred_listings}
 use Rattle.ev_concrete.specs.Opening.{kernel_listings, body_listings, listings}
+use Rattle.std.specs.List.{list_all}
+use Rattle.ev_body.specs.declared.image.Image.{Image}
+use Rattle.ev_body.specs.WellFormed.{IsImage}
+use Rattle.ev_fetch.specs.Spelled.{has_spelling}
 use Rattle.ev_fetch.specs.Claims.{BodiesAreSpelled}
 use Rattle.ev_fetch.proofs.Regions.{Each, each_append}
 use Rattle.ev_fetch.proofs.Sizes.{idt_code, stub_if, stub_size, idt_between, fred_between}
@@ -118,19 +122,30 @@ kernel_exit Fred key = fred_exit key
 
 -- ---- all listings
 
-pub bodies_are_spelled : BodiesAreSpelled
+-- each listing lies in the code
+pub listings_lie : (mode : Mode) (image : Image) → IsImage image → Each LiesInCode (listings mode image)
 unfolding listings
-bodies_are_spelled mode image is h =
+listings_lie mode image is =
+    let few = is.bodies_given.0 in
+    each_append LiesInCode (body_listings mode image 0 image.bodies) (kernel_listings mode)
+    (bodies_lie mode image (length image.text) 0 image.bodies is.bodies_given.1 (omega arith)) (kernel_lies mode)
+
+-- each statement of each listing has a spelling, with the places of all labels
+pub statements_are_spelled : (mode : Mode) (image : Image) → IsImage image → list_all (has_spelling image.processors) image.bodies ≡ true
+    → Each (λ b. Each (λ l. IsSpelledWith (all_places (listings mode image)) l.stmt) b.lines) (listings mode image)
+unfolding listings
+statements_are_spelled mode image is h =
     let bodies = body_listings mode image 0 image.bodies in
     let kernel = kernel_listings mode in
     let env = all_places (bodies ++ kernel) in
-    let good = is.bodies_given.1 in
-    let few = is.bodies_given.0 in
-    let lies = each_append LiesInCode bodies kernel (bodies_lie mode image (length image.text) 0 image.bodies good (omega arith)) (kernel_lies mode) in
     let known : (name : Name) → has_place env name ≡ true → InCode (place env name) =
-    λ name k. place_in_code env name (places_in_code (bodies ++ kernel) lies) k in
-    listings_spelled env (bodies ++ kernel) lies (each_append (λ b. Each (λ l. IsSpelledWith env l.stmt) b.lines) bodies kernel
-    (bodies_spelled mode image is env 0 image.bodies good h
+    λ name k. place_in_code env name (places_in_code (bodies ++ kernel) (listings_lie mode image is)) k in
+    each_append (λ b. Each (λ l. IsSpelledWith env l.stmt) b.lines) bodies kernel
+    (bodies_spelled mode image is env 0 image.bodies is.bodies_given.1 h
     (λ key. known (exit_of mode key) (rest_has bodies kernel (exit_of mode key) (kernel_exit mode key)))
     (λ name k. known name (first_has bodies kernel name k)))
-    (kernel_spelled mode env (λ name k. known name (rest_has bodies kernel name k))))
+    (kernel_spelled mode env (λ name k. known name (rest_has bodies kernel name k)))
+
+pub bodies_are_spelled : BodiesAreSpelled
+bodies_are_spelled mode image is h =
+    listings_spelled (all_places (listings mode image)) (listings mode image) (listings_lie mode image is) (statements_are_spelled mode image is h)

@@ -13,6 +13,7 @@ use Rattle.ev_body.specs.declared.key.Side.TheVariants.{User, Kernel}
 use Rattle.ev_body.specs.Bodies.{body_items, covers}
 use Rattle.ev_body.specs.WellFormed.{IsImage, is_body, are_parts, has_operands, has_no_parts, ends_with, is_ret, is_finish}
 use Rattle.ev_abstract.specs.Rules.{first_item_from, refusal_at, first_refused, first_some, rules, missing_body, slot_rule, register_rule, flag_rule, if_rule, eoi_rule, fault_rule, nmi_rule, call_rule, breaks_slots, is_take, is_call_handler, failing_call}
+use Rattle.ev_abstract.specs.Accepted.{IsAccepted}
 use Rattle.ev_abstract.specs.declared.refusal.Refusal.{Refusal}
 use Rattle.ev_abstract.specs.declared.refusal.Refusal.TheVariants.{SlotRule, CallRule}
 use Rattle.ev_symbolic.proofs.Values.{and_left, and_right}
@@ -50,7 +51,7 @@ module _ (test : Item → Bool) (passes : (item : Item) → test item ≡ true �
   no_finish (item ∷ items) h = ap (λ t. t || list_any is_finish items) (plain_finish item (passes item (and_left _ _ h)))
       ∙ no_finish items (and_right (test item) _ h)
 
-  without_parts : (items : List Item) (parts : List Part) → has_no_parts parts ≡ true → list_all test items ≡ true
+  pub without_parts : (items : List Item) (parts : List Part) → has_no_parts parts ≡ true → list_all test items ≡ true
       → list_all test (items ++ flat_map (λ (part : Part). part.items) parts) ≡ true
   without_parts [] [] p h = refl
   without_parts (item ∷ items) [] p h = and_both _ _ (and_left _ _ h) (without_parts items [] p (and_right (test item) _ h))
@@ -68,15 +69,11 @@ module _ (test : Item → Bool) (passes : (item : Item) → test item ≡ true �
       last false false h = refl
 
   module _ (is_plain : Body → Bool) (holds : (b : Body) → is_plain b ≡ true → (has_no_parts b.parts ≡ true) × (list_all test b.items ≡ true)) where
-    bodies_plain : (n : ℕ) (bs : List Body) → list_all is_plain bs ≡ true → list_all (has_spelling n) bs ≡ true
+    pub bodies_plain : (n : ℕ) (bs : List Body) → list_all is_plain bs ≡ true → list_all (has_spelling n) bs ≡ true
     bodies_plain n [] h = refl
     bodies_plain n (b ∷ bs) h =
         let k = holds b (and_left _ _ h) in
         and_both _ _ (plain_spelled n b k.0 k.1) (bodies_plain n bs (and_right (is_plain b) _ h))
-
-    -- an image of such bodies
-    pub plain_are_spelled : (mode : Mode) (image : Image) → IsImage image → list_all is_plain image.bodies ≡ true → AreSpelled (kernel_cells mode image)
-    plain_are_spelled mode image is h = bodies_are_spelled mode image is (bodies_plain image.processors image.bodies h)
 
 -- ---- accepted images
 
@@ -195,5 +192,8 @@ rules_spelled image is h =
     (nowhere SlotRule (λ n b. first_item_from 0 (λ i item. breaks_slots image.processors item) (body_items b)) 0 image.bodies none.1.0)
     (nowhere CallRule (failing_call image) 0 image.bodies none.1.1.1.1.1.1.1.1.0)
 
+pub accepted_spelling : (image : Image) → IsImage image → IsAccepted image → list_all (has_spelling image.processors) image.bodies ≡ true
+accepted_spelling image is accepted = rules_spelled image is accepted.1.kept
+
 pub accepted_are_spelled : AcceptedAreSpelled
-accepted_are_spelled mode image is accepted = bodies_are_spelled mode image is (rules_spelled image is accepted.1.kept)
+accepted_are_spelled mode image is accepted = bodies_are_spelled mode image is (accepted_spelling image is accepted)

@@ -8,7 +8,7 @@ use Rattle.ev_body.specs.declared.key.Side.TheVariants.{User}
 use Rattle.ev_body.specs.declared.body.Body.{Body}
 use Rattle.ev_image.specs.Head.{plain_body, runs_user}
 
-first_lacks : (n : ℕ) (bs : List Body) (key : Key) → not (list_any (λ b. runs_user b key) bs) ≡ is_none (first_body n bs (key_number key) User)
+pub first_lacks : (n : ℕ) (bs : List Body) (key : Key) → not (list_any (λ b. runs_user b key) bs) ≡ is_none (first_body n bs (key_number key) User)
 first_lacks n [] key = refl
 first_lacks n (b ∷ bs) key = by (runs_user b key) (first_lacks (suc n) bs key)
   where

@@ -5,3 +5,16 @@ pub mod Examples
 pub mod Functions
 pub mod SixTokens
 pub mod ReadLaws
+pub mod Kept
+pub mod Lists
+pub mod Told
+pub mod Starts
+pub mod TextBytes
+pub mod Texts
+pub mod Tasks
+pub mod ItemLines
+pub mod Parts
+pub mod BodyKept
+pub mod BodyEnds
+pub mod Filled
+pub mod HeadKept

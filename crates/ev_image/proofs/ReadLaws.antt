@@ -200,7 +200,8 @@ script_line old bytes now rest s new rest' n image o p k e = (
       ∙ ap (λ (m : ℕ). Ok (record { image = image; lines = m; bytes = new.gone; behind = lines_of k.0 })) (sym k.2),
 )
 
-pub read_cause : (U : Type 0) (x : LineFault) (a b c : ℕ) → a ≤ b → OnReadFault {T = Option ℕ} (Err x) (Rose b c) → OnRead {T = U} (Err (fault_of x)) (Rose a c)
+pub read_cause : (U : Type 0) (x : LineFault) (a b c : ℕ) → a ≤ b → OnReadFault {T = Option ℕ} (Err x) (Rose b c) → OnRead {T = U} (Err (fault_of x))
+    (Rose a c)
 read_cause U LineFault.ReadFault a b c h k = omega (arith, h, k)
 read_cause U (LineFault.TooLarge n) a b c h k = tt
 read_cause U (LineFault.TooLong n) a b c h k = tt

@@ -197,7 +197,8 @@ part_told text m (t ∷ ts) = by (label_name t)
       | Some name ↦ then_make BodyLine.Here (label_said name (take 5 ts))
       | None ↦ read_by (part_forms text m) (t ∷ take 5 ts)
     ] in r)
-        ≡ (let r : Result BodyLine Cause = elim o [ Some name ↦ then_make BodyLine.Here (label_said name ts) | None ↦ read_by (part_forms text m) (t ∷ ts) ] in r)
+        ≡ (let r : Result BodyLine Cause = elim o [ Some name ↦ then_make BodyLine.Here (label_said name ts) | None ↦ read_by (part_forms text m) (t ∷ ts) ]
+        in r)
     by (Some name) = ap (then_make BodyLine.Here) (label_alone name ts)
     by None = first_six (part_forms text m) (t ∷ ts) (part_few text m)
 

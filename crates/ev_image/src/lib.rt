@@ -9,9 +9,11 @@ mod kernel;
 mod lines;
 mod reading;
 mod said;
+#[cfg(test)]
+mod tests;
 
 pub use draft::Draft;
 pub use head::Head;
 pub use kernel::{Kernel, Start, TaskLine};
 pub use lines::{KernelLine, PartEnd, StartLine};
-pub use reading::{ImageFault, read_draft};
+pub use reading::{ImageFault, read_image};

@@ -1,6 +1,7 @@
 // Reading images.
 
 ghost use Rattle.std.specs.Prelude.{◌≡◌, ◌≤◌, ℕ, List, [], Some, IfOk};
+ghost use Rattle.ev_body.specs.WellFormed.{IsImage};
 ghost use Rattle.ev_io.specs.Transfer.{Draws, Rose};
 ghost use Rattle.ev_io.specs.Lines.{coming, drawn};
 ghost use Rattle.ev_io.specs.Tokens.{tokens_of};
@@ -12,6 +13,7 @@ ghost use Rattle.ev_image.specs.declared.head.Head.TheVariants as Head;
 use crate::draft::Draft;
 use crate::follow::follow;
 use crate::head::Head;
+use ev_body::Image;
 use ev_io::{Cause, LineFault, Lines, Source, tokens_in};
 use ev_text::Stop;
 use std::alloc::Global;
@@ -50,14 +52,8 @@ fn fault_of(fault: LineFault) -> ImageFault
     }
 }
 
-/// Reads what a document says of its kernel image, through the line `script`. A line that doesn't
-/// follow is answered with its number and its one cause, and a missing line `script` as NoEnd at the
-/// last line read. Memory is that of the image. Own.
-pub fn read_draft<S: Source>(
-    alloc: Global,
-    lines: &mut Lines,
-    src: &mut S,
-) -> Result<Draft, ImageFault>
+/// What a document says of its kernel image, through the line `script`.
+fn read_draft<S: Source>(alloc: Global, lines: &mut Lines, src: &mut S) -> Result<Draft, ImageFault>
     ensures reads { (bytes : List ℕ) → coming lines.old.chunk (S.left src.old) ≡ Some bytes
         → ReadsImage lines.old bytes lines.new (coming lines.new.chunk (S.left src.new)) result }
     ensures reached { IfOk result (λ draft. Reached (Head.Opened draft)) }
@@ -83,5 +79,55 @@ pub fn read_draft<S: Source>(
                 },
             },
         }
+    }
+}
+
+/// What stands behind the line `script`, as an image.
+fn image_of(draft: Draft) -> Image
+    requires { Reached (Head.Opened draft) }
+    ensures { result ≡ draft }
+{
+    let Draft {
+        processors,
+        nest,
+        pages,
+        cells,
+        text,
+        tasks,
+        bodies,
+    } = draft;
+    Image {
+        processors,
+        nest,
+        pages,
+        cells,
+        text,
+        tasks,
+        bodies,
+    }
+}
+
+/// Reads the kernel image of a document, through the line `script`. A line that doesn't follow is
+/// answered with its number and its one cause, and a missing line `script` as NoEnd at the last line
+/// read. What lies behind that line is left to be read. Memory is that of the image. Own.
+pub fn read_image<S: Source>(
+    alloc: Global,
+    lines: &mut Lines,
+    src: &mut S,
+) -> Result<Image, ImageFault>
+    ensures reads { (bytes : List ℕ) → coming lines.old.chunk (S.left src.old) ≡ Some bytes
+        → ReadsImage lines.old bytes lines.new (coming lines.new.chunk (S.left src.new)) result }
+    ensures image { IfOk result (λ image. IsImage image) }
+
+    // bytes are read only as they are given or kept, up to byte 8,388,609
+    ensures draws { Draws (drawn lines.old) (drawn lines.new) (S.left src.old) (S.left src.new) }
+    ensures most { drawn lines.new ≤ 8388609 }
+
+    ensures later { S.faults src.old ≤ S.faults src.new }
+    ensures cause { OnRead result (Rose (S.faults src.old) (S.faults src.new)) }
+{
+    match read_draft(alloc, lines, src) {
+        Ok(draft) => Ok(image_of(draft)),
+        Err(fault) => Err(fault),
     }
 }

@@ -7,3 +7,4 @@ pub mod NextLaws
 pub mod FollowLaws
 pub mod StandLaws
 pub mod DecimalLaws
+pub mod Writes

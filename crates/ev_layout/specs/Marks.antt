@@ -2,7 +2,6 @@
 use Rattle.std.specs.Prelude.{ℕ, List, map}
 use Rattle.ev_listing.specs.Marks
 use Rattle.ev_layout.specs.declared.mark.Mark.{Mark}
-use Rattle.ev_layout.specs.declared.mark.Marked.{Marked}
 use Rattle.ev_layout.specs.declared.mark.Mark.TheVariants.{Never, Always, IfNonzero, IfEqual}
 
 abbrev pub mark_of : Mark → Marks.Mark
@@ -13,6 +12,3 @@ mark_of IfEqual = Marks.IfEqual
 
 abbrev pub marks_in : List (ℕ × Mark) → List (ℕ × Marks.Mark)
 marks_in es = map (λ (e : ℕ × Mark). (e.0, mark_of e.1)) es
-
-abbrev pub marked_of : Marked → Marks.Marked
-marked_of m = record { mark = mark_of m.mark; stmt = m.stmt }

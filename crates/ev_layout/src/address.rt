@@ -27,6 +27,9 @@ pub const IDT_BYTES: u64 = 0x1000;
 /// The page map.
 pub const PAGE_MAP: u64 = 0xffff_8880_0082_0000;
 
+/// How many data pages there are.
+pub const PAGE_COUNT: u64 = 256;
+
 /// The bytes of the page map: a word for each data page, and one behind them.
 pub const PAGE_MAP_BYTES: u64 = 8 * 257;
 
@@ -75,6 +78,15 @@ pub const PAGES: u64 = 0x1000_0000;
 /// The bytes of a data page.
 pub const PAGE_BYTES: u64 = 0x1000;
 
+/// The stacks, in parts each of which ends with one.
+pub const STACKS: u64 = 0xffff_c900_0000_0000;
+
+/// The bytes from a processor's stacks to those of the next.
+pub const STACKS_BYTES: u64 = 0x10_0000;
+
+/// The bytes of a stack's part.
+pub const STACK_PART_BYTES: u64 = 0x4000;
+
 /// The bytes of a stack.
 pub const STACK_BYTES: u64 = 0x2000;
 
@@ -110,7 +122,7 @@ pub fn stack_top(p: u64, n: u64) -> u64
     requires n { n < 32 }
     ensures { result ≡ stack_top p n }
 {
-    0xffff_c900_0000_0000 + 0x10_0000 * p + 0x4000 * (n + 1)
+    STACKS + STACKS_BYTES * p + STACK_PART_BYTES * (n + 1)
 }
 
 /// The stub of a vector under IDT.

@@ -1,11 +1,11 @@
 // Processors.
 
-ghost use Rattle.std.specs.Prelude.{◌≡◌, ◌<◌, true, get_or, map, IfOk};
+ghost use Rattle.std.specs.Prelude.{◌≡◌, ◌<◌, ◌≤◌, ◌+◌, ◌*◌, ◌^◌, ◌++◌, ℕ, true, length, get_or, map, IfOk, None};
+ghost use Rattle.ev_listing.specs.AddressMap.{task_selector};
 ghost use Rattle.ev_isa.specs.Word.{is_canonical, numbers_from};
 ghost use Rattle.ev_abstract.specs.Machine.{no_task};
-ghost use Rattle.ev_built.specs.Built.{IsBuilt};
-ghost use Rattle.ev_layout.specs.Processors.{opening_msrs};
-ghost use Rattle.ev_concrete.specs.Opening.{all_descriptors, control, opening_cpu, tasks_of};
+ghost use Rattle.ev_layout.specs.Processors.{opening_msrs, have_bases, are_below};
+ghost use Rattle.ev_concrete.specs.Opening.{descriptors_of, all_descriptors, control, opening_cpu, tasks_of};
 
 use crate::address::{IDT, SYSCALL_ENTRY, area, stack_top};
 use crate::words::task_selector;
@@ -15,7 +15,7 @@ use ev_state::{Cpu, Gdt, MsrFile};
 use std::alloc::{AllocError, Global};
 
 /// RFLAGS of a task at its start: IF and AC.
-const START_FLAGS: u64 = 0x4_0202;
+pub const START_FLAGS: u64 = 0x4_0202;
 
 /// The offset of the TSS in a processor's area.
 const TSS: u64 = 0x404;
@@ -35,11 +35,8 @@ const CONFIG: u64 = 0xffff_ffff_8100_0040;
 
 /// The first task of processor p.
 fn first_task(image: &Image, p: u64) -> TaskSpec
-    requires image { IsBuilt image.now }
-    requires p { p < image.now.processors }
-    ensures is { result ≡ get_or (tasks_of image.now p) 0 no_task }
-    ensures start { is_canonical result.start ≡ true }
-    ensures base { result.gs ≡ 0 }
+    requires { p < image.now.processors }
+    ensures { result ≡ get_or (tasks_of image.now p) 0 no_task }
 {
     match image.tasks.as_slice().get(p as usize) {
         Some(tasks) => match tasks.as_slice().get(0) {
@@ -68,13 +65,31 @@ fn control(mode: Mode) -> u64
     }
 }
 
-/// The descriptors of the tasks' GS bases; machines run one task today.
+/// The descriptors of the GS bases of the tasks of processor p are added, behind those of the
+/// processors before it.
+fn append_descriptors(gdt: &mut Gdt, p: u64, tasks: &[TaskSpec])
+    requires p { p < 8 }
+    requires room { length gdt.old ≤ 4 * p }
+    requires few { length tasks.now ≤ 4 }
+    requires bases { have_bases tasks.now ≡ true }
+    requires earlier { are_below (task_selector p 0) gdt.old ≡ true }
+    ensures is { gdt.new ≡ gdt.old ++ descriptors_of p 0 tasks.now }
+    ensures room { length gdt.new ≤ 4 * (p + 1) }
+    ensures later { are_below (task_selector (p + 1) 0) gdt.new ≡ true }
+{
+    for (i, task) in tasks.iter().enumerate() {
+        gdt.push(task_selector(p, i as u64) as u16, task.gs);
+    }
+}
+
+/// The descriptors of the tasks' GS bases.
 fn descriptors(image: &Image) -> Gdt
-    requires { IsBuilt image.now }
     ensures { result ≡ all_descriptors 0 image.now.tasks }
 {
     let mut gdt = Gdt::new();
-    gdt.push(task_selector(0, 0) as u16, first_task(image, 0).gs);
+    for (p, tasks) in image.tasks.as_slice().iter().enumerate() {
+        append_descriptors(&mut gdt, p as u64, tasks.as_slice());
+    }
     gdt
 }
 
@@ -103,10 +118,11 @@ fn msrs(p: u64, gs_base: u64) -> MsrFile
 
 /// Processor p at the opening.
 fn opening_cpu(image: &Image, mode: Mode, p: u64) -> Cpu
-    requires image { IsBuilt image.now }
-    requires p { p < image.now.processors }
+    requires { p < image.now.processors }
     ensures { result ≡ opening_cpu mode image.now p }
 {
+    // The limits of the image are known where it is read.
+    let _ = &image.tasks;
     let task = first_task(image, p);
     let regs = task.regs;
     Cpu {
@@ -131,7 +147,6 @@ fn opening_cpu(image: &Image, mode: Mode, p: u64) -> Cpu
 
 /// The processors at the opening.
 pub fn opening_cpus(alloc: Global, image: &Image, mode: Mode) -> Result<Many<Cpu>, AllocError>
-    requires { IsBuilt image.now }
     ensures { IfOk result (λ cpus. cpus ≡ map (opening_cpu mode image.now)
         (numbers_from 0 image.now.processors)) }
 {

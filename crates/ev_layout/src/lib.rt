@@ -2,16 +2,15 @@
 #![tactic(auto)]
 
 mod address;
-mod body;
 mod code;
 mod cpu;
 mod fill;
-mod key;
 mod mark;
 mod opening;
 mod parts;
 mod places;
 mod regions;
+mod saved;
 mod visible;
 mod words;
 

@@ -1,7 +1,5 @@
 // Marks of visible instructions.
 
-use ev_asm::Stmt;
-
 /// When the abstract machine makes a step with an instruction of the kernel: never, always, where it
 /// reads another value than 0, or where its exchange succeeds. Own.
 #[derive(Clone, Copy, Debug, Drop, PartialEq, Eq)]
@@ -10,11 +8,4 @@ pub enum Mark {
     Always,
     IfNonzero,
     IfEqual,
-}
-
-/// A statement with its mark.
-#[derive(Debug, Drop)]
-pub struct Marked {
-    pub mark: Mark,
-    pub stmt: Stmt,
 }

@@ -1,21 +1,24 @@
 // The words of the kernel's areas and tables at the opening.
 
-ghost use Rattle.std.specs.Prelude.{◌≡◌, ◌<◌, ◌≤◌, ◌+◌, ◌*◌, ◌-◌, ◌/◌, ◌%◌, ◌^◌, ◌⊎◌, length, true, MatchOption};
-ghost use Rattle.ev_isa.specs.declared.mode.Mode.{Mode};
-ghost use Rattle.ev_built.specs.Built.{IsBuilt};
+ghost use Rattle.std.specs.Prelude.{◌≡◌, ◌<◌, ◌≤◌, ◌+◌, ◌*◌, ◌-◌, ◌/◌, ◌%◌, ◌^◌, if◌then◌else◌, length, true, MatchOption};
+ghost use Rattle.ev_isa.specs.Word.{members, values};
 ghost use Rattle.ev_concrete.specs.Opening.{body_address, byte_of, code_word, gate, idt_word, pcpu_word, record_word, table_word, task_word, tasks_of, within, word_there};
-ghost use Rattle.ev_listing.specs.AddressMap.{stack_top, fred_page, task_selector};
+ghost use Rattle.ev_listing.specs.AddressMap.{fred_page, task_selector};
 ghost use Rattle.ev_layout.specs.Placed.{placed};
+ghost use Rattle.ev_layout.specs.There.{table_there};
 
 use crate::address::{
-    AREA_BYTES, AREAS, BODIES, BODY_BYTES, CODE, IDT, IDT_BYTES, KERNEL_TABLE, NMI_ENTRY, NO_BODY,
-    TABLE_BYTES, TASKS, TASKS_BYTES, USER_TABLE, call_record, stack_top, stub, task_area,
+    AREA_BYTES, AREAS, BODIES, BODY_BYTES, CELLS, CELLS_BYTES, CODE, IDT, IDT_BYTES, KERNEL_TABLE,
+    NMI_ENTRY, NO_BODY, PAGE_COUNT, PAGE_MAP, STACK_PART_BYTES, STACKS, STACKS_BYTES, TABLE_BYTES,
+    TASKS, TASKS_BYTES, USER_TABLE, call_record, stack_top, stub, task_area,
 };
-use crate::key::first_body;
+use crate::saved::stack_word;
 use byteorder::{ByteOrder, LittleEndian};
 use ev_asm::Block;
-use ev_body::{Body, Image, Side};
+use ev_body::{Image, Side};
 use ev_gate::{Gate, gate_bytes};
+use ev_isa::Mode;
+use ev_items::first_body;
 
 /// The byte at an address of code, and 0 where there is none.
 fn byte_at(blocks: &[Block], a: u64) -> u8
@@ -168,7 +171,6 @@ fn task_word(n: u64, p: u64, i: u64, offset: u64) -> u64
 
 /// How many tasks processor p has.
 fn task_count(image: &Image, p: u64) -> u64
-    requires { IsBuilt image.now }
     ensures is { result ≡ length (tasks_of image.now p) }
     ensures few { result ≤ 4 }
 {
@@ -178,6 +180,30 @@ fn task_count(image: &Image, p: u64) -> u64
     }
 }
 
+/// The word of the page map of a page: 1 where it is present.
+fn page_word(image: &Image, page: u64) -> u64
+    ensures { result ≡ (if members image.now.pages page then 1 else 0) }
+{
+    for present in image.pages.as_slice() {
+        if u64::from(*present) == page {
+            return 1;
+        }
+    }
+    0
+}
+
+/// The word of a shared cell.
+fn cell_word(image: &Image, cell: u64) -> u64
+    ensures { result ≡ values image.now.cells cell }
+{
+    for (number, value) in image.cells.as_slice() {
+        if u64::from(*number) == cell {
+            return *value;
+        }
+    }
+    0
+}
+
 /// Whether an address lies in so many bytes from a base on.
 fn within(base: u64, bytes: u64, a: u64) -> bool
     ensures { result ≡ within base bytes a }
@@ -185,25 +211,11 @@ fn within(base: u64, bytes: u64, a: u64) -> bool
     base <= a && a - base < bytes
 }
 
-/// The word at an address of the kernel that is a multiple of 8 and lies in no stack.
-pub fn kernel_word(image: &Image, blocks: &[Block], a: u64) -> u64
-    requires image { IsBuilt image.now }
-    requires upper { 2 ^ 63 ≤ a }
-    requires room { a + 8 ≤ 2 ^ 64 }
-    requires no_stack { (a < stack_top 0 0 - 0x4000) ⊎ (fred_page ≤ a) }
-    ensures { (mode : Mode) → result ≡ word_there (placed blocks.now) mode image.now a }
+/// The word at an address of the tables, the page map or the cells.
+fn table_there(image: &Image, a: u64) -> u64
+    requires { a + 8 ≤ 2 ^ 64 }
+    ensures { result ≡ table_there image.now a }
 {
-    let processors = u64::from(image.processors);
-    if a >= CODE {
-        return code_word(blocks, a);
-    }
-    if within(AREAS, AREA_BYTES * processors, a) {
-        return area_word((a - AREAS) / AREA_BYTES, a % AREA_BYTES);
-    }
-    if within(TASKS, TASKS_BYTES * processors, a) {
-        let i = (a - TASKS) / 0x40;
-        return task_word(task_count(image, i / 4), i / 4, i % 4, a % 0x40);
-    }
     if within(USER_TABLE, TABLE_BYTES, a) {
         return table_word(image, Side::User, (a - USER_TABLE) / 8);
     }
@@ -213,5 +225,41 @@ pub fn kernel_word(image: &Image, blocks: &[Block], a: u64) -> u64
     if within(IDT, IDT_BYTES, a) {
         return idt_word((a - IDT) / 8);
     }
+    if within(PAGE_MAP, 8 * PAGE_COUNT, a) {
+        return page_word(image, (a - PAGE_MAP) / 8);
+    }
+    if within(CELLS, CELLS_BYTES, a) {
+        return cell_word(image, (a - CELLS) / 8);
+    }
     0
+}
+
+/// The word at an address of the kernel that is a multiple of 8.
+pub fn kernel_word(image: &Image, mode: Mode, blocks: &[Block], a: u64) -> u64
+    requires upper { 2 ^ 63 ≤ a }
+    requires room { a + 8 ≤ 2 ^ 64 }
+    ensures { result ≡ word_there (placed blocks.now) mode image.now a }
+{
+    let processors = u64::from(image.processors);
+    if a >= CODE {
+        return code_word(blocks, a);
+    }
+    if within(STACKS, STACKS_BYTES * processors, a) {
+        let offset = (a - STACKS) % STACKS_BYTES;
+        return stack_word(
+            image,
+            mode,
+            (a - STACKS) / STACKS_BYTES,
+            offset / STACK_PART_BYTES,
+            STACK_PART_BYTES - a % STACK_PART_BYTES,
+        );
+    }
+    if within(AREAS, AREA_BYTES * processors, a) {
+        return area_word((a - AREAS) / AREA_BYTES, a % AREA_BYTES);
+    }
+    if within(TASKS, TASKS_BYTES * processors, a) {
+        let i = (a - TASKS) / 0x40;
+        return task_word(task_count(image, i / 4), i / 4, i % 4, a % 0x40);
+    }
+    table_there(image, a)
 }

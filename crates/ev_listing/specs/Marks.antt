@@ -7,10 +7,12 @@ use Rattle.ev_asm.specs.Assembly.{Places, places, size}
 pub data Mark : Type 0 where
   Never Always IfNonzero IfEqual : Mark
 
+-- a statement with the mark of its instruction
 pub record Marked : Type 0 where
   pub mark : Mark
   pub stmt : Stmt
 
+-- the statements alone
 abbrev pub stmts_of : List Marked → List Stmt
 stmts_of lines = map (λ l. l.stmt) lines
 
@@ -29,11 +31,12 @@ pub record Listing : Type 0 where
   pub address : ℕ
   pub lines : List Marked
 
--- the labels of all listings, and their marks
+-- the labels of all listings, with their addresses
 abbrev pub all_places : List Listing → Places
 all_places [] = []
 all_places (b ∷ bs) = places b.address (stmts_of b.lines) ++ all_places bs
 
+-- the addresses of the marked instructions of all listings
 abbrev pub all_marks : List Listing → List (ℕ × Mark)
 all_marks [] = []
 all_marks (b ∷ bs) = marks b.address b.lines ++ all_marks bs

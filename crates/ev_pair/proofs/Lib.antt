@@ -1,4 +1,3 @@
-pub mod Writes
 pub mod Settled
 pub mod Ends
 pub mod Shown

@@ -13,7 +13,7 @@ use Rattle.ev_concrete.specs.ConcreteRun.{marks_of, opening_system}
 use Rattle.ev_concrete.specs.RunText.{ModeRun, side_after, line_text_of, script_text, run_text}
 use Rattle.ev_core.proofs.Turns.{line_more}
 use Rattle.ev_pair.specs.SideText.{side_at, shown_line, shown_end}
-use Rattle.ev_pair.proofs.Writes.{Wrote, none_yet}
+use Rattle.ev_io.proofs.Writes.{Wrote, none_yet}
 
 abbrev sides : Image → List Line → List Mode → List ModeRun
 sides image done modes = map (λ mode. side_at mode image done) modes

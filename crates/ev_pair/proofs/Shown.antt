@@ -16,7 +16,7 @@ use Rattle.ev_built.specs.Built.{line_is_built}
 use Rattle.ev_concrete.specs.ConcreteRun.{marks_of, noted, concrete_line, concrete_run}
 use Rattle.ev_concrete.specs.RunText.{shown_frames, settling}
 use Rattle.ev_pair.specs.SideText.{side_at, shown_line, shown_end}
-use Rattle.ev_pair.proofs.Writes.{nothing_written}
+use Rattle.ev_io.proofs.Writes.{nothing_written}
 
 -- only turns of processor 0 are built today
 pub only_turns : (l : Line) → line_is_built l ≡ true → ((p : ℕ) → l ≡ Turn p → ⊥) → ⊥

@@ -7,7 +7,7 @@ use Rattle.ev_io.specs.declared.cause.Cause.TheVariants as Cause
 use Rattle.ev_io.specs.Tokens.{Token}
 use Rattle.ev_asm.specs.Assembly.{Places, Name, is_name, place}
 use Rattle.ev_line.specs.Operands.{or_else, then_make, if_it, has_label, label, value, TextLabel}
-use Rattle.ev_text.specs.LabelTable.{found}
+use Rattle.ev_asm.specs.LabelTable.{found}
 
 -- the place of a name that stands among the labels, else NoLabel
 abbrev placed : Bool → ℕ → Result ℕ Cause

@@ -6,7 +6,7 @@ use Rattle.ev_io.specs.declared.cause.Cause.{Cause}
 use Rattle.ev_io.specs.declared.cause.Cause.TheVariants as Cause
 use Rattle.ev_asm.specs.Assembly.{Places, Name, is_name, place}
 use Rattle.ev_line.specs.Operands.{has_label}
-use Rattle.ev_text.specs.LabelTable.{found}
+use Rattle.ev_asm.specs.LabelTable.{found}
 use Rattle.ev_text.specs.UserText.{unless}
 use Rattle.ev_part.specs.declared.line.BodyLine.{BodyLine}
 use Rattle.ev_part.specs.declared.line.BodyLine.TheVariants.{Here, Does, Jumps}
@@ -49,7 +49,7 @@ again p (Here name) = found_there (labels_of p) name
 again p (Does i) = refl
 again p (Jumps cond name) = refl
 
-count_more : (ls : List BodyLine) (l : BodyLine) → count_items (ls ++ l ∷ []) ≡ count_items ls + item_count l
+pub count_more : (ls : List BodyLine) (l : BodyLine) → count_items (ls ++ l ∷ []) ≡ count_items ls + item_count l
 count_more [] (Here name) = omega arith
 count_more [] (Does i) = omega arith
 count_more [] (Jumps cond name) = omega arith

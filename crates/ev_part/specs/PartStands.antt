@@ -1,7 +1,7 @@
 -- What the index of labels and the count of items of a part are. Own.
 use Rattle.std.specs.Prelude.{◌≡◌, ℕ, ◌≤◌, ◌<◌, Bool, true, false, List, [], ◌∷◌, is_some}
 use Rattle.ev_asm.specs.Assembly.{Places, Name, place}
-use Rattle.ev_text.specs.LabelTable.{found}
+use Rattle.ev_asm.specs.LabelTable.{found}
 use Rattle.ev_part.specs.declared.line.BodyLine.{BodyLine}
 use Rattle.ev_part.specs.declared.line.BodyLine.TheVariants.{Here, Does, Jumps}
 use Rattle.ev_part.specs.PartItems.{PartView, labels_of, next_item}

@@ -1,12 +1,12 @@
 -- The facts on an image's code hold for the images of today.
-use Rattle.std.proofs.Common.{◌≡◌, ℕ, true, List, Some, ap, ◌∙◌, ◌≤◌, ◌+◌, ◌^◌, arith}
+use Rattle.std.proofs.Common.{◌≡◌, ℕ, true, not, ◌&&◌, List, [], ◌∷◌, Some, refl, ap, ◌∙◌, ◌≤◌, ◌+◌, ◌^◌, arith}
 use Rattle.std.specs.Prelude.{slice_get}
 use Rattle.std.specs.List.{list_all}
 use Rattle.ev_body.specs.declared.item.Item.{Item}
 use Rattle.ev_body.specs.declared.body.Body.{Body}
 use Rattle.ev_body.specs.declared.image.Image.{Image}
 use Rattle.ev_body.specs.WellFormed.{IsImage, has_no_parts, is_user_side}
-use Rattle.ev_body.specs.Bodies.{key_number}
+use Rattle.ev_body.specs.Bodies.{key_number, body_items}
 use Rattle.ev_body.specs.declared.key.Key.{Key}
 use Rattle.ev_body.specs.declared.key.Key.TheVariants.{Sys, Db, Nmi, Bp, Ud, Ss, Gp, Pf, Ac, Irq}
 use Rattle.ev_body.specs.declared.item.Item.TheVariants.{Log, Ret}
@@ -18,16 +18,16 @@ use Rattle.ev_listing.specs.Marks.{all_places}
 use Rattle.ev_concrete.specs.Opening.{listings}
 use Rattle.ev_symbolic.proofs.Listed.{spaced_in}
 use Rattle.ev_symbolic.proofs.Values.{and_left, and_right}
-use Rattle.ev_table.proofs.Cells.{mark_by}
-use Rattle.ev_table.specs.Table.{code_table, other_exit, exit_address, RetCell}
+use Rattle.ev_table.specs.Table.{code_table, other_exit, exit_address, RetCell, is_call}
 use Rattle.ev_table.proofs.Kernel as kernel
-use Rattle.ev_table.proofs.Whole as whole
 use Rattle.ev_paths.specs.Lines.{HasKernel}
+use Rattle.ev_table.proofs.Whole as whole
 use Rattle.ev_fetch.proofs.Kernel.{kernel_fetches}
 use Rattle.ev_fetch.proofs.InCode.{stays_in_code}
-use Rattle.ev_fetch.proofs.Ruled.{IsLogOrRet, plain_are_spelled}
+use Rattle.ev_fetch.proofs.AllSpelled.{bodies_are_spelled}
+use Rattle.ev_fetch.proofs.Ruled.{IsLogOrRet, bodies_plain, without_parts}
 use Rattle.ev_fetch.proofs.Opened.{holds_code, holds_text}
-use Rattle.ev_fetch.specs.Spelled.{AreSpelled}
+use Rattle.ev_fetch.specs.Spelled.{AreSpelled, has_spelling}
 use Rattle.ev_fetch.specs.Claims.{kernel_cells}
 use Rattle.ev_refine.specs.Relation.{InText, InCode}
 use Rattle.ev_refine.proofs.Facts.{Facts}
@@ -59,14 +59,37 @@ log_or_ret _ h = absurd (cc)
 body_parts : (b : Body) → is_built_body b ≡ true → (has_no_parts b.parts ≡ true) × (list_all is_built_item b.items ≡ true)
 body_parts b h = let r = and_right (is_user_side b.side) _ h in (and_left (has_no_parts b.parts) _ r, and_right (has_no_parts b.parts) _ r)
 
+-- what images of today keep of the rules that code stands on
+pub built_spelling : (image : Image) → IsBuilt image → list_all (has_spelling image.processors) image.bodies ≡ true
+built_spelling image built = bodies_plain is_built_item log_or_ret is_built_body body_parts image.processors image.bodies built.bodies
+
+-- and they have no `call`
+no_call : (item : Item) → is_built_item item ≡ true → not (is_call item) ≡ true
+unfolding is_built_item is_call
+no_call (Log s) h = refl
+no_call Ret h = refl
+no_call _ h = absurd (cc)
+
+no_calls : (items : List Item) → list_all is_built_item items ≡ true → list_all (λ item. not (is_call item)) items ≡ true
+no_calls [] h = refl
+no_calls (item ∷ items) h = ap (λ t. t && list_all (λ item. not (is_call item)) items) (no_call item (and_left _ _ h))
+    ∙ no_calls items (and_right (is_built_item item) _ h)
+
+never_call : (bs : List Body) → list_all is_built_body bs ≡ true → list_all (λ (b : Body). list_all (λ item. not (is_call item)) (body_items b)) bs ≡ true
+never_call [] h = refl
+never_call (b ∷ bs) h =
+    let k = body_parts b (and_left _ _ h) in
+    ap (λ t. t && list_all (λ (b : Body). list_all (λ item. not (is_call item)) (body_items b)) bs)
+    (no_calls (body_items b) (without_parts is_built_item log_or_ret b.items b.parts k.0 k.1)) ∙ never_call bs (and_right (is_built_body b) _ h)
+
 module _ (mode : Mode) (image : Image) (given : IsImage image) (built : IsBuilt image) where
   spells : AreSpelled (kernel_cells mode image)
-  spells = plain_are_spelled is_built_item log_or_ret is_built_body body_parts mode image given built.bodies
+  spells = bodies_are_spelled mode image given (built_spelling image built)
 
   ret : (n i : ℕ) (b : Body) → slice_get image.bodies n ≡ Some b → item_at (Some b) i ≡ Some Ret
       → RetCell (code_table mode image) (item_address mode n b i) (other_exit mode)
   ret n i b h k =
-      let r : RetCell (code_table mode image) (item_address mode n b i) (exit_address mode b.key) = whole.ret_stands mode image given built n i b h k in
+      let r : RetCell (code_table mode image) (item_address mode n b i) (exit_address mode b.key) = whole.ret_stands mode image given n i b h k in
       record {
         cell = r.cell;
         distance = r.distance;
@@ -79,26 +102,26 @@ module _ (mode : Mode) (image : Image) (given : IsImage image) (built : IsBuilt 
 
   kernel_found : HasKernel mode (code_table mode image)
   unfolding kernel.kernel_cells
-  kernel_found = whole.kernel_found mode image given built
+  kernel_found = whole.kernel_found mode image given
 
   item_range : (n i : ℕ) (b : Body) → slice_get image.bodies n ≡ Some b → (0xffffffff82000000 ≤ item_address mode n b i)
       × (item_address mode n b i + 0x100 ≤ 2 ^ 64)
-  item_range n i b h = upper (item_address mode n b i) (whole.range mode image given built n i b h)
+  item_range n i b h = upper (item_address mode n b i) (whole.range mode image given n i b h)
     where
-      upper : (a : ℕ) → (0xffffffff82000000 ≤ a) × (a ≤ 0xffffffff82800000 + 2304) → (0xffffffff82000000 ≤ a) × (a + 0x100 ≤ 2 ^ 64)
+      upper : (a : ℕ) → (0xffffffff82000000 ≤ a) × (a ≤ 0xffffffff82800000) → (0xffffffff82000000 ≤ a) × (a + 0x100 ≤ 2 ^ 64)
       upper a r = (r.0, omega arith)
 
   pub facts : Facts mode image
   facts = record {
     kernel = kernel_found;
+    item_range = item_range;
     spaced = spaced_in (all_places (listings mode image)) (listings mode image);
-    log_cell = λ n i s b h k. whole.log_stands mode image given built n i s b h k;
+    log_cell = λ n i s b h k. whole.log_stands mode image given n i s b h k;
     ret_cell = ret;
     first_item = λ n b. whole.first_item mode n b;
-    item_small = λ n i b h. whole.canonical_items mode image given built n i b h;
-    item_range = item_range;
-    unmarked = λ a x h m. whole.mark_is mode image given built a x h ∙ ap mark_by m;
-    marked = λ a x h m. whole.mark_is mode image given built a x h ∙ ap mark_by m;
+    item_small = λ n i b h. whole.canonical_items mode image given n i b h;
+    unmarked = λ a x h m. whole.unmarked_edge mode image given a x h m;
+    marked = λ a x h m. whole.marked_seen mode image given (never_call image.bodies built.bodies) a x h m;
     fetches = λ m e f. kernel_fetches mode image m given spells e (holds_code mode image m.words (λ a l. f a (InCode l)));
     holds = λ m f. holds_text mode image m.words (λ a l k. f a (InText l k));
     in_code = λ m e c. stays_in_code image m c given e;

@@ -9,40 +9,30 @@ use Rattle.ev_asm.specs.Assembly.{size, place, places, distance}
 use Rattle.ev_listing.specs.Expansion.{exit_of}
 use Rattle.ev_listing.specs.IdtCode.{idt_listings}
 use Rattle.ev_listing.specs.FredCode.{fred_listings}
-use Rattle.ev_listing.specs.Marks.{all_places, all_marks, marks}
+use Rattle.ev_listing.specs.Marks.{all_places}
 use Rattle.ev_concrete.specs.Opening.{kernel_listings}
-use Rattle.ev_symbolic.specs.Listed.{Cells, cells_in, distinct, are_low}
+use Rattle.ev_symbolic.specs.Listed.{Cells, cells_in}
 use Rattle.ev_table.specs.Table.{exit_address}
-use Rattle.ev_table.proofs.Cells.{are_below, marks_by}
 use Rattle.ev_table.proofs.Labels.{all_inner}
+use Rattle.ev_table.proofs.Marked.{all_unmarked, all_plain}
 
 unfoldable pub kernel_cells : Mode → Cells
 kernel_cells mode = cells_in (all_places (kernel_listings mode)) (kernel_listings mode)
-
-pub kernel_distinct : (mode : Mode) → distinct (kernel_cells mode) ≡ true
-unfolding kernel_cells idt_listings fred_listings spelling four_bytes size places distance
-kernel_distinct Idt = refl
-kernel_distinct Fred = refl
-
-pub kernel_low : (mode : Mode) → are_low (kernel_cells mode) ≡ true
-unfolding kernel_cells idt_listings fred_listings spelling four_bytes size places distance
-kernel_low Idt = refl
-kernel_low Fred = refl
-
-pub kernel_below : (mode : Mode) → are_below 0xffffffff82000000 (kernel_cells mode) ≡ true
-unfolding kernel_cells idt_listings fred_listings spelling four_bytes size places distance
-kernel_below Idt = refl
-kernel_below Fred = refl
 
 pub kernel_inner : (mode : Mode) → all_inner (kernel_listings mode) ≡ true
 unfolding idt_listings fred_listings
 kernel_inner Idt = refl
 kernel_inner Fred = refl
 
-pub kernel_marks : (mode : Mode) → all_marks (kernel_listings mode) ≡ marks_by (kernel_cells mode)
-unfolding kernel_cells idt_listings fred_listings spelling four_bytes size places distance marks
-kernel_marks Idt = refl
-kernel_marks Fred = refl
+pub kernel_unmarked : (mode : Mode) → all_unmarked (kernel_listings mode) ≡ true
+unfolding idt_listings fred_listings
+kernel_unmarked Idt = refl
+kernel_unmarked Fred = refl
+
+pub kernel_plain : (mode : Mode) → all_plain (kernel_listings mode) ≡ true
+unfolding idt_listings fred_listings
+kernel_plain Idt = refl
+kernel_plain Fred = refl
 
 pub exit_is : (mode : Mode) (key : Key) → place (all_places (kernel_listings mode)) (exit_of mode key) ≡ exit_address mode key
 unfolding idt_listings fred_listings spelling four_bytes size places

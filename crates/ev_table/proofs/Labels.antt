@@ -2,26 +2,19 @@
 use Rattle.std.proofs.Common.{◌≡◌, ℕ, suc, ◌+◌, Bool, true, false, not, ◌&&◌, List, [], ◌∷◌, ◌++◌, refl, sym, ap, ◌∙◌, append_assoc}
 use Rattle.std.specs.Prelude.{◌==◌, if◌then◌else◌}
 use Rattle.std.proofs.lemmas.Bool.{eqb-true, not-true}
-use Rattle.ev_isa.specs.Spelling.{spelling, four_bytes}
 use Rattle.ev_isa.specs.declared.mode.Mode.{Mode}
 use Rattle.ev_isa.specs.declared.mode.Mode.TheVariants.{Idt, Fred}
 use Rattle.ev_body.specs.declared.key.Key.{Key}
 use Rattle.ev_body.specs.declared.key.Key.TheVariants.{Nmi}
-use Rattle.ev_body.specs.declared.item.Item.{Item}
 use Rattle.ev_asm.specs.declared.statement.Stmt.{Stmt}
 use Rattle.ev_asm.specs.declared.statement.Stmt.TheVariants.{Label, Plain, Jump}
 use Rattle.ev_asm.specs.Assembly.{Name, Places, is_name, place, places, size}
-use Rattle.ev_listing.specs.Expansion.{expansion, expansions, exit_of}
+use Rattle.ev_listing.specs.Expansion.{exit_of}
 use Rattle.ev_listing.specs.Marks.{Marked, Listing, stmts_of, all_places}
 use Rattle.ev_symbolic.specs.Listed.{cells_from, cells_in, SameTarget, SameTargets}
 use Rattle.ev_symbolic.proofs.Listed.{cells_same}
 use Rattle.ev_symbolic.proofs.Values.{and_left, and_right}
-use Rattle.ev_table.proofs.Items.{by_item, AreBuilt, first_built, rest_built}
-
--- a name that begins with "b"
-abbrev pub is_of_body : Name → Bool
-is_of_body [] = false
-is_of_body (x ∷ xs) = x == 0x62
+use Rattle.ev_table.proofs.Expanded.{is_of_body, names_body, name_bodies}
 
 abbrev pub AllOfBodies : Places → Type 0
 AllOfBodies [] = Unit {0}
@@ -31,16 +24,16 @@ pub all_append : (xs ys : Places) → AllOfBodies xs → AllOfBodies ys → AllO
 all_append [] ys h k = k
 all_append (x ∷ xs) ys h k = (h.0, all_append xs ys h.1 k)
 
--- the labels of a body's listing
-pub body_labels : (mode : Mode) (n : ℕ) (key : Key) (function : ℕ → ℕ) (a k : ℕ) (items : List Item) → AreBuilt items
-    → AllOfBodies (places a (stmts_of (expansions mode n key function k items)))
-unfolding expansion size spelling four_bytes places
-body_labels mode n key function a k [] h = tt
-body_labels mode n key function a k (i ∷ is) h =
-    by_item (λ j. AllOfBodies (places a (stmts_of (expansions mode n key function k (j ∷ is)))))
-    (λ s. (refl, body_labels mode n key function (a + 9) (suc k) is (rest_built i is h)))
-    (refl, body_labels mode n key function (a + 5) (suc k) is (rest_built i is h))
-    i (first_built i is h)
+-- labels that lines give are of bodies, where their names are
+pub lines_of_bodies : (a : ℕ) (ls : List Marked) → name_bodies ls ≡ true → AllOfBodies (places a (stmts_of ls))
+unfolding places
+lines_of_bodies a [] h = tt
+lines_of_bodies a (l ∷ ls) h = one l.stmt (and_left _ _ h) (λ b. lines_of_bodies b ls (and_right (names_body l.stmt) _ h))
+  where
+    one : (s : Stmt) → names_body s ≡ true → ((b : ℕ) → AllOfBodies (places b (stmts_of ls))) → AllOfBodies (places a (s ∷ stmts_of ls))
+    one (Label name) q k = (q, k a)
+    one (Plain i) q k = k (a + size (Plain i))
+    one (Jump c name) q k = k (a + size (Jump c name))
 
 other_name : (m n : Name) → is_of_body m ≡ true → is_of_body n ≡ false → is_name m n ≡ false
 other_name [] n h k = absurd (cc)

@@ -1,6 +1,11 @@
 pub mod Cells
-pub mod Items
+pub mod Expanded
 pub mod Labels
+pub mod Distinct
+pub mod Marked
 pub mod Kernel
+pub mod Items
 pub mod Bodies
 pub mod Whole
+pub mod Names
+pub mod LabelPlaces

@@ -1,12 +1,15 @@
 -- The whole table of an image: the cells of bodies, then the kernel's, at distinct addresses.
-use Rattle.std.proofs.Common.{◌≡◌, ℕ, suc, pos, negsuc, ◌+◌, ◌-◌, ◌*◌, ◌/◌, ◌%◌, ◌^◌, ◌<◌, ◌≤◌, Bool, true, false, List, ◌++◌, length, take, Some, refl, sym, ap, ◌∙◌, subst, arith, eq-eqb}
-use Rattle.std.specs.Prelude.{◌==◌, ◌||◌, slice_get, if◌then◌else◌}
+use Rattle.std.proofs.Common.{◌≡◌, ℕ, zero, suc, pos, negsuc, ◌+◌, ◌-◌, ◌*◌, ◌/◌, ◌%◌, ◌^◌, ◌<◌, ◌≤◌, Bool, true, false, ◌&&◌, List, [], ◌∷◌, ◌++◌, length, take, Some, refl, sym, ap, ◌∙◌, subst, arith, eq-eqb}
+use Rattle.std.specs.Prelude.{◌==◌, ◌||◌, not, slice_get, if◌then◌else◌}
+use Rattle.std.specs.List.{list_all}
 use Rattle.std.proofs.lemmas.Bool.{lt-leb}
+use Rattle.std.proofs.lemmas.List.{length-take}
 use Rattle.std.proofs.lemmas.Option.{slice_get_within}
+use Rattle.ev_isa.specs.Spelling.{spelling, four_bytes}
 use Rattle.ev_isa.specs.Word.{displaced, is_canonical}
 use Rattle.ev_isa.specs.declared.mode.Mode.{Mode}
 use Rattle.ev_isa.specs.declared.mode.Mode.TheVariants.{Idt, Fred}
-use Rattle.ev_isa.specs.declared.instruction.Ins.TheVariants.{GsStore}
+use Rattle.ev_isa.specs.declared.instruction.Ins.TheVariants.{GsStore, Jmp}
 use Rattle.ev_body.specs.declared.key.Key.{Key}
 use Rattle.ev_body.specs.declared.key.Key.TheVariants.{Nmi}
 use Rattle.ev_body.specs.declared.item.Item.{Item}
@@ -14,23 +17,29 @@ use Rattle.ev_body.specs.declared.item.Item.TheVariants.{Log, Ret}
 use Rattle.ev_body.specs.declared.body.Body.{Body}
 use Rattle.ev_body.specs.declared.image.Image.{Image}
 use Rattle.ev_body.specs.Bodies.{key_number, body_items}
-use Rattle.ev_body.specs.WellFormed.{IsImage}
-use Rattle.ev_asm.specs.Assembly.{Name, Places, place, distance}
+use Rattle.ev_body.specs.WellFormed.{IsImage, is_body}
+use Rattle.ev_asm.specs.Assembly.{Name, Places, place, size, total_size, distance}
 use Rattle.ev_listing.specs.AddressMap.{body_code}
-use Rattle.ev_listing.specs.Expansion.{exit_of, item_address}
-use Rattle.ev_listing.specs.Marks.{all_places, all_marks}
+use Rattle.ev_listing.specs.Expansion.{exit_of, item_address, expansion, expansions, function_address, body_stmts}
+use Rattle.ev_listing.specs.Marks.{Mark, Never, Always, IfNonzero, IfEqual, Listing, stmts_of, all_places, all_marks}
 use Rattle.ev_concrete.specs.Opening.{kernel_listings, listings, body_listings}
 use Rattle.ev_concrete.specs.ConcreteRun.{Marks, marks_of, mark_at}
-use Rattle.ev_built.specs.Built.{IsBuilt}
 use Rattle.ev_symbolic.specs.Agrees.{Cell, Code}
-use Rattle.ev_symbolic.specs.Listed.{Cells, cell_at, cells_in, distinct, AllFound}
+use Rattle.ev_symbolic.specs.Listed.{Cells, is_seen, cell_at, cells_from, cells_in, AllFound}
 use Rattle.ev_symbolic.proofs.Listed.{all_found}
-use Rattle.ev_table.specs.Table.{code_table, other_exit, exit_address, RetCell}
-use Rattle.ev_table.proofs.Cells.{below_by_test, over, distinct_append, found_first, found_rest, marks_by, marks_by_append, mark_by, mark_found}
-use Rattle.ev_table.proofs.Items.{items_size, take_built, take_size_most, item_size, item_cell, item_found, next_item, sizes}
-use Rattle.ev_table.proofs.Labels.{is_of_body, place_behind, cells_in_same, exit_inner, all_places_append, cells_in_append}
-use Rattle.ev_table.proofs.Kernel.{kernel_cells, kernel_distinct, kernel_below, kernel_inner, kernel_marks, exit_is}
-use Rattle.ev_table.proofs.Bodies.{AllShort, all_short, short_at, cells_of, body_cells, bodies_from, bodies_distinct, body_found, listed, labels, marks_are, all_marks_append}
+use Rattle.ev_symbolic.proofs.Values.{and_left, and_right}
+use Rattle.ev_fetch.proofs.Regions.{Each}
+use Rattle.ev_fetch.proofs.Placed.{Disjoint}
+use Rattle.ev_fetch.proofs.Sizes.{items_size, few_items, listings_disjoint}
+use Rattle.ev_table.specs.Table.{code_table, other_exit, exit_address, RetCell, places_of, item_lines, item_cells, MarkedAt, AreMarked, is_call}
+use Rattle.ev_table.proofs.Cells.{found_first, found_rest}
+use Rattle.ev_table.proofs.Distinct.{listings_distinct}
+use Rattle.ev_table.proofs.Expanded.{is_of_body, is_plain, same_sizes}
+use Rattle.ev_table.proofs.Items.{item_found, item_marked, next_size}
+use Rattle.ev_table.proofs.Labels.{place_behind, cells_in_same, exit_inner, all_places_append, cells_in_append}
+use Rattle.ev_table.proofs.Kernel.{kernel_cells, kernel_inner, kernel_unmarked, kernel_plain, exit_is}
+use Rattle.ev_table.proofs.Bodies.{labels, unmarked, plain, body_found, body_marked}
+use Rattle.ev_table.proofs.Marked.{all_unmarked, all_plain, EachMarked, each_marked, seen_at, plain_at}
 
 -- a jump back leads to the target of its distance
 back : (target next : ℕ) → target < next → next < 2 ^ 64 → displaced next (negsuc (next - target - 1)) ≡ target
@@ -64,139 +73,172 @@ exit_of_others mode _ h = refl
 pub first_item : (mode : Mode) (n : ℕ) (b : Body) → item_address mode n b 0 ≡ body_code n
 first_item mode n b = let e : body_code n + 0 ≡ body_code n = omega arith in e
 
-module _ (mode : Mode) (image : Image) (given : IsImage image) (built : IsBuilt image) where
-  abbrev bodies : List Body
-  bodies = image.bodies
+unmarked_append : (xs ys : List Listing) → all_unmarked xs ≡ true → all_unmarked ys ≡ true → all_unmarked (xs ++ ys) ≡ true
+unmarked_append [] ys h k = k
+unmarked_append (x ∷ xs) ys h k = ap (λ t. t && all_unmarked (xs ++ ys)) (and_left _ (all_unmarked xs) h)
+    ∙ unmarked_append xs ys (and_right _ (all_unmarked xs) h) k
+
+plain_append : (xs ys : List Listing) → all_plain xs ≡ true → all_plain ys ≡ true → all_plain (xs ++ ys) ≡ true
+plain_append [] ys h k = k
+plain_append (x ∷ xs) ys h k = ap (λ t. t && all_plain (xs ++ ys)) (and_left _ (all_plain xs) h) ∙ plain_append xs ys (and_right _ (all_plain xs) h) k
+
+first_each : (P : Listing → Type 0) (xs ys : List Listing) → Each P (xs ++ ys) → Each P xs
+first_each P [] ys h = tt
+first_each P (x ∷ xs) ys h = (h.0, first_each P xs ys h.1)
+
+all_at : (t : Body → Bool) (bs : List Body) (n : ℕ) (b : Body) → list_all t bs ≡ true → slice_get bs n ≡ Some b → t b ≡ true
+all_at t [] n b h q = absurd (cc)
+all_at t (x ∷ xs) zero b h q = subst (λ (y : Body). t y ≡ true) (let e : x ≡ b = cc in e) (and_left _ _ h)
+all_at t (x ∷ xs) (suc n) b h q = all_at t xs n b (and_right (t x) _ h) q
+
+module _ (mode : Mode) (image : Image) where
+  abbrev bodies : List Listing
+  bodies = body_listings mode image 0 image.bodies
 
   abbrev env : Places
-  env = all_places (listings mode image)
+  env = places_of mode image
 
-  abbrev whole : Cells
-  whole = body_cells mode env 0 bodies ++ kernel_cells mode
-
-  are_short : AllShort bodies
-  are_short = all_short (length image.text) bodies given.bodies_given.1 built.bodies
-
-  -- ---- the table's cells
-
-  places_split : env ≡ all_places (body_listings mode image 0 bodies) ++ all_places (kernel_listings mode)
+  pub places_split : env ≡ all_places bodies ++ all_places (kernel_listings mode)
   unfolding listings
-  places_split = all_places_append (body_listings mode image 0 bodies) (kernel_listings mode)
+  places_split = all_places_append bodies (kernel_listings mode)
 
   same_place : (name : Name) → is_of_body name ≡ false → place env name ≡ place (all_places (kernel_listings mode)) name
-  same_place name h = ap (λ xs. place xs name) places_split ∙ place_behind (all_places (body_listings mode image 0 bodies))
-      (all_places (kernel_listings mode)) name (labels mode image 0 bodies are_short) h
+  same_place name h = ap (λ xs. place xs name) places_split ∙ place_behind (all_places bodies) (all_places (kernel_listings mode)) name
+      (labels mode image 0 image.bodies) h
 
-  split : cells_in env (listings mode image) ≡ cells_in env (body_listings mode image 0 bodies) ++ cells_in env (kernel_listings mode)
+  pub exit_is_there : (key : Key) → place env (exit_of mode key) ≡ exit_address mode key
+  exit_is_there key = same_place (exit_of mode key) (exit_inner mode key) ∙ exit_is mode key
+
+  split : cells_in env (listings mode image) ≡ cells_in env bodies ++ cells_in env (kernel_listings mode)
   unfolding listings
-  split = cells_in_append env (body_listings mode image 0 bodies) (kernel_listings mode)
+  split = cells_in_append env bodies (kernel_listings mode)
 
   kernel_same : cells_in env (kernel_listings mode) ≡ kernel_cells mode
   unfolding kernel_cells
   kernel_same = cells_in_same env (all_places (kernel_listings mode)) same_place (kernel_listings mode) (kernel_inner mode)
 
-  cells_are : cells_in env (listings mode image) ≡ whole
-  cells_are = split ∙ ap (λ xs. xs ++ cells_in env (kernel_listings mode)) (listed mode image env 0 bodies are_short)
-      ∙ ap (λ xs. body_cells mode env 0 bodies ++ xs) kernel_same
+  -- an item's address with the items' own functions
+  pub address : (n i : ℕ) (b : Body)
+      → item_address mode n b i ≡ body_code n + total_size (stmts_of (expansions mode n b.key (function_address mode image) 0 (take i (body_items b))))
+  address n i b = ap (λ (x : ℕ). body_code n + x) (same_sizes mode n b.key (λ f. 0) (function_address mode image) 0 (take i (body_items b)))
 
-  whole_distinct : distinct whole ≡ true
-  whole_distinct =
-      distinct_append (body_cells mode env 0 bodies) (kernel_cells mode) (bodies_distinct mode env 0 bodies are_short) (kernel_distinct mode)
-      (over 0xffffffff82000000 (body_cells mode env 0 bodies) (kernel_cells mode) (bodies_from mode env 0 bodies)
-      (below_by_test 0xffffffff82000000 (kernel_cells mode) (kernel_below mode)))
+  pub next_address : (n i : ℕ) (b : Body) (item : Item) → slice_get (body_items b) i ≡ Some item
+      → item_address mode n b (suc i) ≡ item_address mode n b i + total_size (stmts_of (item_lines mode image n b i item))
+  next_address n i b item q =
+      omega (arith, address n (suc i) b, address n i b, next_size mode n b.key (function_address mode image) i (body_items b) item q)
 
-  table_is : code_table mode image ≡ cell_at whole
-  table_is = ap cell_at cells_are
+  module _ (given : IsImage image) where
+    apart : Disjoint (listings mode image)
+    apart = listings_disjoint mode image given
 
-  found : AllFound (code_table mode image) whole
-  found = subst (λ code. AllFound code whole) (sym table_is) (all_found whole whole_distinct)
+    found : AllFound (code_table mode image) (cells_in env bodies ++ cells_in env (kernel_listings mode))
+    found = subst (AllFound (code_table mode image)) split (all_found (cells_in env (listings mode image)) (listings_distinct env (listings mode image) apart))
 
-  pub kernel_found : AllFound (code_table mode image) (kernel_cells mode)
-  kernel_found = found_rest (code_table mode image) (body_cells mode env 0 bodies) (kernel_cells mode) found
+    pub kernel_found : AllFound (code_table mode image) (kernel_cells mode)
+    kernel_found = subst (AllFound (code_table mode image)) kernel_same
+        (found_rest (code_table mode image) (cells_in env bodies) (cells_in env (kernel_listings mode)) found)
 
-  -- ---- items
+    -- ---- items
 
-  address : (n i : ℕ) (b : Body) → slice_get bodies n ≡ Some b → item_address mode n b i ≡ body_code n + items_size (take i (body_items b))
-  address n i b h = ap (λ x. body_code n + x)
-      (sizes mode n b.key (λ f. 0) 0 (take i (body_items b)) (take_built i (body_items b) (short_at bodies are_short n b h).built))
+    pub item_stands : (n i : ℕ) (b : Body) (item : Item) → slice_get image.bodies n ≡ Some b → slice_get (body_items b) i ≡ Some item
+        → AllFound (code_table mode image) (item_cells mode image n b i item)
+    unfolding body_stmts
+    item_stands n i b item h k =
+        subst (λ (a : ℕ). AllFound (code_table mode image) (cells_from env a (item_lines mode image n b i item))) (sym (address n i b))
+        (item_found mode n b.key (function_address mode image) (code_table mode image) env (body_code n) (body_items b)
+        (subst (λ (m : ℕ). AllFound (code_table mode image) (cells_from env (body_code m) (body_stmts mode image m b)))
+        (let e : 0 + n ≡ n = omega arith in e)
+        (body_found mode image (code_table mode image) env 0 image.bodies
+        (found_first (code_table mode image) (cells_in env bodies) (cells_in env (kernel_listings mode)) found) n b h))
+        i item k)
 
-  -- where an item lies: 2304 bytes are 256 items of at most 9
-  pub range : (n i : ℕ) (b : Body) → slice_get bodies n ≡ Some b → (0xffffffff82000000 ≤ item_address mode n b i)
-      × (item_address mode n b i ≤ 0xffffffff82800000 + 2304)
-  range n i b h =
-      let few : n < length bodies = slice_get_within bodies n b h in
-      let s : items_size (take i (body_items b)) ≤ 9 * length (body_items b) = take_size_most i (body_items b) in
-      let short : length (body_items b) ≤ 256 = (short_at bodies are_short n b h).short in
-      between (item_address mode n b i) n (items_size (take i (body_items b))) (length (body_items b)) (address n i b h) (let k : length bodies ≤ 64 =
-      given.bodies_given.0 in omega arith) s short
-    where
-      between : (a n s l : ℕ) → a ≡ body_code n + s → n < 64 → s ≤ 9 * l → l ≤ 256 → (0xffffffff82000000 ≤ a) × (a ≤ 0xffffffff82800000 + 2304)
-      between a n s l e h1 h2 h3 = (omega arith, omega arith)
+    -- where an item lies: 256 items have at most 512 bytes each
+    pub range : (n i : ℕ) (b : Body) → slice_get image.bodies n ≡ Some b → (0xffffffff82000000 ≤ item_address mode n b i)
+        × (item_address mode n b i ≤ 0xffffffff82800000)
+    range n i b h =
+        let few : n < length image.bodies = slice_get_within image.bodies n b h in
+        let most = given.bodies_given.0 in
+        let s = items_size mode n b.key (λ f. 0) 0 (take i (body_items b)) in
+        let t = length-take i (body_items b) in
+        let short = few_items (length image.text) b (all_at (is_body (length image.text)) image.bodies n b given.bodies_given.1 h) in
+        (omega arith, omega arith)
 
-  pub canonical_items : (n i : ℕ) (b : Body) → slice_get bodies n ≡ Some b → (is_canonical (item_address mode n b i) ≡ true)
-      × (item_address mode n b i + 16 < 2 ^ 64)
-  canonical_items n i b h = low (item_address mode n b i) (range n i b h)
-    where
-      low : (a : ℕ) → (0xffffffff82000000 ≤ a) × (a ≤ 0xffffffff82800000 + 2304) → (is_canonical a ≡ true) × (a + 16 < 2 ^ 64)
-      low a r = (canonical a (omega arith) (omega arith), omega arith)
+    pub canonical_items : (n i : ℕ) (b : Body) → slice_get image.bodies n ≡ Some b → (is_canonical (item_address mode n b i) ≡ true)
+        × (item_address mode n b i + 16 < 2 ^ 64)
+    canonical_items n i b h = low (item_address mode n b i) (range n i b h)
+      where
+        low : (a : ℕ) → (0xffffffff82000000 ≤ a) × (a ≤ 0xffffffff82800000) → (is_canonical a ≡ true) × (a + 16 < 2 ^ 64)
+        low a r = let r0 = r.0 in let r1 = r.1 in (canonical a (omega arith) (omega arith), omega arith)
 
-  item_stands : (n i : ℕ) (b : Body) (item : Item) → slice_get bodies n ≡ Some b → slice_get (body_items b) i ≡ Some item
-      → code_table mode image (item_address mode n b i) ≡ Some (item_cell (place env (exit_of mode b.key)) (item_address mode n b i) item)
-  item_stands n i b item h k =
-      let E : ℕ = place env (exit_of mode b.key) in
-      subst (λ a. code_table mode image a ≡ Some (item_cell E a item)) (sym (address n i b h))
-      (item_found (code_table mode image) E (body_code n) (body_items b)
-      (subst (λ m. AllFound (code_table mode image) (cells_of mode env m b)) (let e : 0 + n ≡ n = omega arith in e)
-      (body_found mode (code_table mode image) env 0 bodies
-      (found_first (code_table mode image) (body_cells mode env 0 bodies) (kernel_cells mode) found) n b h))
-      i item k)
+    pub log_stands : (n i s : ℕ) (b : Body) → slice_get image.bodies n ≡ Some b → slice_get (body_items b) i ≡ Some (Log s)
+        → code_table mode image (item_address mode n b i) ≡ Some (record { ins = GsStore (pos 0x28) s; next = item_address mode n b (suc i); mark = true })
+    unfolding expansion size spelling four_bytes
+    log_stands n i s b h k =
+        (item_stands n i b (Log s) h k).0 ∙ ap (λ (a : ℕ). Some (record { ins = GsStore (pos 0x28) s; next = a; mark = true }))
+        (let e : item_address mode n b i + 9 ≡ item_address mode n b (suc i) = omega (arith, next_address n i b (Log s) k) in e)
 
-  next_address : (n i : ℕ) (b : Body) (item : Item) → slice_get bodies n ≡ Some b → slice_get (body_items b) i ≡ Some item
-      → item_address mode n b i + item_size item ≡ item_address mode n b (suc i)
-  next_address n i b item h k =
-      ap (λ a. a + item_size item) (address n i b h)
-      ∙ (let e : (body_code n + items_size (take i (body_items b))) + item_size item
-      ≡ body_code n + (items_size (take i (body_items b)) + item_size item) = omega arith in e)
-      ∙ ap (λ x. body_code n + x) (sym (next_item i (body_items b) item k)) ∙ sym (address n (suc i) b h)
+    pub ret_stands : (n i : ℕ) (b : Body) → slice_get image.bodies n ≡ Some b → slice_get (body_items b) i ≡ Some Ret
+        → RetCell (code_table mode image) (item_address mode n b i) (exit_address mode b.key)
+    unfolding expansion size
+    ret_stands n i b h k =
+        let a : ℕ = item_address mode n b i in
+        let E : ℕ = place env (exit_of mode b.key) in
+        record {
+          cell = record { ins = Jmp (distance E (a + 5)); next = a + 5; mark = false };
+          distance = distance E (a + 5);
+          is = (item_stands n i b Ret h k).0;
+          jump = refl;
+          unmarked = refl;
+          leads = subst (λ x. displaced (a + 5) (distance E (a + 5)) ≡ x) (exit_is_there b.key)
+              (leads_from a E (range n i b h) (subst (λ x. x < 0xffffffff82000000) (sym (exit_is_there b.key)) (exits_below mode b.key)));
+        }
+      where
+        leads_from : (a exit : ℕ) → (0xffffffff82000000 ≤ a) × (a ≤ 0xffffffff82800000) → exit < 0xffffffff82000000
+            → displaced (a + 5) (distance exit (a + 5)) ≡ exit
+        leads_from a exit r h = let r0 = r.0 in let r1 = r.1 in leads_back exit (a + 5) (omega arith) (omega arith)
 
-  pub log_stands : (n i s : ℕ) (b : Body) → slice_get bodies n ≡ Some b → slice_get (body_items b) i ≡ Some (Log s)
-      → code_table mode image (item_address mode n b i) ≡ Some (record { ins = GsStore (pos 0x28) s; next = item_address mode n b (suc i); mark = true })
-  log_stands n i s b h k = item_stands n i b (Log s) h k ∙ ap (λ a. Some (record { ins = GsStore (pos 0x28) s; next = a; mark = true }))
-      (next_address n i b (Log s) h k)
+    -- ---- marks
 
-  exit_is_there : (key : Key) → place env (exit_of mode key) ≡ exit_address mode key
-  exit_is_there key = same_place (exit_of mode key) (exit_inner mode key) ∙ exit_is mode key
+    no_marks : all_unmarked (listings mode image) ≡ true
+    unfolding listings
+    no_marks = unmarked_append bodies (kernel_listings mode) (unmarked mode image 0 image.bodies) (kernel_unmarked mode)
 
-  pub ret_stands : (n i : ℕ) (b : Body) → slice_get bodies n ≡ Some b → slice_get (body_items b) i ≡ Some Ret
-      → RetCell (code_table mode image) (item_address mode n b i) (exit_address mode b.key)
-  ret_stands n i b h k =
-      let a : ℕ = item_address mode n b i in
-      let E : ℕ = place env (exit_of mode b.key) in
-      record {
-        cell = item_cell E a Ret;
-        distance = distance E (a + 5);
-        is = item_stands n i b Ret h k;
-        jump = refl;
-        unmarked = refl;
-        leads = subst (λ x. displaced (a + 5) (distance E (a + 5)) ≡ x) (exit_is_there b.key)
-            (leads_from a E (range n i b h) (subst (λ x. x < 0xffffffff82000000) (sym (exit_is_there b.key)) (exits_below mode b.key)));
-      }
-    where
-      leads_from : (a exit : ℕ) → (0xffffffff82000000 ≤ a) × (a ≤ 0xffffffff82800000 + 2304) → exit < 0xffffffff82000000
-          → displaced (a + 5) (distance exit (a + 5)) ≡ exit
-      leads_from a exit r h = leads_back exit (a + 5) (omega arith) (omega arith)
+    every : EachMarked (marks_of mode image) (listings mode image)
+    every = each_marked (listings mode image) apart no_marks
 
-  -- ---- marks
+    body_marks : EachMarked (marks_of mode image) bodies
+    unfolding listings
+    body_marks = first_each (λ (b : Listing). AreMarked (marks_of mode image) b.address b.lines) bodies (kernel_listings mode) every
 
-  marks_split : all_marks (listings mode image) ≡ all_marks (body_listings mode image 0 bodies) ++ all_marks (kernel_listings mode)
-  unfolding listings
-  marks_split = all_marks_append (body_listings mode image 0 bodies) (kernel_listings mode)
+    pub item_marks : (n i : ℕ) (b : Body) (item : Item) → slice_get image.bodies n ≡ Some b → slice_get (body_items b) i ≡ Some item
+        → AreMarked (marks_of mode image) (item_address mode n b i) (item_lines mode image n b i item)
+    unfolding body_stmts
+    item_marks n i b item h k =
+        subst (λ (a : ℕ). AreMarked (marks_of mode image) a (item_lines mode image n b i item)) (sym (address n i b))
+        (item_marked mode n b.key (function_address mode image) (marks_of mode image) (body_code n) (body_items b)
+        (subst (λ (m : ℕ). AreMarked (marks_of mode image) (body_code m) (body_stmts mode image m b)) (let e : 0 + n ≡ n = omega arith in e)
+        (body_marked mode image (marks_of mode image) 0 image.bodies body_marks n b h))
+        i item k)
 
-  marks_whole : all_marks (listings mode image) ≡ marks_by whole
-  marks_whole =
-      marks_split ∙ ap (λ (ms : Marks). ms ++ all_marks (kernel_listings mode)) (marks_are mode image env 0 bodies are_short)
-      ∙ ap (λ (ms : Marks). marks_by (body_cells mode env 0 bodies) ++ ms) (kernel_marks mode)
-      ∙ sym (marks_by_append (body_cells mode env 0 bodies) (kernel_cells mode))
+    pub cell_seen : (a : ℕ) (x : Cell) → code_table mode image a ≡ Some x → is_seen (mark_at (marks_of mode image) a) ≡ x.mark
+    cell_seen a x q = seen_at env (listings mode image) apart no_marks a x q
 
-  pub mark_is : (a : ℕ) (x : Cell) → code_table mode image a ≡ Some x → mark_at (marks_of mode image) a ≡ mark_by x.mark
-  mark_is a x h = ap (λ (ms : Marks). mark_at ms a) marks_whole ∙ mark_found whole whole_distinct a x (ap (λ (code : Code). code a) (sym table_is) ∙ h)
+    pub unmarked_edge : (a : ℕ) (x : Cell) → code_table mode image a ≡ Some x → x.mark ≡ false → mark_at (marks_of mode image) a ≡ Never
+    unmarked_edge a x q m = never (mark_at (marks_of mode image) a) (cell_seen a x q ∙ m)
+      where
+        never : (m : Mark) → is_seen m ≡ false → m ≡ Never
+        never Never h = refl
+        never _ h = absurd (cc)
+
+    pub marked_seen : list_all (λ (b : Body). list_all (λ item. not (is_call item)) (body_items b)) image.bodies ≡ true → (a : ℕ) (x : Cell)
+        → code_table mode image a ≡ Some x → x.mark ≡ true → mark_at (marks_of mode image) a ≡ Always
+    unfolding listings
+    marked_seen none a x q m =
+        always (mark_at (marks_of mode image) a) (cell_seen a x q ∙ m)
+        (plain_at (listings mode image) a (plain_append bodies (kernel_listings mode) (plain mode image 0 image.bodies none) (kernel_plain mode)))
+      where
+        always : (m : Mark) → is_seen m ≡ true → is_plain m ≡ true → m ≡ Always
+        always Never h k = absurd (cc)
+        always Always h k = refl
+        always IfNonzero h k = absurd (cc)
+        always IfEqual h k = absurd (cc)

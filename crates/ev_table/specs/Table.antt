@@ -1,25 +1,29 @@
--- The code of an image in a mode as a table, for images that the program can run today.
-use Rattle.std.specs.Prelude.{◌≡◌, ℤ, ℕ, pos, suc, ◌+◌, ◌^◌, ◌<◌, true, false, Some, slice_get}
+-- The code of an image in a mode as a table.
+use Rattle.std.specs.Prelude.{◌≡◌, ℤ, ℕ, pos, suc, ◌+◌, ◌^◌, ◌<◌, Bool, true, false, not, List, [], ◌∷◌, length, Some, slice_get}
+use Rattle.std.specs.List.{list_all}
 use Rattle.ev_isa.specs.Word.{displaced, is_canonical}
 use Rattle.ev_isa.specs.declared.instruction.Ins.TheVariants.{GsStore, Jmp}
 use Rattle.ev_isa.specs.declared.mode.Mode.{Mode}
 use Rattle.ev_isa.specs.declared.mode.Mode.TheVariants.{Idt, Fred}
 use Rattle.ev_body.specs.declared.key.Key.{Key}
 use Rattle.ev_body.specs.declared.key.Key.TheVariants.{Nmi}
-use Rattle.ev_body.specs.declared.item.Item.TheVariants.{Log, Ret}
+use Rattle.ev_body.specs.declared.item.Item.{Item}
+use Rattle.ev_body.specs.declared.item.Item.TheVariants.{Log, Call, Ret}
 use Rattle.ev_body.specs.declared.body.Body.{Body}
 use Rattle.ev_body.specs.declared.image.Image.{Image}
-use Rattle.ev_body.specs.Bodies.{key_number}
+use Rattle.ev_body.specs.Bodies.{key_number, body_items}
 use Rattle.ev_body.specs.WellFormed.{IsImage}
 use Rattle.ev_abstract.specs.Run.{item_at}
 use Rattle.ev_listing.specs.AddressMap.{exit_entry, exitn_entry, body_code}
-use Rattle.ev_listing.specs.Expansion.{item_address}
-use Rattle.ev_listing.specs.Marks.{Never, Always, all_places}
+use Rattle.ev_asm.specs.declared.statement.Stmt.{Stmt}
+use Rattle.ev_asm.specs.declared.statement.Stmt.TheVariants.{Label}
+use Rattle.ev_asm.specs.Assembly.{Places, place, size, total_size}
+use Rattle.ev_listing.specs.Expansion.{item_label, exit_of, item_address, expansion, function_address}
+use Rattle.ev_listing.specs.Marks.{Mark, Always, Marked, stmts_of, all_places}
 use Rattle.ev_concrete.specs.Opening.{kernel_listings, listings}
-use Rattle.ev_concrete.specs.ConcreteRun.{marks_of, mark_at}
-use Rattle.ev_built.specs.Built.{IsBuilt}
+use Rattle.ev_concrete.specs.ConcreteRun.{Marks, marks_of, mark_at}
 use Rattle.ev_symbolic.specs.Agrees.{Cell, Code, Spaced}
-use Rattle.ev_symbolic.specs.Listed.{cells_in, code_of, AllFound}
+use Rattle.ev_symbolic.specs.Listed.{Cells, is_seen, cells_from, cells_in, AllFound, code_of}
 use Rattle.ev_blocks.specs.Fred.{fexit}
 
 -- the cells of an image's code by their addresses
@@ -48,24 +52,73 @@ pub record RetCell (code : Code) (a exit : ℕ) : Type 0 where
   pub unmarked : cell.mark ≡ false
   pub leads : displaced cell.next distance ≡ exit
 
+-- the places of the labels of an image's code
+abbrev pub places_of : Mode → Image → Places
+places_of mode image = all_places (listings mode image)
+
+-- what item i of body n becomes, and its cells
+abbrev pub item_lines : Mode → Image → ℕ → Body → ℕ → Item → List Marked
+item_lines mode image n b i item = expansion mode n b.key (function_address mode image) i item
+
+abbrev pub item_cells : Mode → Image → ℕ → Body → ℕ → Item → Cells
+item_cells mode image n b i item = cells_from (places_of mode image) (item_address mode n b i) (item_lines mode image n b i item)
+
+-- each instruction of lines has its mark at its address
+abbrev pub MarkedAt : Marks → ℕ → Mark → Stmt → Type 0
+MarkedAt ms a mark (Label name) = Unit {0}
+MarkedAt ms a mark s = mark_at ms a ≡ mark
+
+abbrev pub AreMarked : Marks → ℕ → List Marked → Type 0
+AreMarked ms a [] = Unit {0}
+AreMarked ms a (l ∷ ls) = MarkedAt ms a l.mark l.stmt × AreMarked ms (a + size l.stmt) ls
+
+-- whether an item's marks depend on memory
+unfoldable pub is_call : Item → Bool
+is_call (Call site to func s) = true
+is_call _ = false
+
 -- the kernel's cells stand in the table
 abbrev pub KernelStands : Type 0
-KernelStands = (mode : Mode) (image : Image) → IsImage image → IsBuilt image
+KernelStands = (mode : Mode) (image : Image) → IsImage image
     → AllFound (code_table mode image) (cells_in (all_places (kernel_listings mode)) (kernel_listings mode))
 
 -- each cell leads to the address behind its bytes
 abbrev pub CellsAreSpaced : Type 0
 CellsAreSpaced = (mode : Mode) (image : Image) → Spaced (code_table mode image)
 
+-- the cells of each item stand in the table, at the item's address
+abbrev pub ItemsStand : Type 0
+ItemsStand = (mode : Mode) (image : Image) → IsImage image → (n i : ℕ) (b : Body) (item : Item) → slice_get image.bodies n ≡ Some b
+    → item_at (Some b) i ≡ Some item → AllFound (code_table mode image) (item_cells mode image n b i item)
+
+-- and each of its instructions has its mark at its address
+abbrev pub ItemsAreMarked : Type 0
+ItemsAreMarked = (mode : Mode) (image : Image) → IsImage image → (n i : ℕ) (b : Body) (item : Item) → slice_get image.bodies n ≡ Some b
+    → item_at (Some b) i ≡ Some item → AreMarked (marks_of mode image) (item_address mode n b i) (item_lines mode image n b i item)
+
+-- the next item begins behind an item's bytes
+abbrev pub ItemsFollow : Type 0
+ItemsFollow = (mode : Mode) (image : Image) (n i : ℕ) (b : Body) (item : Item) → item_at (Some b) i ≡ Some item
+    → item_address mode n b (suc i) ≡ item_address mode n b i + total_size (stmts_of (item_lines mode image n b i item))
+
+-- an item's label is its address: a jump to it leads there
+abbrev pub ItemLabelsArePlaced : Type 0
+ItemLabelsArePlaced = (mode : Mode) (image : Image) → IsImage image → (n i : ℕ) (b : Body) → slice_get image.bodies n ≡ Some b
+    → i < length (body_items b) → place (places_of mode image) (item_label n i) ≡ item_address mode n b i
+
+-- the exits stand where they stand without bodies
+abbrev pub ExitsArePlaced : Type 0
+ExitsArePlaced = (mode : Mode) (image : Image) (key : Key) → place (places_of mode image) (exit_of mode key) ≡ exit_address mode key
+
 -- `log` is its marked store to the port
 abbrev pub LogStands : Type 0
-LogStands = (mode : Mode) (image : Image) → IsImage image → IsBuilt image → (n i s : ℕ) (b : Body) → slice_get image.bodies n ≡ Some b
+LogStands = (mode : Mode) (image : Image) → IsImage image → (n i s : ℕ) (b : Body) → slice_get image.bodies n ≡ Some b
     → item_at (Some b) i ≡ Some (Log s)
     → code_table mode image (item_address mode n b i) ≡ Some (record { ins = GsStore (pos 0x28) s; next = item_address mode n b (suc i); mark = true })
 
 -- `ret` is a jump to the exit of its body's key
 abbrev pub RetStands : Type 0
-RetStands = (mode : Mode) (image : Image) → IsImage image → IsBuilt image → (n i : ℕ) (b : Body) → slice_get image.bodies n ≡ Some b
+RetStands = (mode : Mode) (image : Image) → IsImage image → (n i : ℕ) (b : Body) → slice_get image.bodies n ≡ Some b
     → item_at (Some b) i ≡ Some Ret
     → RetCell (code_table mode image) (item_address mode n b i) (exit_address mode b.key)
 
@@ -75,17 +128,19 @@ BodiesBeginWithItems = (mode : Mode) (n : ℕ) (b : Body) → item_address mode 
 
 -- items stand at canonical addresses, not at the end of memory
 abbrev pub ItemsAreCanonical : Type 0
-ItemsAreCanonical = (mode : Mode) (image : Image) → IsImage image → IsBuilt image → (n i : ℕ) (b : Body) → slice_get image.bodies n ≡ Some b
+ItemsAreCanonical = (mode : Mode) (image : Image) → IsImage image → (n i : ℕ) (b : Body) → slice_get image.bodies n ≡ Some b
     → (is_canonical (item_address mode n b i) ≡ true) × (item_address mode n b i + 16 < 2 ^ 64)
 
--- the marked addresses are those of the marked cells, always seen
-abbrev pub UnmarkedCellsAreEdges : Type 0
-UnmarkedCellsAreEdges = (mode : Mode) (image : Image) → IsImage image → IsBuilt image → (a : ℕ) (x : Cell) → code_table mode image a ≡ Some x
-    → x.mark ≡ false → mark_at (marks_of mode image) a ≡ Never
+-- an address is marked where its cell is
+abbrev pub CellsAreMarked : Type 0
+CellsAreMarked = (mode : Mode) (image : Image) → IsImage image → (a : ℕ) (x : Cell) → code_table mode image a ≡ Some x
+    → is_seen (mark_at (marks_of mode image) a) ≡ x.mark
 
+-- and always seen there, where no body has a `call`
 abbrev pub MarkedCellsAreSeen : Type 0
-MarkedCellsAreSeen = (mode : Mode) (image : Image) → IsImage image → IsBuilt image → (a : ℕ) (x : Cell) → code_table mode image a ≡ Some x → x.mark ≡ true
-    → mark_at (marks_of mode image) a ≡ Always
+MarkedCellsAreSeen = (mode : Mode) (image : Image) → IsImage image
+    → list_all (λ (b : Body). list_all (λ item. not (is_call item)) (body_items b)) image.bodies ≡ true
+    → (a : ℕ) (x : Cell) → code_table mode image a ≡ Some x → x.mark ≡ true → mark_at (marks_of mode image) a ≡ Always
 
 -- keys other than that of NMIs have one exit
 abbrev pub OthersHaveOneExit : Type 0

@@ -2,18 +2,23 @@
 //! the items of bodies, and which cells the abstract machine sees.
 #![tactic(auto)]
 
-ghost use Rattle.ev_table.specs.Table.{KernelStands, CellsAreSpaced, LogStands, RetStands, OthersHaveOneExit, BodiesBeginWithItems, ItemsAreCanonical, UnmarkedCellsAreEdges, MarkedCellsAreSeen};
+ghost use Rattle.ev_table.specs.Table.{KernelStands, CellsAreSpaced, ItemsStand, ItemsAreMarked, ItemsFollow, ItemLabelsArePlaced, ExitsArePlaced, LogStands, RetStands, OthersHaveOneExit, BodiesBeginWithItems, ItemsAreCanonical, CellsAreMarked, MarkedCellsAreSeen};
 
-/// In both modes: the kernel's cells stand in the table of every image that can run today, each
-/// item of a body is one cell at its address, and an address is marked where its cell is. Own.
+/// In both modes, for every image: the kernel's cells stand in the table, the cells of each item
+/// stand at its address with its marks, and an address is marked where its cell is. Own.
 pub fn table()
     ensures kernel { KernelStands }
     ensures spaced { CellsAreSpaced }
+    ensures items { ItemsStand }
+    ensures item_marks { ItemsAreMarked }
+    ensures follow { ItemsFollow }
+    ensures labels { ItemLabelsArePlaced }
+    ensures placed { ExitsArePlaced }
     ensures logs { LogStands }
     ensures rets { RetStands }
     ensures exits { OthersHaveOneExit }
     ensures first_items { BodiesBeginWithItems }
     ensures canonical { ItemsAreCanonical }
-    ensures unmarked { UnmarkedCellsAreEdges }
-    ensures marked { MarkedCellsAreSeen }
+    ensures marks { CellsAreMarked }
+    ensures always { MarkedCellsAreSeen }
 {}

@@ -16,6 +16,7 @@ use Rattle.ev_text.specs.declared.words.TextWord.TheVariants.{Mov, Push, Pop, Al
 use Rattle.ev_text.specs.Words.{named_in, or_then, alu_word, jump_word, lone_word, lone_words, move_word, move_words, long_word, long_words, other_word, other_words, text_word}
 use Rattle.ev_text.specs.TextForms.{text_forms}
 use Rattle.ev_text.proofs.Gives.{AllGive, forms_give}
+use Rattle.ev_text.proofs.WordLaws.{named_fits, either_fits, mapped_fits}
 
 abbrev pub IsEncoded : Stmt → Type 0
 IsEncoded s = is_encoded s ≡ true
@@ -25,44 +26,15 @@ abbrev IsFit : TextWord → Type 0
 IsFit (Alone i) = is_instruction i ≡ true
 IsFit _ = Unit {0}
 
-abbrev AllFit : {X : Type 0} → (P : X → Type 0) → List (Token × X) → Type 0
-AllFit P [] = Unit {0}
-AllFit P (e ∷ es) = P e.1 × AllFit P es
-
-named_fits : {X : Type 0} → (P : X → Type 0) (table : List (Token × X)) (t : Token) (x : X) → AllFit P table → named_in table t ≡ Some x → P x
-named_fits P [] t x g h = absurd cc
-named_fits {X} P (e ∷ es) t x g h = by (bytes_eq t e.0) h (named_fits P es t x g.1)
-  where
-    by : (b : Bool) → (let o : Option X = elim b [ true ↦ Some e.1 | false ↦ named_in es t ] in o) ≡ Some x → (named_in es t ≡ Some x → P x) → P x
-    by true h go = let k : e.1 ≡ x = cc in subst P k g.0
-    by false h go = go h
-
-either_fits : (o q : Option TextWord) (w : TextWord) → ((v : TextWord) → o ≡ Some v → IsFit v) → ((v : TextWord) → q ≡ Some v → IsFit v)
-    → or_then o q ≡ Some w → IsFit w
-either_fits None q w f g h = g w h
-either_fits (Some v) q w f g h = f w h
-
-alu_fits : (o : Option AluOp) (w : TextWord) → option_map Alu o ≡ Some w → IsFit w
-alu_fits None w h = absurd cc
-alu_fits (Some op) w h = let k : Alu op ≡ w = cc in subst IsFit k tt
-
-jump_fits : (o : Option Cond) (w : TextWord) → option_map Jcc o ≡ Some w → IsFit w
-jump_fits None w h = absurd cc
-jump_fits (Some c) w h = let k : Jcc c ≡ w = cc in subst IsFit k tt
-
-lone_fits : (o : Option Ins) (w : TextWord) → ((i : Ins) → o ≡ Some i → is_instruction i ≡ true) → option_map Alone o ≡ Some w → IsFit w
-lone_fits None w f h = absurd cc
-lone_fits (Some i) w f h = let k : Alone i ≡ w = cc in subst IsFit k (f i refl)
-
 word_fits : (t : Token) (w : TextWord) → text_word t ≡ Some w → IsFit w
 unfolding text_word lone_word move_word long_word other_word is_instruction
 word_fits t w h =
-    either_fits _ _ w (λ v. alu_fits (alu_word t) v)
-    (λ v. either_fits _ _ v (λ u. jump_fits (jump_word t) u)
-    (λ u. either_fits _ _ u (λ x. lone_fits (lone_word t) x
+    either_fits IsFit _ _ w (λ v. mapped_fits IsFit Alu (alu_word t) v (λ op _. tt))
+    (λ v. either_fits IsFit _ _ v (λ u. mapped_fits IsFit Jcc (jump_word t) u (λ cond _. tt))
+    (λ u. either_fits IsFit _ _ u (λ x. mapped_fits IsFit Alone (lone_word t) x
     (λ i. named_fits (λ j. is_instruction j ≡ true) lone_words t i (refl, (refl, (refl, (refl, (refl, (refl, tt))))))))
-    (λ x. either_fits _ _ x (λ y. named_fits IsFit move_words t y (tt, (tt, (tt, (tt, (tt, tt))))))
-    (λ y. either_fits _ _ y (λ z. named_fits IsFit long_words t z (refl, (tt, tt)))
+    (λ x. either_fits IsFit _ _ x (λ y. named_fits IsFit move_words t y (tt, (tt, (tt, (tt, (tt, tt))))))
+    (λ y. either_fits IsFit _ _ y (λ z. named_fits IsFit long_words t z (refl, (tt, tt)))
     (λ z. named_fits IsFit other_words t z (tt, (tt, (tt, (tt, tt)))))))))
     h
 

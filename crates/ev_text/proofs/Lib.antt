@@ -1,7 +1,7 @@
 pub mod Ranges
 pub mod Choosing
 pub mod Surplus
-pub mod LabelLaws
 pub mod TextLaws
 pub mod Gives
+pub mod WordLaws
 pub mod Encoded

@@ -1,58 +1,29 @@
 -- A text with a statement more: its labels, its size, and what is refused.
-use Rattle.std.proofs.Common.{◌≡◌, ℕ, ◌+◌, ◌<◌, ◌≤◌, Bool, true, false, not, ◌&&◌, List, [], ◌∷◌, ◌++◌, Option, Some, Result, Ok, Err, refl, sym, ap, ◌∙◌, arith, nat_lt, ◌⊎◌, inl, inr}
-use Rattle.std.specs.Prelude.{is_some, ◌||◌}
-use Rattle.std.specs.List.{list_any}
+use Rattle.std.proofs.Common.{◌≡◌, ℕ, ◌+◌, ◌<◌, ◌≤◌, Bool, true, false, ◌&&◌, List, [], ◌∷◌, ◌++◌, Result, Ok, Err, refl, sym, ap, ◌∙◌, arith, nat_lt, ◌⊎◌, inl, inr}
 use Rattle.ev_isa.specs.Pages.{text_base}
 use Rattle.ev_io.specs.declared.cause.Cause.{Cause}
 use Rattle.ev_asm.specs.declared.statement.Stmt.{Stmt}
 use Rattle.ev_asm.specs.declared.statement.Stmt.TheVariants.{Label, Plain, Jump}
-use Rattle.ev_asm.specs.Assembly.{Places, Name, is_name, size, total_size, places}
-use Rattle.ev_asm.specs.Assembled.{stmt_labels, is_new_name, is_second_label, is_encoded, are_instructions, assembled}
-use Rattle.ev_text.specs.LabelTable.{found}
-use Rattle.ev_text.specs.TextStands.{IsText, gives_again, label_given, stop_of}
+use Rattle.ev_asm.specs.Assembly.{Places, Name, size, total_size, places}
+use Rattle.ev_asm.specs.Assembled.{stmt_labels, is_second_label, is_encoded, are_instructions, assembled}
+use Rattle.ev_asm.specs.LabelTable.{names_of, gives_again, label_given}
+use Rattle.ev_asm.proofs.LabelLaws.{again, total_more, places_more}
+use Rattle.ev_text.specs.TextStands.{IsText, stop_of}
 use Rattle.ev_text.specs.UserText.{text_grown, text_ended, fault_cause, Comes}
 use Rattle.ev_asm.specs.declared.text.Text.{Text}
 use Rattle.ev_asm.specs.declared.fault.AsmFault.{AsmFault}
 use Rattle.ev_asm.specs.declared.fault.AsmFault.TheVariants.{DoubleLabel, NoLabel, TooLarge, NoMemory}
 
-named_by : (b : Bool) (e : ℕ) (o : Option ℕ) (r : Bool) → is_some o ≡ not (not r) → is_some (let u : Option ℕ = elim b [ true ↦ Some e | false ↦ o ] in u)
-    ≡ not (not (b || r))
-named_by true e o r h = refl
-named_by false e o r h = h
-
--- a label is found in a text exactly where one of its statements gives it
-pub found_in_text : (ss : List Stmt) (a : ℕ) (name : Name) → is_some (found (places a ss) name) ≡ not (is_new_name (stmt_labels ss) name)
+label_names : (ss : List Stmt) (a : ℕ) → names_of (places a ss) ≡ stmt_labels ss
 unfolding places
-found_in_text [] a name = refl
-found_in_text (Label n ∷ ss) a name = named_by (is_name n name) a (found (places a ss) name) (list_any (λ m. is_name m name) (stmt_labels ss))
-    (found_in_text ss a name)
-found_in_text (Plain i ∷ ss) a name = found_in_text ss (a + size (Plain i)) name
-found_in_text (Jump cond n ∷ ss) a name = found_in_text ss (a + size (Jump cond n)) name
+label_names [] a = refl
+label_names (Label n ∷ ss) a = ap (λ (l : List Name). n ∷ l) (label_names ss a)
+label_names (Plain i ∷ ss) a = label_names ss (a + size (Plain i))
+label_names (Jump cond n ∷ ss) a = label_names ss (a + size (Jump cond n))
 
-again : (ss : List Stmt) (s : Stmt) → gives_again (places text_base ss) s ≡ is_second_label ss s
-unfolding is_second_label
-again ss (Label n) = found_in_text ss text_base n
-again ss (Plain i) = refl
-again ss (Jump cond n) = refl
-
-pub total_more : (ss : List Stmt) (s : Stmt) → total_size (ss ++ s ∷ []) ≡ total_size ss + size s
-total_more [] s = omega arith
-total_more (x ∷ xs) s = omega (arith, total_more xs s)
-
-places_more : (ss : List Stmt) (a : ℕ) (s : Stmt) → places a (ss ++ s ∷ []) ≡ places a ss ++ label_given (a + total_size ss) s
-unfolding places size
-places_more [] a (Label n) = let e : a ≡ a + 0 = omega arith in ap (λ (k : ℕ). (n, k) ∷ []) e
-places_more [] a (Plain i) = refl
-places_more [] a (Jump cond n) = refl
-places_more (Label n ∷ xs) a s =
-    let e : a + total_size xs ≡ a + (0 + total_size xs) = omega arith in
-    ap (λ (l : Places). (n, a) ∷ l) (places_more xs a s ∙ ap (λ (k : ℕ). places a xs ++ label_given k s) e)
-places_more (Plain i ∷ xs) a s =
-    let e : a + size (Plain i) + total_size xs ≡ a + (size (Plain i) + total_size xs) = omega arith in
-    places_more xs (a + size (Plain i)) s ∙ ap (λ (k : ℕ). places (a + size (Plain i)) xs ++ label_given k s) e
-places_more (Jump cond n ∷ xs) a s =
-    let e : a + size (Jump cond n) + total_size xs ≡ a + (size (Jump cond n) + total_size xs) = omega arith in
-    places_more xs (a + size (Jump cond n)) s ∙ ap (λ (k : ℕ). places (a + size (Jump cond n)) xs ++ label_given k s) e
+-- a label is given again exactly where a statement of the text gives it
+gives : (ss : List Stmt) (s : Stmt) → gives_again (places text_base ss) s ≡ is_second_label ss s
+gives ss s = again (places text_base ss) ss s (label_names ss text_base)
 
 encoded_more : (ss : List Stmt) (s : Stmt) → are_instructions ss ≡ true → is_encoded s ≡ true → are_instructions (ss ++ s ∷ []) ≡ true
 encoded_more [] s h e = rw e refl
@@ -72,11 +43,11 @@ nothing_is_text = record { encoded = refl; given = refl; sum = refl; few = omega
 pub twice : (ss : List Stmt) (labels : Places) (n : ℕ) (s : Stmt) → IsText ss labels n → true ≡ gives_again labels s → text_grown ss s ≡ Err Cause.Double
 unfolding text_grown
 twice ss labels n s t h =
-    let e : is_second_label ss s ≡ true = sym (again ss s) ∙ sym (h ∙ ap (λ (l : Places). gives_again l s) t.given) in
+    let e : is_second_label ss s ≡ true = sym (gives ss s) ∙ sym (h ∙ ap (λ (l : Places). gives_again l s) t.given) in
     rw e refl
 
 fresh : (ss : List Stmt) (labels : Places) (n : ℕ) (s : Stmt) → IsText ss labels n → false ≡ gives_again labels s → is_second_label ss s ≡ false
-fresh ss labels n s t h = sym (again ss s) ∙ sym (h ∙ ap (λ (l : Places). gives_again l s) t.given)
+fresh ss labels n s t h = sym (gives ss s) ∙ sym (h ∙ ap (λ (l : Places). gives_again l s) t.given)
 
 pub too_large : (ss : List Stmt) (labels : Places) (n : ℕ) (s : Stmt) → IsText ss labels n → false ≡ gives_again labels s → 65520 < n + size s
     → text_grown ss s ≡ Err Cause.Limit

@@ -1,6 +1,5 @@
 pub mod Words
 pub mod TextForms
 pub mod Counted
-pub mod LabelTable
 pub mod UserText
 pub mod TextStands

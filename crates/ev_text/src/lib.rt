@@ -2,7 +2,6 @@
 #![tactic(auto)]
 
 mod counted;
-mod labels;
 mod moves;
 mod statements;
 mod stop;
@@ -10,7 +9,7 @@ mod text;
 mod words;
 
 pub use counted::{four, none, one, two};
-pub use labels::Labels;
+pub use ev_asm::Labels;
 pub use statements::statement;
 pub use stop::Stop;
 pub use text::{UserText, WholeText};

@@ -1,16 +1,15 @@
 // The user text of a document.
 
-ghost use Rattle.std.specs.Prelude.{◌≡◌, [], ◌++◌, true, false, IfOk};
+ghost use Rattle.std.specs.Prelude.{◌≡◌, [], true};
 ghost use Rattle.ev_asm.specs.Assembled.{is_encoded};
-ghost use Rattle.ev_text.specs.TextStands.{gives_again, label_given, stop_of};
+ghost use Rattle.ev_text.specs.TextStands.{stop_of};
 ghost use Rattle.ev_text.specs.UserText.{Comes, text_ended, text_grown};
 
-use crate::labels::Labels;
 use crate::stop::Stop;
-use ev_asm::{AsmFault, Stmt, Text, assemble, statement_size};
+use ev_asm::{AsmFault, Labels, Stmt, Text, assemble, statement_size};
 use ev_io::Cause;
-use ev_isa::{Many, Name};
-use std::alloc::{AllocError, Global};
+use ev_isa::Many;
+use std::alloc::Global;
 use std::marker::Model;
 
 /// The first address of the text.
@@ -48,27 +47,6 @@ pub struct WholeText {
     pub labels: Labels,
 }
 
-/// Whether the labels have the name that the statement gives.
-fn is_given(labels: &Labels, s: &Stmt) -> bool
-    ensures { result ≡ gives_again labels.now s.now }
-{
-    match s {
-        Stmt::Label(name) => labels.find(name).is_some(),
-        Stmt::Plain(_) | Stmt::Jump(_, _) => false,
-    }
-}
-
-/// The labels with the one that the statement gives.
-fn with_label(labels: Labels, alloc: Global, s: &Stmt, place: u64) -> Result<Labels, AllocError>
-    requires { gives_again labels s.now ≡ false }
-    ensures { IfOk result (λ l. l ≡ labels ++ label_given place s.now) }
-{
-    match s {
-        Stmt::Label(name) => labels.with(alloc, Name::new(name.as_str()), place),
-        Stmt::Plain(_) | Stmt::Jump(_, _) => Ok(labels),
-    }
-}
-
 /// What a fault of the assembler means for the document.
 fn stop_of(fault: &AsmFault) -> Stop
     ensures { result ≡ stop_of fault.now }
@@ -103,14 +81,14 @@ impl UserText {
             labels,
             size,
         } = self;
-        if is_given(&labels, &s) {
+        if labels.has_label_of(&s) {
             return Err(Stop::Because(Cause::Double));
         }
         let end = size + statement_size(&s);
         if end > TEXT_LIMIT {
             return Err(Stop::Because(Cause::Limit));
         }
-        let Ok(labels) = with_label(labels, alloc, &s, TEXT_BASE + size as u64) else {
+        let Ok(labels) = labels.with_label_of(alloc, &s, TEXT_BASE + size as u64) else {
             return Err(Stop::NoMemory);
         };
         match stmts.push(s) {

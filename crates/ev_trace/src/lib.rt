@@ -15,4 +15,4 @@ pub use ev_abstract::Entry;
 pub use frame::{print_frame, print_totals};
 pub use key::{push_key, side_word};
 pub use state::{print_busy, print_task};
-pub use words::{push_decimal, push_hex, push_word};
+pub use words::{hex_digits, push_decimal, push_hex, push_word};

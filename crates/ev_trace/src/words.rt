@@ -68,9 +68,9 @@ pub fn push_hex<const N: usize>(n: u64, out: &mut ArrayString<N>)
     push_word(hex_digits(n).as_str(), out);
 }
 
-/// The number's digits.
+/// The number in lower hexadecimal digits, with no zero before them (own).
 #[tactic(auto, using(crate::proofs::Hex::length_hex_word))]
-pub(crate) fn hex_digits(n: u64) -> ArrayString<16>
+pub fn hex_digits(n: u64) -> ArrayString<16>
     ensures { result.bytes ≡ hex n }
 {
     let mut digits = ArrayString::new();

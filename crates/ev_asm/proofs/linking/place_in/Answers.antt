@@ -11,7 +11,8 @@ returns-then-has_label c =
     let same = c.as_slice-stmts.ensures in
     c.place_of.ensures ∙ ap (λ (x : List Stmt). place (places c.section-item.result.address x) name) same
     ∙ places_stop c.args.sections.now c.loop-section.section-index c.section-item.result name _ (omega arith) c.section-item.is
-    (ap (λ (x : List Stmt). is_new_name (stmt_labels x) name) (sym same) ∙ is_given _ (sym c.has_label.ensures ∙ c.if-has_label.true)) c.loop-section.invariant
+    (ap (λ (x : List Stmt). is_new_name (stmt_labels x) name) (sym same) ∙ is_given _ (sym c.has_label.ensures ∙ c.if-has_label.true))
+    c.loop-section.invariant
 
 pub loop-section-preserved : goal.loop-section-preserved
 loop-section-preserved c =

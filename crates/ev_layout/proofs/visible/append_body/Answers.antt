@@ -1,17 +1,24 @@
-use Rattle.std.proofs.Common.{◌+◌, ap, arith, ℕ}
-use Rattle.ev_layout.specs.Marks.{marked_of}
-use Rattle.ev_layout.proofs.Marked.{items_step, items_end}
+use Rattle.std.proofs.Common.{◌≡◌, ◌++◌, ◌∙◌, ℕ, List, ap}
+use Rattle.ev_isa.specs.declared.mode.Mode.{Mode}
+use Rattle.ev_body.specs.declared.item.Item.{Item}
+use Rattle.ev_body.specs.declared.image.Image.{Image}
+use Rattle.ev_body.specs.declared.key.Key.{Key}
+use Rattle.ev_listing.specs.AddressMap.{body_code}
+use Rattle.ev_listing.specs.Expansion.{expansions, function_address, body_stmts}
+use Rattle.ev_listing.specs.Marks.{marks}
+use Rattle.ev_layout.specs.Marks.{marks_in}
+use Rattle.ev_layout.proofs.Results.{on_ok}
 use Rattle.ev_layout.proofs.visible.append_body.Goals as goal
 
-pub loop-item-preserved : goal.loop-item-preserved
-loop-item-preserved c = record {
-  noted = λ b f. items_step c.args.mode b c.args.key f c.args.items.now c.loop-item.item-index _ c.loop-item.at _ c.item-item.result
-      (marked_of c.expansion-line.result) _ _ _ (omega arith) (omega arith) c.item-item.is
-      (c.expansion-line.ensures.is b f c.loop-item.item-index) (ap (λ (x : ℕ). c.loop-item.at + x) c.size.ensures.is) c.in_ok-note.ensures
-      (c.loop-item.invariant.noted b f);
-  room = omega (arith, c.size.ensures.small, c.loop-item.invariant.room);
-}
-
 pub returns : goal.returns
-returns c = λ b f. items_end c.args.mode b c.args.key f c.args.items.now c.loop-item.item-index c.loop-item.at _ _ c.loop-item-test.false
-    (c.loop-item.invariant.noted b f)
+unfolding body_stmts
+returns c =
+    on_ok c.append_items.result
+    ((mode : Mode) (b : ℕ) (key : Key) (f : ℕ → ℕ)
+    → marks_in c.append_items.new.places ≡ marks_in c.args.places.now ++ marks (body_code c.args.n) (expansions mode b key f 0 c.deref.result.now))
+    ((mode : Mode) (image : Image) → marks_in c.append_items.new.places ≡ marks_in c.args.places.now ++ marks (body_code c.args.n)
+    (body_stmts mode image c.args.n c.args.body.now))
+    (λ h mode image. h mode c.args.n c.args.body.now.key (function_address mode image)
+    ∙ ap (λ (is : List Item). marks_in c.args.places.now ++ marks (body_code c.args.n)
+    (expansions mode c.args.n c.args.body.now.key (function_address mode image) 0 is)) (c.deref.ensures.value ∙ c.in_ok-items.ensures))
+    c.append_items.ensures

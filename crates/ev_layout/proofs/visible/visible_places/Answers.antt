@@ -12,4 +12,4 @@ returns-in-Ok c =
     let bodies : Found = all_marks (body_listings c.args.mode i 0 i.bodies) in
     let none = ap marks_in c.new-places.ensures in
     let kernel = ap always c.as_slice.ensures ∙ c.in_ok-kernel.ensures in
-    c.in-Ok.ensures ∙ (λ j. (none j ++ bodies) ++ kernel j) ∙ marks_are c.args.mode i
+    c.in-Ok.ensures c.args.mode ∙ (λ j. (none j ++ bodies) ++ kernel j) ∙ marks_are c.args.mode i

@@ -3,7 +3,7 @@ use Rattle.ev_event.specs.declared.frame_note.FrameNote.{FrameNote}
 use Rattle.ev_abstract.specs.EntryText.{Text}
 use Rattle.ev_trace.specs.FrameText.{mode_text, frames_text}
 use Rattle.ev_concrete.specs.ConcreteRun.{noted}
-use Rattle.ev_pair.proofs.Writes.{Wrote, none_yet, more_written, failed_within, none_left, err_now}
+use Rattle.ev_io.proofs.Writes.{Wrote, none_yet, more_written, failed_within, none_left, err_now}
 use Rattle.ev_pair.proofs.Rest.{from_place, none_there}
 use Rattle.ev_pair.proofs.lines.put_frames.Goals as goal
 

@@ -1,7 +1,7 @@
 use Rattle.std.proofs.Common.{◌≤◌, drop}
 use Rattle.ev_trace.specs.FrameText.{mode_text, frames_text}
 use Rattle.ev_concrete.specs.ConcreteRun.{noted}
-use Rattle.ev_pair.proofs.Writes.{Wrote}
+use Rattle.ev_io.proofs.Writes.{Wrote}
 use Rattle.ev_pair.proofs.lines.put_frames.Given as goal
 
 -- so many frames are written

@@ -3,7 +3,7 @@ use Rattle.ev_isa.specs.declared.mode.Mode.TheVariants.{Idt, Fred}
 use Rattle.ev_concrete.specs.RunText.{run_text}
 use Rattle.ev_core.specs.Run.{IsRun}
 use Rattle.ev_pair.specs.SideText.{shown_end}
-use Rattle.ev_pair.proofs.Writes.{Wrote, more_written, all_written, failed_within, failed_at_end, ok_then, err_then, err_now}
+use Rattle.ev_io.proofs.Writes.{Wrote, more_written, all_written, failed_within, failed_at_end, ok_then, err_then, err_now}
 use Rattle.ev_pair.proofs.Rest.{at_start, up_to_place, both_places, all_done, end_place, both_ends}
 use Rattle.ev_pair.proofs.run.put_both.Goals as goal
 

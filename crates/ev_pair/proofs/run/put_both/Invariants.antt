@@ -3,7 +3,7 @@ use Rattle.ev_isa.specs.declared.mode.Mode.TheVariants.{Idt, Fred}
 use Rattle.ev_body.specs.declared.image.Image.{Image}
 use Rattle.ev_concrete.specs.RunText.{run_text}
 use Rattle.ev_core.specs.Run.{IsRun}
-use Rattle.ev_pair.proofs.Writes.{Wrote}
+use Rattle.ev_io.proofs.Writes.{Wrote}
 use Rattle.ev_pair.proofs.Rest.{rest_text}
 use Rattle.ev_pair.proofs.run.put_both.Given as goal
 

@@ -2,7 +2,7 @@ use Rattle.std.proofs.Common.{◌≡◌, ◌+◌, ◌<◌, ◌≤◌, suc, [], �
 use Rattle.ev_concrete.specs.RunText.{run_text}
 use Rattle.ev_core.specs.Run.{IsRun}
 use Rattle.ev_pair.specs.SideText.{shown_end}
-use Rattle.ev_pair.proofs.Writes.{Wrote, more_written, all_written, failed_within, failed_at_end, ok_then, err_then, err_now}
+use Rattle.ev_io.proofs.Writes.{Wrote, more_written, all_written, failed_within, failed_at_end, ok_then, err_then, err_now}
 use Rattle.ev_pair.proofs.Rest.{at_start, up_to_place, one_place, all_done, end_place, one_end}
 use Rattle.ev_pair.proofs.run.put_one.Goals as goal
 

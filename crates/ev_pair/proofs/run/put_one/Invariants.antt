@@ -2,7 +2,7 @@ use Rattle.std.proofs.Common.{◌≡◌, ◌*◌, ◌≤◌, [], ◌∷◌, leng
 use Rattle.ev_body.specs.declared.image.Image.{Image}
 use Rattle.ev_concrete.specs.RunText.{run_text}
 use Rattle.ev_core.specs.Run.{IsRun}
-use Rattle.ev_pair.proofs.Writes.{Wrote}
+use Rattle.ev_io.proofs.Writes.{Wrote}
 use Rattle.ev_pair.proofs.Rest.{rest_text}
 use Rattle.ev_pair.proofs.run.put_one.Given as goal
 

@@ -6,7 +6,7 @@ use Rattle.ev_abstract.specs.EntryText.{all_end_lines}
 use Rattle.ev_trace.specs.FrameText.{mode_text, totals_text}
 use Rattle.ev_concrete.specs.RunText.{shown_frames, settling}
 use Rattle.ev_pair.specs.SideText.{side_at}
-use Rattle.ev_pair.proofs.Writes.{then_ok, first_failed, second_failed, ok_then, err_then, err_now}
+use Rattle.ev_io.proofs.Writes.{then_ok, first_failed, second_failed, ok_then, err_then, err_now}
 use Rattle.ev_pair.proofs.Shown.{end_shown}
 use Rattle.ev_pair.proofs.Settled.{settled_first}
 use Rattle.ev_pair.proofs.side.put_end.Goals as goal

@@ -6,7 +6,7 @@ use Rattle.ev_abstract.specs.EntryText.{trace_text}
 use Rattle.ev_concrete.specs.ConcreteRun.{noted}
 use Rattle.ev_concrete.specs.RunText.{shown_frames}
 use Rattle.ev_core.specs.Local.{optional}
-use Rattle.ev_pair.proofs.Writes.{then_ok, first_failed, second_failed, ok_then, err_then, err_now}
+use Rattle.ev_io.proofs.Writes.{then_ok, first_failed, second_failed, ok_then, err_then, err_now}
 use Rattle.ev_pair.proofs.Shown.{only_turns, first_only, turn_shown}
 use Rattle.ev_pair.proofs.side.put_line.Goals as goal
 

@@ -6,7 +6,7 @@ use Rattle.ev_concrete.specs.RunText.{shown_frames, settling}
 use Rattle.ev_abstract.specs.Run.{run}
 use Rattle.ev_core.specs.Run.{IsStandingAs}
 use Rattle.ev_pair.specs.SideText.{side_at}
-use Rattle.ev_pair.proofs.Writes.{Wrote, none_yet, more_written, failed_within, none_left, err_now}
+use Rattle.ev_io.proofs.Writes.{Wrote, none_yet, more_written, failed_within, none_left, err_now}
 use Rattle.ev_pair.proofs.Settled.{settled_first, settled_next, run_stands, all_later, next_later, none_later}
 use Rattle.ev_pair.proofs.side.put_settling.Goals as goal
 

@@ -5,7 +5,7 @@ use Rattle.ev_abstract.specs.declared.script_line.Line.{Line}
 use Rattle.ev_concrete.specs.RunText.{shown_frames, settling}
 use Rattle.ev_core.specs.Run.{IsRun, IsStandingAs}
 use Rattle.ev_pair.specs.SideText.{side_at}
-use Rattle.ev_pair.proofs.Writes.{Wrote}
+use Rattle.ev_io.proofs.Writes.{Wrote}
 use Rattle.ev_pair.proofs.Settled.{settled_first, later_text}
 use Rattle.ev_pair.proofs.side.put_settling.Given as goal
 

@@ -4,7 +4,7 @@ use Rattle.ev_io.specs.Transfer.{TookPrefix}
 use Rattle.ev_abstract.specs.Machine as abstract
 use Rattle.ev_abstract.specs.EntryText.{end_lines}
 use Rattle.ev_trace.specs.FrameText.{mode_text}
-use Rattle.ev_pair.proofs.Writes.{ok_then, err_then}
+use Rattle.ev_io.proofs.Writes.{ok_then, err_then}
 use Rattle.ev_pair.proofs.Ends.{busy_line, task_line, none_wait, no_bodies}
 use Rattle.ev_pair.proofs.side.put_state.Goals as goal
 

@@ -1,7 +1,7 @@
 use Rattle.std.proofs.Common.{◌≡◌, ◌+◌, ◌-◌, ◌<◌, subst, arith}
 use Rattle.ev_abstract.specs.EntryText.{all_end_lines}
 use Rattle.ev_trace.specs.FrameText.{mode_text}
-use Rattle.ev_pair.proofs.Writes.{Wrote, none_yet, more_written, failed_within, none_left, err_now}
+use Rattle.ev_io.proofs.Writes.{Wrote, none_yet, more_written, failed_within, none_left, err_now}
 use Rattle.ev_pair.proofs.Ends.{next_lines}
 use Rattle.ev_pair.proofs.side.put_states.Goals as goal
 

@@ -5,7 +5,7 @@ use Rattle.ev_abstract.specs.EntryText.{all_end_lines}
 use Rattle.ev_trace.specs.FrameText.{mode_text}
 use Rattle.ev_concrete.specs.ConcreteRun.{System}
 use Rattle.ev_core.specs.Run.{IsStandingAs}
-use Rattle.ev_pair.proofs.Writes.{Wrote}
+use Rattle.ev_io.proofs.Writes.{Wrote}
 use Rattle.ev_pair.proofs.side.put_states.Given as goal
 
 -- so many processors' lines are written

@@ -1,0 +1,8 @@
+use Rattle.std.proofs.Common.{arith, length-append}
+use Rattle.std.proofs.lemmas.Fmt.{length-decimal-le}
+use Rattle.ev_items.proofs.name.taken_label.Goals as goal
+
+pub new-requires : goal.new-requires
+new-requires c =
+    rw (c.as_str.ensures.value, c.in_ok-text.ensures.ok)
+    (simp length-append (omega (arith, length-decimal-le 3 c.args.b (omega arith) (omega arith) (omega arith))))

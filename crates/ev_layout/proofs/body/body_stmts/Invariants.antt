@@ -1,8 +1,0 @@
-use Rattle.std.proofs.Common.{◌≡◌, ℕ, ◌++◌, drop}
-use Rattle.ev_listing.specs.Expansion.{expansions}
-use Rattle.ev_listing.specs.Marks.{stmts_of}
-use Rattle.ev_layout.proofs.body.body_stmts.Given as goal
-
-abbrev pub invariant-loop-n : goal.invariant-loop-n
-invariant-loop-n l = (f : ℕ → ℕ) → l.stmts.items ++ stmts_of (expansions l.mode l.b l.key f l.n (drop l.n l.items)) ≡ stmts_of
-    (expansions l.mode l.b l.key f 0 l.items)

@@ -1,0 +1,32 @@
+use Rattle.std.proofs.Common.{Some}
+use Rattle.ev_io.proofs.Bytes.{draws_then}
+use Rattle.ev_probe.proofs.Inputs.{bad_line, faulty, nothing_follows, whole_line}
+use Rattle.ev_probe.proofs.input.only_line.Goals as goal
+
+pub returns-in-Err-clause-reads : goal.returns-in-Err-clause-reads
+returns-in-Err-clause-reads g c = λ bytes e.
+    let stands = c.in_ok-line.ensures.reads bytes e in
+    let skips = c.in-Err.ensures.said stands.left stands.to_come in
+    rw c.fault_of.ensures (faulty c.args.lines.now bytes c.first_line.new.lines _ _ c.next_said.new.self _ c.in-Err.fault stands skips)
+
+pub returns-in-Err-clause-draws : goal.returns-in-Err-clause-draws
+returns-in-Err-clause-draws g c = draws_then _ _ _ _ _ _ c.first_line.ensures.draws c.next_said.ensures.draws
+
+pub returns-in-Ok-Some-clause-reads : goal.returns-in-Ok-Some-clause-reads
+returns-in-Ok-Some-clause-reads g c = λ bytes e.
+    let stands = c.in_ok-line.ensures.reads bytes e in
+    let skips = rw c.in-Ok-Some.field-0-is at (c.in-Ok-Some.ensures.said stands.left stands.to_come) in
+    bad_line c.args.lines.now bytes c.first_line.new.lines _ (Some c.in_ok-line.line) c.next_said.new.self _ c.in-Ok-Some.number _ stands skips
+    (nothing_follows c.in_ok-line.line _)
+
+pub returns-in-Ok-Some-clause-draws : goal.returns-in-Ok-Some-clause-draws
+returns-in-Ok-Some-clause-draws g c = draws_then _ _ _ _ _ _ c.first_line.ensures.draws c.next_said.ensures.draws
+
+pub returns-in-Ok-None-clause-reads : goal.returns-in-Ok-None-clause-reads
+returns-in-Ok-None-clause-reads g c = λ bytes e.
+    let stands = c.in_ok-line.ensures.reads bytes e in
+    let skips = rw c.in-Ok-None.field-0-is at (c.in-Ok-None.ensures.said stands.left stands.to_come) in
+    whole_line c.args.lines.now bytes c.first_line.new.lines _ c.in_ok-line.line c.next_said.new.self stands skips
+
+pub returns-in-Ok-None-clause-draws : goal.returns-in-Ok-None-clause-draws
+returns-in-Ok-None-clause-draws g c = draws_then _ _ _ _ _ _ c.first_line.ensures.draws c.next_said.ensures.draws
