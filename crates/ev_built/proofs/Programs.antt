@@ -7,8 +7,7 @@ use Rattle.std.proofs.lemmas.Bool.{and_parts, and_from, ltb-true}
 use Rattle.std.proofs.lemmas.List.Folds.{list_all-append}
 use Rattle.std.proofs.Math.Seq.{drop-append_seam}
 use Rattle.ev_isa.specs.declared.instruction.Ins.{Ins}
-use Rattle.ev_isa.specs.declared.instruction.AluOp.TheVariants.{Add}
-use Rattle.ev_isa.specs.declared.instruction.Ins.TheVariants.{MovImm, Alu, Jmp, Syscall}
+use Rattle.ev_isa.specs.declared.instruction.Ins.TheVariants.{MovImm, MovReg, Alu, AluImm, Shl, Shr, Nop, Jmp, Syscall}
 use Rattle.ev_isa.specs.Reading.{reading}
 use Rattle.ev_isa.specs.Spelling.{spelling}
 use Rattle.ev_code.specs.Coding.{IsEncodable}
@@ -24,7 +23,12 @@ use Rattle.ev_built.specs.RunTakes.{only_built, built_reading, program_within, p
 pub spelling_some : (i : Ins) → is_built_instruction i ≡ true → 0 < length (spelling i)
 unfolding spelling is_built_instruction
 spelling_some (MovImm d n) h = omega arith
-spelling_some (Alu Add d s) h = omega arith
+spelling_some (MovReg d s) h = omega arith
+spelling_some (Alu op d s) h = omega arith
+spelling_some (AluImm op d i) h = omega arith
+spelling_some (Shl d n) h = omega arith
+spelling_some (Shr d n) h = omega arith
+spelling_some Nop h = omega arith
 spelling_some (Jmp n) h = omega arith
 spelling_some Syscall h = omega arith
 spelling_some _ h = absurd (cc)

@@ -5,18 +5,14 @@ use Rattle.std.specs.List.{list_all}
 use Rattle.std.proofs.lemmas.Bool.{and_parts, and_from, eqb-true}
 use Rattle.ev_isa.specs.declared.instruction.Ins.{Ins}
 use Rattle.ev_isa.specs.Pages.{text_base}
-use Rattle.ev_body.specs.declared.key.Key.{Key}
-use Rattle.ev_body.specs.declared.key.Key.TheVariants.{Sys}
 use Rattle.ev_body.specs.declared.key.Side.TheVariants.{User}
-use Rattle.ev_body.specs.declared.item.Item.{Item}
-use Rattle.ev_body.specs.declared.item.Item.TheVariants.{Ret}
 use Rattle.ev_body.specs.declared.body.Body.{Body}
 use Rattle.ev_body.specs.declared.image.TaskSpec.{TaskSpec}
 use Rattle.ev_body.specs.Bodies.{filled_keys, first_body, key_number}
-use Rattle.ev_body.specs.WellFormed.{has_no_parts, is_ret, is_user_side}
+use Rattle.ev_body.specs.WellFormed.{has_no_parts, is_user_side}
 use Rattle.ev_built.specs.Built.{is_built_body, is_built_item, is_built_key}
 use Rattle.ev_built.specs.Program.{IsProgram, all_lead, begins}
-use Rattle.ev_built.specs.RunTakes.{bodies_are_built, body_is_built, is_empty, items_are_built, program_of, stays_within, task_is_built, text_is_built}
+use Rattle.ev_built.specs.RunTakes.{bodies_are_built, body_is_built, is_empty, program_of, stays_within, task_is_built, text_is_built}
 use Rattle.ev_built.specs.Laws.{TakenAreBuilt}
 use Rattle.ev_built.proofs.Programs.{program_spells}
 
@@ -41,43 +37,24 @@ text_program text start small h = by (program_of text) refl h
 record Task (text : List ℕ) (tasks : List (List TaskSpec)) : Type 0 where
   task : TaskSpec
   one : tasks ≡ (task ∷ []) ∷ []
-  base : task.gs ≡ 0
   program : Program text task.start
 
 only_task : (text : List ℕ) (tasks : List (List TaskSpec)) → list_all (λ b. nat_lt b 256) text ≡ true → task_is_built text tasks ≡ true → Task text tasks
 only_task text [] small h = absurd (cc)
 only_task text ([] ∷ rest) small h = absurd (cc)
-only_task text ((task ∷ []) ∷ []) small h =
-    let p = and_parts ((task.gs == 0) && list_all (λ r. r == 0) task.regs) (text_is_built text task.start) h in
-    let q = and_parts (task.gs == 0) (list_all (λ r. r == 0) task.regs) p.0 in
-    record { task = task; one = refl; base = eqb-true task.gs 0 q.0; program = text_program text task.start small p.1 }
+only_task text ((task ∷ []) ∷ []) small h = record { task = task; one = refl; program = text_program text task.start small h }
 only_task text ((task ∷ []) ∷ row ∷ rest) small h = absurd (cc)
 only_task text ((task ∷ other ∷ more) ∷ rest) small h = absurd (cc)
 
 -- ---- the bodies
 
-return_is_built : (item : Item) → is_ret item ≡ true → is_built_item item ≡ true
-unfolding is_ret is_built_item
-return_is_built Ret h = refl
-return_is_built _ h = absurd (cc)
-
-returns_are_built : (items : List Item) → list_all is_ret items ≡ true → list_all is_built_item items ≡ true
-returns_are_built [] h = refl
-returns_are_built (item ∷ items) h =
-    let p = and_parts (is_ret item) (list_all is_ret items) h in
-    and_from (is_built_item item) (list_all is_built_item items) (return_is_built item p.0) (returns_are_built items p.1)
-
-taken_items : (key : Key) (items : List Item) → items_are_built key items ≡ true → list_all is_built_item items ≡ true
-taken_items Sys items h = h
-taken_items _ items h = returns_are_built items h
-
 taken_body : (b : Body) → body_is_built b ≡ true → (is_built_body b ≡ true) × (is_built_key b.key ≡ true)
 taken_body b h =
-    let p = and_parts (is_user_side b.side && has_no_parts b.parts && is_built_key b.key) (items_are_built b.key b.items) h in
+    let p = and_parts (is_user_side b.side && has_no_parts b.parts && is_built_key b.key) (list_all is_built_item b.items) h in
     let q = and_parts (is_user_side b.side && has_no_parts b.parts) (is_built_key b.key) p.0 in
     let r = and_parts (is_user_side b.side) (has_no_parts b.parts) q.0 in (
       and_from (is_user_side b.side) (has_no_parts b.parts && list_all is_built_item b.items) r.0
-          (and_from (has_no_parts b.parts) (list_all is_built_item b.items) r.1 (taken_items b.key b.items p.1)),
+          (and_from (has_no_parts b.parts) (list_all is_built_item b.items) r.1 p.1),
       q.1,
     )
 
@@ -122,7 +99,6 @@ taken_are_built image is h =
       no_cells = empty_is image.cells r.1;
       task = t.task;
       one_task = t.one;
-      no_base = t.base;
       program = t.program.program;
       is_program = t.program.is;
       bodies = bodies.0;

@@ -18,6 +18,7 @@ use Rattle.ev_abstract.specs.declared.script_line.Line.{Line}
 use Rattle.ev_abstract.specs.declared.script_line.Line.TheVariants.{Turn}
 use Rattle.ev_built.specs.Program.{IsProgram}
 
+-- `log` and `ret`
 unfoldable pub is_built_item : Item → Bool
 is_built_item (Log s) = true
 is_built_item Ret = true
@@ -29,10 +30,11 @@ is_built_key Nmi = false
 is_built_key (Irq v) = false
 is_built_key _ = true
 
+-- of the user side, without parts
 abbrev pub is_built_body : Body → Bool
 is_built_body b = is_user_side b.side && (has_no_parts b.parts && list_all is_built_item b.items)
 
--- one processor with one task at GS base 0 and no page and no cell; user code that never leaves its instructions; bodies of the user side alone, with
+-- one processor with one task, and no page and no cell; user code that never leaves its instructions; bodies of the user side alone, with
 -- one of system calls among them
 pub record IsBuilt (image : Image) : Type 0 where
   pub one_processor : image.processors ≡ 1
@@ -40,7 +42,6 @@ pub record IsBuilt (image : Image) : Type 0 where
   pub no_cells : image.cells ≡ []
   pub task : TaskSpec
   pub one_task : image.tasks ≡ (task ∷ []) ∷ []
-  pub no_base : task.gs ≡ 0
   pub program : List Ins
   pub is_program : IsProgram image.text task.start program
   pub bodies : list_all is_built_body image.bodies ≡ true

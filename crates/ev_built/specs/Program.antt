@@ -3,9 +3,8 @@ use Rattle.std.specs.Prelude.{◌≡◌, ℕ, ◌+◌, Bool, true, false, ◌&&�
 use Rattle.ev_isa.specs.Word.{displaced}
 use Rattle.ev_isa.specs.Pages.{text_base}
 use Rattle.ev_isa.specs.Spelling.{spelling}
-use Rattle.ev_isa.specs.declared.instruction.AluOp.TheVariants.{Add}
 use Rattle.ev_isa.specs.declared.instruction.Ins.{Ins}
-use Rattle.ev_isa.specs.declared.instruction.Ins.TheVariants.{MovImm, Alu, Jmp, Syscall}
+use Rattle.ev_isa.specs.declared.instruction.Ins.TheVariants.{MovImm, MovReg, Alu, AluImm, Shl, Shr, Nop, Jmp, Syscall}
 use Rattle.ev_code.specs.Coding.{IsEncodable}
 
 -- the spellings in turn
@@ -32,10 +31,15 @@ abbrev pub all_lead : List Ins → ℕ → List Ins → Bool
 all_lead program a [] = true
 all_lead program a (i ∷ is) = begins program (leads_to a i) && all_lead program (a + length (spelling i)) is
 
--- the instructions that user code may hold today
+-- the instructions that user code may hold today: those that work on registers, jumps and SYSCALL
 unfoldable pub is_built_instruction : Ins → Bool
 is_built_instruction (MovImm d n) = true
-is_built_instruction (Alu Add d s) = true
+is_built_instruction (MovReg d s) = true
+is_built_instruction (Alu op d s) = true
+is_built_instruction (AluImm op d i) = true
+is_built_instruction (Shl d n) = true
+is_built_instruction (Shr d n) = true
+is_built_instruction Nop = true
 is_built_instruction (Jmp n) = true
 is_built_instruction Syscall = true
 is_built_instruction _ = false

@@ -5,15 +5,12 @@ use Rattle.ev_isa.specs.declared.instruction.Ins.{Ins}
 use Rattle.ev_isa.specs.Pages.{text_base}
 use Rattle.ev_isa.specs.Reading.{reading}
 use Rattle.ev_isa.specs.Spelling.{spelling}
-use Rattle.ev_body.specs.declared.key.Key.{Key}
-use Rattle.ev_body.specs.declared.key.Key.TheVariants.{Sys}
 use Rattle.ev_body.specs.declared.key.Side.TheVariants.{User}
-use Rattle.ev_body.specs.declared.item.Item.{Item}
 use Rattle.ev_body.specs.declared.body.Body.{Body}
 use Rattle.ev_body.specs.declared.image.TaskSpec.{TaskSpec}
 use Rattle.ev_body.specs.declared.image.Image.{Image}
 use Rattle.ev_body.specs.Bodies.{filled_keys, first_body, key_number}
-use Rattle.ev_body.specs.WellFormed.{has_no_parts, is_ret, is_user_side}
+use Rattle.ev_body.specs.WellFormed.{has_no_parts, is_user_side}
 use Rattle.ev_built.specs.Built.{is_built_item, is_built_key}
 use Rattle.ev_built.specs.Program.{all_lead, begins, instruction_from, is_built_instruction}
 
@@ -63,23 +60,17 @@ text_is_built text start = stays_within start (program_of text)
 
 -- ---- the task
 
--- whether there is one, with GS base 0 and every register 0, whose user code is built
+-- whether there is one, whose user code is built
 abbrev pub task_is_built : List ℕ → List (List TaskSpec) → Bool
-task_is_built text ((task ∷ []) ∷ []) =
-    (task.gs == 0) && list_all (λ r. r == 0) task.regs && text_is_built text task.start
+task_is_built text ((task ∷ []) ∷ []) = text_is_built text task.start
 task_is_built text _ = false
 
 -- ---- the bodies
 
--- whether the items are `ret`, and in the body of system calls also `log`
-abbrev pub items_are_built : Key → List Item → Bool
-items_are_built Sys items = list_all is_built_item items
-items_are_built _ items = list_all is_ret items
-
 -- whether the body is of the user side alone and of a key that `fill` names, with such items
 abbrev pub body_is_built : Body → Bool
 body_is_built b =
-    is_user_side b.side && has_no_parts b.parts && is_built_key b.key && items_are_built b.key b.items
+    is_user_side b.side && has_no_parts b.parts && is_built_key b.key && list_all is_built_item b.items
 
 -- whether the bodies are such, and each key that `fill` names has one
 abbrev pub bodies_are_built : List Body → Bool

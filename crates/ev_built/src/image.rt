@@ -3,26 +3,14 @@
 ghost use Rattle.std.specs.Prelude.{◌≡◌, ◌≤◌, ◌==◌, ◌&&◌, is_some, length};
 ghost use Rattle.std.specs.List.{list_all};
 ghost use Rattle.ev_body.specs.Bodies.{covers, first_body, key_number};
-ghost use Rattle.ev_body.specs.WellFormed.{has_no_parts, is_ret, is_user_side};
+ghost use Rattle.ev_body.specs.WellFormed.{has_no_parts, is_user_side};
 ghost use Rattle.ev_body.specs.declared.key.Side.TheVariants.{User};
 ghost use Rattle.ev_built.specs.Built.{is_built_item, is_built_key};
-ghost use Rattle.ev_built.specs.RunTakes.{bodies_are_built, body_is_built, is_built, items_are_built, task_is_built};
+ghost use Rattle.ev_built.specs.RunTakes.{bodies_are_built, body_is_built, is_built, task_is_built};
 
 use crate::text::text_is_built;
 use ev_body::{Body, Image, Item, Key, Side, TaskSpec};
 use ev_isa::Many;
-
-/// Whether each register is 0.
-fn all_zero(regs: &[u64]) -> bool
-    ensures { result ≡ list_all (λ r. r == 0) regs.now }
-{
-    for reg in regs {
-        if *reg != 0 {
-            return false;
-        }
-    }
-    true
-}
 
 /// Whether there is one task, as `run` takes it with this text.
 fn task_is_built(text: &[u8], tasks: &[Many<TaskSpec>]) -> bool
@@ -31,7 +19,7 @@ fn task_is_built(text: &[u8], tasks: &[Many<TaskSpec>]) -> bool
 {
     match tasks {
         [row] => match row.as_slice() {
-            [task] => { task.gs == 0 && all_zero(&task.regs) && text_is_built(text, task.start) }
+            [task] => text_is_built(text, task.start),
             _ => false,
         },
         _ => false,
@@ -45,13 +33,6 @@ fn is_built_item(item: &Item) -> bool
     matches!(item, Item::Log(_) | Item::Ret)
 }
 
-#[tactic(auto, unfolding(ev_body::specs::WellFormed::is_ret))]
-fn is_ret(item: &Item) -> bool
-    ensures { result ≡ is_ret item.now }
-{
-    matches!(item, Item::Ret)
-}
-
 /// Whether each item logs or returns.
 fn all_built(items: &[Item]) -> bool
     ensures { result ≡ list_all is_built_item items.now }
@@ -62,28 +43,6 @@ fn all_built(items: &[Item]) -> bool
         }
     }
     true
-}
-
-/// Whether each item returns.
-fn all_returns(items: &[Item]) -> bool
-    ensures { result ≡ list_all is_ret items.now }
-{
-    for item in items {
-        if !is_ret(item) {
-            return false;
-        }
-    }
-    true
-}
-
-/// Whether `run` takes the items in a body of the key.
-fn items_are_built(key: Key, items: &[Item]) -> bool
-    ensures { result ≡ items_are_built key items.now }
-{
-    match key {
-        Key::Sys => all_built(items),
-        _ => all_returns(items),
-    }
 }
 
 /// Whether the key is one that `fill` names.
@@ -108,7 +67,7 @@ fn body_is_built(body: &Body) -> bool
     is_user_side(body.side)
         && body.parts.len() == 0
         && is_built_key(body.key)
-        && items_are_built(body.key, body.items.as_slice())
+        && all_built(body.items.as_slice())
 }
 
 /// The number of a key: its vector, and 100H for SYSCALL.
@@ -200,9 +159,9 @@ fn bodies_are_built(bodies: &[Body]) -> bool
     all_bodies_built(bodies) && have_user_bodies(bodies, &keys)
 }
 
-/// Whether `run` takes the image today: one processor with one task, whose GS base and registers are
-/// 0; no page and no cell; user code that stays within instructions that it may hold today; and the
-/// user-side bodies that `fill` names, of the item `ret` but for `log` in that of system calls. Own.
+/// Whether `run` takes the image today: one processor with one task; no page and no cell; user code
+/// that stays within instructions that it may hold today; and the user-side bodies that `fill` names,
+/// of the items `log` and `ret`. Own.
 pub fn is_built(image: &Image) -> bool
     ensures { result ≡ is_built image.now }
 {

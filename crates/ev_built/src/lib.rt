@@ -1,5 +1,5 @@
-//! What the program can run today, as a condition on images and script lines and as tests of them. It
-//! grows until every accepted image and every script is in it. Own.
+//! What the program can run today, as a condition on images and script lines and as tests of them.
+//! It grows until every accepted image and every script is in it. Own.
 #![tactic(auto)]
 
 mod image;

@@ -14,6 +14,8 @@ const LOOP: [u8; 20] = [
 fn texts(rt: HostRuntime) {
     assert!(rt; text_is_built(&LOOP, 0x400000));
     assert!(rt; text_is_built(&LOOP, 0x40000f));
+    // `nop`, and a jump to it
+    assert!(rt; text_is_built(&[0x90, 0xe9, 0xfa, 0xff, 0xff, 0xff], 0x400000));
     let refused: [(&[u8], u64); 8] = [
         // the task starts within an instruction, behind the text and before it
         (&LOOP, 0x400001),
@@ -26,8 +28,8 @@ fn texts(rt: HostRuntime) {
         (&LOOP[..15], 0x400000),
         // a jump to itself but one byte
         (&[0xe9, 0xfc, 0xff, 0xff, 0xff], 0x400000),
-        // `nop`, and a jump to it
-        (&[0x90, 0xe9, 0xfa, 0xff, 0xff, 0xff], 0x400000),
+        // INT3, and a jump to it
+        (&[0xcc, 0xe9, 0xfa, 0xff, 0xff, 0xff], 0x400000),
     ];
     for (text, start) in refused {
         assert!(rt; !text_is_built(text, start));

@@ -8,7 +8,7 @@ ghost use Rattle.ev_built.specs.Program.{is_built_instruction, leads_to};
 ghost use Rattle.ev_built.specs.RunTakes.{begins_in, built_reading, leads_in, program_of, text_is_built};
 
 use ev_code::decode;
-use ev_isa::{AluOp, Ins};
+use ev_isa::Ins;
 
 /// The first address of the text.
 const TEXT_BASE: u64 = 0x400000;
@@ -20,7 +20,15 @@ fn is_built_instruction(ins: &Ins) -> bool
 {
     matches!(
         ins,
-        Ins::MovImm(_, _) | Ins::Alu(AluOp::Add, _, _) | Ins::Jmp(_) | Ins::Syscall
+        Ins::MovImm(_, _)
+            | Ins::MovReg(_, _)
+            | Ins::Alu(_, _, _)
+            | Ins::AluImm(_, _, _)
+            | Ins::Shl(_, _)
+            | Ins::Shr(_, _)
+            | Ins::Nop
+            | Ins::Jmp(_)
+            | Ins::Syscall
     )
 }
 

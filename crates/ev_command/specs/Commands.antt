@@ -59,6 +59,7 @@ abbrev pub is_built : Command → Bool
 is_built (Run mode frames) = true
 is_built Asm = true
 is_built Check = true
+is_built Probe = true
 is_built _ = false
 
 abbrev pub IsBuilt : Command → Type 0

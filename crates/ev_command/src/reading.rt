@@ -184,7 +184,10 @@ fn command_said<'a>(alloc: Global, words: &'a [&'a str]) -> Result<Option<Comman
 fn is_built(command: Command) -> bool
     ensures { result ≡ is_built command }
 {
-    matches!(command, Command::Run { .. } | Command::Asm | Command::Check)
+    matches!(
+        command,
+        Command::Run { .. } | Command::Asm | Command::Check | Command::Probe
+    )
 }
 
 /// The command that the words say, if they say one that the program has: its own word, and then its

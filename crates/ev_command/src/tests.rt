@@ -14,13 +14,14 @@ fn commands(rt: HostRuntime) {
         mode: Some(Mode::Fred),
         frames: true,
     };
-    let lists: [(&[&str], Command); 6] = [
+    let lists: [(&[&str], Command); 7] = [
         (&["run"], both),
         (&["run", "--mode", "fred", "--frames"], one_with_frames),
         (&["run", "--frames", "--mode", "fred"], one_with_frames),
         (&["run", "--frames", "--mode=fred"], one_with_frames),
         (&["asm"], Command::Asm),
         (&["check"], Command::Check),
+        (&["probe"], Command::Probe),
     ];
     for (words, command) in lists {
         assert_eq!(rt; command_of(rt.alloc(), words), Ok(Some(command)));
@@ -29,7 +30,7 @@ fn commands(rt: HostRuntime) {
 
 #[test]
 fn no_commands(rt: HostRuntime) {
-    let lists: [&[&str]; 21] = [
+    let lists: [&[&str]; 20] = [
         &[],
         &["--frames"],
         &["--", "run"],
@@ -49,7 +50,6 @@ fn no_commands(rt: HostRuntime) {
         &["help"],
         &["--version"],
         // commands that aren't built yet
-        &["probe"],
         &["gen", "--seed", "7", "--count", "3"],
         &["threads", "--mode=idt", "--turns", "5"],
     ];

@@ -8,3 +8,4 @@ pub mod FollowLaws
 pub mod StandLaws
 pub mod DecimalLaws
 pub mod Writes
+pub mod EndLaws

@@ -1,6 +1,5 @@
 pub mod Transfer
 pub mod Lines
-pub mod Input
 pub mod Number
 pub mod Tokens
 pub mod InputLines

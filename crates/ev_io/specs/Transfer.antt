@@ -22,3 +22,7 @@ TookPrefix old new piece = (n : ℕ) × (n ≤ length piece) × (new ≡ append_
 -- bytes were drawn from those left, and a count of drawn bytes grew by their number
 abbrev pub Draws : ℕ → ℕ → Option (List ℕ) → Option (List ℕ) → Type 0
 Draws before now old new = (bytes : List ℕ) × (now ≡ before + length bytes) × (old ≡ prepend_known bytes new)
+
+-- behind so many bytes none was read past byte 8,388,609
+abbrev pub DrawsWithin : ℕ → Option (List ℕ) → Option (List ℕ) → Type 0
+DrawsWithin before old new = (bytes : List ℕ) × (before + length bytes ≤ 8388609) × (old ≡ prepend_known bytes new)

@@ -3,7 +3,6 @@
 
 mod cause;
 mod chunk;
-mod input;
 mod lines;
 mod memory;
 mod number;
@@ -16,7 +15,6 @@ mod transfer;
 mod write;
 
 pub use cause::Cause;
-pub use input::{InputFault, read_all};
 pub use lines::{LineFault, Lines};
 pub use memory::{MemSink, MemSource};
 pub use number::read_number;

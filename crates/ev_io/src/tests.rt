@@ -70,17 +70,6 @@ fn fault_of_a_line(rt: HostRuntime) -> Result<(), Fail> {
 }
 
 #[test]
-fn fault_of_reading_all(rt: HostRuntime) -> Result<(), Fail> {
-    let bytes = Vec::from_elem(rt.alloc(), b'a', 5000)?;
-    let mut src = source(rt.alloc(), &bytes, &[1])?;
-    assert!(rt; read_all(rt.alloc(), &mut src).err() == Some(InputFault::ReadFault));
-    assert_eq!(rt; src.at, 4096);
-    let rest = read_all(rt.alloc(), &mut src).ok();
-    assert_eq!(rt; rest.map(|bytes| bytes.len()), Some(904));
-    Ok(())
-}
-
-#[test]
 fn faults_of_writing(rt: HostRuntime) -> Result<(), Fail> {
     let mut to = sink(rt.alloc(), 5, &[1])?;
     assert!(rt; put_all(&mut to, b"ab").is_ok());
@@ -95,8 +84,12 @@ fn faults_of_writing(rt: HostRuntime) -> Result<(), Fail> {
 #[test]
 fn standard_ends(rt: HostRuntime) -> Result<(), Fail> {
     let mut src = StdSource::new(b"ab\ncd".as_slice());
-    let bytes = read_all(rt.alloc(), &mut src).ok();
-    assert_eq!(rt; bytes.map(|bytes| bytes.len()), Some(5));
+    let mut lines = Lines::new(rt.alloc())?;
+    for (number, text) in [(1, "ab"), (2, "cd")] {
+        assert_eq!(rt; lines.next(&mut src), Ok(Some(number)));
+        assert_eq!(rt; lines.text(), text.as_bytes());
+    }
+    assert_eq!(rt; lines.next(&mut src), Ok(None));
     let mut written = VecDeque::new(rt.alloc());
     assert!(rt; put_all(&mut StdSink::new(&mut written), b"abcd").is_ok());
     assert!(rt; written.iter().copied().eq(b"abcd".iter().copied()));

@@ -8,12 +8,12 @@ use Rattle.ev_body.specs.declared.item.Item.TheVariants.{Set, Copy, Alu, Jcc, Go
 use Rattle.ev_body.specs.declared.body.Body.{Body}
 use Rattle.ev_body.specs.Bodies.{body_items}
 use Rattle.ev_abstract.specs.Rules.{breaks_slots}
-use Rattle.std.specs.Prelude.{slice_get, Some, None, Option, take, nat_le, ◌||◌, ◌==◌, IfOk, Result, Ok, Err}
+use Rattle.std.specs.Prelude.{slice_get, Some, Option, take, nat_le, IfOk, Result, Ok, Err}
 use Rattle.std.proofs.lemmas.Bool.{leb-true}
 use Rattle.ev_isa.specs.declared.mode.Mode.{Mode}
 use Rattle.ev_body.specs.declared.key.Side.TheVariants.{User}
 use Rattle.ev_body.specs.declared.image.Image.{Image}
-use Rattle.ev_body.specs.Bodies.{key_number, first_body, function_start}
+use Rattle.ev_body.specs.Bodies.{first_body, function_start}
 use Rattle.ev_body.specs.WellFormed.{is_body}
 use Rattle.ev_listing.specs.Expansion.{item_address, address_in, function_address}
 use Rattle.ev_items.specs.Lines.{keeps_slots, AreAddresses}

@@ -1,17 +1,16 @@
 -- The regions of an image are some of those of the largest image, in their order, each as it is there or shorter.
-use Rattle.std.proofs.Common.{◌≡◌, ℕ, zero, suc, ◌+◌, ◌-◌, ◌*◌, ◌≤◌, ◌⊎◌, inl, inr, ⊎_elim, Bool, true, false, List, [], ◌∷◌, ◌++◌, length, All, refl, arith}
+use Rattle.std.proofs.Common.{◌≡◌, ℕ, zero, suc, ◌-◌, ◌*◌, ◌≤◌, ◌⊎◌, inl, inr, ⊎_elim, Bool, true, false, List, [], ◌∷◌, ◌++◌, All, refl, arith}
 use Rattle.std.specs.Prelude.{flat_map, map, ◌&&◌}
 use Rattle.std.specs.List.{list_all}
 use Rattle.std.proofs.lemmas.List.Elements.{All-cons}
 use Rattle.ev_isa.specs.Word.{numbers_from}
-use Rattle.ev_isa.specs.Pages.{text_base, page_base}
 use Rattle.ev_mem.specs.declared.region.Region.{Region}
-use Rattle.ev_mem.specs.declared.region.RegionKind.TheVariants.{Text, Page, Kernel}
+use Rattle.ev_mem.specs.declared.region.RegionKind.TheVariants.{Kernel}
 use Rattle.ev_mem.specs.Memory.{page_map}
 use Rattle.ev_mem.specs.Conditions.{AreApart, AllApart}
 use Rattle.ev_listing.specs.AddressMap.{user_table, kernel_table, idt_base, cells_base, task_words, fred_page, code_end, body_code}
 use Rattle.ev_concrete.specs.Opening.{region, stack_regions}
-use Rattle.ev_fetch.proofs.Regions.{Each, each_append}
+use Rattle.ev_fetch.proofs.Regions.{Each}
 use Rattle.ev_layout.proofs.Listed.{areas, user_regions}
 
 -- ---- some of a list's regions

@@ -1,6 +1,6 @@
 -- What the regions of an image keep.
-use Rattle.std.proofs.Common.{◌≡◌, ℕ, ◌+◌, ◌-◌, ◌*◌, ◌/◌, ◌%◌, ◌^◌, ◌<◌, ◌≤◌, ◌⊎◌, ⊎_elim, inl, inr, Bool, true, false, ◌&&◌, ◌==◌, List, [], ◌∷◌, ◌++◌, length, get_or, All, refl, sym, ap, ◌∙◌, arith, eqb-true, subst, length-append}
-use Rattle.std.specs.Prelude.{nat_lt, nat_le, ◌||◌, count_by, sum_by, Any, if◌then◌else◌}
+use Rattle.std.proofs.Common.{◌≡◌, ℕ, ◌+◌, ◌-◌, ◌*◌, ◌/◌, ◌%◌, ◌^◌, ◌<◌, ◌≤◌, ◌⊎◌, ⊎_elim, inl, inr, Bool, true, false, ◌&&◌, ◌==◌, List, [], ◌∷◌, ◌++◌, length, refl, sym, ap, ◌∙◌, arith, eqb-true, subst, length-append}
+use Rattle.std.specs.Prelude.{nat_lt, nat_le, ◌||◌, count_by, Any, if◌then◌else◌}
 use Rattle.std.specs.List.{list_all}
 use Rattle.std.proofs.lemmas.Bool.{leb-true, ltb-true}
 use Rattle.std.proofs.lemmas.List.{get_or-append-add}
@@ -12,9 +12,8 @@ use Rattle.ev_mem.specs.declared.region.Region.{Region}
 use Rattle.ev_mem.specs.declared.region.RegionKind.{RegionKind}
 use Rattle.ev_mem.specs.declared.region.RegionKind.TheVariants.{Text, Page, Kernel}
 use Rattle.ev_mem.specs.Memory.{page_map}
-use Rattle.ev_mem.specs.Conditions.{AreApart, AllApart, IsCanonicalRegion, IsInHalf, HasPageNumber, HoldsPageMap, is_text, words_of_text, AreRegions}
+use Rattle.ev_mem.specs.Conditions.{AreApart, IsCanonicalRegion, IsInHalf, HasPageNumber, HoldsPageMap, is_text, words_of_text, AreRegions}
 use Rattle.ev_concrete.specs.Opening.{region, regions}
-use Rattle.ev_fetch.proofs.Regions.{Each}
 use Rattle.ev_layout.proofs.Listed.{user_regions}
 use Rattle.ev_layout.proofs.Among.{IsPart, AreOf, each_some, EachApart, apart_some, as_all, as_apart, split, each_by, front, fixed, regions_by, all_some}
 
@@ -88,7 +87,7 @@ half_part r s p h =
     let l = p.words in
     subst (λ (k : RegionKind). IsInHalf k r.base (r.base + 8 * r.words)) (sym p.kind)
     (subst (λ (x : ℕ). IsInHalf s.kind x (r.base + 8 * r.words)) (sym b)
-        (half_less s.kind s.base (s.base + 8 * s.words) (r.base + 8 * r.words) (omega arith) h))
+    (half_less s.kind s.base (s.base + 8 * s.words) (r.base + 8 * r.words) (omega arith) h))
 
 abbrev has_number : RegionKind → Bool
 has_number Kernel = true

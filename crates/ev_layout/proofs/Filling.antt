@@ -2,7 +2,6 @@
 use Rattle.std.proofs.Common.{◌≡◌, ◌≢◌, ℕ, zero, suc, ◌+◌, ◌-◌, ◌*◌, ◌/◌, ◌%◌, ◌^◌, ◌<◌, ◌≤◌, ◌⊎◌, ⊎_elim, inl, inr, Bool, true, false, ◌&&◌, ◌==◌, List, [], ◌∷◌, ◌++◌, map, length, get_or, Option, Some, None, refl, sym, ap, ◌∙◌, arith, eqb-true, is_some, subst}
 use Rattle.std.specs.Prelude.{nat_lt, nat_le, if◌then◌else◌, ◌||◌, flat_map}
 use Rattle.std.specs.Option.{option_map}
-use Rattle.std.specs.List.{list_all}
 use Rattle.std.proofs.lemmas.Bool.{le-leb, lt-ltb, leb-true, ltb-true, ltb-false}
 use Rattle.std.proofs.lemmas.Bool.Decides.{nat_tests}
 use Rattle.ev_isa.specs.Word.{NatMap, is_aligned, put_at, numbers_from}
@@ -17,7 +16,7 @@ use Rattle.ev_mem.specs.Memory.{page_map, place_by, place_in}
 use Rattle.ev_listing.specs.AddressMap.{pcpu, user_table, kernel_table, idt_base, cells_base, task_words, stack_top, fred_page, code_end, body_code}
 use Rattle.ev_concrete.specs.Opening.{within, regions}
 use Rattle.ev_distances.proofs.Regions.{stack_covered, area_covered, task_covered, user_table_covered, kernel_table_covered, idt_covered, page_map_covered, cells_covered}
-use Rattle.ev_fetch.proofs.Regions.{Each, each_append, grouped, numbered, entry_place, body_place}
+use Rattle.ev_fetch.proofs.Regions.{Each, each_append, grouped, entry_place, body_place}
 use Rattle.ev_layout.specs.declared.fill.Span.{Span}
 use Rattle.ev_layout.specs.Filled.{filled, span, stack_spans, table_spans, block_span, all_spans, is_placed, are_placed}
 use Rattle.ev_layout.specs.Fits.{IsFit, AreFit}

@@ -21,14 +21,14 @@ use Rattle.ev_mem.specs.Conditions.{is_text, first_by, first_in, first_words}
 use Rattle.ev_mem.specs.Mapped.{is_within}
 use Rattle.ev_mem.specs.Memory.{page_map}
 use Rattle.ev_listing.specs.AddressMap.{pcpu, user_table, kernel_table, idt_base, cells_base, task_words, stack_top, fred_page}
-use Rattle.ev_concrete.specs.Opening.{Placed, byte_of, code_word, within, below_top, saved_words, tasks_of, stack_word, word_there, opening_word, region, regions}
+use Rattle.ev_concrete.specs.Opening.{byte_of, code_word, within, below_top, saved_words, tasks_of, stack_word, word_there, opening_word, region, regions}
 use Rattle.ev_fetch.proofs.Regions.{Each}
 use Rattle.ev_layout.specs.declared.fill.Span.{Span}
 use Rattle.ev_layout.specs.Filled.{is_in, is_covered, all_filled, stack_spans, table_spans, block_span, all_spans}
 use Rattle.ev_layout.specs.Placed.{placed}
 use Rattle.ev_layout.specs.There.{table_there}
 use Rattle.ev_layout.proofs.Listed.{user_regions}
-use Rattle.ev_layout.proofs.Among.{IsPart, each_some, each_by, split, front, fixed, kernel_regions, regions_by, kernel_some}
+use Rattle.ev_layout.proofs.Among.{each_some, each_by, split, front, fixed, kernel_regions, regions_by, kernel_some}
 use Rattle.ev_layout.proofs.There.{not_lower, there_code, there_stack, there_table, in_stacks, in_areas, in_tasks, IsBelow}
 
 -- ---- regions at first

@@ -1,8 +1,8 @@
 -- The sections of all code can be linked, and their blocks lie in the code's regions.
-use Rattle.std.proofs.Common.{◌≡◌, ℕ, suc, ◌+◌, ◌*◌, ◌^◌, ◌<◌, ◌≤◌, Bool, true, false, ◌&&◌, List, [], ◌∷◌, ◌++◌, map, length, refl, sym, ap, ◌∙◌, arith, append_assoc, length-append, subst}
-use Rattle.std.specs.Prelude.{nat_lt, nat_le, ◌||◌}
+use Rattle.std.proofs.Common.{◌≡◌, ℕ, suc, ◌+◌, ◌^◌, ◌<◌, ◌≤◌, Bool, true, false, ◌&&◌, List, [], ◌∷◌, ◌++◌, map, length, refl, sym, ap, ◌∙◌, arith, subst}
+use Rattle.std.specs.Prelude.{nat_le, ◌||◌}
 use Rattle.std.specs.List.{list_all}
-use Rattle.std.proofs.lemmas.Bool.{leb-true, le-leb, lt-ltb}
+use Rattle.std.proofs.lemmas.Bool.{le-leb, lt-ltb}
 use Rattle.ev_isa.specs.Instruction.{is_instruction}
 use Rattle.ev_isa.specs.Spelling.{spelling, four_bytes}
 use Rattle.ev_isa.specs.declared.mode.Mode.{Mode}
@@ -14,7 +14,7 @@ use Rattle.ev_asm.specs.declared.block.Block.{Block}
 use Rattle.ev_asm.specs.declared.linking.Section.{Section}
 use Rattle.ev_asm.specs.declared.statement.Stmt.{Stmt}
 use Rattle.ev_asm.specs.declared.statement.Stmt.TheVariants.{Label, Plain, Jump}
-use Rattle.ev_asm.specs.Assembly.{Places, size, total_size, place, stmt_bytes, code}
+use Rattle.ev_asm.specs.Assembly.{Places, size, total_size, place, code}
 use Rattle.ev_asm.specs.Assembled.{is_encoded, are_instructions}
 use Rattle.ev_asm.specs.Linked.{linked, reaches, all_reach, is_linkable, AreLinkable}
 use Rattle.ev_listing.specs.AddressMap.{fred_page, code_end, body_code}
@@ -155,7 +155,7 @@ blocks_append env [] ys = refl
 blocks_append env (x ∷ xs) ys = ap (λ (l : List Block). block_of env x ∷ l) (blocks_append env xs ys)
 
 all_placed_in : (env : Places) (mode : Mode) (image : Image) → IsImage image
-  → are_placed (length image.bodies) (map (block_of env) (listings mode image)) ≡ true
+    → are_placed (length image.bodies) (map (block_of env) (listings mode image)) ≡ true
 unfolding listings
 all_placed_in env mode image is =
     let n : ℕ = length image.bodies in

@@ -1,5 +1,5 @@
 -- The marks of code, one line, one item and one body further.
-use Rattle.std.proofs.Common.{◌≡◌, ℕ, suc, ◌+◌, ◌<◌, ◌≤◌, List, [], ◌∷◌, ◌++◌, length, get_or, drop, refl, sym, ap, ◌∙◌, arith, append_assoc, subst}
+use Rattle.std.proofs.Common.{◌≡◌, ℕ, suc, ◌+◌, ◌<◌, ◌≤◌, List, [], ◌∷◌, ◌++◌, length, get_or, drop, refl, sym, ap, ◌∙◌, arith, append_assoc}
 use Rattle.std.proofs.lemmas.List.{drop_all, append-nil}
 use Rattle.ev_isa.specs.declared.mode.Mode.{Mode}
 use Rattle.ev_body.specs.declared.body.Body.{Body}
@@ -8,9 +8,8 @@ use Rattle.ev_body.specs.declared.item.Item.{Item}
 use Rattle.ev_body.specs.declared.key.Key.{Key}
 use Rattle.ev_asm.specs.Assembly.{size, total_size}
 use Rattle.ev_listing.specs.AddressMap.{body_code}
-use Rattle.ev_listing.specs.Expansion.{item_label, expansion, expansions, body_stmts}
+use Rattle.ev_listing.specs.Expansion.{expansion, expansions, body_stmts}
 use Rattle.ev_listing.specs.Marks.{Mark, Marked, Listing, stmts_of, with_mark, marks, all_marks}
-use Rattle.ev_listing.specs.Statements.{label}
 use Rattle.ev_stub.proofs.Listed.{item_at}
 use Rattle.ev_concrete.specs.Opening.{body_listings, kernel_listings, listings}
 use Rattle.ev_concrete.specs.ConcreteRun.{marks_of}

@@ -2,7 +2,6 @@
 use Rattle.std.specs.Prelude.{ℕ, ◌+◌, ◌-◌, ◌*◌, ◌/◌, ◌%◌, Bool, ◌&&◌, ◌||◌, nat_le, if◌then◌else◌, List, [], ◌∷◌, ◌++◌, length, map, flat_map}
 use Rattle.std.specs.List.{list_any, list_all}
 use Rattle.ev_isa.specs.Word.{NatMap, is_aligned, numbers_from}
-use Rattle.ev_body.specs.declared.image.Image.{Image}
 use Rattle.ev_mem.specs.Memory.{page_map}
 use Rattle.ev_asm.specs.declared.block.Block.{Block}
 use Rattle.ev_listing.specs.AddressMap.{pcpu, user_table, kernel_table, idt_base, cells_base, task_words, stack_top, fred_page, code_end, body_code}

@@ -1,6 +1,6 @@
 // Reading the input of a probe.
 
-ghost use Rattle.std.specs.Prelude.{◌≡◌, ◌≤◌, ℕ, List, Some, true, IfOk};
+ghost use Rattle.std.specs.Prelude.{◌≡◌, ◌≤◌, ℕ, List, [], Some, true, IfOk};
 ghost use Rattle.ev_io.specs.Transfer.{Draws, Rose};
 ghost use Rattle.ev_io.specs.Lines.{coming, drawn};
 ghost use Rattle.ev_probe.specs.ProbeLine.{is_allowed};
@@ -72,6 +72,8 @@ fn only_line<S: Source>(
 ) -> Result<ProbeLine, InputFault>
     ensures reads { (bytes : List ℕ) → coming lines.old.chunk (S.left src.old) ≡ Some bytes
         → ReadsLine lines.old bytes lines.new (coming lines.new.chunk (S.left src.new)) result }
+    ensures end { (bytes : List ℕ) → coming lines.old.chunk (S.left src.old) ≡ Some bytes
+        → IfOk result (λ _. S.left src.new ≡ Some []) }
     ensures allowed { IfOk result (λ l. is_allowed l.mode l.op l.values ≡ true) }
     ensures draws { Draws (drawn lines.old) (drawn lines.new) (S.left src.old) (S.left src.new) }
     ensures most { drawn lines.new ≤ 8388609 }
@@ -97,6 +99,10 @@ pub fn read_probe<S: Source>(
 ) -> Result<Report, InputFault>
     ensures reads { (bytes : List ℕ) → coming lines.old.chunk (S.left src.old) ≡ Some bytes
         → ReadsProbe lines.old bytes lines.new (coming lines.new.chunk (S.left src.new)) result }
+
+    // the input was read to its end
+    ensures end { (bytes : List ℕ) → coming lines.old.chunk (S.left src.old) ≡ Some bytes
+        → IfOk result (λ _. S.left src.new ≡ Some []) }
 
     // bytes are read only as they are given or kept, up to byte 8,388,609
     ensures draws { Draws (drawn lines.old) (drawn lines.new) (S.left src.old) (S.left src.new) }

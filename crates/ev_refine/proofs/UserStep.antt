@@ -3,15 +3,14 @@ use Rattle.std.proofs.Common.{◌≡◌, ℕ, ◌+◌, ◌-◌, ◌*◌, ◌/◌
 use Rattle.std.specs.Prelude.{if◌then◌else◌, nat_lt, nat_le}
 use Rattle.std.specs.List.{list_any, list_all}
 use Rattle.std.proofs.lemmas.Bool.{le-leb, lt-ltb}
-use Rattle.ev_isa.specs.Word.{displaced, is_canonical, no_numbers, greatest_below}
-use Rattle.ev_isa.specs.Flags.{alu}
+use Rattle.ev_isa.specs.Word.{displaced, sign_extend, is_canonical, no_numbers, greatest_below}
+use Rattle.ev_isa.specs.Flags.{alu, shift_left, shift_right}
 use Rattle.ev_isa.specs.Pages.{text_base, View, Place, Text, Page, Lower, Upper, page_base, place_of, fault_at, UserMemory}
 use Rattle.ev_isa.specs.Instruction.{user_may}
 use Rattle.ev_isa.specs.Spelling.{spelling}
 use Rattle.ev_isa.specs.Reading.{reading}
-use Rattle.ev_isa.specs.declared.instruction.AluOp.TheVariants.{Add}
 use Rattle.ev_isa.specs.declared.instruction.Ins.{Ins}
-use Rattle.ev_isa.specs.declared.instruction.Ins.TheVariants.{MovImm, Alu, Jmp, Syscall}
+use Rattle.ev_isa.specs.declared.instruction.Ins.TheVariants.{MovImm, MovReg, Alu, AluImm, Shl, Shr, Nop, Jmp, Syscall}
 use Rattle.ev_event.specs.Event.{gp}
 use Rattle.ev_body.specs.declared.image.Image.{Image}
 use Rattle.ev_effect.specs.Task.{Task, reg, with_reg}
@@ -80,13 +79,42 @@ makes t (MovImm d n) h k = let at : Task = record t { rip = t.rip + length (spel
   user = λ v. refl;
   rip = refl;
 })
-makes t (Alu Add d s) h k = let at : Task = record t { rip = t.rip + length (spelling (Alu Add d s)) } in let r = alu Add (reg at d) (reg at s) in inr
-    (record {
-      task = with_result at d r;
-      is = λ v. refl;
-      user = λ v. refl;
-      rip = refl;
-    })
+makes t (MovReg d s) h k = let at : Task = record t { rip = t.rip + length (spelling (MovReg d s)) } in inr (record {
+  task = with_reg at d (reg at s);
+  is = λ v. refl;
+  user = λ v. refl;
+  rip = refl;
+})
+makes t (Alu op d s) h k = let at : Task = record t { rip = t.rip + length (spelling (Alu op d s)) } in inr (record {
+  task = with_result at d (alu op (reg at d) (reg at s));
+  is = λ v. refl;
+  user = λ v. refl;
+  rip = refl;
+})
+makes t (AluImm op d i) h k = let at : Task = record t { rip = t.rip + length (spelling (AluImm op d i)) } in inr (record {
+  task = with_result at d (alu op (reg at d) (sign_extend i));
+  is = λ v. refl;
+  user = λ v. refl;
+  rip = refl;
+})
+makes t (Shl d n) h k = let at : Task = record t { rip = t.rip + length (spelling (Shl d n)) } in inr (record {
+  task = with_result at d (shift_left (reg at d) n);
+  is = λ v. refl;
+  user = λ v. refl;
+  rip = refl;
+})
+makes t (Shr d n) h k = let at : Task = record t { rip = t.rip + length (spelling (Shr d n)) } in inr (record {
+  task = with_result at d (shift_right (reg at d) n);
+  is = λ v. refl;
+  user = λ v. refl;
+  rip = refl;
+})
+makes t Nop h k = let at : Task = record t { rip = t.rip + length (spelling Nop) } in inr (record {
+  task = at;
+  is = λ v. refl;
+  user = λ v. refl;
+  rip = refl;
+})
 makes t (Jmp n) h k = let next : ℕ = t.rip + length (spelling (Jmp n)) in let to : Task = record t { rip = displaced next n } in inr (record {
   task = to;
   is = λ v. ap (λ (b : Bool). (if b then Ok to else Err (gp 0)) >>= (λ (t' : Task). Ok (t', v.words))) k;

@@ -8,9 +8,7 @@ use Rattle.ev_isa.specs.Word.{is_canonical}
 use Rattle.ev_isa.specs.Pages.{text_base}
 use Rattle.ev_isa.specs.Spelling.{spelling}
 use Rattle.ev_isa.specs.Reading.{reading}
-use Rattle.ev_isa.specs.declared.instruction.AluOp.TheVariants.{Add}
 use Rattle.ev_isa.specs.declared.instruction.Ins.{Ins}
-use Rattle.ev_isa.specs.declared.instruction.Ins.TheVariants.{MovImm, Alu, Jmp, Syscall}
 use Rattle.ev_body.specs.declared.image.Image.{Image}
 use Rattle.ev_body.specs.declared.image.TaskSpec.{TaskSpec}
 use Rattle.ev_body.specs.WellFormed.{IsImage}
@@ -20,19 +18,11 @@ use Rattle.ev_code.proofs.ReadingForms.{reading_again}
 use Rattle.ev_abstract.specs.Machine.{no_task}
 use Rattle.ev_abstract.specs.UserCode.{text_bytes}
 use Rattle.ev_built.specs.Built.{IsBuilt}
+use Rattle.ev_built.proofs.Programs.{spelling_some}
 use Rattle.ev_built.specs.Program.{spelled, instruction_from, begins, leads_to, all_lead, is_built_instruction, all_built, AllEncodable, IsProgram}
 use Rattle.ev_symbolic.proofs.Values.{and_left, and_right}
 use Rattle.ev_symbolic.proofs.Blocks.{unsome}
 use Rattle.ev_refine.specs.Domain.{first_start}
-
--- today's instructions have bytes
-spelling_some : (i : Ins) → is_built_instruction i ≡ true → 0 < length (spelling i)
-unfolding spelling is_built_instruction
-spelling_some (MovImm d n) h = omega arith
-spelling_some (Alu Add d s) h = omega arith
-spelling_some (Jmp n) h = omega arith
-spelling_some Syscall h = omega arith
-spelling_some _ h = absurd (cc)
 
 drop_behind : {A : Type 0} (xs ys : List A) (n : ℕ) → drop (length xs + n) (xs ++ ys) ≡ drop n ys
 drop_behind [] ys n = ap (λ k. drop k ys) (let e : 0 + n ≡ n = omega arith in e)

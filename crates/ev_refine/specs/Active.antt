@@ -41,6 +41,7 @@ abbrev pub nmi_level : Mode → Processor → ℕ
 nmi_level Fred w = 2
 nmi_level Idt w = w.level
 
+-- that of its kind
 abbrev pub level_in : Mode → Kind → Processor → ℕ
 level_in mode NmiFromBody w = nmi_level mode w
 level_in mode κ w = w.level
@@ -53,6 +54,7 @@ IsKernelSs n = (n ≡ 0) ⊎ (n ≡ 0x18)
 abbrev pub rest_in : Mode → Kind → ℕ → Processor → Processor
 rest_in mode κ ss w = record (untracked w) { cpl = 0; cs = 0x10; ss = ss; level = level_in mode κ w }
 
+-- its environment: bases, variables, flags and the rest
 abbrev pub here : Mode → ℕ → Kind → Seat → ℕ → Processor → (extra var : ℕ → ℕ) → Flags → Env
 here mode p κ σ ss w extra v f = record { base = bases p (top_at p σ) extra; var = v; flags = f; rest = rest_in mode κ ss w }
 
@@ -61,6 +63,7 @@ abbrev pub address_of_item : Mode → ℕ → ℕ → Option Body → ℕ
 address_of_item mode n i None = 0
 address_of_item mode n i (Some b) = item_address mode n b i
 
+-- the same by the body's number in the image
 abbrev pub item_place : Mode → Image → ℕ → ℕ → ℕ
 item_place mode image n i = address_of_item mode n i (slice_get image.bodies n)
 
@@ -118,10 +121,12 @@ module _ (mode : Mode) (image : Image) where
     pub saved : Saved v w
     pub locals : Locals v b
 
+  -- at an item: the registers are its locals
   pub record InItem (v : ℕ → ℕ) (w : Processor) (b : BodyContext) : Type 0 where
     pub saved : Saved v w
     pub locals : Locals v b
 
+  -- in the exit, behind `ret`
   pub record Leaving (v : ℕ → ℕ) (w : Processor) (b : BodyContext) : Type 0 where
     pub saved : Saved v w
     pub ret : item_at (slice_get image.bodies b.body) b.place ≡ Some Ret

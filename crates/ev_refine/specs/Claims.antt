@@ -75,6 +75,7 @@ pub record Settles (mode : Mode) (image : Image) (left : NatMap ℕ) (s : System
   pub others : (k q : ℕ) → q < image.processors → p ≢ q
       → is_visible (marks_of mode image) (edges k (marks_of mode image) image.processors s p).0 q ≡ is_visible (marks_of mode image) s q
 
+-- so it is of every related state and processor
 abbrev pub AllSettle : Type 0
 AllSettle = (mode : Mode) (image : Image) → IsBuilt image → mode_is_built mode ≡ true → IsImage image → (left : NatMap ℕ) (s : System) (m : Machine)
     → Stands mode image left s m
@@ -93,6 +94,7 @@ pub record Turns (mode : Mode) (image : Image) (s : System) (m : Machine) (p : �
   pub entries : shown (marks_of mode image) (settled (marks_of mode image) image.processors s p).0 p ≡ (turn image m p).1
   pub few : length (concrete_turn (marks_of mode image) image.processors s p).1 ≤ 2
 
+-- so it is of every related state and processor
 abbrev pub TurnsFollow : Type 0
 TurnsFollow = (mode : Mode) (image : Image) → IsBuilt image → mode_is_built mode ≡ true → IsImage image → (left : NatMap ℕ) (s : System) (m : Machine)
     → Stands mode image left s m
@@ -110,6 +112,7 @@ pub record SettledFirst (mode : Mode) (image : Image) (s : System) (m : Machine)
   pub stands : Stands mode image left (all_settled (marks_of mode image) image.processors s (numbers_from 0 q)).0 m
   pub seen : (p : ℕ) → p < q → is_visible (marks_of mode image) (all_settled (marks_of mode image) image.processors s (numbers_from 0 q)).0 p ≡ true
 
+-- so it is after every script
 abbrev pub EndsFollow : Type 0
 EndsFollow = (mode : Mode) (image : Image) → IsBuilt image → mode_is_built mode ≡ true → IsImage image → (script : List Line) → IsScript image script
     → list_all line_is_built script ≡ true → (q : ℕ) → q ≤ image.processors → SettledFirst mode image (concrete_run mode image script).0 (run image script) q
@@ -141,6 +144,7 @@ pub record Tells (mode : Mode) (image : Image) (s : System) (m : Machine) (p : �
   pub saved : (processor m p).bodies ≡ [] → (i : ℕ) → i < length (tasks_of image p) → i ≢ (processor m p).running
       → IsSaved mode p i ((processor m p).tasks i) s.memory.words
 
+-- the relation says this of each processor
 abbrev pub StandsTells : Type 0
 StandsTells = (mode : Mode) (image : Image) → IsBuilt image → mode_is_built mode ≡ true → IsImage image → (left : NatMap ℕ) (s : System) (m : Machine)
     → Stands mode image left s m

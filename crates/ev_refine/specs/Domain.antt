@@ -13,6 +13,7 @@ use Rattle.ev_built.specs.Program.{begins, IsProgram}
 abbrev pub first_start : Image → ℕ
 first_start image = (get_or (get_or image.tasks 0 []) 0 no_task).start
 
+-- so far as it is one
 abbrev pub IsInProgram : Image → ℕ → Type 0
 IsInProgram image rip = (program : List Ins) → IsProgram image.text (first_start image) program → begins program rip ≡ true
 
@@ -22,6 +23,7 @@ pub record IsQuiet (b : BodyContext) : Type 0 where
   pub service : b.service ≡ None
   pub calls : b.calls ≡ []
 
+-- each of them
 abbrev pub AreQuiet : List BodyContext → Type 0
 AreQuiet [] = Unit {0}
 AreQuiet (b ∷ below) = IsQuiet b × AreQuiet below

@@ -16,6 +16,7 @@ pub data Named : Type 0 where
   PageBit : (i : ℕ) → Named
   UserWord : (a : ℕ) → Named
 
+-- where each stands
 abbrev pub address_of : Named → ℕ
 address_of (UserRsp p) = pcpu p + 8
 address_of (Top p) = pcpu p + 0x10
@@ -72,6 +73,7 @@ abbrev pub NotNamed : List Named → ℕ → Type 0
 NotNamed [] a = Unit {0}
 NotNamed (x ∷ xs) a = Outside (address_of x) (address_of x + 8) a × NotNamed xs a
 
+-- each of a list
 abbrev pub AreWritten : List Named → Type 0
 AreWritten [] = Unit {0}
 AreWritten (x ∷ xs) = IsWritten x × AreWritten xs

@@ -25,11 +25,13 @@ abbrev pub IfIdt : Mode → Type 0 → Type 0
 IfIdt Idt P = P
 IfIdt Fred P = Unit {0}
 
+-- by the activation's kind
 abbrev pub Knows : Mode → Kind → Bool → Frame → Type 0
 Knows mode NmiFromTask known f = IfIdt mode (KnowsIf known f)
 Knows mode NmiFromBody known f = IfIdt mode (KnowsIf known f)
 Knows mode κ known f = Unit {0}
 
+-- what the frame says, by the activation's kind
 abbrev pub Leads : Mode → ℕ → Kind → Frame → Processor → NatMap ℕ → Type 0
 Leads mode p NmiFromTask f w words = IfIdt mode (FrameIs p f w words)
 Leads mode p NmiFromBody f w words = IfIdt mode (FrameIs p f w words)

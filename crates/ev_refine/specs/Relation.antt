@@ -69,11 +69,13 @@ module _ (mode : Mode) (image : Image) where
   is_idt Idt = true
   is_idt Fred = false
 
+  -- so does the return of this kind
   abbrev pub keeps_cr2 : Kind → Bool
   keeps_cr2 NmiFromTask = is_idt mode
   keeps_cr2 NmiFromBody = is_idt mode
   keeps_cr2 κ = false
 
+  -- what stands beneath it
   abbrev pub Beneath : Bool → (Processor → Type 0) → Processor → Type 0
   Beneath true C w = C w
   Beneath false C w = (a : ℕ) → C (record w { cr2 = a })
@@ -83,6 +85,7 @@ module _ (mode : Mode) (image : Image) where
   switches_at switching [] = switching
   switches_at switching (b ∷ below) = false
 
+  -- and none of those over another one
   abbrev pub chained : Bool → List BodyContext → Bool
   chained switching [] = false
   chained switching (b ∷ below) = switching
@@ -142,6 +145,7 @@ module _ (mode : Mode) (image : Image) where
 
   -- ---- what all processors share
 
+  -- each word by itself
   pub record Shares (s : System) (m : Machine) : Type 0 where
     pub user : (a : ℕ) → IsUserWord a → s.memory.words a ≡ m.words a
     pub pages : (i : ℕ) → i < 256 → s.memory.words (page_map + 8 * i) ≡ (if m.present i then 1 else 0)

@@ -30,6 +30,7 @@ abbrev pub TssIs : Mode → ℕ → ℕ → NatMap ℕ → Type 0
 TssIs Fred p r words = Unit {0}
 TssIs Idt p r words = words (pcpu p + 0x408) ≡ stack_top p r
 
+-- the same with its words
 pub record CurrentIs (mode : Mode) (p r : ℕ) (words : NatMap ℕ) : Type 0 where
   pub top : words (pcpu p + 0x10) ≡ stack_top p r
   pub current : words (pcpu p + 0x18) ≡ task_words p r

@@ -1,6 +1,6 @@
 // Reading scripts.
 
-ghost use Rattle.std.specs.Prelude.{◌≡◌, ◌≤◌, ◌<◌, ℕ, List, map, true, Some, IfOk, IfSome, vec_len};
+ghost use Rattle.std.specs.Prelude.{◌≡◌, ◌≤◌, ◌<◌, ℕ, List, [], map, true, Some, IfOk, IfSome, vec_len};
 ghost use Rattle.ev_io.specs.Transfer.{Draws, Rose};
 ghost use Rattle.ev_io.specs.Lines.{coming, drawn};
 ghost use Rattle.ev_io.specs.Tokens.{tokens_of};
@@ -137,6 +137,10 @@ pub fn read_lines<S: Source>(
     ensures formed { IfOk result (λ script. IsScript image.now script.lines.items) }
     ensures few { IfOk result (λ script. vec_len script.lines ≤ 200000) }
 
+    // the input was read to its end
+    ensures end { (bytes : List ℕ) → coming lines.old.chunk (S.left src.old) ≡ Some bytes
+        → IfOk result (λ _. S.left src.new ≡ Some []) }
+
     // bytes are read only as they are given or kept, up to byte 8,388,609
     ensures draws { Draws (drawn lines.old) (drawn lines.new) (S.left src.old) (S.left src.new) }
     ensures most { drawn lines.new ≤ 8388609 }
@@ -165,6 +169,10 @@ pub fn read_script<S: Source>(
         (coming lines.new.chunk (S.left src.new)) result }
     ensures formed { IfOk result (λ script. IsScript image.now.image script.lines.items) }
     ensures few { IfOk result (λ script. vec_len script.lines ≤ 200000) }
+
+    // the input was read to its end
+    ensures end { (bytes : List ℕ) → coming lines.old.chunk (S.left src.old) ≡ Some bytes
+        → IfOk result (λ _. S.left src.new ≡ Some []) }
 
     // bytes are read only as they are given or kept, up to byte 8,388,609
     ensures draws { Draws (drawn lines.old) (drawn lines.new) (S.left src.old) (S.left src.new) }

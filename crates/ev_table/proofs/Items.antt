@@ -113,7 +113,8 @@ module _ (mode : Mode) (b : ℕ) (key : Key) (f : ℕ → ℕ) where
       (part_at (λ a ls. AreMarked ms a ls) (marked_parts ms) a 0 items h i item q)
 
   -- the items up to the next one
-  size_next : (n i : ℕ) (items : List Item) (item : Item) → slice_get items i ≡ Some item → total_size (stmts_of (expansions mode b key f n (take (suc i) items)))
+  size_next : (n i : ℕ) (items : List Item) (item : Item) → slice_get items i ≡ Some item
+      → total_size (stmts_of (expansions mode b key f n (take (suc i) items)))
       ≡ total_size (stmts_of (expansions mode b key f n (take i items))) + total_size (stmts_of (expansion mode b key f (n + i) item))
   size_next n i [] item q = absurd (cc)
   size_next n zero (x ∷ xs) item q =
@@ -125,7 +126,8 @@ module _ (mode : Mode) (b : ℕ) (key : Key) (f : ℕ → ℕ) where
       let at = ap (λ (k : ℕ). total_size (stmts_of (expansion mode b key f k item))) (let z : suc n + i ≡ n + suc i = omega arith in z) in
       omega (arith, size_cons mode b key f n x (take (suc i) xs), size_cons mode b key f n x (take i xs), size_next (suc n) i xs item q, at)
 
-  pub next_size : (i : ℕ) (items : List Item) (item : Item) → slice_get items i ≡ Some item → total_size (stmts_of (expansions mode b key f 0 (take (suc i) items)))
+  pub next_size : (i : ℕ) (items : List Item) (item : Item) → slice_get items i ≡ Some item
+      → total_size (stmts_of (expansions mode b key f 0 (take (suc i) items)))
       ≡ total_size (stmts_of (expansions mode b key f 0 (take i items))) + total_size (stmts_of (expansion mode b key f i item))
   next_size i items item q = size_next 0 i items item q
       ∙ ap (λ (k : ℕ). total_size (stmts_of (expansions mode b key f 0 (take i items))) + total_size (stmts_of (expansion mode b key f k item)))

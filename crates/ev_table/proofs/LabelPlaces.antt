@@ -54,6 +54,13 @@ no_labels m k (l ∷ ls) h = one l.stmt h (no_labels m k ls)
     one (Plain i) q f = (tt, f q)
     one (Jump c name) q f = (tt, f q)
 
+-- past one line that is no label, and past four
+past : {X : Type 0} → X → Unit {0} × X
+past x = (tt, x)
+
+past4 : {X : Type 0} → X → Unit {0} × (Unit {0} × (Unit {0} × (Unit {0} × X)))
+past4 x = past (past (past (past x)))
+
 item_owns : (mode : Mode) (m : ℕ) (key : Key) (f : ℕ → ℕ) (k : ℕ) (item : Item) → Each (λ (l : Marked). Owns m k l.stmt) (expansion mode m key f k item)
 unfolding expansion
 item_owns mode m key f k (Set d v) = no_labels m k (expansion mode m key f k (Set d v)) refl
@@ -83,10 +90,25 @@ item_owns mode m key f k Cli = no_labels m k (expansion mode m key f k Cli) refl
 item_owns mode m key f k Eoi = no_labels m k (expansion mode m key f k Eoi) refl
 item_owns mode m key f k (Send to x) = no_labels m k (expansion mode m key f k (Send to x)) refl
 item_owns mode m key f k Item.Bp = no_labels m k (expansion mode m key f k Item.Bp) refl
-item_owns mode m key f k (Kick to s) = (tt, (tt, (tt, (tt, (tt, (tt, (tt, (own m k (codes "K1") 75 49 refl (omega arith), (tt, (own m k (codes "K2") 75 50 refl (omega arith), tt))))))))))
+item_owns mode m key f k (Kick to s) = past
+    (past (past (past (past (past (past (own m k (codes "K1") 75 49 refl (omega arith), past (own m k (codes "K2") 75 50 refl (omega arith), tt))))))))
 item_owns mode m key f k (Wait site) = (own m k (codes "W0") 87 48 refl (omega arith), (tt, (tt, (tt, (tt, (tt, tt))))))
-item_owns mode m key f k (Call site to func s) = (tt, (tt, (tt, (tt, (tt, (tt, (tt, (own m k (codes "L1") 76 49 refl (omega arith), (tt, (tt, (tt, (tt, (tt, (tt, (tt, (tt, (tt, (tt, (tt, (own m k (codes "L2") 76 50 refl (omega arith), (tt, (tt, (tt, (tt, (tt, (tt, (tt, (tt, (own m k (codes "L3") 76 51 refl (omega arith), tt)))))))))))))))))))))))))))))
-item_owns mode m key f k Take = (tt, (tt, (tt, (tt, (own m k (codes "T1") 84 49 refl (omega arith), (tt, (tt, (tt, (tt, (tt, (tt, (tt, (inr refl, (tt, (tt, (tt, (tt, (tt, (tt, (own m k (codes "T3") 84 51 refl (omega arith), tt))))))))))))))))))))
+item_owns mode m key f k (Call site to func s) =
+    past4 (past (past (past (
+      own m k (codes "L1") 76 49 refl (omega arith),
+      past4 (past4 (past (past (past (
+        own m k (codes "L2") 76 50 refl (omega arith),
+        past4 (past4 (own m k (codes "L3") 76 51 refl (omega arith), tt)),
+      ))))),
+    ))))
+item_owns mode m key f k Take =
+    past4 (
+      own m k (codes "T1") 84 49 refl (omega arith),
+      past4 (past (past (past (
+        inr refl,
+        past4 (past (past (own m k (codes "T3") 84 51 refl (omega arith), tt))),
+      )))),
+    )
 item_owns mode m key f k Finish = no_labels m k (expansion mode m key f k Finish) refl
 item_owns mode m key f k Ret = no_labels m k (expansion mode m key f k Ret) refl
 
@@ -118,14 +140,17 @@ places_append a [] ys rest = ap (λ (x : ℕ). places x (stmts_of ys) ++ rest) (
 places_append a (l ∷ ls) ys rest = one l.stmt (λ b. places_append b ls ys rest)
   where
     behind : (s : ℕ) → places (a + s + total_size (stmts_of ls)) (stmts_of ys) ++ rest ≡ places (a + (s + total_size (stmts_of ls))) (stmts_of ys) ++ rest
-    behind s = ap (λ (x : ℕ). places x (stmts_of ys) ++ rest) (let e : a + s + total_size (stmts_of ls) ≡ a + (s + total_size (stmts_of ls)) = omega arith in e)
+    behind s = ap (λ (x : ℕ). places x (stmts_of ys) ++ rest)
+        (let e : a + s + total_size (stmts_of ls) ≡ a + (s + total_size (stmts_of ls)) = omega arith in e)
 
-    further : (s : ℕ) → ((b : ℕ) → places b (stmts_of (ls ++ ys)) ++ rest ≡ places b (stmts_of ls) ++ (places (b + total_size (stmts_of ls)) (stmts_of ys) ++ rest))
+    further : (s : ℕ) →
+        ((b : ℕ) → places b (stmts_of (ls ++ ys)) ++ rest ≡ places b (stmts_of ls) ++ (places (b + total_size (stmts_of ls)) (stmts_of ys) ++ rest))
         → places (a + s) (stmts_of (ls ++ ys)) ++ rest
         ≡ places (a + s) (stmts_of ls) ++ (places (a + (s + total_size (stmts_of ls))) (stmts_of ys) ++ rest)
     further s f = f (a + s) ∙ ap (λ (x : Places). places (a + s) (stmts_of ls) ++ x) (behind s)
 
-    one : (s : Stmt) → ((b : ℕ) → places b (stmts_of (ls ++ ys)) ++ rest ≡ places b (stmts_of ls) ++ (places (b + total_size (stmts_of ls)) (stmts_of ys) ++ rest))
+    one : (s : Stmt) →
+        ((b : ℕ) → places b (stmts_of (ls ++ ys)) ++ rest ≡ places b (stmts_of ls) ++ (places (b + total_size (stmts_of ls)) (stmts_of ys) ++ rest))
         → places a (s ∷ stmts_of (ls ++ ys)) ++ rest
         ≡ places a (s ∷ stmts_of ls) ++ (places (a + (size s + total_size (stmts_of ls))) (stmts_of ys) ++ rest)
     one (Label name) f = ap (λ (x : Places). (name, a) ∷ x)
@@ -188,7 +213,8 @@ module _ (mode : Mode) (n : ℕ) (key : Key) (f : ℕ → ℕ) (hn : Small n) wh
       ∙ ap (λ (j : ℕ). place (places (a + one) (stmts_of more) ++ rest) (item_label n j)) (let e : k + suc i ≡ suc k + i = omega arith in e)
       ∙ item_placed (a + one) (suc k) items i rest (omega arith) (omega arith)
       ∙ (let e : (a + one) + total_size (stmts_of (expansions mode n key f (suc k) (take i items)))
-      ≡ a + total_size (stmts_of (expansions mode n key f k (take (suc i) (item ∷ items)))) = omega (arith, size_cons mode n key f k item (take i items)) in e)
+      ≡ a + total_size (stmts_of (expansions mode n key f k (take (suc i) (item ∷ items))))
+      = omega (arith, size_cons mode n key f k item (take i items)) in e)
 
 -- ---- bodies
 
@@ -238,5 +264,6 @@ module _ (mode : Mode) (image : Image) where
       ∙ subst (λ (k : ℕ). place (all_places (body_listings mode image 0 image.bodies) ++ all_places (kernel_listings mode)) (item_label k i)
       ≡ body_code k + total_size (stmts_of (expansions mode k b.key (function_address mode image) 0 (take i (body_items b)))))
       (let z : 0 + n ≡ n = omega arith in z)
-      (body_placed (length image.text) 0 image.bodies (all_places (kernel_listings mode)) n i b is.bodies_given.1 (let few = is.bodies_given.0 in omega arith) q l)
+      (body_placed (length image.text) 0 image.bodies (all_places (kernel_listings mode)) n i b is.bodies_given.1 (let few = is.bodies_given.0 in omega arith)
+      q l)
       ∙ sym (address mode image n i b)

@@ -1,2 +1,5 @@
-pub mod Commands
+pub mod Comes
 pub mod Answer
+pub mod Broken
+pub mod Faults
+pub mod Taken

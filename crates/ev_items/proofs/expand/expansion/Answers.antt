@@ -1,7 +1,6 @@
-use Rattle.std.proofs.Common.{◌≡◌, ◌++◌, [], ◌∷◌, ◌∙◌, ℕ, pos, List, ap, sym}
+use Rattle.std.proofs.Common.{◌++◌, [], ◌∷◌, ◌∙◌, pos, ap, sym}
 use Rattle.ev_isa.specs.declared.instruction.Ins.TheVariants.{Load, Store}
 use Rattle.ev_listing.specs.Expansion.{user_word, expansion}
-use Rattle.ev_listing.specs.Marks.{Marked}
 use Rattle.ev_listing.specs.Statements.{seen}
 use Rattle.ev_stub.specs.declared.names.Registers.{Registers}
 use Rattle.ev_abstract.specs.Rules.{breaks_slots}

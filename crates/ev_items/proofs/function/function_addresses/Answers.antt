@@ -1,4 +1,4 @@
-use Rattle.std.proofs.Common.{◌≡◌, ◌∙◌, ◌<◌, ◌≤◌, List, get_or, length, ap, sym, subst}
+use Rattle.std.proofs.Common.{◌∙◌, ◌<◌, ◌≤◌, List, get_or, length, ap, sym, subst}
 use Rattle.ev_body.specs.declared.body.Body.{Body}
 use Rattle.ev_body.specs.declared.image.Image.{Image}
 use Rattle.ev_body.specs.declared.key.Side.TheVariants.{User}

@@ -24,6 +24,6 @@ loop-line-preserved c = record {
 pub returns-clause-is : goal.returns-clause-is
 returns-clause-is c = λ mode b key n.
     lines_end mode b key n c.as_slice-line-items.result.now c.loop-line.line-index c.loop-line.size _ c.loop-line-test.false
-        (c.loop-line.invariant.sum mode b key n)
+    (c.loop-line.invariant.sum mode b key n)
     ∙ ap (λ (ls : List Marked). total_size (stmts_of ls))
     (ap (lines_of mode b key n) c.as_slice-line-items.ensures.value ∙ c.expansion-lines.ensures mode b key (λ f. 0) n no_addresses)

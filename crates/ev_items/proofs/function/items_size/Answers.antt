@@ -1,5 +1,5 @@
 use Rattle.std.proofs.Common.{◌+◌, ℕ, ap, arith}
-use Rattle.ev_items.proofs.Steps.{size_step, size_end}
+use Rattle.ev_items.proofs.Steps.{size_step}
 use Rattle.ev_items.proofs.function.items_size.Goals as goal
 
 pub loop-item-preserved : goal.loop-item-preserved

@@ -2,7 +2,6 @@ use Rattle.std.proofs.Common.{◌≡◌, ◌∙◌, ◌<◌, List, get_or, lengt
 use Rattle.std.specs.List.{list_all}
 use Rattle.ev_body.specs.declared.image.Image.{Image}
 use Rattle.ev_body.specs.declared.image.TaskSpec.{TaskSpec}
-use Rattle.ev_body.specs.WellFormed.{is_task}
 use Rattle.ev_layout.specs.Processors.{have_bases}
 use Rattle.ev_layout.proofs.Descriptors.{are_tasks, tasks_at, bases_of}
 use Rattle.ev_layout.proofs.cpu.descriptors.Goals as goal

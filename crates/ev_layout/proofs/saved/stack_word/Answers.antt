@@ -1,5 +1,4 @@
-use Rattle.std.proofs.Common.{◌≡◌, ◌∙◌, ◌<◌, [], List, get_or, length, true, ap, sym, subst}
-use Rattle.std.specs.Prelude.{nat_lt}
+use Rattle.std.proofs.Common.{◌≡◌, ◌∙◌, ◌<◌, [], List, get_or, length, ap, subst}
 use Rattle.ev_body.specs.declared.image.Image.{Image}
 use Rattle.ev_body.specs.declared.image.TaskSpec.{TaskSpec}
 use Rattle.ev_layout.proofs.Waiting.{other_default, within_by, stack_is}

@@ -1,4 +1,4 @@
-use Rattle.std.proofs.Common.{◌+◌, arith}
+use Rattle.std.proofs.Common.{arith}
 use Rattle.ev_layout.proofs.Marked.{items_step, items_end}
 use Rattle.ev_layout.proofs.visible.append_items.Goals as goal
 

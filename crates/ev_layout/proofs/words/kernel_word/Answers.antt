@@ -3,7 +3,7 @@ use Rattle.ev_body.specs.declared.image.Image.{Image}
 use Rattle.ev_listing.specs.AddressMap.{pcpu, task_words, stack_top}
 use Rattle.ev_concrete.specs.Opening.{within, task_word}
 use Rattle.ev_layout.specs.Placed.{placed}
-use Rattle.ev_layout.proofs.There.{is_below, in_stacks, in_areas, in_tasks, there_code, there_stack, there_area, there_task, there_table}
+use Rattle.ev_layout.proofs.There.{is_below, there_code, there_stack, there_area, there_task, there_table}
 use Rattle.ev_layout.proofs.words.kernel_word.Goals as goal
 
 test : (base unit p q a : ℕ) (x y : Bool) → p ≡ q → y ≡ within base (unit * p) a → y ≡ x → within base (unit * q) a ≡ x

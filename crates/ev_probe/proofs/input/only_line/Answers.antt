@@ -1,5 +1,6 @@
 use Rattle.std.proofs.Common.{Some}
 use Rattle.ev_io.proofs.Bytes.{draws_then}
+use Rattle.ev_io.proofs.EndLaws.{nothing_left}
 use Rattle.ev_probe.proofs.Inputs.{bad_line, faulty, nothing_follows, whole_line}
 use Rattle.ev_probe.proofs.input.only_line.Goals as goal
 
@@ -30,3 +31,9 @@ returns-in-Ok-None-clause-reads g c = λ bytes e.
 
 pub returns-in-Ok-None-clause-draws : goal.returns-in-Ok-None-clause-draws
 returns-in-Ok-None-clause-draws g c = draws_then _ _ _ _ _ _ c.first_line.ensures.draws c.next_said.ensures.draws
+
+pub returns-in-Ok-None-clause-end : goal.returns-in-Ok-None-clause-end
+returns-in-Ok-None-clause-end g c = λ bytes e.
+    let stands = c.in_ok-line.ensures.reads bytes e in
+    let skips = rw c.in-Ok-None.field-0-is at (c.in-Ok-None.ensures.said stands.left stands.to_come) in
+    nothing_left c.first_line.new.lines c.next_said.new.self stands.left _ _ stands.to_come c.next_said.ensures.draws skips

@@ -1,4 +1,5 @@
 use Rattle.ev_io.proofs.Bytes.{draws_then}
+use Rattle.ev_io.proofs.EndLaws.{nothing_left}
 use Rattle.ev_script.proofs.ScriptLaws.{faulty, bad_line, nothing_follows, whole_script}
 use Rattle.ev_script.proofs.reading.read_lines.Goals as goal
 
@@ -29,3 +30,9 @@ returns-in-Ok-None-clause-reads g c = λ bytes e.
 
 pub returns-in-Ok-None-clause-draws : goal.returns-in-Ok-None-clause-draws
 returns-in-Ok-None-clause-draws g c = draws_then _ _ _ _ _ _ c.read_to_end.ensures.draws c.next_said.ensures.draws
+
+pub returns-in-Ok-None-clause-end : goal.returns-in-Ok-None-clause-end
+returns-in-Ok-None-clause-end g c = λ bytes e.
+    let stands = c.in_ok-script.ensures.reads bytes e in
+    let skips = rw c.in-Ok-None.field-0-is at (c.in-Ok-None.ensures.said stands.left stands.to_come) in
+    nothing_left c.read_to_end.new.lines c.next_said.new.self stands.left _ _ stands.to_come c.next_said.ensures.draws skips

@@ -1,0 +1,24 @@
+-- The answers to faults of reading. Own.
+use Rattle.ev_image.specs.declared.reading.ImageFault.{ImageFault}
+use Rattle.ev_probe.specs.declared.input.InputFault.{InputFault}
+use Rattle.ev_script.specs.declared.reading.ScriptFault.{ScriptFault}
+use Rattle.ev_status.specs.declared.status.Status.{Status}
+use Rattle.ev_status.specs.declared.status.Status.TheVariants.{ReadFault, BadDocument, NoMemory}
+
+-- where no image was read
+abbrev pub image_status : ImageFault → Status
+image_status ImageFault.Read = ReadFault
+image_status (ImageFault.BadLine n cause) = BadDocument n cause
+image_status ImageFault.NoMemory = NoMemory
+
+-- where no script was read
+abbrev pub script_status : ScriptFault → Status
+script_status ScriptFault.Read = ReadFault
+script_status (ScriptFault.BadLine n cause) = BadDocument n cause
+script_status ScriptFault.NoMemory = NoMemory
+
+-- where no probe line was read
+abbrev pub input_status : InputFault → Status
+input_status InputFault.Read = ReadFault
+input_status (InputFault.BadLine n cause) = BadDocument n cause
+input_status InputFault.NoMemory = NoMemory
