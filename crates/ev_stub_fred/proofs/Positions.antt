@@ -1,5 +1,5 @@
 -- The blocks: their instructions have numbers, and the positions in them one after the other.
-use Rattle.std.proofs.Common.{◌≡◌, ℕ, ◌+◌, true, List, [], ◌∷◌, ◌++◌, Option, Some, None, refl, sym, ap, ◌∙◌, codes}
+use Rattle.std.proofs.Common.{◌≡◌, ℕ, ◌+◌, true, [], ◌∷◌, ◌++◌, Option, Some, None, refl, ap, ◌∙◌, codes}
 use Rattle.std.specs.Option.{option_or}
 use Rattle.ev_isa.specs.Instruction.{is_instruction}
 use Rattle.ev_isa.specs.Spelling.{spelling, four_bytes}
@@ -8,11 +8,11 @@ use Rattle.ev_asm.specs.Assembled.{is_encoded}
 use Rattle.ev_listing.specs.AddressMap.{fred_page}
 use Rattle.ev_listing.specs.FredCode.{entries, exits, fred_listings}
 use Rattle.ev_listing.specs.Statements.{jmp}
-use Rattle.ev_stub.specs.Position.{in_block, index_from, position_in, is_countable}
+use Rattle.ev_stub.specs.Position.{in_block, index_from, is_countable}
 use Rattle.ev_stub.proofs.Positions.{count_behind, address_behind, index_append}
 use Rattle.ev_stub_fred.specs.declared.position.FredBlock.{FredBlock}
 use Rattle.ev_stub_fred.specs.declared.position.FredBlock.TheVariants.{User, Kernel, Main}
-use Rattle.ev_stub_fred.specs.Position.{fred_blocks, place_of, fred_place}
+use Rattle.ev_stub_fred.specs.Position.{place_of, fred_place}
 
 pub user_countable : is_countable fred_page (jmp (codes "FU") ∷ []) ≡ true
 unfolding is_encoded size

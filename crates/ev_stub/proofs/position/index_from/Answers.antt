@@ -1,8 +1,7 @@
-use Rattle.std.proofs.Common.{◌≡◌, ◌+◌, ap, sym, ◌∙◌, map, drop, arith}
-use Rattle.ev_asm.specs.Assembly.{size, total_size}
+use Rattle.std.proofs.Common.{◌≡◌, ◌+◌, ap, sym, ◌∙◌, arith}
+use Rattle.ev_asm.specs.Assembly.{size}
 use Rattle.ev_asm.specs.Assembled.{is_encoded}
-use Rattle.ev_stub.specs.Lines.{marked_of, stmt_of}
-use Rattle.ev_stub.specs.Position.{index_from}
+use Rattle.ev_stub.specs.Lines.{stmt_of}
 use Rattle.ev_stub.proofs.Listed.{encoded_at, room_step}
 use Rattle.ev_stub.proofs.Positions.{countable, label_step, past_step, found_step, none_left}
 use Rattle.ev_stub.proofs.position.index_from.Goals as goal

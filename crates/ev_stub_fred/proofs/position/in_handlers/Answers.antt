@@ -1,7 +1,7 @@
 use Rattle.std.proofs.Common.{◌+◌, ◌∙◌, ap, sym}
 use Rattle.std.specs.Option.{option_or}
 use Rattle.ev_listing.specs.AddressMap.{fred_page}
-use Rattle.ev_listing.specs.FredCode.{entries, exits}
+use Rattle.ev_listing.specs.FredCode.{exits}
 use Rattle.ev_stub.specs.Position.{index_from, is_countable}
 use Rattle.ev_stub_fred.proofs.Positions.{entries_countable, exits_countable, in_both}
 use Rattle.ev_stub_fred.proofs.position.in_handlers.Goals as goal
