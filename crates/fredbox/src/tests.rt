@@ -91,7 +91,8 @@ fn words_in_any_order(rt: HostRuntime) -> Result<(), Fail> {
 // What is wrong first is answered, with its line or place, and nothing is written.
 #[test]
 fn first_refusal(rt: HostRuntime) -> Result<(), Fail> {
-    let head = "image 1\nprocessors 1\nnest 1\ntext\nstart:\nsyscall\nendtext\ntask 0 start 0\n";
+    let head =
+        "image 1\nprocessors 1\nnest 1\ntext\nstart:\nsyscall\njmp start\nendtext\ntask 0 start 0\n";
     let cases: [(&str, &str, &str, Status); 6] = [
         (
             "check",
@@ -104,19 +105,19 @@ fn first_refusal(rt: HostRuntime) -> Result<(), Fail> {
             "check",
             "fill\nscript\n",
             "turn 1\nend\n",
-            Status::BadDocument(11, Cause::NoSuchProcessor),
+            Status::BadDocument(12, Cause::NoSuchProcessor),
         ),
         (
             "check",
             "fill\nscript\n",
             "end\nturn 0\n",
-            Status::BadDocument(12, Cause::AfterEnd),
+            Status::BadDocument(13, Cause::AfterEnd),
         ),
         (
             "run",
             "fill\nscript\n",
             "turn 0\naccept 0\nturn\n",
-            Status::BadDocument(13, Cause::Count),
+            Status::BadDocument(14, Cause::Count),
         ),
         (
             "run",
