@@ -47,6 +47,7 @@ use Rattle.ev_blocks.specs.Items.{AtItem}
 use Rattle.ev_blocks.specs.Blocks.{Spot, InFred, InIdt, InBody, block, edges}
 use Rattle.ev_blocks.specs.Blocks as blocks
 use Rattle.ev_grounds.proofs.Grounds.{windows_fit}
+use Rattle.ev_user.specs.Words.{AreWords}
 use Rattle.ev_activation.specs.Seat.{Kind, Seat}
 use Rattle.ev_table.specs.Table.{code_table, other_exit, RetCell}
 use Rattle.ev_refine.specs.Named.{Outside, Changes}
@@ -289,7 +290,8 @@ module _ (mode : Mode) (image : Image) (built : IsBuilt image) (good : IsImage i
           let x : OpensExit mode p κ seat ss w extra v f c cpu s.memory = exits image p small κ seat ss w cs extra v f c s.memory off mode means.saved
           (subst (λ n. n < 2 ^ 64) (sym means.saved.rip)
           (word_of_canonical w.rip (ap (λ (y : Processor). is_canonical y.rip) o.task.is ∙ o.task.task.canonical)))
-          (subst (λ n. n < 2 ^ 64) (sym (means.saved.flags ∙ ap (λ (y : Processor). y.flags) o.task.is)) (word_of_flags t.flags)) a in
+          (subst (λ n. n < 2 ^ 64) (sym (means.saved.flags ∙ ap (λ (y : Processor). y.flags) o.task.is)) (word_of_flags t.flags))
+          (subst (λ (y : Processor). AreWords y.regs) (sym o.task.is) o.task.task.words) a in
           let at_ret_cell : IsAt c (Jmp rc.distance) rc.cell.next = record {
             kernel = hu;
             flags = kept c.flags _ a.flags;

@@ -200,7 +200,7 @@ module _ (mode : Mode) (image : Image) (built : IsBuilt image) (good : IsImage i
         let all : Stands mode image (put_at left p (now + inner_edges (s.latches p))) (after_ran s p cpu words) m
         = stands_after mode image left s (after_ran s p cpu words) m m p (now + inner_edges (s.latches p)) x seat cpu _ words good.count.1
         (four_tasks image built) h hp (moves cpu words) (omega arith) (kernel_names p) (kernel_spares p small) changes
-        (kernel_user p seat small (omega arith) s.memory.words words m.words changes h.shares.user)
+        (kernel_user p seat small (omega arith) s.memory.words words m.words changes h.shares.user) h.shares.held
         (record { own = refl; others = λ q e. refl; present = refl; cells = refl; mail = refl; mail_nmi = refl; records = refl; queue = refl })
         domain there in
         let bound = on.enough in record {
@@ -246,7 +246,7 @@ module _ (mode : Mode) (image : Image) (built : IsBuilt image) (good : IsImage i
         let all : Stands mode image (put_at left p (now + inner_edges (s.latches p))) (after_ran s p cpu words) (with_processor m p y)
         = stands_after mode image left s (after_ran s p cpu words) m (with_processor m p y) p (now + inner_edges (s.latches p)) y seat cpu _ words
         good.count.1 (four_tasks image built) h hp (moves cpu words) (omega arith) (kernel_names p) (kernel_spares p small) changes
-        (kernel_user p seat small (omega arith) s.memory.words words m.words changes h.shares.user)
+        (kernel_user p seat small (omega arith) s.memory.words words m.words changes h.shares.user) h.shares.held
         (record {
           own = at_same m.processors p p y refl;
           others = λ q e. at_other m.processors p q y e;

@@ -75,7 +75,6 @@ module _ (mode : Mode) (image : Image) (p n : ℕ) (t : Task) (cr2 next body : �
     pub facts : Facts mode image
     pub long : length t.regs ≡ 16
     pub next_is : t.rip + 2 ≡ next
-    pub next_small : next < 2 ^ 64
     pub regions_are : m.regions ≡ regions image
     pub found : first_body 0 image.bodies 0x100 User ≡ Some body
     pub stands : Body

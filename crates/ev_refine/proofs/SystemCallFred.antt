@@ -38,7 +38,6 @@ use Rattle.ev_refine.proofs.After.{kernel_names}
 use Rattle.ev_refine.proofs.UserSafe.{overwrites_none}
 use Rattle.ev_refine.proofs.SystemCall as call
 use Rattle.ev_refine.proofs.SystemCall.{call_event, arrival, Ready, Begins}
-use Rattle.ev_refine.proofs.Facts.{word_of_flags}
 
 -- the frame lies on the task's stack, at its top
 on_stack : (p n : ℕ) → n ≡ 0 → p < 32 → (vs : List ℕ) → length vs ≡ 8 → (words : NatMap ℕ) → Changes p (record { stack = n; used = 0 }) (kernel_names p) words
@@ -121,8 +120,6 @@ module _ (image : Image) (built : IsBuilt image) (p n : ℕ) (t : Task) (cr2 nex
       begins = refl;
       saved = record {
         regs = ap (λ xs. set (set xs 1 next) 11 (flags_word t.flags)) (listed_is t.regs ready.long);
-        rcx = ready.next_small;
-        r11 = word_of_flags t.flags;
         rip = refl;
         cs = refl;
         flags = refl;

@@ -25,7 +25,6 @@ use Rattle.ev_refine.specs.Active.{here, AtLoad}
 use Rattle.ev_refine.proofs.Fits.{fits_at, opens_at}
 use Rattle.ev_refine.proofs.SystemCall as call
 use Rattle.ev_refine.proofs.SystemCall.{arrival, Ready, Begins}
-use Rattle.ev_refine.proofs.Facts.{word_of_flags}
 
 -- FMASK takes IF and AC from the flags
 abbrev masked_flags : Flags → Flags
@@ -100,8 +99,6 @@ module _ (image : Image) (p n : ℕ) (t : Task) (cr2 next body : ℕ) where
       begins = refl;
       saved = record {
         regs = listed_is entered long;
-        rcx = subst (λ a. a < 2 ^ 64) (sym rcx_is) ready.next_small;
-        r11 = subst (λ a. a < 2 ^ 64) (sym r11_is) (word_of_flags t.flags);
         rip = rcx_is;
         cs = refl;
         flags = r11_is;

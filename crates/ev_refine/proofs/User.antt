@@ -1,5 +1,5 @@
 -- The turns of the task: a plain instruction, or a system call, which begins an activation.
-use Rattle.std.proofs.Common.{◌≡◌, ℕ, suc, ◌+◌, ◌<◌, Bool, true, false, List, [], ◌∷◌, set, length, Option, Some, None, refl, sym, ap, ◌∙◌, subst, arith, inr, ⊎_elim}
+use Rattle.std.proofs.Common.{◌≡◌, ℕ, suc, ◌+◌, ◌^◌, ◌<◌, Bool, true, false, List, [], ◌∷◌, set, length, Option, Some, None, refl, sym, ap, ◌∙◌, subst, arith, inr, ⊎_elim}
 use Rattle.std.specs.Prelude.{if◌then◌else◌, slice_get, is_some}
 use Rattle.std.proofs.lemmas.List.{length-set}
 use Rattle.ev_isa.specs.Word.{NatMap, is_canonical}
@@ -44,13 +44,14 @@ use Rattle.ev_user.specs.Tasks.{IsTask, task_processor, RunsTask}
 use Rattle.ev_user.specs.Causes.{Undefined, Stack, Protection, Page, Alignment, Cause, Faulted, Debug, Breakpoint, Three, Refused, Call, raised_event, raising}
 use Rattle.ev_user.specs.Claims.{Raised}
 use Rattle.ev_user.proofs.Follows.{user_raises}
+use Rattle.ev_user.proofs.Words.{set_words}
 use Rattle.ev_refine.specs.Tasks.{CurrentIs}
 use Rattle.ev_refine.specs.Nmi.{Leads, inner_edges}
 use Rattle.ev_refine.specs.Domain.{IsInProgram}
 use Rattle.ev_refine.specs.Active.{Active}
 use Rattle.ev_refine.specs.Relation.{IsContext, Beneath, keeps_cr2, chained, switches_at, most_edges, Chain, Stands}
 use Rattle.ev_refine.specs.Claims.{Simulated}
-use Rattle.ev_refine.proofs.Facts.{Facts, word_of_canonical}
+use Rattle.ev_refine.proofs.Facts.{Facts, word_of_canonical, word_of_flags}
 use Rattle.ev_refine.proofs.CallKinds.{is_over_task, plain_no_nmi, call_of}
 use Rattle.ev_refine.proofs.Domains.{one_task_each, with_cr2}
 use Rattle.ev_refine.proofs.Standing.{Moves, step_moves, delivery_moves}
@@ -167,6 +168,7 @@ module _ (mode : Mode) (image : Image) (formed : IsImage image) (built : IsBuilt
       let raised : Raised t c (s.apics p) s.memory (s.latches p) next call_event (step c (s.apics p) s.memory (s.latches p))
       = user_raises mode image p n t (user_memory image m) c (s.apics p) s.memory (s.latches p) u.site next call_event
       (u.reads ∙ ap (λ i. user.executed (user_view (user_memory image m)) t (t.rip + length (spelling i)) i) hi ∙ call_raises t next (user_memory image m)) in
+      let next_small : next < 2 ^ 64 = word_of_canonical next (sym (ap (λ i. is_canonical (leads_to t.rip i)) hi) ∙ u.canonical) in
       let is_caller : c ≡ caller mode image p n t c.cr2 next body = u.rest.task.is ∙ ap (task_processor mode image p n t c.cr2) u.open_to in
       let begun : Begins mode image p n t c.cr2 next body s.memory = begins_call mode image built p n t c.cr2 next body s.memory (record {
         running = first;
@@ -175,7 +177,6 @@ module _ (mode : Mode) (image : Image) (formed : IsImage image) (built : IsBuilt
         facts = facts;
         long = u.rest.task.task.long;
         next_is = ap (λ k. t.rip + k) (sym call_bytes);
-        next_small = word_of_canonical next (sym (ap (λ i. is_canonical (leads_to t.rip i)) hi) ∙ u.canonical);
         regions_are = h.regions_are;
         found = found.1;
         stands = call.body;
@@ -200,6 +201,7 @@ module _ (mode : Mode) (image : Image) (formed : IsImage image) (built : IsBuilt
         long = length-set (set t.regs 1 next) 11 (flags_word t.flags) ∙ length-set t.regs 1 next ∙ u.rest.task.task.long;
         canonical = sym (ap (λ i. is_canonical (leads_to t.rip i)) hi) ∙ u.canonical;
         interrupts = u.rest.task.task.interrupts;
+        words = set_words (set t.regs 1 next) 11 (flags_word t.flags) (set_words t.regs 1 next u.rest.task.task.words next_small) (word_of_flags t.flags);
       } in
       let at : IsInProgram image back.rip = λ program is. sym (ap (λ i. begins program (leads_to t.rip i)) hi) ∙ u.leads program is in
       let mem : Memory = with_words s.memory words' in
@@ -218,7 +220,7 @@ module _ (mode : Mode) (image : Image) (formed : IsImage image) (built : IsBuilt
       (w, is_context, refl, tt, tail.0, tail.1, tail.2) in
       let after = user_after mode image formed built facts left s s' m p lt h u d as' words' back (b ∷ []) call_edges hb mv (kernel_names p)
       (kernel_spares p small) begun.changes m.words
-      (kernel_user p (record { stack = n; used = 0 }) small (omega arith) words words' m.words begun.changes h.shares.user) good at
+      (kernel_user p (record { stack = n; used = 0 }) small (omega arith) words words' m.words begun.changes h.shares.user) h.shares.held good at
       (begun.blocking ∙ sym (plain_no_nmi image b (ap is_over_task kind))) (record { interrupts = refl; service = refl; calls = refl }, tt) (λ class. refl)
       (omega arith)
       (λ q e. subst (λ ys. Chain mode image p call_edges q back u.on.frame u.on.switching (b ∷ []) ys d (with_words s.memory words')) (sym begins_last)

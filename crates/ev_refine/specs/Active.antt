@@ -86,11 +86,9 @@ module _ (mode : Mode) (image : Image) where
 
   -- ---- what a block's variables are, where w is the task's processor to which the activation returns, and b its body's context
 
-  -- The saved area, the frame, the other GS base, the selector and RSP of level 0 give back w. RCX and R11, which the exit compares, are words.
+  -- The saved area, the frame, the other GS base, the selector and RSP of level 0 give back w.
   pub record Saved (v : ℕ → ℕ) (w : Processor) : Type 0 where
     pub regs : w.regs ≡ v 30 ∷ v 31 ∷ v 32 ∷ v 33 ∷ v 20 ∷ v 35 ∷ v 36 ∷ v 37 ∷ v 38 ∷ v 39 ∷ v 40 ∷ v 41 ∷ v 42 ∷ v 43 ∷ v 44 ∷ v 45 ∷ []
-    pub rcx : v 31 < 2 ^ 64
-    pub r11 : v 41 < 2 ^ 64
     pub rip : v 17 ≡ w.rip
     pub cs : selector (v 18) ≡ w.cs
     pub flags : v 19 ≡ w.flags
