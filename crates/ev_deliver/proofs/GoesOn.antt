@@ -1,5 +1,6 @@
 -- From one block to the next.
 use Rattle.std.proofs.Common.{◌≡◌, ℕ, ◌+◌, ◌%◌, ◌<◌, Bool, true, false, List, [], ◌∷◌, get_or, set, pos, Some, refl, sym, ap, ◌∙◌, subst, arith, length-set}
+use Rattle.std.specs.Prelude.{◌==◌}
 use Rattle.ev_isa.specs.Word.{NatMap, is_canonical}
 use Rattle.ev_isa.specs.Flags.{flags_of, flags_word}
 use Rattle.ev_isa.specs.declared.instruction.Ins.TheVariants.{Jmp, JmpReg}
@@ -9,7 +10,7 @@ use Rattle.ev_state.proofs.FlagLaws.{kept}
 use Rattle.ev_mem.specs.Memory.{Memory}
 use Rattle.ev_symbolic.specs.Value.{M, V, FVar}
 use Rattle.ev_symbolic.specs.State.{Win, SS, Block, Ground, in_win}
-use Rattle.ev_symbolic.specs.Agrees.{Env, addr, eval, eval_flags, edge_cell, Known, Open, Agrees}
+use Rattle.ev_symbolic.specs.Agrees.{Env, addr, eval, eval_flags, edge_cell, Known, Open, Code, Agrees, At}
 use Rattle.ev_symbolic.specs.Names.{stub_tag, top_less}
 use Rattle.ev_symbolic.specs.Single.{IsAt, onward, Leads}
 use Rattle.ev_symbolic.proofs.Single as single
@@ -79,14 +80,22 @@ at_stub x v o h k q = ap (λ y. (y + o) % M) q ∙ (let z : (vector_stub v + o) 
 canonical_common : is_canonical common_entry ≡ true
 canonical_common = refl
 
+-- where a vector's entry ends
+pub stub_rip : (code : Code) (o : Origin) (has : Bool) (v : ℕ) (env : Env) (c : Processor) (m : Memory) → v < 256 → env.base stub_tag ≡ vector_stub v
+    → At code (idt_block (Stub o has v)) (idt_block (Stub o has v)).steps env c m → c.rip ≡ vector_stub v + stub_bytes has
+stub_rip code o has v env c m h base at =
+    let b : Block = idt_block (Stub o has v) in
+    let x = idt_enters.stub o has v (v == 14) refl in
+    let a : Agrees env b.ground (idt_end (Stub o has v)) c m = at_end code b b.steps (idt_end (Stub o has v)) x.runs env c m at in
+    a.rip ∙ ap (addr env) x.rip ∙ at_stub (env.base stub_tag) v (stub_bytes has) h (bytes_small has) base
+
 pub stubs_go_on : StubsGoOn
 stubs_go_on code o has v pf env c m h key base j at fit open_words =
     let b : Block = idt_block (Stub o has v) in
     let next : Block = idt_block (Common o pf) in
     let x = idt_enters.stub o has v pf key in
     let a : Agrees env b.ground (idt_end (Stub o has v)) c m = at_end code b b.steps (idt_end (Stub o has v)) x.runs env c m at in
-    let rip : c.rip ≡ vector_stub v + stub_bytes has =
-    a.rip ∙ ap (addr env) x.rip ∙ at_stub (env.base stub_tag) v (stub_bytes has) h (bytes_small has) base in
+    let rip : c.rip ≡ vector_stub v + stub_bytes has = stub_rip code o has v env c m h base at in
     let cell : code c.rip ≡ Some (edge_cell (Jmp j.distance) (vector_stub v + stub_bytes has + 5)) = ap code rip ∙ j.is in
     let is_at : IsAt c (Jmp j.distance) (vector_stub v + stub_bytes has + 5) = record {
       kernel = ap is_user a.rest ∙ at.fits.ground.kernel;

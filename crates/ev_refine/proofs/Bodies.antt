@@ -36,7 +36,7 @@ use Rattle.ev_activation.specs.Seat.{Kind, Seat}
 use Rattle.ev_user.specs.Words.{AreWords}
 use Rattle.ev_table.specs.Table.{other_exit}
 use Rattle.ev_refine.specs.Active.{here, Saved, Matches, AtStart, InItem, Leaving, HasPlace, OverTask}
-use Rattle.ev_refine.proofs.Spots.{over_task}
+use Rattle.ev_refine.proofs.Spots.{over_task, IsAtEntry}
 use Rattle.ev_paths.specs.Lines.{HasKernel}
 use Rattle.ev_paths.proofs.Cells.{fred_cells, idt_cells}
 use Rattle.ev_deliver.specs.GoesOn.{GoesOn, with_rax, with_item}
@@ -54,7 +54,7 @@ pub record Goes (code : Code) (c : Processor) (m : Memory) (b : Block) (e : Env)
   pub step : GoesOn code c m b e
   pub inner : is_return (Some step.ins) ≡ false
 
-goes_by : (code : Code) (c : Processor) (m : Memory) (b : Block) (e : Env) (j : Ins) (k a : ℕ) → GoesOn code c m b e → c.rip ≡ a
+pub goes_by : (code : Code) (c : Processor) (m : Memory) (b : Block) (e : Env) (j : Ins) (k a : ℕ) → GoesOn code c m b e → c.rip ≡ a
     → code a ≡ Some (edge_cell j k) → is_return (Some j) ≡ false → Goes code c m b e
 goes_by code c m b e j k a g rip cell h =
     let same : edge_cell g.ins g.next ≡ edge_cell j k = unsome _ _ (sym g.cell ∙ ap code rip ∙ cell) in
@@ -256,6 +256,7 @@ module _ (mode : Mode) (p : ℕ) (κ : Kind) (σ : Seat) (ss : ℕ) (w : Process
     pub over : over_task mode spot ≡ true
     pub off : blocks.switches spot ≡ false
     pub free : blocks.holds spot ≡ false
+    pub entry : IsAtEntry spot e
     pub told : FactsHold e (block mode spot).ground.facts
     pub fewer : edges mode spot 0 < edges mode (body mode AtItem) 0
     pub agrees : Open e (block mode spot).ground.known m.regions → Agrees e (block mode spot).ground (block mode spot).opening d m
@@ -268,7 +269,7 @@ mark_at p hp words h = ap words (let q : (pcpu p + 0x20) % M ≡ pcpu p + 0x20 =
 pub nothing_open : (e : Env) (m : Memory) → Open e [] m.regions
 nothing_open e m l h = let clash : false ≡ true = h in absurd (cc)
 
-unlike : (a b : ℕ) → (a == b) ≡ false → a ≢ b
+pub unlike : (a b : ℕ) → (a == b) ≡ false → a ≢ b
 unlike a b h q = let clash : true ≡ false = sym (eq-eqb a b q) ∙ h in cc
 
 module _ (image : Image) (p : ℕ) (hp : p < 32) (κ : Kind) (σ : Seat) (ss : ℕ) (w : Processor) (ring : w.cs ≡ 0x33) (extra v : ℕ → ℕ) (f : Flags)
@@ -284,6 +285,7 @@ module _ (image : Image) (p : ℕ) (hp : p < 32) (κ : Kind) (σ : Seat) (ss : �
     over = refl;
     off = refl;
     free = refl;
+    entry = tt;
     told = ((facts_tell (e Fred p κ σ ss w extra v f)).user (s.cs ∙ ring), tt);
     fewer = (edges_fall Fred).fred_exit FredFrame FredToTask;
     agrees = λ o. record {
@@ -317,6 +319,7 @@ module _ (image : Image) (p : ℕ) (hp : p < 32) (κ : Kind) (σ : Seat) (ss : �
     over = refl;
     off = refl;
     free = refl;
+    entry = tt;
     told = told;
     fewer = (edges_fall Idt).idt_exit IdtFrame (IdtToTask by);
     agrees = λ o. record {

@@ -216,7 +216,7 @@ module _ (mode : Mode) (image : Image) (built : IsBuilt image) (good : IsImage i
           } in
           let spread = facts.item_range b.body (suc b.place) body' is in
           let fit : Fits code (env ss further v f) B = fits_at mode image p seat in_seat hp good.count.1 κ ss w further v f facts spot way.over fred_is
-          (subst (λ y. (0xffffffff82000000 ≤ y) × (y + 0x100 ≤ M)) (sym next_is) spread) (way.told (env ss further v f)) in
+          (subst (λ y. (0xffffffff82000000 ≤ y) × (y + 0x100 ≤ M)) (sym next_is) spread) tt (way.told (env ss further v f)) in
           let act' : Stood (edges mode spot 0) (context.onward b) (onward c c.regs next) (with_words s.memory words) = record {
             stands = record {
               spot = spot;
@@ -316,7 +316,7 @@ module _ (mode : Mode) (image : Image) (built : IsBuilt image) (good : IsImage i
               within = omega arith;
               enough = omega arith;
               at = begins code (block mode x.spot) e cpu s.memory
-                  (step.fits mode image built good facts left s m h p hp o body' is x.spot x.over ss extra v f place x.told)
+                  (step.fits mode image built good facts left s m h p hp o body' is x.spot x.over ss extra v f place x.entry x.told)
                   (x.agrees (step.windows mode image built good facts left s m h p hp o body' is x.spot x.over ss extra v f));
               long = long;
             };

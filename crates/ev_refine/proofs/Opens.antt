@@ -200,7 +200,7 @@ are_words (x ∷ xs) h (suc r) = are_words xs (and_right (is_word x) (list_all i
 -- the registers of a task of the image
 the_one : (ts : List (List TaskSpec)) (t : TaskSpec) (n : ℕ) → ts ≡ (t ∷ []) ∷ []
     → list_all (λ (us : List TaskSpec). nat_lt 0 (length us) && nat_le (length us) 4 && list_all (is_task n) us) ts ≡ true → (length t.regs ≡ 16) × AreWords
-        t.regs
+    t.regs
 the_one ts t n h k = found
     (subst (λ (us : List (List TaskSpec)). list_all (λ (us : List TaskSpec). nat_lt 0 (length us) && nat_le (length us) 4 && list_all (is_task n) us) us
     ≡ true) h k)

@@ -90,6 +90,7 @@ module _ (image : Image) (built : IsBuilt image) (p n : ℕ) (t : Task) (cr2 nex
     begun = fred_delivers (code_table Fred image) caller m call_event env site refl
         (fits_at Fred image p seat (call.in_seat Fred image p n t cr2 next body ready.running) ready.within ready.few SystemCall 0x18 over place
         (fred_variables caller call_event) no_flags ready.facts (InFred (FromUser ByCall)) refl refl (call.in_bodies Fred image p n t cr2 next body m ready)
+        tt
         (fred_facts caller call_event env refl (omega arith) (omega arith)))
         (opens_at Fred image p seat (call.in_seat Fred image p n t cr2 next body ready.running) ready.within ready.few SystemCall 0x18 over place
         (fred_variables caller call_event) no_flags (InFred (FromUser ByCall)) refl m ready.regions_are)

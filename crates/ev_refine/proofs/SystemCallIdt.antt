@@ -72,7 +72,7 @@ module _ (image : Image) (p n : ℕ) (t : Task) (cr2 next body : ℕ) where
     unfolding syscall_idt
     at = call_delivers (code_table Idt image) caller m env site refl refl
         (fits_at Idt image p seat (call.in_seat Idt image p n t cr2 next body ready.running) ready.within ready.few SystemCall 0x18 over place
-        (call_variables caller) (masked_flags t.flags) ready.facts (InIdt Sys) refl refl (call.in_bodies Idt image p n t cr2 next body m ready) tt)
+        (call_variables caller) (masked_flags t.flags) ready.facts (InIdt Sys) refl refl (call.in_bodies Idt image p n t cr2 next body m ready) tt tt)
         (opens_at Idt image p seat (call.in_seat Idt image p n t cr2 next body ready.running) ready.within ready.few SystemCall 0x18 over place
         (call_variables caller) (masked_flags t.flags) (InIdt Sys) refl m ready.regions_are)
 

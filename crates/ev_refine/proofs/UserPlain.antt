@@ -232,7 +232,7 @@ module _ (mode : Mode) (image : Image) (formed : IsImage image) (built : IsBuilt
       let mv : Moves p s s' d as' words = step_moves s p r refl refl in
       let after = user_after left s s' m p lt h u d as' words t [] 0 hb mv (word_names g.write) (word_spares p m.present g.write g.place)
       (writes p (record { stack = x.running; used = 0 }) g.write s.memory.words) memory g.sees.words g.sees.held g.runs.task at u.open_to tt (λ class. refl)
-          (omega arith)
+      (omega arith)
       (λ r e. (subst (λ z. RunsTask mode image p z t d) (sym e) g.runs, u.rest.still, none)) in
       let same : record (with_task x t) { bodies = [] } ≡ with_task x t = ap (λ (bs : List BodyContext). record (with_task x t) { bodies = bs }) (sym hb) in
       record {

@@ -19,14 +19,15 @@ use Rattle.ev_symbolic.specs.Agrees.{Env, untracked, At}
 use Rattle.ev_symbolic.specs.Join.{env_after}
 use Rattle.ev_symbolic.specs.Names.{item_tag}
 use Rattle.ev_table.specs.Table.{code_table}
-use Rattle.ev_blocks.specs.Shapes.{FredFrame, IdtFrame}
+use Rattle.ev_blocks.specs.Shapes.{UserCode, FredFrame, IdtFrame}
 use Rattle.ev_blocks.specs.Fred.{FromUser, FredToTask, way_values}
 use Rattle.ev_blocks.specs.Fred as fred
-use Rattle.ev_blocks.specs.Idt.{IdtReturn, BySysret, Sys, IdtToTask, sys_values}
+use Rattle.ev_blocks.specs.Idt.{IdtReturn, BySysret, Stub, Sys, Common, IdtToTask, stub_values, common_values, sys_values}
 use Rattle.ev_blocks.specs.Idt as idt
 use Rattle.ev_blocks.specs.Items.{AtTable, AtJump, AtItem}
 use Rattle.ev_blocks.specs.Blocks.{Spot, InFred, InIdt, InBody, block, edges}
 use Rattle.ev_blocks.specs.Blocks as blocks
+use Rattle.ev_paths.specs.Lines.{IsAtStub}
 use Rattle.ev_activation.specs.Seat.{Kind, SystemCall, FromTask, NmiFromBody, Seat, top_at}
 use Rattle.ev_refine.specs.Nmi.{Frame, Knows}
 
@@ -146,6 +147,9 @@ module _ (mode : Mode) (image : Image) where
   OverTask Fred (InBody FredFrame AtJump) e w b = AtStart e.var w b × HasPlace e b
   OverTask Fred (InBody FredFrame AtItem) e w b = InItem e.var w b × HasPlace e b
   OverTask Idt (InIdt Sys) e w b = AtLoad (env_after e sys_values e.flags).var w b × HasPlace e b
+  OverTask Idt (InIdt (Stub UserCode has v)) e w b = IsAtStub e (Stub UserCode has v)
+      × AtLoad (env_after (env_after e (stub_values has v) e.flags) (common_values UserCode (v == 14)) e.flags).var w b × HasPlace e b
+  OverTask Idt (InIdt (Common UserCode pf)) e w b = AtLoad (env_after e (common_values UserCode pf) e.flags).var w b × HasPlace e b
   OverTask Idt (InIdt (idt.Leaves (IdtToTask by))) e w b = Leaving e.var w b × Matches by e.var
   OverTask Idt (InBody IdtFrame AtTable) e w b = AtLoad e.var w b × HasPlace e b
   OverTask Idt (InBody IdtFrame AtJump) e w b = AtStart e.var w b × HasPlace e b
