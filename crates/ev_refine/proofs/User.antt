@@ -21,7 +21,7 @@ use Rattle.ev_body.specs.WellFormed.{IsImage}
 use Rattle.ev_effect.specs.Task.{Task}
 use Rattle.ev_state.specs.Processor.{Processor, is_user}
 use Rattle.ev_mem.specs.Memory.{Memory}
-use Rattle.ev_proc.specs.ProcessorStep.{After, step, system_call, has_fred, next_of}
+use Rattle.ev_proc.specs.ProcessorStep.{After, step, has_fred, next_of}
 use Rattle.ev_proc.specs.declared.stepped.Stepped.{Stepped}
 use Rattle.ev_listing.specs.AddressMap.{pcpu, task_words}
 use Rattle.ev_abstract.specs.Context.{BodyContext}
@@ -38,10 +38,10 @@ use Rattle.ev_concrete.specs.Depth.{bodies_on}
 use Rattle.ev_built.specs.Built.{IsBuilt}
 use Rattle.ev_built.specs.Program.{begins, leads_to}
 use Rattle.ev_symbolic.specs.Agrees.{with_words}
-use Rattle.ev_concrete.specs.Shown.{shown_by, saved_rip, key_of}
+use Rattle.ev_concrete.specs.Shown.{shown_by, shown_event, told_event, told_rip, is_refused, saved_rip, key_of}
 use Rattle.ev_activation.specs.Seat.{SystemCall, kind_of, seat_by, seat_of, room_of}
 use Rattle.ev_user.specs.Tasks.{IsTask, task_processor, RunsTask}
-use Rattle.ev_user.specs.Causes.{Undefined, Stack, Protection, Page, Alignment, Cause, Faulted, Debug, Breakpoint, Three, Refused, Call, raised_event, raising}
+use Rattle.ev_user.specs.Causes.{Undefined, Stack, Protection, Page, Alignment, Cause, Faulted, Debug, Breakpoint, Three, Refused, Call, own_event, raised_event, raising}
 use Rattle.ev_user.specs.Claims.{Raised}
 use Rattle.ev_user.proofs.Follows.{user_raises}
 use Rattle.ev_user.proofs.Words.{set_words}
@@ -59,12 +59,16 @@ use Rattle.ev_refine.proofs.After.{kernel_names, kernel_spares, kernel_user}
 use Rattle.ev_refine.proofs.Depth.{stands_depth}
 use Rattle.ev_refine.proofs.UserState.{put_same, TurnsTo, makes_turn, is_safe, tells_bodies}
 use Rattle.ev_refine.proofs.UserPlain.{AtUser, at_user, user_after, plain_turn}
-use Rattle.ev_refine.proofs.SystemCall.{call_event, call_edges, returning, arrival, caller, over, context, Ready, Begins}
+use Rattle.ev_refine.proofs.Raising.{entry_edges, returning, arrival, raiser, over, context, Ready, Begins}
 use Rattle.ev_refine.proofs.UserStep.{Makes, makes}
 use Rattle.ev_refine.proofs.UserBody.{IsSystemCall, is_system_call}
 use Rattle.ev_refine.proofs.UserSafe.{OnlyTask}
-use Rattle.ev_refine.proofs.SystemCallFred as fred
+use Rattle.ev_refine.proofs.RaisingFred as fred
 use Rattle.ev_refine.proofs.SystemCallIdt as idt
+
+-- the event of a system call
+abbrev call_event : Event
+call_event = own_event Call
 
 -- nothing is interrupted
 nothing_under : (c : Processor) (as' : List Activation) → as' ≡ [] → interrupted c as' ≡ []
@@ -92,30 +96,36 @@ delivered_is image p x n c hb hf =
     ∙ ap (λ k. (record x { bodies = body_at_start n User call_event ∷ [] }, Enter p k Other User 1 0 0 (Some (task x).rip) ∷ [])) c.key
 
 -- the processor p in the body, over the task that will go on at this address
-abbrev called : abstract.Processor → (next body : ℕ) → abstract.Processor
-called x next body = record (with_task x (returning (task x) next)) { bodies = body_at_start body User call_event ∷ [] }
+abbrev called : abstract.Processor → (body : ℕ) → abstract.Processor
+called x body = record (with_task x (returning (task x) Call)) { bodies = body_at_start body User call_event ∷ [] }
 
-call_steps : (image : Image) (m : Machine) (p next body : ℕ) (c : IsSystemCall image body) → (processor m p).bodies ≡ []
+call_steps : (image : Image) (m : Machine) (p body : ℕ) (c : IsSystemCall image body) → (processor m p).bodies ≡ []
     → first_body 0 image.bodies 0x100 User ≡ Some body
-    → task_step image m p (user.executed (user_view (user_memory image m)) (task (processor m p)) next Syscall)
-    ≡ (with_processor m p (called (processor m p) next body), Enter p Sys Other User 1 0 0 (Some next) ∷ [])
+    → task_step image m p (user.executed (user_view (user_memory image m)) (task (processor m p)) ((task (processor m p)).rip + 2) Syscall)
+    ≡ (with_processor m p (called (processor m p) body), Enter p Sys Other User 1 0 0 (Some ((task (processor m p)).rip + 2)) ∷ [])
 unfolding user.executed
-call_steps image m p next body c hb hf =
+call_steps image m p body c hb hf =
     let x : abstract.Processor = processor m p in
-    let back : Task = returning (task x) next in
+    let back : Task = returning (task x) Call in
     ap (λ (q : abstract.Processor × List Entry). (with_processor m p q.0, q.1)) (delivered_is image p (with_task x back) body c hb hf)
-    ∙ ap (λ (t : Task). (with_processor m p (called x next body), Enter p Sys Other User 1 0 0 (Some t.rip) ∷ [])) (put_same x.tasks x.running back)
+    ∙ ap (λ (t : Task). (with_processor m p (called x body), Enter p Sys Other User 1 0 0 (Some t.rip) ∷ [])) (put_same x.tasks x.running back)
 
 -- ---- what the processor's step shows of it
 
-shown_is : (p depth : ℕ) (user fred : Bool) (told : List Entry) (c : Processor) (words : NatMap ℕ) (frame : Option ℕ) (next : ℕ) → user ≡ true → depth ≡ 0
-    → saved_rip fred c words call_event frame ≡ next
-    → shown_by p depth user fred told c words (Stepped.Delivered call_event frame) ≡ Enter p Sys Other User 1 0 0 (Some next) ∷ []
+shown_is : (p depth : ℕ) (user fred : Bool) (told : List Entry) (c : Processor) (words : NatMap ℕ) (event : Event) (frame : Option ℕ) (e : Event) (next : ℕ)
+    → user ≡ true → depth ≡ 0 → told_event (is_refused fred event) event ≡ e
+    → told_rip (is_refused fred event) (saved_rip fred c words event frame) ≡ next
+    → shown_by p depth user fred told c words (Stepped.Delivered event frame) ≡ Enter p (key_of e.kind e.vector) e.kind User 1 e.error e.info (Some next) ∷ []
+shown_is p depth user fred told c words event frame e next hu hd he hs =
+    let is : Event = told_event (is_refused fred event) event in
+    let rip : ℕ = told_rip (is_refused fred event) (saved_rip fred c words event frame) in
+    ap (λ u. shown_event p (suc depth) u is rip ∷ []) hu ∙ ap (λ d. shown_event p (suc d) true is rip ∷ []) hd
+    ∙ ap (λ x. shown_event p 1 true x rip ∷ []) he ∙ ap (λ n. shown_event p 1 true e n ∷ []) hs
+
+-- a system call's key
+call_key : key_of Other 1 ≡ Sys
 unfolding key_of
-shown_is p depth user fred told c words frame next hu hd hs =
-    ap (λ u. Enter p Sys Other (if u then User else Kernel) (suc depth) 0 0 (if u then Some (saved_rip fred c words call_event frame) else None) ∷ []) hu
-    ∙ ap (λ d. Enter p Sys Other User (suc d) 0 0 (Some (saved_rip fred c words call_event frame)) ∷ []) hd
-    ∙ ap (λ n. Enter p Sys Other User 1 0 0 (Some n) ∷ []) hs
+call_key = refl
 
 -- ---- what SYSCALL raises, and what the processor's step delivers
 
@@ -142,10 +152,10 @@ is_call (Refused n) h = let clash : Other ≡ Hardware = ap (λ (e : Event). e.k
 
 -- ---- what the delivery comes to, by the mode
 
-begins_call : (mode : Mode) (image : Image) (built : IsBuilt image) (p n : ℕ) (t : Task) (cr2 next body : ℕ) (m : Memory)
-    → Ready mode image p n t cr2 next body m → Begins mode image p n t cr2 next body m
-begins_call Idt image built p n t cr2 next body m ready = idt.begins_call image p n t cr2 next body m ready
-begins_call Fred image built p n t cr2 next body m ready = fred.begins_call image built p n t cr2 next body m ready
+begins_call : (mode : Mode) (image : Image) (built : IsBuilt image) (p n : ℕ) (t : Task) (cr2 body : ℕ) (m : Memory)
+    → Ready mode image p n t cr2 Call body m → Begins mode image p n t cr2 Call body m
+begins_call Idt image built p n t cr2 body m ready = idt.begins_call image p n t cr2 body m ready
+begins_call Fred image built p n t cr2 body m ready = fred.begins_fred image built p n t cr2 Call body m ready
 
 module _ (mode : Mode) (image : Image) (formed : IsImage image) (built : IsBuilt image) (facts : Facts mode image) where
   -- a system call
@@ -156,7 +166,7 @@ module _ (mode : Mode) (image : Image) (formed : IsImage image) (built : IsBuilt
       let c : Processor = s.cpus p in
       let t : Task = task x in
       let n : ℕ = x.running in
-      let next : ℕ = t.rip + length (spelling Syscall) in
+      let next : ℕ = t.rip + 2 in
       let found = the_some (first_body 0 image.bodies 0x100 User) built.system_calls in
       let body : ℕ = found.0 in
       let call : IsSystemCall image body = is_system_call image formed body found.1 in
@@ -167,16 +177,20 @@ module _ (mode : Mode) (image : Image) (formed : IsImage image) (built : IsBuilt
       let current : CurrentIs mode p n words = u.on.current u.rest.still in
       let raised : Raised t c (s.apics p) s.memory (s.latches p) next call_event (step c (s.apics p) s.memory (s.latches p))
       = user_raises mode image p n t (user_memory image m) c (s.apics p) s.memory (s.latches p) u.site next call_event
-      (u.reads ∙ ap (λ i. user.executed (user_view (user_memory image m)) t (t.rip + length (spelling i)) i) hi ∙ call_raises t next (user_memory image m)) in
-      let next_small : next < 2 ^ 64 = word_of_canonical next (sym (ap (λ i. is_canonical (leads_to t.rip i)) hi) ∙ u.canonical) in
-      let is_caller : c ≡ caller mode image p n t c.cr2 next body = u.rest.task.is ∙ ap (task_processor mode image p n t c.cr2) u.open_to in
-      let begun : Begins mode image p n t c.cr2 next body s.memory = begins_call mode image built p n t c.cr2 next body s.memory (record {
+      (u.reads ∙ ap (λ i. user.executed (user_view (user_memory image m)) t (t.rip + length (spelling i)) i) hi ∙ ap
+      (λ k. user.executed (user_view (user_memory image m)) t (t.rip + k) Syscall) call_bytes ∙ call_raises t next (user_memory image m)) in
+      let next_good : is_canonical next ≡ true = ap (λ k. is_canonical (t.rip + k)) (sym call_bytes) ∙ sym (ap (λ i. is_canonical (leads_to t.rip i)) hi) ∙
+      u.canonical in
+      let next_small : next < 2 ^ 64 = word_of_canonical next next_good in
+      let is_caller : c ≡ raiser mode image p n t c.cr2 Call body = u.rest.task.is ∙ ap (task_processor mode image p n t c.cr2) u.open_to in
+      let begun : Begins mode image p n t c.cr2 Call body s.memory = begins_call mode image built p n t c.cr2 body s.memory (record {
         running = first;
         within = lt;
         few = formed.count.1;
         facts = facts;
         long = u.rest.task.task.long;
-        next_is = ap (λ k. t.rip + k) (sym call_bytes);
+        is_cause = tt;
+        rip_small = next_small;
         regions_are = h.regions_are;
         found = found.1;
         stands = call.body;
@@ -185,46 +199,48 @@ module _ (mode : Mode) (image : Image) (formed : IsImage image) (built : IsBuilt
       }) in
       let d : Processor = begun.cpu in
       let words' : NatMap ℕ = begun.words in
-      let w : Processor = over mode image p n t c.cr2 next body in
-      let b : BodyContext = context mode image p n t c.cr2 next body in
-      let back : Task = returning t next in
-      let r : After = arrival d words' begun.frame (s.apics p) false in
+      let w : Processor = over mode image p n t c.cr2 Call body in
+      let b : BodyContext = context mode image p n t c.cr2 Call body in
+      let back : Task = returning t Call in
+      let r : After = arrival d words' begun.event begun.frame (s.apics p) false in
       let s' : System = (acted image.processors (after_step s p r) p r.step).0 in
       let kind : kind_of image b [] ≡ SystemCall = call_of image b call.body call.is call.key in
       let as' : List Activation = activations_by s p (s.activations p) d r.step in
       let last : Activation = record { rsp = 0; rip = 0; inner = false } in
       let begins_last : as' ≡ last ∷ []
       = (λ i. record { rsp = 0; rip = 0; inner = starts_inner_not i } ∷ nothing_under c (s.activations p) u.rest.none i) in
-      let mv : Moves p s s' d as' words' = delivery_moves image.processors p s (after_step s p r) d as' words' call_event begun.frame
+      let mv : Moves p s s' d as' words' = delivery_moves image.processors p s (after_step s p r) d as' words' begun.event begun.frame
       (step_moves s p r refl (sym u.latch)) in
       let good : IsTask back = record {
         long = length-set (set t.regs 1 next) 11 (flags_word t.flags) ∙ length-set t.regs 1 next ∙ u.rest.task.task.long;
-        canonical = sym (ap (λ i. is_canonical (leads_to t.rip i)) hi) ∙ u.canonical;
+        canonical = next_good;
         interrupts = u.rest.task.task.interrupts;
         words = set_words (set t.regs 1 next) 11 (flags_word t.flags) (set_words t.regs 1 next u.rest.task.task.words next_small) (word_of_flags t.flags);
       } in
-      let at : IsInProgram image back.rip = λ program is. sym (ap (λ i. begins program (leads_to t.rip i)) hi) ∙ u.leads program is in
+      let at : IsInProgram image back.rip = λ program is. ap (λ k. begins program (t.rip + k)) (sym call_bytes) ∙ sym
+      (ap (λ i. begins program (leads_to t.rip i)) hi)
+      ∙ u.leads program is in
       let mem : Memory = with_words s.memory words' in
       let under : RunsTask mode image p n back w = record { is = refl; task = good } in
-      let stood : Active mode image p call_edges SystemCall (record { stack = n; used = 0 }) u.on.frame u.on.switching w b d mem
-      = subst (λ g. Active mode image p call_edges SystemCall (record { stack = n; used = 0 }) u.on.frame g w b d mem) (sym u.rest.still)
+      let stood : Active mode image p entry_edges SystemCall (record { stack = n; used = 0 }) u.on.frame u.on.switching w b d mem
+      = subst (λ g. Active mode image p entry_edges SystemCall (record { stack = n; used = 0 }) u.on.frame g w b d mem) (sym u.rest.still)
       (begun.active u.on.frame) in
       let tail = subst (λ κ. Beneath mode image (keeps_cr2 mode image κ)
       (λ v. Chain mode image p (most_edges mode image) n back u.on.frame (chained mode image u.on.switching []) [] [] v mem) w
       × Leads mode p κ u.on.frame w mem.words
-      × Active mode image p call_edges κ (seat_by mode κ n (seat_of mode image n []) (room_of mode image [])) u.on.frame
+      × Active mode image p entry_edges κ (seat_by mode κ n (seat_of mode image n []) (room_of mode image [])) u.on.frame
       (switches_at mode image u.on.switching []) w b d mem) (sym kind)
       (λ a. (with_cr2 mode image p n back w a under, refl, refl), tt, stood) in
       let is_context : IsContext mode image b = record { item = call.item; is = call.first } in
-      let chain : Chain mode image p call_edges n back u.on.frame u.on.switching (b ∷ []) (last ∷ []) d mem =
+      let chain : Chain mode image p entry_edges n back u.on.frame u.on.switching (b ∷ []) (last ∷ []) d mem =
       (w, is_context, refl, tt, tail.0, tail.1, tail.2) in
-      let after = user_after mode image formed built facts left s s' m p lt h u d as' words' back (b ∷ []) call_edges hb mv (kernel_names p)
+      let after = user_after mode image formed built facts left s s' m p lt h u d as' words' back (b ∷ []) entry_edges hb mv (kernel_names p)
       (kernel_spares p small) begun.changes m.words
       (kernel_user p (record { stack = n; used = 0 }) small (omega arith) words words' m.words begun.changes h.shares.user) h.shares.held good at
       (begun.blocking ∙ sym (plain_no_nmi image b (ap is_over_task kind))) (record { interrupts = refl; service = refl; calls = refl }, tt) (λ class. refl)
       (omega arith)
-      (λ q e. subst (λ ys. Chain mode image p call_edges q back u.on.frame u.on.switching (b ∷ []) ys d (with_words s.memory words')) (sym begins_last)
-      (subst (λ z. Chain mode image p call_edges z back u.on.frame u.on.switching (b ∷ []) (last ∷ []) d (with_words s.memory words')) (sym e) chain)) in
+      (λ q e. subst (λ ys. Chain mode image p entry_edges q back u.on.frame u.on.switching (b ∷ []) ys d (with_words s.memory words')) (sym begins_last)
+      (subst (λ z. Chain mode image p entry_edges z back u.on.frame u.on.switching (b ∷ []) (last ∷ []) d (with_words s.memory words')) (sym e) chain)) in
       let entries : List Entry = Enter p Sys Other User 1 0 0 (Some next) ∷ [] in
       let shallow : bodies_on s p ≡ 0 = stands_depth mode image facts p (left p) s x u.on ∙ ap length hb in
       let only : OnlyTask s = record {
@@ -235,20 +251,25 @@ module _ (mode : Mode) (image : Image) (formed : IsImage image) (built : IsBuilt
       record {
         after = r;
         steps = raised.step_is ∙ ap (raising c (s.apics p) s.memory (s.latches p)) (is_call raised.cause raised.event)
-            ∙ ap (λ nmi. system_call c (s.apics p) s.memory nmi (c.rip + 2)) u.latch
-            ∙ ap (λ z. system_call z (s.apics p) s.memory false (z.rip + 2)) is_caller ∙ begun.runs (s.apics p) false;
-        machine = with_processor m p (called x next body);
+            ∙ ap (λ nmi. raising c (s.apics p) s.memory nmi Call) u.latch
+            ∙ ap (λ z. raising z (s.apics p) s.memory false Call) is_caller ∙ begun.runs (s.apics p) false;
+        machine = with_processor m p (called x body);
         entries = entries;
         turns = u.turns ∙ ap (task_step image m p) u.reads ∙ ap
             (λ i. task_step image m p (user.executed (user_view (user_memory image m)) t (t.rip + length (spelling i)) i)) hi
-            ∙ call_steps image m p next body call hb found.1;
+            ∙ ap (λ k. task_step image m p (user.executed (user_view (user_memory image m)) t (t.rip + k) Syscall)) call_bytes
+            ∙ call_steps image m p body call hb found.1;
         seen = u.seen;
-        now_left = call_edges + inner_edges (s.latches p);
+        now_left = entry_edges + inner_edges (s.latches p);
         stands = after.1;
         counts = stands_depth mode image facts p _ s' _ after.0
             ∙ ap suc (sym shallow) ∙ sym (ap (λ i. if i then bodies_on s p else suc (bodies_on s p)) (ap (starts_inner s p) u.next));
-        shows = λ told. shown_is p (bodies_on s p) (is_user c) (has_fred c) told begun.cpu begun.words begun.frame next u.at_cpl3 shallow
-            (ap (λ q. saved_rip (has_fred q) begun.cpu begun.words call_event begun.frame) u.rest.task.is ∙ begun.saved);
+        shows = λ told. shown_is p (bodies_on s p) (is_user c) (has_fred c) told begun.cpu begun.words begun.event begun.frame call_event next u.at_cpl3
+            shallow
+            (ap (λ q. told_event (is_refused (has_fred q) begun.event) begun.event) is_caller ∙ begun.told)
+            (ap (λ q. told_rip (is_refused (has_fred q) begun.event) (saved_rip (has_fred q) begun.cpu begun.words begun.event begun.frame)) is_caller
+            ∙ begun.saved)
+            ∙ ap (λ k. Enter p k Other User 1 0 0 (Some next) ∷ []) call_key;
         safe = begun.safe s only image.processors (after_step s p r);
       }
     where
