@@ -1,8 +1,9 @@
 -- The delivery of what a task raises: what it owes for the activation that it begins, in either mode.
-use Rattle.std.proofs.Common.{◌≡◌, ℕ, ◌+◌, ◌^◌, ◌<◌, ◌≤◌, Bool, true, false, [], length, Option, Some, refl, sym, ap, subst, arith}
+use Rattle.std.proofs.Common.{◌≡◌, ℕ, ◌+◌, ◌*◌, ◌^◌, ◌<◌, ◌≤◌, Bool, true, false, [], ◌∷◌, length, Option, Some, refl, sym, ap, subst, arith}
 use Rattle.std.specs.Prelude.{slice_get}
 use Rattle.std.specs.List.{list_any}
-use Rattle.ev_isa.specs.Word.{NatMap}
+use Rattle.ev_isa.specs.Word.{NatMap, bit}
+use Rattle.ev_isa.specs.Flags.{flags_word}
 use Rattle.ev_isa.specs.declared.mode.Mode.{Mode}
 use Rattle.ev_event.specs.declared.event.Event.{Event}
 use Rattle.ev_body.specs.declared.key.Side.TheVariants.{User}
@@ -10,12 +11,12 @@ use Rattle.ev_body.specs.declared.body.Body.{Body}
 use Rattle.ev_body.specs.declared.image.Image.{Image}
 use Rattle.ev_body.specs.Bodies.{first_body}
 use Rattle.ev_effect.specs.Task.{Task}
-use Rattle.ev_state.specs.Processor.{Processor}
+use Rattle.ev_state.specs.Processor.{Processor, selector}
 use Rattle.ev_mem.specs.Memory.{Memory}
 use Rattle.ev_apic.specs.declared.apic.Apic.{Apic}
 use Rattle.ev_proc.specs.declared.stepped.Stepped.{Stepped}
 use Rattle.ev_proc.specs.ProcessorStep.{After, has_fred}
-use Rattle.ev_listing.specs.AddressMap.{pcpu, stack_top}
+use Rattle.ev_listing.specs.AddressMap.{pcpu, user_table, task_selector, stack_top}
 use Rattle.ev_abstract.specs.Context.{BodyContext}
 use Rattle.ev_abstract.specs.Delivery.{event_key, body_at_start, saved_by}
 use Rattle.ev_concrete.specs.Opening.{regions}
@@ -24,7 +25,7 @@ use Rattle.ev_concrete.specs.LiveWords.{overwrites}
 use Rattle.ev_concrete.specs.Shown.{is_refused, told_rip, told_event, saved_rip}
 use Rattle.ev_symbolic.specs.Agrees.{with_words}
 use Rattle.ev_activation.specs.Seat.{Kind, Seat, kind_from}
-use Rattle.ev_user.specs.Tasks.{task_processor}
+use Rattle.ev_user.specs.Tasks.{level_zero, task_processor}
 use Rattle.ev_user.specs.Causes.{Fault, Undefined, Protection, Page, Cause, Faulted, Debug, Breakpoint, Three, Refused, Call, IsCause, raised_event, raising}
 use Rattle.ev_refine.specs.Active.{address_of_item, item_place, Active}
 use Rattle.ev_refine.specs.Nmi.{Frame}
@@ -84,6 +85,23 @@ arrival c words e frame a nmi = record { cpu = c; apic = a; words = words; nmi =
 -- so many edges come at most before a visible step
 abbrev pub entry_edges : ℕ
 entry_edges = 100
+
+-- ---- what the load of the body's address finds
+
+-- the place of the key's word, the task that goes on, and what the event tells the body
+pub record Finds (mode : Mode) (p n : ℕ) (t : Task) (body : ℕ) (cause : Cause) (v : ℕ → ℕ) : Type 0 where
+  pub place : v 0 ≡ user_table + 8 * cause_key cause
+  pub regs : (returning t cause).regs
+      ≡ v 30 ∷ v 31 ∷ v 32 ∷ v 33 ∷ v 20 ∷ v 35 ∷ v 36 ∷ v 37 ∷ v 38 ∷ v 39 ∷ v 40 ∷ v 41 ∷ v 42 ∷ v 43 ∷ v 44 ∷ v 45 ∷ []
+  pub rip : v 17 ≡ (returning t cause).rip
+  pub cs : selector (v 18) ≡ 0x33
+  pub flags : v 19 ≡ flags_word (returning t cause).flags
+  pub ss : selector (v 21) ≡ 0x2b
+  pub sti : bit 16 (v 21) ≡ false
+  pub gs : v 60 ≡ (returning t cause).gs
+  pub chosen : v 61 ≡ task_selector p n
+  pub level : v 63 ≡ level_zero mode p n
+  pub locals : (body_at_start body User (raised_event cause)).locals ≡ v 6 ∷ v 7 ∷ v 8 ∷ v 9 ∷ v 10 ∷ v 11 ∷ v 12 ∷ v 13 ∷ []
 
 -- ---- the delivery, of a task on its stack n
 

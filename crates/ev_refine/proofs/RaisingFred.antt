@@ -46,7 +46,7 @@ use Rattle.ev_refine.proofs.Fits.{fits_at, opens_at}
 use Rattle.ev_refine.proofs.After.{kernel_names}
 use Rattle.ev_refine.proofs.UserSafe.{overwrites_none}
 use Rattle.ev_refine.proofs.Raising as raise
-use Rattle.ev_refine.proofs.Raising.{cause_key, kind_at, saved_at, returning, arrival, entry_edges, key_small, over_one, Ready, Begins}
+use Rattle.ev_refine.proofs.Raising.{cause_key, kind_at, saved_at, returning, arrival, entry_edges, key_small, over_one, Finds, Ready, Begins}
 
 -- the frame lies on the task's stack, at its top
 on_stack : (p n : ℕ) → n ≡ 0 → p < 32 → (vs : List ℕ) → length vs ≡ 8 → (words : NatMap ℕ) → Changes p (record { stack = n; used = 0 }) (kernel_names p) words
@@ -111,26 +111,11 @@ module _ (image : Image) (p n : ℕ) (t : Task) (cr2 body : ℕ) where
         saved = ap (λ b. told_rip (not b) (t.rip + 2)) other ∙ (let q : (t.rip + 2 + (2 ^ 64 - 2)) % 2 ^ 64 ≡ t.rip + 0 = omega arith in q);
       }
 
-  -- what the load finds
-  record Finds (cause : Cause) (v : ℕ → ℕ) : Type 0 where
-    place : v 0 ≡ user_table + 8 * cause_key cause
-    regs : (returning t cause).regs
-        ≡ v 30 ∷ v 31 ∷ v 32 ∷ v 33 ∷ v 20 ∷ v 35 ∷ v 36 ∷ v 37 ∷ v 38 ∷ v 39 ∷ v 40 ∷ v 41 ∷ v 42 ∷ v 43 ∷ v 44 ∷ v 45 ∷ []
-    rip : v 17 ≡ (returning t cause).rip
-    cs : selector (v 18) ≡ 0x33
-    flags : v 19 ≡ flags_word (returning t cause).flags
-    ss : selector (v 21) ≡ 0x2b
-    sti : bit 16 (v 21) ≡ false
-    gs : v 60 ≡ (returning t cause).gs
-    chosen : v 61 ≡ task_selector p n
-    level : v 63 ≡ stack_top p n
-    locals : (body_at_start body User (raised_event cause)).locals ≡ v 6 ∷ v 7 ∷ v 8 ∷ v 9 ∷ v 10 ∷ v 11 ∷ v 12 ∷ v 13 ∷ []
-
   -- the number of a byte n, times eight, and two
   error_is : (v k : ℕ) → v ≡ k → k < 2 ^ 8 → ((v * 2 ^ 3) % 2 ^ 64 + 2) % 2 ^ 64 ≡ 8 * k + 2
   error_is v k h l = omega arith
 
-  finds : (cause : Cause) → IsCause cause → length t.regs ≡ 16 → t.rip + 2 < 2 ^ 64 → Finds cause (behind cause (way_of (own_event cause)))
+  finds : (cause : Cause) → IsCause cause → length t.regs ≡ 16 → t.rip + 2 < 2 ^ 64 → Finds Fred p n t body cause (behind cause (way_of (own_event cause)))
   unfolding eval ss_word type_number
   finds (Faulted Undefined) h l s = record {
     place = refl;
@@ -263,7 +248,7 @@ module _ (image : Image) (p n : ℕ) (t : Task) (cr2 body : ℕ) where
       = frames_tell (from image p n t cr2 (Refused k) body) (own_event (Refused k)) (env image p n t cr2 (Refused k) body) refl (omega arith) (omega arith)
       (omega arith) h.0 in
       let error : behind (Refused k) ByIntN 6 ≡ 8 * k + 2 = error_is _ k tells.vector h.0 in
-      subst (λ w. Finds (Refused k) (behind (Refused k) w)) (sym by_n) (record {
+      subst (λ w. Finds Fred p n t body (Refused k) (behind (Refused k) w)) (sym by_n) (record {
         place = refl;
         regs = listed_is t.regs l;
         rip = let q : (t.rip + 2 + 2 ^ 64 - 2) % 2 ^ 64 ≡ t.rip + 0 = omega arith in q;
@@ -312,7 +297,7 @@ module _ (image : Image) (built : IsBuilt image) (p n : ℕ) (t : Task) (cr2 : �
   does : Comes image p n t cr2 body cause
   does = comes image p n t cr2 body cause ready.is_cause ready.rip_small
 
-  found : Finds image p n t cr2 body cause (behind image p n t cr2 body cause (way_of e))
+  found : Finds Fred p n t body cause (behind image p n t cr2 body cause (way_of e))
   found = finds image p n t cr2 body cause ready.is_cause ready.long ready.rip_small
 
   -- the frame ends at the top of the task's stack
@@ -401,5 +386,5 @@ module _ (image : Image) (built : IsBuilt image) (p n : ℕ) (t : Task) (cr2 : �
     changes = on_stack p n ready.running small (map (eval at) fred_frame) refl m.words;
     told = does.told;
     saved = ap (told_rip (is_refused true e)) saved_is ∙ does.saved;
-    safe = λ s only k z. overwrites_none image built s only (acted k z p (Stepped.Delivered e (Some (frame_at at)))).1;
+    safe = λ s only k z. overwrites_none Fred image built s only (acted k z p (Stepped.Delivered e (Some (frame_at at)))).1;
   }
