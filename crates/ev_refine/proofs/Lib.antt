@@ -28,6 +28,7 @@ pub mod UserBody
 pub mod UserSafe
 pub mod Raising
 pub mod RaisingFred
+pub mod RaisingIdt
 pub mod SystemCallIdt
 pub mod User
 pub mod CodeFacts

@@ -10,6 +10,7 @@ use Rattle.ev_body.specs.declared.key.Side.TheVariants.{User}
 use Rattle.ev_body.specs.declared.body.Body.{Body}
 use Rattle.ev_body.specs.declared.image.Image.{Image}
 use Rattle.ev_body.specs.Bodies.{first_body}
+use Rattle.ev_body.specs.WellFormed.{IsImage}
 use Rattle.ev_effect.specs.Task.{Task}
 use Rattle.ev_state.specs.Processor.{Processor, selector}
 use Rattle.ev_mem.specs.Memory.{Memory}
@@ -29,9 +30,10 @@ use Rattle.ev_user.specs.Tasks.{level_zero, task_processor}
 use Rattle.ev_user.specs.Causes.{Fault, Undefined, Protection, Page, Cause, Faulted, Debug, Breakpoint, Three, Refused, Call, IsCause, raised_event, raising}
 use Rattle.ev_refine.specs.Active.{address_of_item, item_place, Active}
 use Rattle.ev_refine.specs.Nmi.{Frame}
+use Rattle.ev_refine.specs.Tasks.{TssIs}
 use Rattle.ev_refine.specs.Named.{Changes}
 use Rattle.ev_refine.proofs.CallKinds.{is_over_task}
-use Rattle.ev_refine.proofs.Facts.{Facts}
+use Rattle.ev_refine.proofs.Facts.{HasFixed, Facts}
 use Rattle.ev_refine.proofs.Fits.{IsSeat}
 use Rattle.ev_refine.proofs.After.{kernel_names}
 use Rattle.ev_refine.proofs.UserSafe.{OnlyTask}
@@ -123,15 +125,18 @@ module _ (mode : Mode) (image : Image) (p n : ℕ) (t : Task) (cr2 : ℕ) (cause
     pub running : n ≡ 0
     pub within : p < image.processors
     pub few : image.processors ≤ 8
+    pub formed : IsImage image
     pub facts : Facts mode image
     pub is_cause : IsCause cause
     pub long : length t.regs ≡ 16
     pub rip_small : t.rip + 2 < 2 ^ 64
     pub regions_are : m.regions ≡ regions image
+    pub fixed : HasFixed mode image m
     pub found : first_body 0 image.bodies (cause_key cause) User ≡ Some body
     pub stands : Body
     pub is : slice_get image.bodies body ≡ Some stands
     pub top_is : m.words (pcpu p + 0x10) ≡ stack_top p n
+    pub tss : TssIs mode p n m.words
 
   -- the place of the body's first item, as base 20
   abbrev pub first_place : ℕ → ℕ

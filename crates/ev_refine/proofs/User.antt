@@ -65,6 +65,7 @@ use Rattle.ev_refine.proofs.UserBody.{IsSystemCall, is_system_call}
 use Rattle.ev_refine.proofs.UserSafe.{OnlyTask}
 use Rattle.ev_refine.proofs.RaisingFred as fred
 use Rattle.ev_refine.proofs.SystemCallIdt as idt
+use Rattle.ev_refine.proofs.RaisingIdt as through_gates
 
 -- the event of a system call
 abbrev call_event : Event
@@ -152,10 +153,16 @@ is_call (Refused n) h = let clash : Other ≡ Hardware = ap (λ (e : Event). e.k
 
 -- ---- what the delivery comes to, by the mode
 
-begins_call : (mode : Mode) (image : Image) (built : IsBuilt image) (p n : ℕ) (t : Task) (cr2 body : ℕ) (m : Memory)
-    → Ready mode image p n t cr2 Call body m → Begins mode image p n t cr2 Call body m
-begins_call Idt image built p n t cr2 body m ready = idt.begins_call image p n t cr2 body m ready
-begins_call Fred image built p n t cr2 body m ready = fred.begins_fred image built p n t cr2 Call body m ready
+-- a system call under IDT writes no frame
+begins_entry : (mode : Mode) (image : Image) (built : IsBuilt image) (p n : ℕ) (t : Task) (cr2 : ℕ) (cause : Cause) (body : ℕ) (m : Memory)
+    → Ready mode image p n t cr2 cause body m → Begins mode image p n t cr2 cause body m
+begins_entry Fred image built p n t cr2 cause body m ready = fred.begins_fred image built p n t cr2 cause body m ready
+begins_entry Idt image built p n t cr2 Call body m ready = idt.begins_call image p n t cr2 body m ready
+begins_entry Idt image built p n t cr2 (Faulted f) body m ready = through_gates.begins_idt image built p n t cr2 (Faulted f) body m ready (λ e. cc)
+begins_entry Idt image built p n t cr2 Debug body m ready = through_gates.begins_idt image built p n t cr2 Debug body m ready (λ e. cc)
+begins_entry Idt image built p n t cr2 Breakpoint body m ready = through_gates.begins_idt image built p n t cr2 Breakpoint body m ready (λ e. cc)
+begins_entry Idt image built p n t cr2 Three body m ready = through_gates.begins_idt image built p n t cr2 Three body m ready (λ e. cc)
+begins_entry Idt image built p n t cr2 (Refused k) body m ready = through_gates.begins_idt image built p n t cr2 (Refused k) body m ready (λ e. cc)
 
 module _ (mode : Mode) (image : Image) (formed : IsImage image) (built : IsBuilt image) (facts : Facts mode image) where
   -- a system call
@@ -183,19 +190,22 @@ module _ (mode : Mode) (image : Image) (formed : IsImage image) (built : IsBuilt
       u.canonical in
       let next_small : next < 2 ^ 64 = word_of_canonical next next_good in
       let is_caller : c ≡ raiser mode image p n t c.cr2 Call body = u.rest.task.is ∙ ap (task_processor mode image p n t c.cr2) u.open_to in
-      let begun : Begins mode image p n t c.cr2 Call body s.memory = begins_call mode image built p n t c.cr2 body s.memory (record {
+      let begun : Begins mode image p n t c.cr2 Call body s.memory = begins_entry mode image built p n t c.cr2 Call body s.memory (record {
         running = first;
         within = lt;
         few = formed.count.1;
+        formed = formed;
         facts = facts;
         long = u.rest.task.task.long;
         is_cause = tt;
         rip_small = next_small;
         regions_are = h.regions_are;
+        fixed = h.fixed;
         found = found.1;
         stands = call.body;
         is = call.is;
         top_is = current.top;
+        tss = current.tss;
       }) in
       let d : Processor = begun.cpu in
       let words' : NatMap ℕ = begun.words in
