@@ -3,24 +3,22 @@ use Rattle.std.proofs.Common.{◌≡◌, ℕ, ◌+◌, ◌-◌, ◌%◌, ◌*◌
 use Rattle.std.specs.Prelude.{◌==◌, if◌then◌else◌}
 use Rattle.std.proofs.lemmas.Bool.{ne_eqb}
 use Rattle.std.proofs.lemmas.List.{length-set}
-use Rattle.ev_isa.specs.Word.{NatMap, bit, wrap}
+use Rattle.ev_isa.specs.Word.{NatMap, wrap}
 use Rattle.ev_isa.specs.Flags.{flags_word}
 use Rattle.ev_isa.specs.declared.mode.Mode.TheVariants.{Fred}
 use Rattle.ev_event.specs.declared.event.Event.{Event}
 use Rattle.ev_event.specs.Event.{type_number, is_hardware}
-use Rattle.ev_body.specs.declared.key.Side.TheVariants.{User}
 use Rattle.ev_body.specs.declared.image.Image.{Image}
 use Rattle.ev_effect.specs.Task.{Task}
 use Rattle.ev_effect.specs.Frame.{placed}
-use Rattle.ev_state.specs.Processor.{Processor, selector}
+use Rattle.ev_state.specs.Processor.{Processor}
 use Rattle.ev_state.specs.Outcome.{Went}
 use Rattle.ev_mem.specs.Memory.{Memory}
 use Rattle.ev_apic.specs.declared.apic.Apic.{Apic}
 use Rattle.ev_fred.specs.FredDelivery.{ss_word}
 use Rattle.ev_proc.specs.declared.stepped.Stepped.{Stepped}
 use Rattle.ev_proc.specs.ProcessorStep.{has_fred, try}
-use Rattle.ev_listing.specs.AddressMap.{user_table, task_selector, stack_top, stack_bytes}
-use Rattle.ev_abstract.specs.Delivery.{body_at_start}
+use Rattle.ev_listing.specs.AddressMap.{stack_top, stack_bytes}
 use Rattle.ev_concrete.specs.ConcreteRun.{acted}
 use Rattle.ev_concrete.specs.Shown.{is_refused, told_event, told_rip}
 use Rattle.ev_built.specs.Built.{IsBuilt}

@@ -1,14 +1,13 @@
 -- The delivery through the IDT of what a task raises but for system calls: the frame that it writes, and the activation that it begins.
-use Rattle.std.proofs.Common.{◌≡◌, ◌≢◌, ℕ, ◌+◌, ◌-◌, ◌*◌, ◌%◌, ◌^◌, ◌<◌, ◌≤◌, Bool, true, false, not, ◌&&◌, List, [], ◌∷◌, get_or, set, length, map, Some, refl, sym, ap, ◌∙◌, subst, arith, inl, inr}
+use Rattle.std.proofs.Common.{◌≡◌, ◌≢◌, ℕ, ◌+◌, ◌-◌, ◌*◌, ◌%◌, ◌^◌, ◌<◌, ◌≤◌, Bool, true, false, ◌&&◌, List, length, map, Some, refl, sym, ap, ◌∙◌, arith, inl, inr}
 use Rattle.std.specs.Prelude.{◌==◌, if◌then◌else◌}
 use Rattle.std.proofs.lemmas.List.{length-set}
 use Rattle.ev_isa.specs.Word.{NatMap, wrap}
 use Rattle.ev_isa.specs.Flags.{Flags, flags_word, flags_of}
 use Rattle.ev_isa.specs.declared.mode.Mode.TheVariants.{Idt}
 use Rattle.ev_event.specs.declared.event.Event.{Event}
-use Rattle.ev_event.specs.Event.{has_error_code, is_hardware}
+use Rattle.ev_event.specs.Event.{has_error_code}
 use Rattle.ev_body.specs.declared.image.Image.{Image}
-use Rattle.ev_body.specs.WellFormed.{IsImage}
 use Rattle.ev_effect.specs.Task.{Task}
 use Rattle.ev_effect.specs.Frame.{placed}
 use Rattle.ev_gate.specs.Gate.{gate_at}
@@ -23,9 +22,9 @@ use Rattle.ev_proc.specs.ProcessorStep.{has_fred, try}
 use Rattle.ev_listing.specs.AddressMap.{pcpu, idt_base, vector_stub, stack_top, stack_bytes}
 use Rattle.ev_concrete.specs.Opening.{gate}
 use Rattle.ev_concrete.specs.ConcreteRun.{acted}
-use Rattle.ev_concrete.specs.Shown.{is_refused, told_event, told_rip, saved_rip}
+use Rattle.ev_concrete.specs.Shown.{is_refused, told_event, told_rip}
 use Rattle.ev_built.specs.Built.{IsBuilt}
-use Rattle.ev_symbolic.specs.Value.{M, K}
+use Rattle.ev_symbolic.specs.Value.{M}
 use Rattle.ev_symbolic.specs.Join.{env_after}
 use Rattle.ev_symbolic.specs.Agrees.{Env, eval, untracked, Known, Agrees, with_words}
 use Rattle.ev_symbolic.proofs.Blocks.{at_end}
@@ -33,13 +32,12 @@ use Rattle.ev_symbolic.proofs.Placed.{next_place, placed_other}
 use Rattle.ev_blocks.specs.Shapes.{UserCode, from_top}
 use Rattle.ev_blocks.specs.Idt.{Stub, idt_block, pushed, pushed_bytes, stub_values, common_values}
 use Rattle.ev_blocks.specs.Blocks.{InIdt, edges}
-use Rattle.ev_deliver.specs.IdtDelivers.{idt_variables, frame_at, idt_handler, idt_words, IdtSite, StubSite, StubBegins}
+use Rattle.ev_deliver.specs.IdtDelivers.{idt_variables, frame_at, idt_handler, idt_words, StubSite, StubBegins}
 use Rattle.ev_deliver.proofs.FredDelivers.{listed_is}
 use Rattle.ev_deliver.proofs.IdtDelivers.{idt_delivers, idt_refuses}
 use Rattle.ev_deliver.proofs.Tops.{idt_from_task}
 use Rattle.ev_activation.specs.Seat.{Seat, top_at}
 use Rattle.ev_table.specs.Table.{code_table}
-use Rattle.ev_tables.specs.Claims.{HoldsIdt}
 use Rattle.ev_tables.proofs.Stand.{gates_stand}
 use Rattle.ev_user.specs.Causes.{Fault, Undefined, Protection, Page, Cause, Faulted, Debug, Breakpoint, Three, Refused, Call, IsCause, own_event, raised_event, raising}
 use Rattle.ev_user.specs.Deliveries.{Passes, saving}

@@ -1,5 +1,5 @@
 -- The delivery of a system call under IDT: SYSCALL writes no word, and leaves RIP and the flags in RCX and R11; and the activation that it begins.
-use Rattle.std.proofs.Common.{◌≡◌, ℕ, ◌+◌, ◌-◌, ◌^◌, ◌<◌, Bool, List, get_or, set, length, None, refl, sym, ap, ◌∙◌, subst, arith, inr}
+use Rattle.std.proofs.Common.{◌≡◌, ℕ, ◌+◌, ◌-◌, ◌<◌, Bool, List, get_or, set, length, None, refl, ap, ◌∙◌, arith, inr}
 use Rattle.std.specs.Prelude.{bit_and}
 use Rattle.std.proofs.lemmas.List.{length-set}
 use Rattle.ev_isa.specs.Flags.{Flags, flags_word, flags_of}

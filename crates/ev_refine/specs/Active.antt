@@ -1,5 +1,5 @@
 -- Activations: at an instruction of a block, over the processor to which they will return; and what the variables of blocks are. Own.
-use Rattle.std.specs.Prelude.{◌≡◌, ◌⊎◌, ℕ, ◌+◌, ◌*◌, ◌^◌, ◌<◌, ◌≤◌, Bool, ◌==◌, if◌then◌else◌, [], ◌∷◌, length, get_or, slice_get, Option, Some, None}
+use Rattle.std.specs.Prelude.{◌≡◌, ◌⊎◌, ℕ, ◌+◌, ◌*◌, ◌≤◌, Bool, ◌==◌, if◌then◌else◌, [], ◌∷◌, length, get_or, slice_get, Option, Some, None}
 use Rattle.ev_isa.specs.Word.{NatMap, bit}
 use Rattle.ev_isa.specs.Flags.{Flags}
 use Rattle.ev_isa.specs.declared.mode.Mode.{Mode}
