@@ -60,7 +60,7 @@ jcc_plain : (cond : Cond) (n : ℕ) (on : Bool) (o : Option ℕ)
 unfolding is_ret is_finish if_after is_eoi
 jcc_plain cond n on o = (refl, refl, refl, refl)
 
-dropped_records : (image : Image) (c : BodyContext) (x : Processor) (below : List BodyContext) → (dropped image c x below).records ≡ x.records
+pub dropped_records : (image : Image) (c : BodyContext) (x : Processor) (below : List BodyContext) → (dropped image c x below).records ≡ x.records
 dropped_records image c x [] = pick (x.resched && not (is_nmi_body image c))
   where
     switch : (y : Processor) (ts : List ℕ) → (switched y ts).records ≡ y.records
@@ -77,7 +77,7 @@ unfolding has_flags_for
 wait_flags site = refl
 
 -- a declared function is one of the body that takes calls
-declared_at : (image : Image) (n : ℕ) (b : Body) (func : ℕ) → slice_get image.bodies n ≡ Some b → is_call_handler b ≡ true
+pub declared_at : (image : Image) (n : ℕ) (b : Body) (func : ℕ) → slice_get image.bodies n ≡ Some b → is_call_handler b ≡ true
     → declares image func ≡ true → has_function func b ≡ true
 unfolding declares
 declared_at image n b func e handler h =

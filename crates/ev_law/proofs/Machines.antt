@@ -222,7 +222,7 @@ module _ (image : Image) where
   mailed_nmi x Nmi u k e = u
   mailed_nmi x _ u k e = k e
 
-  mailed_same : (x : Processor) (key : Key)
+  pub mailed_same : (x : Processor) (key : Key)
       → ((mailed x key).bodies ≡ x.bodies) × ((mailed x key).pending ≡ x.pending) × ((mailed x key).records ≡ x.records) × ((mailed x key).queue ≡ x.queue)
   mailed_same x Nmi = (refl, refl, refl, refl)
   mailed_same x _ = (refl, refl, refl, refl)

@@ -200,7 +200,7 @@ same_if b i (Goto k) n e h = let same : k ≡ n = cc in equal (if_at b i) (if_at
     equal false true h = absurd (cc)
 same_if b i _ n e h = absurd (cc)
 
-both_ways : (x y : Bool) → (x ≡ true → y ≡ true) → (y ≡ true → x ≡ true) → x ≡ y
+pub both_ways : (x y : Bool) → (x ≡ true → y ≡ true) → (y ≡ true → x ≡ true) → x ≡ y
 both_ways true y f g = sym (f refl)
 both_ways false true f g = g refl
 both_ways false false f g = refl

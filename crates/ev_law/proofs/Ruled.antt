@@ -14,9 +14,9 @@ use Rattle.ev_body.specs.declared.image.Image.{Image}
 use Rattle.ev_body.specs.Bodies.{body_items, key_number, covers, function_start}
 use Rattle.ev_body.specs.WellFormed.{IsImage, is_body, is_key, are_parts, has_operands, is_sendable, is_word, has_no_parts, ends_with, is_ret, is_finish, is_apart, are_apart}
 use Rattle.ev_abstract.specs.CrossCall.{take_place}
-use Rattle.ev_abstract.specs.Rules.{first_item_from, refusal_at, first_refused, first_some, rules, missing_body, slot_rule, register_rule, flag_rule, if_rule, eoi_rule, fault_rule, nmi_rule, call_rule, breaks_flags, breaks_if, breaks_eoi, breaks_calls, failing_eoi, failing_call, or_first, jump_target, in_function, item_before, leaves_flags, is_take, is_call_handler, is_function}
+use Rattle.ev_abstract.specs.Rules.{first_item_from, refusal_at, first_refused, first_some, rules, missing_body, slot_rule, register_rule, flag_rule, if_rule, eoi_rule, fault_rule, nmi_rule, call_rule, breaks_slots, breaks_flags, breaks_if, breaks_eoi, breaks_calls, failing_eoi, failing_call, or_first, jump_target, in_function, item_before, leaves_flags, is_take, is_call_handler, is_function}
 use Rattle.ev_abstract.specs.declared.refusal.Refusal.{Refusal}
-use Rattle.ev_abstract.specs.declared.refusal.Refusal.TheVariants.{FlagRule, IfRule, EoiRule, CallRule}
+use Rattle.ev_abstract.specs.declared.refusal.Refusal.TheVariants.{SlotRule, FlagRule, IfRule, EoiRule, CallRule}
 use Rattle.ev_law.specs.Legal.{has_function, declares}
 use Rattle.ev_law.proofs.Lists.{all_at}
 use Rattle.ev_law.proofs.Parts.{items_of, get_split, total, goes_in, starts_in, no_finish_in, leads_in, part_ends, parts_go_on, parts_lead, parts_start, before, start_leaves, take_first, take_found}
@@ -42,6 +42,7 @@ pub record IsRuled (image : Image) (b : Body) : Type 0 where
       × (leaves_flags (item_before b (function_start b func)) ≡ false)
   pub sends : (i to : ℕ) (key : Key) → slice_get (body_items b) i ≡ Some (Send to key) → is_sendable key ≡ true
   pub calls : (i site to func s : ℕ) → slice_get (body_items b) i ≡ Some (Call site to func s) → declares image func ≡ true
+  pub slots : (i : ℕ) (item : Item) → slice_get (body_items b) i ≡ Some item → breaks_slots image.processors item ≡ false
   pub key : is_key b.key ≡ true
 
 -- ---- a rule that refuses nothing
@@ -352,5 +353,6 @@ module _ (image : Image) (is : IsImage image) (kept : rules image ≡ None) wher
         sends = λ i to key k. sends_at image bytes n b h2.1 h3.1 h5.1 i to key k;
         calls = λ i site to func s k. declared func
             (call_rule_at image n b i site to func s (no_item_of (breaks_calls image n b) i (Call site to func s) (body_items b) call.1 k));
+        slots = at_item SlotRule (λ b i item. breaks_slots image.processors item) image.bodies n b all_rules.1.0 e;
         key = h1.0;
       }

@@ -7,6 +7,7 @@ mod line;
 mod listing;
 mod marks;
 mod names;
+mod position;
 mod section;
 
 pub use label::StubLabel;
@@ -14,4 +15,5 @@ pub use line::{Line, statement};
 pub use listing::{Listing, add_listing};
 pub use marks::visible;
 pub use names::{Registers, by_name};
+pub use position::{index_from, or_in_block};
 pub use section::{blocks, sections};

@@ -16,10 +16,13 @@ use std::alloc::{AllocError, Global};
 
 /// The page to which the CONFIG MSR points: events from CPL 3 begin at it, and those from CPL 0 256
 /// bytes behind it (FRED specification, "Determining new RIP").
-const PAGE: u64 = 0xffff_ffff_8100_0000;
+pub const PAGE: u64 = 0xffff_ffff_8100_0000;
+
+/// Where events from CPL 0 begin.
+pub const FROM_KERNEL: u64 = PAGE + 0x100;
 
 /// Where the entries and exits stand.
-const HANDLERS: u64 = PAGE + 0x200;
+pub const HANDLERS: u64 = PAGE + 0x200;
 
 /// Where the code for keys without a body stands.
 const NO_BODY: u64 = 0xffff_ffff_8100_1ff0;
@@ -39,7 +42,7 @@ fn listings(alloc: Global) -> Result<Vec<Listing>, AllocError>
 {
     let mut listings = Vec::new(alloc);
     add_listing(alloc, &mut listings, PAGE, &[Jump(None, Fu)])?;
-    add_listing(alloc, &mut listings, PAGE + 0x100, &[Jump(None, Fk)])?;
+    add_listing(alloc, &mut listings, FROM_KERNEL, &[Jump(None, Fk)])?;
     let handlers = handlers(alloc)?;
     add_listing(alloc, &mut listings, HANDLERS, &handlers)?;
     let no_body = [Label(Nobody), Jump(None, Nobody)];

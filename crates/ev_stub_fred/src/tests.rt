@@ -22,3 +22,18 @@ fn jumps(rt: HostRuntime) {
         .expect(&rt, "memory was refused");
     assert_eq!(rt; visible.len(), 2);
 }
+
+// The start of the entries, PUSH RAX twice and PUSH RCX with one byte each, and the jump at 100H with
+// five: inside it and behind it no instruction begins.
+#[test]
+fn positions(rt: HostRuntime) {
+    let third = fred_position(0xffff_ffff_8100_0202);
+    assert_eq!(rt; third.block, FredBlock::Main);
+    assert_eq!(rt; third.index, 2);
+    let kernel = fred_position(0xffff_ffff_8100_0100);
+    assert_eq!(rt; kernel.block, FredBlock::Kernel);
+    assert_eq!(rt; kernel.index, 0);
+    let inside = fred_position(0xffff_ffff_8100_0101);
+    assert_eq!(rt; inside.block, FredBlock::Outside);
+    assert_eq!(rt; inside.index, 0);
+}

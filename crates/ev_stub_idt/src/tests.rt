@@ -34,3 +34,23 @@ fn entry_of_system_calls(rt: HostRuntime) {
         .expect(&rt, "memory was refused");
     assert_eq!(rt; visible.len(), 4);
 }
+
+// The second instruction of the entry of SYSCALL stands behind SWAPGS, which has three bytes; inside
+// that none begins. Before the last jump of the repetition stand two pushes of constants (5 bytes
+// each), 15 of registers (1 or 2), ten loads and stores at RSP (8), a load of a constant (10) and a
+// store (8): 131 bytes. The stub of vector 14 begins with the push of the vector.
+#[test]
+fn positions(rt: HostRuntime) {
+    let second = position_kind(0xffff_ffff_8100_3003);
+    assert_eq!(rt; second.block, IdtBlock::Sys);
+    assert_eq!(rt; second.index, 1);
+    let inside = position_kind(0xffff_ffff_8100_3002);
+    assert_eq!(rt; inside.block, IdtBlock::Outside);
+    assert_eq!(rt; inside.index, 0);
+    let last = position_kind(0xffff_ffff_8100_4883);
+    assert_eq!(rt; last.block, IdtBlock::Repeat);
+    assert_eq!(rt; last.index, 29);
+    let jump = position_kind(0xffff_ffff_8100_20e5);
+    assert_eq!(rt; jump.block, IdtBlock::Vector(14));
+    assert_eq!(rt; jump.index, 1);
+}

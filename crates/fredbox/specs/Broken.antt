@@ -40,4 +40,4 @@ BreaksOff Probe bytes left = (new : Reading) × FollowsPart probe.follows nothin
 BreaksOff c bytes left =
     ((new : Reading) × FollowsPart head_follows nothing_read Head.Image bytes new (coming new.chunk left))
     ⊎ ((o : Opened) × (opened 0 0 Head.Image (lines_of bytes) ≡ Ok o) × (old : Reading) × (rest : List ℕ) × IsBehind o old rest
-      × (new : Reading) × ScriptBreaks c o.image old rest new (coming new.chunk left))
+    × (new : Reading) × ScriptBreaks c o.image old rest new (coming new.chunk left))

@@ -1,11 +1,12 @@
 // The command `check`, behind the image.
 
-ghost use Rattle.std.specs.Prelude.{◌≡◌, ◌≤◌, ℕ, List, [], Some};
+ghost use Rattle.std.specs.Prelude.{◌≡◌, ◌≢◌, ◌≤◌, ℕ, List, [], Some};
 ghost use Rattle.ev_command.specs.declared.command.Command.TheVariants.{Check};
 ghost use Rattle.ev_io.specs.InputLines.{lines_of};
 ghost use Rattle.ev_io.specs.Lines.{coming, drawn};
 ghost use Rattle.ev_io.specs.Transfer.{Draws, Rose};
 ghost use Rattle.ev_script.specs.Script.{read_script};
+ghost use Rattle.ev_status.specs.declared.status.Status.{Status};
 ghost use Rattle.fredbox.specs.Answer.{bound_text, comes};
 ghost use Rattle.fredbox.specs.Broken.{ScriptBreaks};
 ghost use Rattle.fredbox.specs.Taken.{IsUnwritten, Took, Wrote};
@@ -65,6 +66,7 @@ pub(crate) fn check<S: Source, K: Sink>(
     ensures most { drawn lines.new ≤ 8388609 }
     ensures read { result ≡ Status.ReadFault → Rose (S.faults src.old) (S.faults src.new) }
     ensures write { result ≡ Status.WriteFault → Rose (K.faults sink.old) (K.faults sink.new) }
+    ensures command { result ≢ Status.Usage }
 {
     let accepted = match accept(alloc, image) {
         Ok(accepted) => accepted,

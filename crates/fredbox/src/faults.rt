@@ -1,6 +1,7 @@
 // The answers to faults of reading.
 
-ghost use Rattle.std.specs.Prelude.{◌≡◌};
+ghost use Rattle.std.specs.Prelude.{◌≡◌, ◌≢◌};
+ghost use Rattle.ev_status.specs.declared.status.Status.{Status};
 ghost use Rattle.fredbox.specs.Faults.{image_status, input_status, script_status};
 
 use ev_image::ImageFault;
@@ -10,7 +11,8 @@ use ev_status::Status;
 
 /// The answer where no image was read.
 pub(crate) fn image_status(fault: ImageFault) -> Status
-    ensures { result ≡ image_status fault }
+    ensures is { result ≡ image_status fault }
+    ensures command { result ≢ Status.Usage }
 {
     match fault {
         ImageFault::Read => Status::ReadFault,
@@ -21,7 +23,8 @@ pub(crate) fn image_status(fault: ImageFault) -> Status
 
 /// The answer where no script was read.
 pub(crate) fn script_status(fault: ScriptFault) -> Status
-    ensures { result ≡ script_status fault }
+    ensures is { result ≡ script_status fault }
+    ensures command { result ≢ Status.Usage }
 {
     match fault {
         ScriptFault::Read => Status::ReadFault,
@@ -32,7 +35,8 @@ pub(crate) fn script_status(fault: ScriptFault) -> Status
 
 /// The answer where no probe line was read.
 pub(crate) fn input_status(fault: InputFault) -> Status
-    ensures { result ≡ input_status fault }
+    ensures is { result ≡ input_status fault }
+    ensures command { result ≢ Status.Usage }
 {
     match fault {
         InputFault::Read => Status::ReadFault,

@@ -1,11 +1,12 @@
 // The command `probe`.
 
-ghost use Rattle.std.specs.Prelude.{◌≡◌, ◌≤◌, ℕ, List, [], Some};
+ghost use Rattle.std.specs.Prelude.{◌≡◌, ◌≢◌, ◌≤◌, ℕ, List, [], Some};
 ghost use Rattle.ev_command.specs.declared.command.Command.TheVariants.{Probe};
 ghost use Rattle.ev_io.specs.Lines.{drawn};
 ghost use Rattle.ev_io.specs.Transfer.{Draws, Rose};
 ghost use Rattle.ev_probe.specs.Probe.{report_text};
 ghost use Rattle.ev_probe.specs.Told.{told};
+ghost use Rattle.ev_status.specs.declared.status.Status.{Status};
 ghost use Rattle.fredbox.specs.Answer.{comes_of};
 ghost use Rattle.fredbox.specs.Broken.{BreaksOff, nothing_read};
 ghost use Rattle.fredbox.specs.Taken.{IsUnwritten, Took, Wrote};
@@ -50,6 +51,7 @@ pub(crate) fn probe<S: Source, K: Sink>(
     ensures most { drawn lines.new ≤ 8388609 }
     ensures read { result ≡ Status.ReadFault → Rose (S.faults src.old) (S.faults src.new) }
     ensures write { result ≡ Status.WriteFault → Rose (K.faults sink.old) (K.faults sink.new) }
+    ensures command { result ≢ Status.Usage }
 {
     match read_probe(alloc, lines, src) {
         Ok(report) => write_report(&report, sink),

@@ -1,6 +1,6 @@
 // The command `run`, behind the image.
 
-ghost use Rattle.std.specs.Prelude.{◌≡◌, ◌≤◌, ◌<◌, ◌^◌, ℕ, List, [], Some, true, length};
+ghost use Rattle.std.specs.Prelude.{◌≡◌, ◌≢◌, ◌≤◌, ◌<◌, ◌^◌, ℕ, List, [], Some, true, length};
 ghost use Rattle.std.specs.List.{list_all};
 ghost use Rattle.ev_abstract.specs.Script.{IsScript};
 ghost use Rattle.ev_built.specs.Built.{IsBuilt, line_is_built};
@@ -13,6 +13,7 @@ ghost use Rattle.ev_isa.specs.declared.mode.Mode.{Mode};
 ghost use Rattle.ev_pair.specs.Modes as asked;
 ghost use Rattle.ev_pair.specs.Safety.{RunIsSafe};
 ghost use Rattle.ev_script.specs.Script.{read_script};
+ghost use Rattle.ev_status.specs.declared.status.Status.{Status};
 ghost use Rattle.fredbox.specs.Answer.{comes, modes_of};
 ghost use Rattle.fredbox.specs.Broken.{ScriptBreaks};
 ghost use Rattle.fredbox.specs.Taken.{IsUnwritten, Took, Wrote};
@@ -21,7 +22,7 @@ use crate::faults::script_status;
 use ev_abstract::Line;
 use ev_accept::{AcceptFault, accept};
 use ev_body::Image;
-use ev_built::{is_built, line_is_built};
+use ev_built::{built_laws, is_built, line_is_built};
 use ev_io::{Lines, Sink, Source};
 use ev_isa::Mode;
 use ev_pair::{Modes, RunFault, run_modes};
@@ -103,6 +104,7 @@ pub(crate) fn run<S: Source, K: Sink>(
     ensures most { drawn lines.new ≤ 8388609 }
     ensures read { result ≡ Status.ReadFault → Rose (S.faults src.old) (S.faults src.new) }
     ensures write { result ≡ Status.WriteFault → Rose (K.faults sink.old) (K.faults sink.new) }
+    ensures command { result ≢ Status.Usage }
 {
     if !is_built(&image) {
         return Status::NotBuilt;
@@ -119,5 +121,6 @@ pub(crate) fn run<S: Source, K: Sink>(
     if !all_built(&script.lines) {
         return Status::NotBuilt;
     }
+    built_laws();
     write_run(alloc, accepted.image(), &script.lines, mode, frames, sink)
 }

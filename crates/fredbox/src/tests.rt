@@ -99,12 +99,7 @@ fn first_refusal(rt: HostRuntime) -> Result<(), Fail> {
             "",
             Status::Refused(Refusal::MissingBody(Key::Sys, Side::User)),
         ),
-        (
-            "run",
-            "script\n",
-            "turn\n",
-            Status::NotBuilt,
-        ),
+        ("run", "script\n", "turn\n", Status::NotBuilt),
         (
             "check",
             "fill\nscript\n",
@@ -185,9 +180,15 @@ fn sink_that_fails(rt: HostRuntime) -> Result<(), Fail> {
     for call in 0..2 {
         let mut src = source(rt.alloc(), DOCUMENT.as_bytes(), &[])?;
         let mut to = sink(rt.alloc(), &[call])?;
-        assert_eq!(rt; top(rt.alloc(), &RUN, &mut src, &mut to), Status::WriteFault);
+        assert_eq!(rt;
+            top(rt.alloc(), &RUN, &mut src, &mut to),
+            Status::WriteFault
+        );
         assert_eq!(rt; (to.calls, to.faults), (call + 1, 1));
-        assert_eq!(rt; FRED_FRAMES.as_bytes().starts_with(to.taken.as_slice()), true);
+        assert_eq!(rt;
+            FRED_FRAMES.as_bytes().starts_with(to.taken.as_slice()),
+            true
+        );
     }
     Ok(())
 }

@@ -17,6 +17,7 @@ use crate::check::check;
 use crate::faults::image_status;
 use crate::probe::probe;
 use crate::run::run;
+use ev_accept::acceptance_laws;
 use ev_command::{Command, command_of};
 use ev_image::read_image;
 use ev_io::{Lines, Sink, Source};
@@ -126,7 +127,10 @@ pub fn top<'a, S: Source, K: Sink>(
     ensures write { result ≡ Status.WriteFault → Rose (K.faults sink.old) (K.faults sink.new) }
 {
     match command_of(alloc, words) {
-        Ok(Some(command)) => answer(alloc, command, src, sink),
+        Ok(Some(command)) => {
+            acceptance_laws();
+            answer(alloc, command, src, sink)
+        }
         Ok(None) => Status::Usage,
         Err(_) => Status::NoMemory,
     }
