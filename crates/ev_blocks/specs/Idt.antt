@@ -1,5 +1,5 @@
 -- Blocks of the kernel's code under IDT, but for the NMI code: the entries of vectors and of SYSCALL, the code that they have in common, and exits.
-use Rattle.std.specs.Prelude.{ℕ, pos, ◌+◌, ◌-◌, Bool, true, false, List, [], ◌∷◌, ◌++◌, Some}
+use Rattle.std.specs.Prelude.{ℕ, pos, ◌+◌, ◌-◌, Bool, true, false, List, [], ◌∷◌, ◌++◌, ◌==◌, Option, Some, None}
 use Rattle.ev_isa.specs.declared.instruction.Ins.{Ins}
 use Rattle.ev_isa.specs.declared.instruction.Ins.TheVariants.{PushImm}
 use Rattle.ev_listing.specs.AddressMap.{sys_entry, common_entry, exit_entry, nmi_entry, repeat_entry, nbody_entry, exitn_entry, nlast_entry, no_body, user_table, kernel_table}
@@ -126,11 +126,20 @@ abbrev pub stub_steps : Bool → ℕ
 stub_steps true = 1
 stub_steps false = 2
 
--- up to the jump to the code in common
+-- a page fault leaves its address in CR2, and no other event is told of CR2
+abbrev pub told_cr2 : (page_fault : Bool) → Option V
+told_cr2 true = Some fault_address
+told_cr2 false = None
+
+-- up to the jump to the code in common; the entry of vector 14 is that of page faults
 abbrev pub stub : Origin → Bool → ℕ → Block
 stub o has v =
     over (entry_ground []) (lines_at (at_base stub_tag 0) (stub_code has v))
-    (record (arrives o 0 (top_less (pushed_bytes has)) (from_top (pushed_bytes has) (pushed has))) { rip = at_base stub_tag 0 }) (stub_steps has)
+    (record (arrives o 0 (top_less (pushed_bytes has)) (from_top (pushed_bytes has) (pushed has))) {
+      rip = at_base stub_tag 0;
+      cr2 = told_cr2 (v == 14);
+    })
+    (stub_steps has)
 
 -- SYSCALL's entry: RSP is still the task's; it keeps that in the processor's area, and takes the top of the task's stack from there
 abbrev pub sys_forms : Forms
@@ -159,11 +168,8 @@ common_opening o = arrives o common_entry (top_less 0x38) (from_top 0x38 (key �
 
 -- the code in common reads CR2 of a page fault
 abbrev pub common_block : Origin → Bool → Block
-common_block o true =
-    over (entry_ground (says_ring (ring o) ∷ is_page_fault true ∷ [])) common_lines (record (common_opening o) { cr2 = Some fault_address })
-    (common_steps o true)
-common_block o false =
-    over (entry_ground (says_ring (ring o) ∷ is_page_fault false ∷ [])) common_lines (common_opening o) (common_steps o false)
+common_block o pf =
+    over (entry_ground (says_ring (ring o) ∷ is_page_fault pf ∷ [])) common_lines (record (common_opening o) { cr2 = told_cr2 pf }) (common_steps o pf)
 
 -- the table of bodies
 abbrev pub table_of : Origin → ℕ

@@ -1,5 +1,6 @@
 -- From one block to the next.
 use Rattle.std.proofs.Common.{◌≡◌, ℕ, ◌+◌, ◌%◌, ◌<◌, Bool, true, false, List, [], ◌∷◌, get_or, set, pos, Some, refl, sym, ap, ◌∙◌, subst, arith, length-set}
+use Rattle.std.specs.Prelude.{◌==◌}
 use Rattle.ev_isa.specs.Word.{NatMap, is_canonical}
 use Rattle.ev_isa.specs.Flags.{flags_of, flags_word}
 use Rattle.ev_isa.specs.declared.instruction.Ins.TheVariants.{Jmp, JmpReg}
@@ -9,7 +10,7 @@ use Rattle.ev_state.proofs.FlagLaws.{kept}
 use Rattle.ev_mem.specs.Memory.{Memory}
 use Rattle.ev_symbolic.specs.Value.{M, V, FVar}
 use Rattle.ev_symbolic.specs.State.{Win, SS, Block, Ground, in_win}
-use Rattle.ev_symbolic.specs.Agrees.{Env, addr, eval, eval_flags, edge_cell, Known, Open, Agrees}
+use Rattle.ev_symbolic.specs.Agrees.{Env, addr, eval, eval_flags, edge_cell, Known, Open, Code, Agrees, At}
 use Rattle.ev_symbolic.specs.Names.{stub_tag, top_less}
 use Rattle.ev_symbolic.specs.Single.{IsAt, onward, Leads}
 use Rattle.ev_symbolic.proofs.Single as single
@@ -79,14 +80,22 @@ at_stub x v o h k q = ap (λ y. (y + o) % M) q ∙ (let z : (vector_stub v + o) 
 canonical_common : is_canonical common_entry ≡ true
 canonical_common = refl
 
+-- where a vector's entry ends
+pub stub_rip : (code : Code) (o : Origin) (has : Bool) (v : ℕ) (env : Env) (c : Processor) (m : Memory) → v < 256 → env.base stub_tag ≡ vector_stub v
+    → At code (idt_block (Stub o has v)) (idt_block (Stub o has v)).steps env c m → c.rip ≡ vector_stub v + stub_bytes has
+stub_rip code o has v env c m h base at =
+    let b : Block = idt_block (Stub o has v) in
+    let x = idt_enters.stub o has v (v == 14) refl in
+    let a : Agrees env b.ground (idt_end (Stub o has v)) c m = at_end code b b.steps (idt_end (Stub o has v)) x.runs env c m at in
+    a.rip ∙ ap (addr env) x.rip ∙ at_stub (env.base stub_tag) v (stub_bytes has) h (bytes_small has) base
+
 pub stubs_go_on : StubsGoOn
-stubs_go_on code o has v pf env c m h base j at told fit open_words =
+stubs_go_on code o has v pf env c m h key base j at fit open_words =
     let b : Block = idt_block (Stub o has v) in
     let next : Block = idt_block (Common o pf) in
-    let x = idt_enters.stub o has v pf in
+    let x = idt_enters.stub o has v pf key in
     let a : Agrees env b.ground (idt_end (Stub o has v)) c m = at_end code b b.steps (idt_end (Stub o has v)) x.runs env c m at in
-    let rip : c.rip ≡ vector_stub v + stub_bytes has =
-    a.rip ∙ ap (addr env) x.rip ∙ at_stub (env.base stub_tag) v (stub_bytes has) h (bytes_small has) base in
+    let rip : c.rip ≡ vector_stub v + stub_bytes has = stub_rip code o has v env c m h base at in
     let cell : code c.rip ≡ Some (edge_cell (Jmp j.distance) (vector_stub v + stub_bytes has + 5)) = ap code rip ∙ j.is in
     let is_at : IsAt c (Jmp j.distance) (vector_stub v + stub_bytes has + 5) = record {
       kernel = ap is_user a.rest ∙ at.fits.ground.kernel;
@@ -94,21 +103,6 @@ stubs_go_on code o has v pf env c m h base j at told fit open_words =
       ends = sym (at.fits.spaced c.rip (edge_cell (Jmp j.distance) (vector_stub v + stub_bytes has + 5)) cell);
     } in
     let cpu : Processor = onward c c.regs common_entry in
-    let there : Agrees env b.ground (record (idt_end (Stub o has v)) { cr2 = next.opening.cr2 }) c m = record {
-      regs = a.regs;
-      rip = a.rip;
-      flags = a.flags;
-      gs = a.gs;
-      kernel_gs = a.kernel_gs;
-      selector = a.selector;
-      cr2 = told;
-      levels = a.levels;
-      blocked = a.blocked;
-      rest = a.rest;
-      words = a.words;
-      known_open = a.known_open;
-      shared_open = a.shared_open;
-    } in
     record {
       ins = Jmp j.distance;
       next = vector_stub v + stub_bytes has + 5;
@@ -117,7 +111,7 @@ stubs_go_on code o has v pf env c m h base j at told fit open_words =
       leads = subst (λ y. Leads c m (Jmp j.distance) (onward c c.regs y) m.words) j.leads
           (single.jumps c m (vector_stub v + stub_bytes has + 5) j.distance is_at (ap is_canonical j.leads ∙ canonical_common));
       at = begins code next (continued env (stub_values has v) c) cpu m fit
-          (joined env (stub_values has v) b.ground next.ground (record (idt_end (Stub o has v)) { cr2 = next.opening.cr2 }) c m next.opening there x.joins cpu
+          (joined env (stub_values has v) b.ground next.ground (idt_end (Stub o has v)) c m next.opening a x.joins cpu
           (flags_of c.flags) refl refl refl refl refl (common_blocked o pf) (common_rip o pf env at.fits.ground.zero_base)
           (modelled_is env b.ground (idt_end (Stub o has v)) c m a) (common_flags o pf) open_words
           (nothing_open (continued env (stub_values has v) c) m next.ground.shared (common_shared o pf)));

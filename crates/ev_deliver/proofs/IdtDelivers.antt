@@ -24,9 +24,9 @@ use Rattle.ev_symbolic.specs.Placed.{all_in}
 use Rattle.ev_symbolic.proofs.Blocks.{begins, levels_split}
 use Rattle.ev_symbolic.proofs.Placed.{listed_known, places_open, no_event, five_open, six_open}
 use Rattle.ev_blocks.specs.Shapes.{Origin, UserCode, KernelCode, from_top, interrupted}
-use Rattle.ev_blocks.specs.Idt.{Stub, Sys, pushed, pushed_bytes, idt_block}
+use Rattle.ev_blocks.specs.Idt.{Stub, Sys, pushed, pushed_bytes, told_cr2, idt_block}
 use Rattle.ev_blocks.specs.Nmi.{Choice, FirstFromTask, FirstLow, FirstHigh, InnerLow, InnerHigh, InnerAtLast, InnerInRepeat, GsBase, TaskGs, KernelGs, Choosing, nmi_block, reads_running, running_if}
-use Rattle.ev_deliver.specs.FredDelivers.{other_base, faulted}
+use Rattle.ev_deliver.specs.FredDelivers.{other_base, cr2_after, faulted}
 use Rattle.ev_deliver.specs.IdtDelivers.{origin_by, stub_of, frame_at, idt_handler, idt_words, IdtSite, StubSite, IdtDelivers, IdtRefuses, running_at, NmiSite, NmiDelivers, CallDelivers}
 use Rattle.ev_deliver.proofs.FredDelivers.{listed_is, tabled, with_cr2_is}
 
@@ -120,6 +120,15 @@ module _ (code : Code) (c : Processor) (m : Memory) (e : Event) (env : Env) (s :
   known_by o false fit = listed_known env (idt_block (Stub o false e.vector)).ground.known (idt_block (Stub o false e.vector)).ground.own fit.ground.sep
       (pushed false) (M - 40) m.words [] (from_top 0x28 (pushed false)) refl refl tt refl
 
+  -- a page fault's entry finds its address in CR2
+  cr2_is : (h : Bool) → IsTold env (told_cr2 (e.vector == 14)) (idt_handler c e (frame_at env h)).cr2
+  unfolding eval
+  cr2_is h = pick (e.vector == 14)
+    where
+      pick : (b : Bool) → IsTold env (told_cr2 b) (cr2_after e c.cr2)
+      pick true = ap (λ f. f 62) (sym s.var)
+      pick false = tt
+
   agrees : (b : Bool) → is_user c ≡ b → (h : Bool) → env.rest ≡ untracked (idt_handler c e (frame_at env h))
       → (idt_handler c e (frame_at env h)).flags ≡ flags_word env.flags → Fits code env (idt_block (Stub (origin_by b) h e.vector))
       → Open env (idt_block (Stub (origin_by b) h e.vector)).ground.known m.regions
@@ -134,7 +143,7 @@ module _ (code : Code) (c : Processor) (m : Memory) (e : Event) (env : Env) (s :
     kernel_gs = low_area env c.msrs.kernel_gs_base s.area_small
         (sym (ap (λ b. if b then c.msrs.kernel_gs_base else c.msrs.gs_base) q) ∙ s.area);
     selector = ap (λ f. f 61) (sym s.var);
-    cr2 = tt;
+    cr2 = cr2_is h;
     levels = levels_are c m e env site (env.var 63) (ap (λ f. f 63) s.var) env.rest (ap (λ (r : Processor). r.msrs.rsp) rest);
     blocked = refl;
     rest = sym rest;
@@ -149,7 +158,7 @@ module _ (code : Code) (c : Processor) (m : Memory) (e : Event) (env : Env) (s :
     gs = low_area env c.msrs.gs_base s.area_small (sym (ap (λ b. if b then c.msrs.kernel_gs_base else c.msrs.gs_base) q) ∙ s.area);
     kernel_gs = sym (ap (λ b. other_base b c) q) ∙ ap (λ f. f 60) (sym s.var);
     selector = ap (λ f. f 61) (sym s.var);
-    cr2 = tt;
+    cr2 = cr2_is h;
     levels = levels_are c m e env site (env.var 63) (ap (λ f. f 63) s.var) env.rest (ap (λ (r : Processor). r.msrs.rsp) rest);
     blocked = refl;
     rest = sym rest;

@@ -8,7 +8,7 @@ use Rattle.ev_state.specs.Processor.{Processor, register}
 use Rattle.ev_mem.specs.Memory.{Memory}
 use Rattle.ev_symbolic.specs.Value.{M, V, FVar}
 use Rattle.ev_symbolic.specs.State.{SS, Block}
-use Rattle.ev_symbolic.specs.Agrees.{Env, untracked, Code, edge_cell, IsOpen, Open, IsTold, Fits, At}
+use Rattle.ev_symbolic.specs.Agrees.{Env, untracked, Code, edge_cell, IsOpen, Open, Fits, At}
 use Rattle.ev_symbolic.specs.Join.{env_after}
 use Rattle.ev_symbolic.specs.Names.{stub_tag, item_tag}
 use Rattle.ev_symbolic.specs.Single.{Leads}
@@ -48,9 +48,9 @@ EntriesContinue = (code : Code) (b next : Block) (z : SS) (θ : List V) (env : E
 abbrev pub StubsGoOn : Type 0
 StubsGoOn =
     (code : Code) (o : Origin) (has_error : Bool) (v : ℕ) (page_fault : Bool) (env : Env) (c : Processor) (m : Memory) → v < 256
+    → (v == 14) ≡ page_fault
     → env.base stub_tag ≡ vector_stub v → StubJump code v has_error
     → At code (idt_block (Stub o has_error v)) (idt_block (Stub o has_error v)).steps env c m
-    → IsTold env (idt_block (Common o page_fault)).opening.cr2 c.cr2
     → Fits code (continued env (stub_values has_error v) c) (idt_block (Common o page_fault))
     → Open (continued env (stub_values has_error v) c) (idt_block (Common o page_fault)).ground.known m.regions
     → GoesOn code c m (idt_block (Common o page_fault)) (continued env (stub_values has_error v) c)

@@ -1,60 +1,63 @@
 -- What the blocks of IDT's code come to: closed facts, each by computation; the vector of an entry is any number.
-use Rattle.std.proofs.Common.{ℕ, Bool, true, false, refl}
+use Rattle.std.proofs.Common.{◌≡◌, ℕ, Bool, true, false, Option, None, refl, sym, ap, subst}
+use Rattle.std.specs.Prelude.{◌==◌}
 use Rattle.ev_isa.specs.Spelling.{spelling, four_bytes}
 use Rattle.ev_asm.specs.Assembly.{size, places, distance}
+use Rattle.ev_symbolic.specs.Value.{V}
+use Rattle.ev_symbolic.specs.State.{Block}
 use Rattle.ev_blocks.specs.Shapes.{Origin, UserCode, KernelCode, IdtFrame}
 use Rattle.ev_paths.specs.Ends.{TellsNoCr2, Enters}
-use Rattle.ev_blocks.specs.Idt.{ByOtherRip, ByOtherFlags, Stub, Sys, Common, idt_places, sys_lines, common_lines, exit_lines, sys_values, common_values, idt_block}
+use Rattle.ev_blocks.specs.Idt.{ByOtherRip, ByOtherFlags, Stub, Sys, Common, idt_places, sys_lines, common_lines, exit_lines, told_cr2, sys_values, common_values, idt_block}
 use Rattle.ev_blocks.specs.Items.{AtTable, body_block}
 use Rattle.ev_paths.specs.IdtEnds.{idt_end, EntersCommon, IdtEnters, IretToKernel, IretToTask, IretToNext, SysretToTask, SysretToNext, IdtReturns, IdtTellsNoCr2}
 
 -- ---- entries
 
-stub_enters : (o : Origin) (has_error : Bool) (v : ℕ) (page_fault : Bool) → EntersCommon o has_error v page_fault
+stub_enters : (o : Origin) (has_error : Bool) (v : ℕ) (page_fault : Bool) → (v == 14) ≡ page_fault → EntersCommon o has_error v page_fault
 unfolding idt_end idt_places sys_lines common_lines exit_lines spelling four_bytes size places distance
-stub_enters UserCode true v true = record {
+stub_enters UserCode true v true q = record {
   runs = refl;
   rip = refl;
   blocked = refl;
-  joins = record { regs = refl; gs = refl; kernel_gs = refl; selector = refl; cr2 = refl; rsp0 = refl; words = refl; inside = refl };
+  joins = record { regs = refl; gs = refl; kernel_gs = refl; selector = refl; cr2 = ap told_cr2 q; rsp0 = refl; words = refl; inside = refl };
 }
-stub_enters UserCode true v false = record {
-  runs = refl;
-  rip = refl;
-  blocked = refl;
-  joins = record { regs = refl; gs = refl; kernel_gs = refl; selector = refl; cr2 = tt; rsp0 = refl; words = refl; inside = refl };
-}
-stub_enters UserCode false v true = record {
-  runs = refl;
-  rip = refl;
-  blocked = refl;
-  joins = record { regs = refl; gs = refl; kernel_gs = refl; selector = refl; cr2 = refl; rsp0 = refl; words = refl; inside = refl };
-}
-stub_enters UserCode false v false = record {
+stub_enters UserCode true v false q = record {
   runs = refl;
   rip = refl;
   blocked = refl;
   joins = record { regs = refl; gs = refl; kernel_gs = refl; selector = refl; cr2 = tt; rsp0 = refl; words = refl; inside = refl };
 }
-stub_enters KernelCode true v true = record {
+stub_enters UserCode false v true q = record {
   runs = refl;
   rip = refl;
   blocked = refl;
-  joins = record { regs = refl; gs = refl; kernel_gs = refl; selector = refl; cr2 = refl; rsp0 = refl; words = refl; inside = refl };
+  joins = record { regs = refl; gs = refl; kernel_gs = refl; selector = refl; cr2 = ap told_cr2 q; rsp0 = refl; words = refl; inside = refl };
 }
-stub_enters KernelCode true v false = record {
+stub_enters UserCode false v false q = record {
   runs = refl;
   rip = refl;
   blocked = refl;
   joins = record { regs = refl; gs = refl; kernel_gs = refl; selector = refl; cr2 = tt; rsp0 = refl; words = refl; inside = refl };
 }
-stub_enters KernelCode false v true = record {
+stub_enters KernelCode true v true q = record {
   runs = refl;
   rip = refl;
   blocked = refl;
-  joins = record { regs = refl; gs = refl; kernel_gs = refl; selector = refl; cr2 = refl; rsp0 = refl; words = refl; inside = refl };
+  joins = record { regs = refl; gs = refl; kernel_gs = refl; selector = refl; cr2 = ap told_cr2 q; rsp0 = refl; words = refl; inside = refl };
 }
-stub_enters KernelCode false v false = record {
+stub_enters KernelCode true v false q = record {
+  runs = refl;
+  rip = refl;
+  blocked = refl;
+  joins = record { regs = refl; gs = refl; kernel_gs = refl; selector = refl; cr2 = tt; rsp0 = refl; words = refl; inside = refl };
+}
+stub_enters KernelCode false v true q = record {
+  runs = refl;
+  rip = refl;
+  blocked = refl;
+  joins = record { regs = refl; gs = refl; kernel_gs = refl; selector = refl; cr2 = ap told_cr2 q; rsp0 = refl; words = refl; inside = refl };
+}
+stub_enters KernelCode false v false q = record {
   runs = refl;
   rip = refl;
   blocked = refl;
@@ -154,12 +157,19 @@ idt_returns = record {
 
 -- ---- CR2
 
-stub_untold : (o : Origin) (has_error : Bool) (v : ℕ) → TellsNoCr2 (idt_block (Stub o has_error v))
+-- the block of a vector's entry, told this of CR2
+abbrev told_of : Origin → Bool → ℕ → Option V → Block
+told_of o has v t = record (idt_block (Stub o has v)) { opening = record ((idt_block (Stub o has v)).opening) { cr2 = t } }
+
+nothing_told : (o : Origin) (has_error : Bool) (v : ℕ) → TellsNoCr2 (told_of o has_error v None)
 unfolding spelling four_bytes
-stub_untold UserCode true v = refl
-stub_untold UserCode false v = refl
-stub_untold KernelCode true v = refl
-stub_untold KernelCode false v = refl
+nothing_told UserCode true v = refl
+nothing_told UserCode false v = refl
+nothing_told KernelCode true v = refl
+nothing_told KernelCode false v = refl
+
+stub_untold : (o : Origin) (has_error : Bool) (v : ℕ) → (v == 14) ≡ false → TellsNoCr2 (idt_block (Stub o has_error v))
+stub_untold o has v q = subst (λ (t : Option V). TellsNoCr2 (told_of o has v t)) (sym (ap told_cr2 q)) (nothing_told o has v)
 
 call_untold : TellsNoCr2 (idt_block Sys)
 unfolding idt_end idt_places sys_lines common_lines exit_lines spelling four_bytes size places distance

@@ -1,5 +1,5 @@
 -- What the blocks of IDT's code come to.
-use Rattle.std.specs.Prelude.{◌≡◌, ℕ, ◌-◌, Bool, true, false, Some}
+use Rattle.std.specs.Prelude.{◌≡◌, ℕ, ◌-◌, ◌==◌, Bool, true, false, Some}
 use Rattle.ev_symbolic.specs.Value.{M, P}
 use Rattle.ev_symbolic.specs.State.{SS}
 use Rattle.ev_symbolic.specs.Run.{brun}
@@ -20,17 +20,17 @@ abbrev pub stub_bytes : Bool → ℕ
 stub_bytes true = 5
 stub_bytes false = 10
 
--- the entry of a vector comes to its jump, which opens the code in common
+-- the entry of a vector comes to its jump, which opens the code in common for a page fault or another event
 pub record EntersCommon (o : Origin) (has_error : Bool) (v : ℕ) (page_fault : Bool) : Type 0 where
   pub runs : brun (idt_block (Stub o has_error v)) (idt_block (Stub o has_error v)).steps ≡ Some (idt_end (Stub o has_error v))
   pub rip : (idt_end (Stub o has_error v)).rip ≡ at_base stub_tag (stub_bytes has_error)
   pub blocked : (idt_end (Stub o has_error v)).blocked ≡ false
-  pub joins : Joins (record (idt_end (Stub o has_error v)) { cr2 = (idt_block (Common o page_fault)).opening.cr2 }) (stub_values has_error v)
-      (idt_block (Common o page_fault)).ground.known (idt_block (Common o page_fault)).opening
+  pub joins : Joins (idt_end (Stub o has_error v)) (stub_values has_error v) (idt_block (Common o page_fault)).ground.known
+      (idt_block (Common o page_fault)).opening
 
 -- each entry comes to the next block
 pub record IdtEnters : Type 0 where
-  pub stub : (o : Origin) (has_error : Bool) (v : ℕ) (page_fault : Bool) → EntersCommon o has_error v page_fault
+  pub stub : (o : Origin) (has_error : Bool) (v : ℕ) (page_fault : Bool) → (v == 14) ≡ page_fault → EntersCommon o has_error v page_fault
   pub call : Enters (idt_block Sys) (idt_end Sys) sys_values (body_block false IdtFrame AtTable)
   pub common : (o : Origin) (page_fault : Bool)
       → Enters (idt_block (Common o page_fault)) (idt_end (Common o page_fault)) (common_values o page_fault) (body_block false IdtFrame AtTable)
@@ -75,7 +75,7 @@ pub record IdtReturns : Type 0 where
   pub to_next_by_rip : IretToNext ByOtherRip
   pub to_next_by_flags : IretToNext ByOtherFlags
 
--- all blocks but the code in common for a page fault are told of no CR2
+-- all blocks but the entry of page faults and their code in common are told of no CR2
 abbrev pub IdtTellsNoCr2 : Type 0
-IdtTellsNoCr2 = ((o : Origin) (has_error : Bool) (v : ℕ) → TellsNoCr2 (idt_block (Stub o has_error v))) × TellsNoCr2 (idt_block Sys)
+IdtTellsNoCr2 = ((o : Origin) (has_error : Bool) (v : ℕ) → (v == 14) ≡ false → TellsNoCr2 (idt_block (Stub o has_error v))) × TellsNoCr2 (idt_block Sys)
     × ((o : Origin) → TellsNoCr2 (idt_block (Common o false)))

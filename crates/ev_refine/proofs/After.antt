@@ -26,6 +26,7 @@ use Rattle.ev_activation.specs.Seat.{Seat}
 use Rattle.ev_user.specs.Tasks.{IsTask}
 use Rattle.ev_refine.specs.Tasks.{IsSaved, TssIs, CurrentIs}
 use Rattle.ev_refine.specs.Nmi.{Frame, Held, Layer, Plain, LatchIs, inner_edges}
+use Rattle.ev_user.specs.Words.{HoldsWords}
 use Rattle.ev_user.specs.Sees.{IsUserWord, IsWrite}
 use Rattle.ev_refine.specs.Named.{Named, UserRsp, Port, UserWord, Outside, NotNamed, AreWritten, NoneOf, Changes}
 use Rattle.ev_refine.specs.Domain.{IsInDomain}
@@ -332,10 +333,11 @@ module _ (mode : Mode) (image : Image) where
 
   shares_after : (p : ℕ) (s s' : System) (m m' : Machine) (x : abstract.Processor) (σ : Seat) (cpu : Processor) (as' : List Activation) (words : NatMap ℕ)
       → p < 32 → image.processors ≤ 8 → Moves p s s' cpu as' words → σ.stack < 7 → (names : List Named) → AreSparing p names
-      → Changes p σ names s.memory.words words → ((b : ℕ) → IsUserWord b → words b ≡ m'.words b) → Alike p m m' x
+      → Changes p σ names s.memory.words words → ((b : ℕ) → IsUserWord b → words b ≡ m'.words b) → HoldsWords m'.words → Alike p m m' x
       → Shares mode image s m → Shares mode image s' m'
-  shares_after p s s' m m' x σ cpu as' words hp eight mv hs names sparing changes user a h = record {
+  shares_after p s s' m m' x σ cpu as' words hp eight mv hs names sparing changes user held a h = record {
     user = λ b u. at b ∙ user b u;
+    held = held;
     pages = λ i lt. at (page_map + 8 * i) ∙ low (page_map + 8 * i) (omega arith) (omega arith) ∙ h.pages i lt
         ∙ sym (ap (λ w. if w i then 1 else 0) a.present);
     cells = λ k lt. at (cells_base + 8 * k) ∙ low (cells_base + 8 * k) (omega arith) (omega arith) ∙ h.cells k lt ∙ sym (ap (λ w. w k) a.cells);
@@ -367,13 +369,13 @@ module _ (mode : Mode) (image : Image) where
   pub stands_after : (left : NatMap ℕ) (s s' : System) (m m' : Machine) (p now : ℕ) (x : abstract.Processor) (σ : Seat) (cpu : Processor)
       (as' : List Activation) (words : NatMap ℕ) → image.processors ≤ 8 → ((q : ℕ) → q < image.processors → length (tasks_of image q) ≤ 4)
       → Stands mode image left s m → p < image.processors → Moves p s s' cpu as' words → σ.stack < 7 → (names : List Named) → AreSparing p names
-      → Changes p σ names s.memory.words words → ((b : ℕ) → IsUserWord b → words b ≡ m'.words b) → Alike p m m' x → IsInDomain image p x
-      → StandsOn mode image p now s' x
+      → Changes p σ names s.memory.words words → ((b : ℕ) → IsUserWord b → words b ≡ m'.words b) → HoldsWords m'.words → Alike p m m' x
+      → IsInDomain image p x → StandsOn mode image p now s' x
       → Stands mode image (put_at left p now) s' m'
-  stands_after left s s' m m' p now x σ cpu as' words eight four h lt mv hs names sparing changes user a domain on = record {
+  stands_after left s s' m m' p now x σ cpu as' words eight four h lt mv hs names sparing changes user held a domain on = record {
     regions_are = mv.regions ∙ h.regions_are;
     fixed = λ b f. ap (λ w. w b) mv.words_are ∙ fixed_stays p σ names s.memory.words words hp hs sparing.written changes b f ∙ h.fixed b f;
-    shares = shares_after p s s' m m' x σ cpu as' words hp eight mv hs names sparing changes user a h.shares;
+    shares = shares_after p s s' m m' x σ cpu as' words hp eight mv hs names sparing changes user held a h.shares;
     domain = λ q lq. ⊎_elim (λ e. subst (λ r. IsInDomain image r (processor m' r)) (sym e.1) (subst (IsInDomain image p) (sym a.own) domain))
         (λ e. subst (IsInDomain image q) (sym (a.others q e.0)) (h.domain q lq)) (eqb_tells q p);
     each = λ q lq. ⊎_elim

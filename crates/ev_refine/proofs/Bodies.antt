@@ -1,5 +1,5 @@
 -- The way from the table of bodies to a body's first item, in either mode.
-use Rattle.std.proofs.Common.{◌≡◌, ◌≢◌, ℕ, ◌+◌, ◌-◌, ◌%◌, ◌^◌, ◌<◌, ◌≤◌, Bool, true, false, ◌&&◌, List, [], ◌∷◌, ◌++◌, get_or, map, Some, refl, sym, ap, ◌∙◌, arith}
+use Rattle.std.proofs.Common.{◌≡◌, ◌≢◌, ℕ, ◌+◌, ◌-◌, ◌%◌, ◌^◌, ◌<◌, ◌≤◌, Bool, true, false, ◌&&◌, List, [], ◌∷◌, ◌++◌, get_or, map, Some, refl, sym, ap, ◌∙◌, subst, arith}
 use Rattle.std.specs.Prelude.{pos, ◌==◌, if◌then◌else◌}
 use Rattle.std.proofs.lemmas.Bool.{eqb-true, eq-eqb}
 use Rattle.ev_isa.specs.Word.{NatMap, displaced, is_canonical}
@@ -33,9 +33,10 @@ use Rattle.ev_blocks.specs.Blocks as blocks
 use Rattle.ev_blocks.proofs.Falls.{edges_fall}
 use Rattle.ev_grounds.proofs.Facts.{facts_tell}
 use Rattle.ev_activation.specs.Seat.{Kind, Seat}
+use Rattle.ev_user.specs.Words.{AreWords}
 use Rattle.ev_table.specs.Table.{other_exit}
 use Rattle.ev_refine.specs.Active.{here, Saved, Matches, AtStart, InItem, Leaving, HasPlace, OverTask}
-use Rattle.ev_refine.proofs.Spots.{over_task}
+use Rattle.ev_refine.proofs.Spots.{over_task, IsAtEntry}
 use Rattle.ev_paths.specs.Lines.{HasKernel}
 use Rattle.ev_paths.proofs.Cells.{fred_cells, idt_cells}
 use Rattle.ev_deliver.specs.GoesOn.{GoesOn, with_rax, with_item}
@@ -53,7 +54,7 @@ pub record Goes (code : Code) (c : Processor) (m : Memory) (b : Block) (e : Env)
   pub step : GoesOn code c m b e
   pub inner : is_return (Some step.ins) ≡ false
 
-goes_by : (code : Code) (c : Processor) (m : Memory) (b : Block) (e : Env) (j : Ins) (k a : ℕ) → GoesOn code c m b e → c.rip ≡ a
+pub goes_by : (code : Code) (c : Processor) (m : Memory) (b : Block) (e : Env) (j : Ins) (k a : ℕ) → GoesOn code c m b e → c.rip ≡ a
     → code a ≡ Some (edge_cell j k) → is_return (Some j) ≡ false → Goes code c m b e
 goes_by code c m b e j k a g rip cell h =
     let same : edge_cell g.ins g.next ≡ edge_cell j k = unsome _ _ (sym g.cell ∙ ap code rip ∙ cell) in
@@ -143,8 +144,6 @@ pub saved_beside : (mode : Mode) (image : Image) (v : ℕ → ℕ) (t : ℕ) (w 
     → Saved mode image (λ i. if i == 0 then t else v i) w
 saved_beside mode image v t w s = record {
   regs = s.regs;
-  rcx = s.rcx;
-  r11 = s.r11;
   rip = s.rip;
   cs = s.cs;
   flags = s.flags;
@@ -257,6 +256,7 @@ module _ (mode : Mode) (p : ℕ) (κ : Kind) (σ : Seat) (ss : ℕ) (w : Process
     pub over : over_task mode spot ≡ true
     pub off : blocks.switches spot ≡ false
     pub free : blocks.holds spot ≡ false
+    pub entry : IsAtEntry spot e
     pub told : FactsHold e (block mode spot).ground.facts
     pub fewer : edges mode spot 0 < edges mode (body mode AtItem) 0
     pub agrees : Open e (block mode spot).ground.known m.regions → Agrees e (block mode spot).ground (block mode spot).opening d m
@@ -269,7 +269,7 @@ mark_at p hp words h = ap words (let q : (pcpu p + 0x20) % M ≡ pcpu p + 0x20 =
 pub nothing_open : (e : Env) (m : Memory) → Open e [] m.regions
 nothing_open e m l h = let clash : false ≡ true = h in absurd (cc)
 
-unlike : (a b : ℕ) → (a == b) ≡ false → a ≢ b
+pub unlike : (a b : ℕ) → (a == b) ≡ false → a ≢ b
 unlike a b h q = let clash : true ≡ false = sym (eq-eqb a b q) ∙ h in cc
 
 module _ (image : Image) (p : ℕ) (hp : p < 32) (κ : Kind) (σ : Seat) (ss : ℕ) (w : Processor) (ring : w.cs ≡ 0x33) (extra v : ℕ → ℕ) (f : Flags)
@@ -285,6 +285,7 @@ module _ (image : Image) (p : ℕ) (hp : p < 32) (κ : Kind) (σ : Seat) (ss : �
     over = refl;
     off = refl;
     free = refl;
+    entry = tt;
     told = ((facts_tell (e Fred p κ σ ss w extra v f)).user (s.cs ∙ ring), tt);
     fewer = (edges_fall Fred).fred_exit FredFrame FredToTask;
     agrees = λ o. record {
@@ -318,6 +319,7 @@ module _ (image : Image) (p : ℕ) (hp : p < 32) (κ : Kind) (σ : Seat) (ss : �
     over = refl;
     off = refl;
     free = refl;
+    entry = tt;
     told = told;
     fewer = (edges_fall Idt).idt_exit IdtFrame (IdtToTask by);
     agrees = λ o. record {
@@ -340,14 +342,20 @@ module _ (image : Image) (p : ℕ) (hp : p < 32) (κ : Kind) (σ : Seat) (ss : �
     means = λ image b l. (l, same);
   }
 
-  by_registers : Saved Idt image v w → v 17 < 2 ^ 64 → v 19 < 2 ^ 64
+  by_registers : Saved Idt image v w → v 17 < 2 ^ 64 → v 19 < 2 ^ 64 → AreWords w.regs
       → Agrees (e Idt p κ σ ss w extra v f) (block Idt (body Idt AtItem)).ground (block Idt (body Idt AtItem)).opening c m
       → OpensExit Idt p κ σ ss w extra v f c (at_exit exit_entry) m
   unfolding eval
-  by_registers s rip flags a = by_rip (v 31 == v 17) refl
+  by_registers s rip flags words a = by_rip (v 31 == v 17) refl
     where
       ring_is : eval (here Idt p κ σ ss w extra v f) (says_ring 3).val ≡ 3
       ring_is = (facts_tell (here Idt p κ σ ss w extra v f)).user (s.cs ∙ ring)
+
+      rcx : v 31 < 2 ^ 64
+      rcx = subst (λ (xs : List ℕ). get_or xs 1 0 < 2 ^ 64) s.regs (words 1)
+
+      r11 : v 41 < 2 ^ 64
+      r11 = subst (λ (xs : List ℕ). get_or xs 11 0 < 2 ^ 64) s.regs (words 11)
 
       by_flags : v 31 ≡ v 17 → (t : Bool) → (v 41 == v 19) ≡ t → OpensExit Idt p κ σ ss w extra v f c (at_exit exit_entry) m
       by_flags q true h =
@@ -364,17 +372,17 @@ module _ (image : Image) (p : ℕ) (hp : p < 32) (κ : Kind) (σ : Seat) (ss : �
             ring_is,
             (
               (facts_tell (here Idt p κ σ ss w extra v f)).equal (saved 1) frame_rip q,
-              ((facts_tell (here Idt p κ σ ss w extra v f)).unequal (saved 11) frame_flags (unlike (v 41) (v 19) h) s.r11 flags, tt),
+              ((facts_tell (here Idt p κ σ ss w extra v f)).unequal (saved 11) frame_flags (unlike (v 41) (v 19) h) r11 flags, tt),
             ),
           ) tt a
 
       by_rip : (t : Bool) → (v 31 == v 17) ≡ t → OpensExit Idt p κ σ ss w extra v f c (at_exit exit_entry) m
       by_rip true h = by_flags (eqb-true (v 31) (v 17) h) (v 41 == v 19) refl
       by_rip false h = idt_exit ByOtherRip
-          (ring_is, ((facts_tell (here Idt p κ σ ss w extra v f)).unequal (saved 1) frame_rip (unlike (v 31) (v 17) h) s.rcx rip, tt)) tt a
+          (ring_is, ((facts_tell (here Idt p κ σ ss w extra v f)).unequal (saved 1) frame_rip (unlike (v 31) (v 17) h) rcx rip, tt)) tt a
 
-  pub exits : (mode : Mode) → Saved mode image v w → v 17 < 2 ^ 64 → v 19 < 2 ^ 64
+  pub exits : (mode : Mode) → Saved mode image v w → v 17 < 2 ^ 64 → v 19 < 2 ^ 64 → AreWords w.regs
       → Agrees (e mode p κ σ ss w extra v f) (block mode (body mode AtItem)).ground (block mode (body mode AtItem)).opening c m
       → OpensExit mode p κ σ ss w extra v f c (at_exit (other_exit mode)) m
-  exits Fred s rip flags a = fred_exit s a
-  exits Idt s rip flags a = by_registers s rip flags a
+  exits Fred s rip flags words a = fred_exit s a
+  exits Idt s rip flags words a = by_registers s rip flags words a

@@ -1,10 +1,9 @@
 -- Kinds of activations: that of a system call, and of another event of a task, stands on the task alone, and is no NMI's.
-use Rattle.std.proofs.Common.{◌≡◌, ℕ, Bool, true, false, List, [], ◌∷◌, Option, Some, None, refl, ap, ◌∙◌}
+use Rattle.std.proofs.Common.{◌≡◌, ℕ, Bool, true, false, List, [], ◌∷◌, Option, Some, None, refl, ap}
 use Rattle.std.specs.Prelude.{◌==◌, ◌||◌, if◌then◌else◌, slice_get}
 use Rattle.std.specs.List.{list_any}
 use Rattle.std.proofs.lemmas.Bool.{eqb-true}
 use Rattle.ev_body.specs.declared.body.Body.{Body}
-use Rattle.ev_body.specs.declared.key.Key.TheVariants.{Sys}
 use Rattle.ev_body.specs.declared.image.Image.{Image}
 use Rattle.ev_body.specs.Bodies.{key_number}
 use Rattle.ev_abstract.specs.Boundary.{has_key, is_nmi_body}
@@ -54,11 +53,6 @@ no_nmi (Some b) h = other_key (key_number b.key) h
 
 pub plain_no_nmi : (image : Image) (b : BodyContext) → is_over_task (kind_of image b []) ≡ true → list_any (is_nmi_body image) (b ∷ []) ≡ false
 plain_no_nmi image b h = ap (λ t. t || false) (no_nmi (slice_get image.bodies b.body) h)
-
--- a body of system calls
-pub call_of : (image : Image) (b : BodyContext) (x : Body) → slice_get image.bodies b.body ≡ Some x → x.key ≡ Sys → kind_of image b [] ≡ SystemCall
-unfolding key_number
-call_of image b x h k = ap (λ o. kind_from (key_by o) []) h ∙ ap (λ key. kind_from (key_number key) []) k
 
 -- ---- what depends on the kind alone
 

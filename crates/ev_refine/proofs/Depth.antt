@@ -1,7 +1,7 @@
 -- How many bodies stand: as many as contexts, and as a step tells it.
 use Rattle.std.proofs.Common.{◌≡◌, ℕ, suc, ◌+◌, ◌-◌, ◌%◌, ◌<◌, ◌≤◌, Bool, true, false, not, ◌&&◌, List, [], ◌∷◌, length, Option, Some, None, refl, sym, ap, ◌∙◌, arith}
 use Rattle.std.specs.Prelude.{if◌then◌else◌, ◌==◌, nat_lt, nat_le, filter, slice_get}
-use Rattle.std.proofs.lemmas.Bool.{eqb-true, ltb-true}
+use Rattle.std.proofs.lemmas.Bool.{eqb-true, ltb-true, lt-leb}
 use Rattle.ev_isa.specs.Word.{NatMap}
 use Rattle.ev_isa.specs.declared.instruction.Ins.{Ins}
 use Rattle.ev_isa.specs.declared.mode.Mode.{Mode}
@@ -10,7 +10,7 @@ use Rattle.ev_body.specs.declared.item.Item.{Item}
 use Rattle.ev_body.specs.declared.body.Body.{Body}
 use Rattle.ev_body.specs.declared.image.Image.{Image}
 use Rattle.ev_effect.specs.Task.{Task}
-use Rattle.ev_listing.specs.AddressMap.{nmi_entry, repeat_entry, nbody_entry}
+use Rattle.ev_listing.specs.AddressMap.{nmi_entry, repeat_entry, nbody_entry, vector_stub}
 use Rattle.ev_listing.specs.Expansion.{item_address}
 use Rattle.ev_state.specs.Processor.{Processor, is_user, rsp}
 use Rattle.ev_mem.specs.Memory.{Memory}
@@ -25,13 +25,14 @@ use Rattle.ev_symbolic.specs.State.{SS, Block}
 use Rattle.ev_symbolic.specs.Run.{brun, every}
 use Rattle.ev_symbolic.specs.Agrees.{Env, addr, At}
 use Rattle.ev_symbolic.specs.Openings.{at_base}
+use Rattle.ev_symbolic.specs.Names.{stub_tag}
 use Rattle.ev_symbolic.proofs.Values.{and_left, and_right}
 use Rattle.ev_symbolic.proofs.Blocks.{unsome, every_ok}
 use Rattle.ev_activation.specs.Seat.{Kind, SystemCall, FromTask, FromBody, NmiFromTask, NmiFromBody, Seat}
-use Rattle.ev_blocks.specs.Shapes.{FredFrame, IdtFrame}
+use Rattle.ev_blocks.specs.Shapes.{UserCode, FredFrame, IdtFrame}
 use Rattle.ev_blocks.specs.Fred.{FromUser, FredToTask, fred_block}
 use Rattle.ev_blocks.specs.Fred as fred
-use Rattle.ev_blocks.specs.Idt.{Sys, IdtToTask, idt_block}
+use Rattle.ev_blocks.specs.Idt.{Stub, Sys, Common, IdtToTask, idt_block}
 use Rattle.ev_blocks.specs.Idt as idt
 use Rattle.ev_blocks.specs.Items.{AtTable, AtJump, AtItem, body_block}
 use Rattle.ev_blocks.specs.Blocks.{Spot, InFred, InIdt, InBody, block}
@@ -40,7 +41,7 @@ use Rattle.ev_refine.specs.Nmi.{Frame}
 use Rattle.ev_refine.specs.Active.{address_of_item, item_place, OverTask, Active}
 use Rattle.ev_refine.specs.Relation.{IsContext, most_edges, chained, Interrupted, Chain, StandsOn}
 use Rattle.ev_refine.proofs.Facts.{Facts}
-use Rattle.ev_refine.proofs.Spots.{is_elsewhere, entry_elsewhere, fred_exit_elsewhere, sys_elsewhere, idt_exit_elsewhere}
+use Rattle.ev_refine.proofs.Spots.{is_elsewhere, entry_elsewhere, fred_exit_elsewhere, sys_elsewhere, common_elsewhere, idt_exit_elsewhere, is_in_stub, stub_inside}
 use Rattle.ev_refine.proofs.Standing.{after_ran, Runs, ran_step}
 use Rattle.ev_refine.proofs.Stays.{over_any}
 use Rattle.ev_refine.proofs.After.{as_chain}
@@ -97,6 +98,17 @@ module _ (mode : Mode) (image : Image) (facts : Facts mode image) where
       let low = range.0 in let high = range.1 in
       behind_repeat c.rip (omega arith)
 
+  -- the entries of vectors stand before it
+  at_stub_outside : (has : Bool) (v k : ℕ) (e : Env) (c : Processor) (m : Memory) → At (code_table mode image) (idt_block (Stub UserCode has v)) k e c m
+      → v < 256 → e.base stub_tag ≡ vector_stub v → k ≤ (idt_block (Stub UserCode has v)).steps → is_in_repeat c.rip ≡ false
+  at_stub_outside has v k e c m at small base l =
+      let inside = every_ok is_in_stub (idt_block (Stub UserCode has v)) (stub_inside has v) k l at.state at.is in
+      let n : ℕ = at.state.rip.off in
+      let tag : at.state.rip.tag ≡ stub_tag = eqb-true at.state.rip.tag stub_tag (and_left _ _ inside) in
+      let near : n < 0x10 = ltb-true n 0x10 (and_right (at.state.rip.tag == stub_tag) _ inside) in
+      let is : c.rip ≡ (vector_stub v + n) % M = at.agrees.rip ∙ ap (λ t. (e.base t + n) % M) tag ∙ ap (λ y. (y + n) % M) base in
+      ap (λ b. b && nat_lt c.rip nbody_entry) (lt-leb repeat_entry c.rip (let below : c.rip < repeat_entry = omega arith in below))
+
   over_task_outside : (m : Mode) (spot : Spot) (k : ℕ) (e : Env) (w c : Processor) (mem : Memory) (b : BodyContext) → IsContext mode image b
       → e.base 1000 ≡ 0 → k ≤ (block m spot).steps → At (code_table mode image) (block m spot) k e c mem → OverTask mode image m spot e w b
       → is_in_repeat c.rip ≡ false
@@ -108,6 +120,9 @@ module _ (mode : Mode) (image : Image) (facts : Facts mode image) where
   over_task_outside Fred (InBody FredFrame AtItem) k e w c mem b ctx z l at h =
       at_item_outside (body_block true FredFrame AtItem) k e c mem b ctx at l refl h.1
   over_task_outside Idt (InIdt Sys) k e w c mem b ctx z l at h = at_elsewhere (idt_block Sys) k e c mem at z l sys_elsewhere
+  over_task_outside Idt (InIdt (Stub UserCode has v)) k e w c mem b ctx z l at h = at_stub_outside has v k e c mem at h.0.0 h.0.2 l
+  over_task_outside Idt (InIdt (Common UserCode pf)) k e w c mem b ctx z l at h =
+      at_elsewhere (idt_block (Common UserCode pf)) k e c mem at z l (common_elsewhere pf)
   over_task_outside Idt (InIdt (idt.Leaves (IdtToTask by))) k e w c mem b ctx z l at h =
       at_elsewhere (idt_block (idt.Leaves (IdtToTask by))) k e c mem at z l (idt_exit_elsewhere by)
   over_task_outside Idt (InBody IdtFrame AtTable) k e w c mem b ctx z l at h = at_elsewhere (body_block false IdtFrame AtTable) k e c mem at z l refl

@@ -30,7 +30,7 @@ use Rattle.ev_refine.specs.Active.{here}
 use Rattle.ev_refine.specs.Named.{UserRsp, Port, Outside, NotNamed, Changes}
 use Rattle.ev_refine.proofs.Facts.{Facts}
 use Rattle.ev_refine.proofs.ModeFacts.{is_fred}
-use Rattle.ev_refine.proofs.Spots.{over_task, is_plain, are_plain, is_written, are_written, has_windows, HasGround, has_ground, lines_stand}
+use Rattle.ev_refine.proofs.Spots.{over_task, is_plain, are_plain, is_written, are_written, has_windows, HasGround, has_ground, IsAtEntry, lines_stand}
 
 -- in a seat, of which the frame and the saved area lie on the stack
 pub record IsSeat (σ : Seat) : Type 0 where
@@ -141,8 +141,8 @@ module _ (mode : Mode) (image : Image) (p : ℕ) (σ : Seat) (hs : IsSeat σ) (h
   has_item i (InNmi s) = tt
 
   pub fits_at : Facts mode image → (spot : Spot) → over_task mode spot ≡ true → has_fred w ≡ is_fred mode → InBodies extra
-      → FactsHold env (block mode spot).ground.facts → Fits (code_table mode image) env (block mode spot)
-  fits_at facts spot h hf i told =
+      → IsAtEntry spot env → FactsHold env (block mode spot).ground.facts → Fits (code_table mode image) env (block mode spot)
+  fits_at facts spot h hf i at told =
       let g : HasGround mode spot = has_ground mode spot h in
       record {
         ground = all_grounded image.processors mode env (where_at p σ) spot (record {
@@ -156,7 +156,7 @@ module _ (mode : Mode) (image : Image) (p : ℕ) (σ : Seat) (hs : IsSeat σ) (h
           tops = subst (AreTops env) (sym g.tops) tt;
         });
         spaced = facts.spaced;
-        stands = lines_stand mode (code_table mode image) env refl facts.kernel spot h;
+        stands = lines_stand mode (code_table mode image) env refl facts.kernel spot h at;
       }
 
   pub opens_at : (spot : Spot) → over_task mode spot ≡ true → (m : Memory) → m.regions ≡ regions image → Open env (block mode spot).ground.known m.regions

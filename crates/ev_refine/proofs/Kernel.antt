@@ -1,11 +1,12 @@
 -- A step of a processor on which a body stands: an instruction of the kernel's code, an item, or the return.
 use Rattle.std.proofs.Common.{◌≡◌, ℕ, suc, ◌+◌, ◌-◌, ◌*◌, ◌%◌, ◌<◌, ◌≤◌, Bool, true, false, not, ◌&&◌, List, [], ◌∷◌, length, Some, refl, sym, ap, ◌∙◌, subst, arith}
-use Rattle.std.specs.Prelude.{pos, ◌==◌, if◌then◌else◌, slice_get, nat_le}
+use Rattle.std.specs.Prelude.{ℤ, pos, ◌==◌, if◌then◌else◌, slice_get, nat_le}
 use Rattle.std.specs.List.{list_any}
 use Rattle.std.proofs.lemmas.Bool.{eqb-true, eq-eqb, leb-true, leb-false}
 use Rattle.ev_isa.specs.Word.{NatMap, is_canonical, displaced}
 use Rattle.ev_isa.specs.Flags.{Flags, flags_of}
 use Rattle.ev_isa.specs.declared.instruction.Ins.{Ins}
+use Rattle.ev_isa.specs.declared.instruction.Ins.TheVariants.{Jmp}
 use Rattle.ev_isa.specs.declared.mode.Mode.{Mode}
 use Rattle.ev_isa.specs.declared.mode.Mode.TheVariants.{Idt, Fred}
 use Rattle.ev_effect.specs.Task.{Task}
@@ -15,7 +16,7 @@ use Rattle.ev_body.specs.declared.image.Image.{Image}
 use Rattle.ev_body.specs.WellFormed.{IsImage}
 use Rattle.ev_listing.specs.AddressMap.{user_table, repeat_entry, nlast_entry, body_code}
 use Rattle.ev_listing.specs.Expansion.{item_address}
-use Rattle.ev_state.specs.Processor.{Processor, is_user, register}
+use Rattle.ev_state.specs.Processor.{Processor, is_user, register, selector}
 use Rattle.ev_apic.specs.declared.apic.Apic.{Apic}
 use Rattle.ev_isa.specs.Pages.{KernelWord}
 use Rattle.ev_mem.specs.Memory.{Memory, place_in}
@@ -26,28 +27,33 @@ use Rattle.ev_abstract.specs.Context.{BodyContext}
 use Rattle.ev_abstract.specs.Machine.{Machine, processor, with_processor, task}
 use Rattle.ev_abstract.specs.Machine as abstract
 use Rattle.ev_abstract.specs.Run.{item_at}
-use Rattle.ev_concrete.specs.ConcreteRun.{System, Activation, without_last, activations_by}
+use Rattle.ev_concrete.specs.ConcreteRun.{System, Activation, without_last, activations_by, is_return}
 use Rattle.ev_concrete.specs.Depth.{bodies_on, begins_body}
 use Rattle.ev_built.specs.Built.{IsBuilt}
 use Rattle.ev_symbolic.specs.State.{Block}
-use Rattle.ev_symbolic.specs.Names.{item_tag}
-use Rattle.ev_symbolic.specs.Agrees.{Env, Cell, Code, IsOpen, Open, Fits, Agrees, At}
+use Rattle.ev_symbolic.specs.Value.{V}
+use Rattle.ev_symbolic.specs.Names.{item_tag, key}
+use Rattle.ev_symbolic.specs.Join.{env_after}
+use Rattle.ev_symbolic.specs.Agrees.{Env, Cell, Code, eval, FactsHold, IsOpen, Open, Fits, Agrees, At}
 use Rattle.ev_symbolic.specs.Machine.{Fetches}
 use Rattle.ev_symbolic.proofs.Blocks.{at_end}
 use Rattle.ev_distances.proofs.Regions.{user_table_covered}
-use Rattle.ev_blocks.specs.Shapes.{FredFrame, IdtFrame}
+use Rattle.ev_blocks.specs.Shapes.{UserCode, FredFrame, IdtFrame}
 use Rattle.ev_blocks.specs.Fred.{FromUser, FredToTask, fred_block, way_values}
 use Rattle.ev_blocks.specs.Fred as fred
-use Rattle.ev_blocks.specs.Idt.{Sys, IdtToTask, idt_block, sys_values}
+use Rattle.ev_blocks.specs.Idt.{Stub, Sys, Common, IdtToTask, idt_block, is_page_fault, stub_values, common_values, sys_values}
 use Rattle.ev_blocks.specs.Idt as idt
 use Rattle.ev_blocks.specs.Items.{AtTable, AtJump, AtItem, body_block}
 use Rattle.ev_blocks.specs.Blocks.{Spot, InFred, InIdt, InBody, block, edges}
 use Rattle.ev_blocks.proofs.Falls.{edges_fall}
-use Rattle.ev_paths.specs.Lines.{HasKernel}
+use Rattle.ev_grounds.specs.Facts.{FactLaws}
+use Rattle.ev_grounds.proofs.Facts.{facts_tell}
+use Rattle.ev_paths.specs.Lines.{HasKernel, StubJump}
+use Rattle.ev_paths.proofs.Lines.{stubs_jump}
 use Rattle.ev_paths.proofs.FredEnds.{fred_enters}
 use Rattle.ev_paths.proofs.IdtEnds.{idt_enters}
-use Rattle.ev_deliver.specs.GoesOn.{with_item, continued}
-use Rattle.ev_deliver.proofs.GoesOn.{entries_continue}
+use Rattle.ev_deliver.specs.GoesOn.{GoesOn, with_item, continued}
+use Rattle.ev_deliver.proofs.GoesOn.{stub_rip, stubs_go_on, entries_continue}
 use Rattle.ev_activation.specs.Seat.{Kind, SystemCall, FromTask, FromBody, NmiFromTask, NmiFromBody, Seat, kind_of, seat_by, seat_of, room_of}
 use Rattle.ev_table.specs.Table.{code_table}
 use Rattle.ev_user.specs.Tasks.{RunsTask}
@@ -58,9 +64,9 @@ use Rattle.ev_refine.specs.Claims.{Simulated}
 use Rattle.ev_refine.proofs.Facts.{Facts}
 use Rattle.ev_tables.proofs.Gates.{upper_canonical}
 use Rattle.ev_refine.proofs.ModeFacts.{is_fred}
-use Rattle.ev_refine.proofs.Spots.{means_over, never_switches}
+use Rattle.ev_refine.proofs.Spots.{over_task, means_over, never_switches}
 use Rattle.ev_refine.proofs.Fits.{IsSeat}
-use Rattle.ev_refine.proofs.Bodies.{body, Goes, loads, jumps, at_the_table, at_the_jump, at_the_item, table_falls, jump_falls, saved_beside, means_start, means_item, rax_at}
+use Rattle.ev_refine.proofs.Bodies.{body, Goes, goes_by, unlike, loads, jumps, at_the_table, at_the_jump, at_the_item, table_falls, jump_falls, saved_beside, means_start, means_item, rax_at}
 use Rattle.ev_refine.proofs.Standing.{ran_returns}
 use Rattle.ev_refine.proofs.Stays.{over_any}
 use Rattle.ev_refine.proofs.After.{as_chain}
@@ -72,6 +78,36 @@ use Rattle.ev_refine.proofs.Depth.{body_at, ends_a_body}
 use Rattle.ev_refine.proofs.Items.{which}
 use Rattle.ev_refine.proofs.KernelStep as step
 use Rattle.ev_refine.proofs.KernelItems as items
+
+-- ---- from the entry of a vector to the code in common
+
+-- which way that goes: from a task, and as the vector says
+common_told : (e : Env) (g : Flags) (has : Bool) (v : ℕ) → v < 256
+    → selector ((env_after (env_after e (stub_values has v) e.flags) (common_values UserCode (v == 14)) e.flags).var 18) ≡ 0x33
+    → FactsHold (env_after e (stub_values has v) g) (idt_block (Common UserCode (v == 14))).ground.facts
+unfolding eval
+common_told e g has v small ring = (laws.user ring, (by_vector (v == 14) refl, tt))
+  where
+    u : Env
+    u = env_after e (stub_values has v) g
+
+    laws : FactLaws u
+    laws = facts_tell u
+
+    by_vector : (pf : Bool) → (v == 14) ≡ pf → eval u (is_page_fault pf).val ≡ (is_page_fault pf).is
+    by_vector true q = laws.same key 14 (eqb-true v 14 q)
+    by_vector false q = laws.other key 14 (unlike v 14 q) (omega arith) (omega arith)
+
+-- a jump is no return
+jump_stays : (n : ℤ) → is_return (Some (Jmp n)) ≡ false
+unfolding is_return
+jump_stays n = refl
+
+-- what the variables are doesn't depend on the flags in between
+loads_behind : (mode : Mode) (image : Image) (e : Env) (g : Flags) (θ θ' : List V) (w : Processor) (b : BodyContext)
+    → AtLoad mode image (env_after (env_after e θ e.flags) θ' e.flags).var w b → AtLoad mode image (env_after (env_after e θ g) θ' g).var w b
+unfolding eval
+loads_behind mode image e g θ θ' w b l = l
 
 module _ (mode : Mode) (image : Image) (built : IsBuilt image) (good : IsImage image) (facts : Facts mode image)
     (left : NatMap ℕ) (s : System) (m : Machine) (h : Stands mode image left s m) (p : ℕ) (hp : p < image.processors) where
@@ -170,7 +206,7 @@ module _ (mode : Mode) (image : Image) (built : IsBuilt image) (good : IsImage i
           let falls = table_falls mode in
           step.goes mode image built good facts left s m h p hp o body' is act (body mode AtJump) ss ss_is extra u f (ap is_user g.rest)
           (loads mode code e c s.memory a (body_code b.body) facts.kernel at at_a access word
-          (step.fits mode image built good facts left s m h p hp o body' is (body mode AtJump) way.over ss extra u f place (way.told (env ss extra u f)))
+          (step.fits mode image built good facts left s m h p hp o body' is (body mode AtJump) way.over ss extra u f place tt (way.told (env ss extra u f)))
           (step.windows mode image built good facts left s m h p hp o body' is (body mode AtJump) way.over ss extra u f))
           (omega arith) long way.off
           (means_start mode image (env ss extra u f) w b (record {
@@ -211,7 +247,7 @@ module _ (mode : Mode) (image : Image) (built : IsBuilt image) (good : IsImage i
           (subst (Goes code c s.memory (block mode (body mode AtItem))) item
           (jumps mode code e c s.memory facts.kernel at (ap is_canonical target ∙ fine.0) (let upper = fine.1 in omega arith)
           (subst (λ y. Fits code y (block mode (body mode AtItem))) (sym item)
-          (step.fits mode image built good facts left s m h p hp o body' is (body mode AtItem) way.over ss extra v f place (way.told e)))
+          (step.fits mode image built good facts left s m h p hp o body' is (body mode AtItem) way.over ss extra v f place tt (way.told e)))
           (subst (λ y. Open y (block mode (body mode AtItem)).ground.known s.memory.regions) (sym item)
           (step.windows mode image built good facts left s m h p hp o body' is (body mode AtItem) way.over ss extra v f))))
           (omega arith) long way.off
@@ -256,7 +292,7 @@ module _ (mode : Mode) (image : Image) (built : IsBuilt image) (good : IsImage i
           (entries_continue code (fred_block (FromUser way)) (body_block true FredFrame AtTable) _ (way_values way) e c s.memory (fred_enters.0 way)
           (subst (λ j. At code (fred_block (FromUser way)) j e c s.memory) n at) refl refl
           (subst (λ m. Fits code (env ss extra u g) (block m (body m AtTable))) (sym q)
-          (step.fits mode image built good facts left s m h p hp o body' is (body mode AtTable) over ss extra u g means.1
+          (step.fits mode image built good facts left s m h p hp o body' is (body mode AtTable) over ss extra u g means.1 tt
           ((at_the_table mode).told (env ss extra u g))))
           (subst (λ m. Open (env ss extra u g) (block m (body m AtTable)).ground.known s.memory.regions) (sym q)
           (step.windows mode image built good facts left s m h p hp o body' is (body mode AtTable) over ss extra u g))))
@@ -292,7 +328,52 @@ module _ (mode : Mode) (image : Image) (built : IsBuilt image) (good : IsImage i
           (entries_continue code (idt_block Sys) (body_block false IdtFrame AtTable) _ sys_values e c s.memory idt_enters.call
           (subst (λ j. At code (idt_block Sys) j e c s.memory) n at) refl refl
           (subst (λ m. Fits code (env ss extra u g) (block m (body m AtTable))) (sym q)
-          (step.fits mode image built good facts left s m h p hp o body' is (body mode AtTable) over ss extra u g means.1
+          (step.fits mode image built good facts left s m h p hp o body' is (body mode AtTable) over ss extra u g means.1 tt
+          ((at_the_table mode).told (env ss extra u g))))
+          (subst (λ m. Open (env ss extra u g) (block m (body m AtTable)).ground.known s.memory.regions) (sym q)
+          (step.windows mode image built good facts left s m h p hp o body' is (body mode AtTable) over ss extra u g))))
+          means.0 means.1 long (subst (λ m. edges m (body m AtTable) 0 ≤ on.own) q (omega arith))
+      at_the_end act Idt q (InIdt (Stub UserCode has v)) k ss ss_is extra u f n at means long enough hi =
+          let e : Env = env ss extra u f in
+          let pf : Bool = v == 14 in
+          let spot : Spot = InIdt (Common UserCode pf) in
+          let g : Flags = flags_of c.flags in
+          let u' : ℕ → ℕ = (continued e (stub_values has v) c).var in
+          let small_vector : v < 256 = means.0.0 in
+          let j : StubJump code v has = subst (StubJump code v) means.0.1
+          (stubs_jump code (subst (λ m. HasKernel m code) (sym q) facts.kernel) v small_vector) in
+          let there = subst (λ i. At code (idt_block (Stub UserCode has v)) i e c s.memory) n at in
+          let over : over_task mode spot ≡ true = subst (λ m. over_task m spot ≡ true) q refl in
+          let falls = (edges_fall Idt).stub UserCode has v pf in
+          let told : FactsHold (env ss extra u' g) (idt_block (Common UserCode pf)).ground.facts
+          = common_told e g has v small_vector (means.1.saved.cs ∙ ap (λ (y : Processor). y.cs) o.task.is) in
+          let on_way : GoesOn code c s.memory (idt_block (Common UserCode pf)) (env ss extra u' g)
+          = stubs_go_on code UserCode has v pf e c s.memory small_vector refl means.0.2 j there
+          (subst (λ m. Fits code (env ss extra u' g) (block m spot)) (sym q)
+          (step.fits mode image built good facts left s m h p hp o body' is spot over ss extra u' g means.2 tt
+          (subst (λ m. FactsHold (env ss extra u' g) (block m spot).ground.facts) q told)))
+          (subst (λ m. Open (env ss extra u' g) (block m spot).ground.known s.memory.regions) (sym q)
+          (step.windows mode image built good facts left s m h p hp o body' is spot over ss extra u' g)) in
+          step.goes mode image built good facts left s m h p hp o body' is act spot ss ss_is extra u' g (ap is_user at.agrees.rest)
+          (subst (λ m. Goes code c s.memory (block m spot) (env ss extra u' g)) q
+          (goes_by code c s.memory _ _ (Jmp j.distance) _ _ on_way
+          (stub_rip code UserCode has v e c s.memory small_vector means.0.2 there) j.is (jump_stays j.distance)))
+          (subst (λ m. edges m spot 0 < on.own) q (omega arith)) long refl
+          (subst (λ m. OverTask mode image m spot (env ss extra u' g) w b) q
+          (loads_behind mode image e g (stub_values has v) (common_values UserCode pf) w b means.1, means.2))
+      at_the_end act Idt q (InIdt (Common UserCode pf)) k ss ss_is extra v f n at means long enough hi =
+          let e : Env = env ss extra v f in
+          let g : Flags = flags_of c.flags in
+          let u : ℕ → ℕ = (continued e (common_values UserCode pf) c).var in
+          let over = (at_the_table mode).over in
+          let falls = (edges_fall Idt).common UserCode pf in
+          at_table act ss ss_is extra u g
+          (subst (λ m. At code (block m (body m AtTable)) 0 (env ss extra u g) c s.memory) q
+          (entries_continue code (idt_block (Common UserCode pf)) (body_block false IdtFrame AtTable) _ (common_values UserCode pf) e c s.memory
+          (idt_enters.common UserCode pf)
+          (subst (λ j. At code (idt_block (Common UserCode pf)) j e c s.memory) n at) refl refl
+          (subst (λ m. Fits code (env ss extra u g) (block m (body m AtTable))) (sym q)
+          (step.fits mode image built good facts left s m h p hp o body' is (body mode AtTable) over ss extra u g means.1 tt
           ((at_the_table mode).told (env ss extra u g))))
           (subst (λ m. Open (env ss extra u g) (block m (body m AtTable)).ground.known s.memory.regions) (sym q)
           (step.windows mode image built good facts left s m h p hp o body' is (body mode AtTable) over ss extra u g))))

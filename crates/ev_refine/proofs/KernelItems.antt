@@ -47,6 +47,7 @@ use Rattle.ev_blocks.specs.Items.{AtItem}
 use Rattle.ev_blocks.specs.Blocks.{Spot, InFred, InIdt, InBody, block, edges}
 use Rattle.ev_blocks.specs.Blocks as blocks
 use Rattle.ev_grounds.proofs.Grounds.{windows_fit}
+use Rattle.ev_user.specs.Words.{AreWords}
 use Rattle.ev_activation.specs.Seat.{Kind, Seat}
 use Rattle.ev_table.specs.Table.{code_table, other_exit, RetCell}
 use Rattle.ev_refine.specs.Named.{Outside, Changes}
@@ -215,7 +216,7 @@ module _ (mode : Mode) (image : Image) (built : IsBuilt image) (good : IsImage i
           } in
           let spread = facts.item_range b.body (suc b.place) body' is in
           let fit : Fits code (env ss further v f) B = fits_at mode image p seat in_seat hp good.count.1 κ ss w further v f facts spot way.over fred_is
-          (subst (λ y. (0xffffffff82000000 ≤ y) × (y + 0x100 ≤ M)) (sym next_is) spread) (way.told (env ss further v f)) in
+          (subst (λ y. (0xffffffff82000000 ≤ y) × (y + 0x100 ≤ M)) (sym next_is) spread) tt (way.told (env ss further v f)) in
           let act' : Stood (edges mode spot 0) (context.onward b) (onward c c.regs next) (with_words s.memory words) = record {
             stands = record {
               spot = spot;
@@ -289,7 +290,8 @@ module _ (mode : Mode) (image : Image) (built : IsBuilt image) (good : IsImage i
           let x : OpensExit mode p κ seat ss w extra v f c cpu s.memory = exits image p small κ seat ss w cs extra v f c s.memory off mode means.saved
           (subst (λ n. n < 2 ^ 64) (sym means.saved.rip)
           (word_of_canonical w.rip (ap (λ (y : Processor). is_canonical y.rip) o.task.is ∙ o.task.task.canonical)))
-          (subst (λ n. n < 2 ^ 64) (sym (means.saved.flags ∙ ap (λ (y : Processor). y.flags) o.task.is)) (word_of_flags t.flags)) a in
+          (subst (λ n. n < 2 ^ 64) (sym (means.saved.flags ∙ ap (λ (y : Processor). y.flags) o.task.is)) (word_of_flags t.flags))
+          (subst (λ (y : Processor). AreWords y.regs) (sym o.task.is) o.task.task.words) a in
           let at_ret_cell : IsAt c (Jmp rc.distance) rc.cell.next = record {
             kernel = hu;
             flags = kept c.flags _ a.flags;
@@ -314,7 +316,7 @@ module _ (mode : Mode) (image : Image) (built : IsBuilt image) (good : IsImage i
               within = omega arith;
               enough = omega arith;
               at = begins code (block mode x.spot) e cpu s.memory
-                  (step.fits mode image built good facts left s m h p hp o body' is x.spot x.over ss extra v f place x.told)
+                  (step.fits mode image built good facts left s m h p hp o body' is x.spot x.over ss extra v f place x.entry x.told)
                   (x.agrees (step.windows mode image built good facts left s m h p hp o body' is x.spot x.over ss extra v f));
               long = long;
             };

@@ -52,7 +52,7 @@ use Rattle.ev_concrete.specs.Shown.{shown_always}
 use Rattle.ev_refine.proofs.Facts.{Facts}
 use Rattle.ev_refine.proofs.Maps.{at_same, at_other}
 use Rattle.ev_refine.proofs.ModeFacts.{is_fred, controls}
-use Rattle.ev_refine.proofs.Spots.{over_task, means_over, runs_to_end}
+use Rattle.ev_refine.proofs.Spots.{over_task, IsAtEntry, means_over, runs_to_end}
 use Rattle.ev_refine.proofs.Fits.{IsSeat, InBodies, fits_at, opens_at, kernel_changes}
 use Rattle.ev_refine.proofs.Bodies.{Goes}
 use Rattle.ev_refine.proofs.Instructions.{stays_inside}
@@ -200,7 +200,7 @@ module _ (mode : Mode) (image : Image) (built : IsBuilt image) (good : IsImage i
         let all : Stands mode image (put_at left p (now + inner_edges (s.latches p))) (after_ran s p cpu words) m
         = stands_after mode image left s (after_ran s p cpu words) m m p (now + inner_edges (s.latches p)) x seat cpu _ words good.count.1
         (four_tasks image built) h hp (moves cpu words) (omega arith) (kernel_names p) (kernel_spares p small) changes
-        (kernel_user p seat small (omega arith) s.memory.words words m.words changes h.shares.user)
+        (kernel_user p seat small (omega arith) s.memory.words words m.words changes h.shares.user) h.shares.held
         (record { own = refl; others = λ q e. refl; present = refl; cells = refl; mail = refl; mail_nmi = refl; records = refl; queue = refl })
         domain there in
         let bound = on.enough in record {
@@ -246,7 +246,7 @@ module _ (mode : Mode) (image : Image) (built : IsBuilt image) (good : IsImage i
         let all : Stands mode image (put_at left p (now + inner_edges (s.latches p))) (after_ran s p cpu words) (with_processor m p y)
         = stands_after mode image left s (after_ran s p cpu words) m (with_processor m p y) p (now + inner_edges (s.latches p)) y seat cpu _ words
         good.count.1 (four_tasks image built) h hp (moves cpu words) (omega arith) (kernel_names p) (kernel_spares p small) changes
-        (kernel_user p seat small (omega arith) s.memory.words words m.words changes h.shares.user)
+        (kernel_user p seat small (omega arith) s.memory.words words m.words changes h.shares.user) h.shares.held
         (record {
           own = at_same m.processors p p y refl;
           others = λ q e. at_other m.processors p q y e;
@@ -368,9 +368,9 @@ module _ (mode : Mode) (image : Image) (built : IsBuilt image) (good : IsImage i
 
       -- a block without facts fits, and its windows are open
       pub fits : (spot : Spot) → over_task mode spot ≡ true → (ss : ℕ) (extra v : ℕ → ℕ) (f : Flags) → extra 20 ≡ item_place mode image b.body b.place
-          → FactsHold (env ss extra v f) (block mode spot).ground.facts → Fits code (env ss extra v f) (block mode spot)
-      fits spot over ss extra v f h told =
-          fits_at mode image p seat in_seat hp good.count.1 κ ss w extra v f facts spot over fred_is (in_bodies extra h) told
+          → IsAtEntry spot (env ss extra v f) → FactsHold (env ss extra v f) (block mode spot).ground.facts → Fits code (env ss extra v f) (block mode spot)
+      fits spot over ss extra v f h at told =
+          fits_at mode image p seat in_seat hp good.count.1 κ ss w extra v f facts spot over fred_is (in_bodies extra h) at told
 
       pub windows : (spot : Spot) → over_task mode spot ≡ true → (ss : ℕ) (extra v : ℕ → ℕ) (f : Flags)
           → Open (env ss extra v f) (block mode spot).ground.known s.memory.regions

@@ -26,8 +26,9 @@ pub mod UserStep
 pub mod UserPlain
 pub mod UserBody
 pub mod UserSafe
-pub mod SystemCall
-pub mod SystemCallFred
+pub mod Raising
+pub mod RaisingFred
+pub mod RaisingIdt
 pub mod SystemCallIdt
 pub mod User
 pub mod CodeFacts

@@ -2,7 +2,7 @@
 use Rattle.std.proofs.Common.{◌≡◌, ℕ, suc, ◌+◌, ◌-◌, ◌*◌, ◌/◌, ◌%◌, ◌^◌, ◌<◌, ◌≤◌, ◌⊎◌, inl, inr, zero, Bool, true, false, ◌&&◌, ◌||◌, List, [], ◌∷◌, get_or, length, map, refl, sym, ap, ◌∙◌, subst, arith, ⊎_elim}
 use Rattle.std.specs.Prelude.{◌==◌, nat_lt, nat_le, if◌then◌else◌}
 use Rattle.std.specs.List.{list_all, list_any}
-use Rattle.std.proofs.lemmas.Bool.{eqb-true, eq-eqb, le-leb, lt-ltb, lt-leb, le-ltb}
+use Rattle.std.proofs.lemmas.Bool.{eqb-true, ltb-true, eq-eqb, le-leb, lt-ltb, lt-leb, le-ltb}
 use Rattle.std.proofs.lemmas.Bool.Decides.{eqb_tells}
 use Rattle.std.proofs.Math.Nat.{zero-div}
 use Rattle.ev_isa.specs.Word.{numbers_from, is_aligned, members, values, bit}
@@ -23,6 +23,9 @@ use Rattle.ev_user.specs.Tasks.{IsTask, level_zero}
 use Rattle.ev_refine.specs.Tasks.{TssIs, CurrentIs}
 use Rattle.ev_refine.specs.Nmi.{Held, Plain}
 use Rattle.ev_user.specs.Sees.{IsUserWord}
+use Rattle.ev_user.specs.Words.{AreWords, HoldsWords}
+use Rattle.ev_user.proofs.Opened.{opening_sees}
+use Rattle.ev_symbolic.proofs.Values.{and_left, and_right}
 use Rattle.ev_refine.specs.Domain.{IsInDomain}
 use Rattle.ev_refine.specs.Relation.{Shares, Stands, StandsOn, first_word}
 use Rattle.ev_refine.proofs.Domains.{one_task_each}
@@ -189,9 +192,15 @@ none_served class (v ∷ vs) = ap (λ b. (b && (v / 16 == class)) || list_any (�
 
 -- ---- the first task
 
+are_words : (xs : List ℕ) → list_all is_word xs ≡ true → AreWords xs
+are_words [] h r = omega arith
+are_words (x ∷ xs) h zero = ltb-true x (2 ^ 64) (and_left (is_word x) (list_all is_word xs) h)
+are_words (x ∷ xs) h (suc r) = are_words xs (and_right (is_word x) (list_all is_word xs) h) r
+
 -- the registers of a task of the image
 the_one : (ts : List (List TaskSpec)) (t : TaskSpec) (n : ℕ) → ts ≡ (t ∷ []) ∷ []
-    → list_all (λ (us : List TaskSpec). nat_lt 0 (length us) && nat_le (length us) 4 && list_all (is_task n) us) ts ≡ true → length t.regs ≡ 16
+    → list_all (λ (us : List TaskSpec). nat_lt 0 (length us) && nat_le (length us) 4 && list_all (is_task n) us) ts ≡ true → (length t.regs ≡ 16) × AreWords
+    t.regs
 the_one ts t n h k = found
     (subst (λ (us : List (List TaskSpec)). list_all (λ (us : List TaskSpec). nat_lt 0 (length us) && nat_le (length us) 4 && list_all (is_task n) us) us
     ≡ true) h k)
@@ -205,12 +214,14 @@ the_one ts t n h k = found
     right false b h = absurd (cc)
 
     found : list_all (λ (us : List TaskSpec). nat_lt 0 (length us) && nat_le (length us) 4 && list_all (is_task n) us) ((t ∷ []) ∷ []) ≡ true
-        → length t.regs ≡ 16
+        → (length t.regs ≡ 16) × AreWords t.regs
     found h =
         let a = left (list_all (is_task n) (t ∷ [])) true h in
         let b = left (is_task n t) true a in
-        let c = left (is_text_place n t.start && nat_lt t.gs (2 ^ 32) && (length t.regs == 16)) (list_all is_word t.regs) b in
-        eqb-true (length t.regs) 16 (right (is_text_place n t.start && nat_lt t.gs (2 ^ 32)) (length t.regs == 16) c)
+        let c = left (is_text_place n t.start && nat_lt t.gs (2 ^ 32) && (length t.regs == 16)) (list_all is_word t.regs) b in (
+          eqb-true (length t.regs) 16 (right (is_text_place n t.start && nat_lt t.gs (2 ^ 32)) (length t.regs == 16) c),
+          are_words t.regs (right (is_text_place n t.start && nat_lt t.gs (2 ^ 32) && (length t.regs == 16)) (list_all is_word t.regs) b),
+        )
 
 level_first : (mode : Mode) (p : ℕ) → level_zero mode p 0 ≡ stack_top p 0
 level_first Idt p = refl
@@ -223,9 +234,13 @@ module _ (mode : Mode) (image : Image) (built : IsBuilt image) (given : IsImage 
   spec_is : get_or (get_or image.tasks 0 []) 0 no_task ≡ built.task
   spec_is = ap (λ ts. get_or (get_or ts 0 []) 0 no_task) built.one_task
 
+  regs_good : (length built.task.regs ≡ 16) × AreWords built.task.regs
+  regs_good = the_one image.tasks built.task (length image.text) built.one_task given.tasks_given.1
+
   task_good : IsTask (task_at_start (get_or (get_or image.tasks 0 []) 0 no_task))
   task_good = record {
-    long = ap (λ (t : TaskSpec). length t.regs) spec_is ∙ the_one image.tasks built.task (length image.text) built.one_task given.tasks_given.1;
+    long = ap (λ (t : TaskSpec). length t.regs) spec_is ∙ regs_good.0;
+    words = subst (λ (t : TaskSpec). AreWords t.regs) (sym spec_is) regs_good.1;
     canonical = task_canonical image given built.task.start built.program built.is_program _
         (subst (λ (t : TaskSpec). begins built.program t.start ≡ true) (sym spec_is) built.is_program.starts);
     interrupts = refl;
@@ -291,10 +306,14 @@ module _ (mode : Mode) (image : Image) (built : IsBuilt image) (given : IsImage 
       let even : r % 8 ≡ 0 = ⊎_elim (λ (e : r ≡ 0). omega arith) (λ (e : r ≡ 0x28). omega arith) h in
       ap (first_word mode image) at ∙ word (0x800 + 0x40 * k + r) (omega arith) (omega arith) ∙ record_zero k r hk h
 
+  held_first : HoldsWords (opening image).words
+  held_first = let sees = opening_sees mode image given in sees.held
+
   shares : Shares mode image (opening_system mode image) (opening image)
   unfolding opening_system opening
   shares = record {
     user = λ a u. user_word _ mode image a u;
+    held = held_first;
     pages = λ i lt. page_word _ mode image i one lt;
     cells = λ k lt. cell_word _ mode image k one lt;
     mail = λ p v lt l. no_vector v;

@@ -13,18 +13,19 @@ use Rattle.ev_abstract.specs.Context.{BodyContext}
 use Rattle.ev_concrete.specs.Depth.{is_in_repeat}
 use Rattle.ev_symbolic.specs.Value.{M}
 use Rattle.ev_symbolic.specs.State.{SS, absolute_tag}
+use Rattle.ev_symbolic.specs.Names.{stub_tag}
 use Rattle.ev_symbolic.specs.Run.{brun, every}
 use Rattle.ev_symbolic.specs.Agrees.{Env, Code, Stands}
 use Rattle.ev_distances.specs.Form.{Form, OnStack, Stretch, InArea}
-use Rattle.ev_blocks.specs.Shapes.{FredFrame, IdtFrame}
+use Rattle.ev_blocks.specs.Shapes.{UserCode, FredFrame, IdtFrame}
 use Rattle.ev_blocks.specs.Fred.{FredWay, ByCall, ByInt3, ByIntN, ByOther, FromUser, FredToTask, fred_block, fred_lines}
 use Rattle.ev_blocks.specs.Fred as fred
-use Rattle.ev_blocks.specs.Idt.{IdtReturn, BySysret, ByOtherRip, ByOtherFlags, Sys, IdtToTask, idt_block, idt_places, sys_lines, exit_lines}
+use Rattle.ev_blocks.specs.Idt.{IdtReturn, BySysret, ByOtherRip, ByOtherFlags, Stub, Sys, Common, IdtToTask, idt_block, idt_places, sys_lines, common_lines, exit_lines}
 use Rattle.ev_blocks.specs.Idt as idt
 use Rattle.ev_blocks.specs.Items.{AtTable, AtJump, AtItem}
 use Rattle.ev_blocks.specs.Blocks.{Spot, InFred, InIdt, InBody, block, forms}
 use Rattle.ev_blocks.specs.Blocks as blocks
-use Rattle.ev_paths.specs.Lines.{HasKernel}
+use Rattle.ev_paths.specs.Lines.{HasKernel, IsAtStub}
 use Rattle.ev_paths.proofs.Lines.{fred_stand, idt_stand}
 use Rattle.ev_paths.proofs.FredEnds.{fred_enters, fred_returns}
 use Rattle.ev_paths.proofs.IdtEnds.{idt_enters, idt_returns}
@@ -41,6 +42,8 @@ over_task Fred (InBody FredFrame AtTable) = true
 over_task Fred (InBody FredFrame AtJump) = true
 over_task Fred (InBody FredFrame AtItem) = true
 over_task Idt (InIdt Sys) = true
+over_task Idt (InIdt (Stub UserCode has v)) = true
+over_task Idt (InIdt (Common UserCode pf)) = true
 over_task Idt (InIdt (idt.Leaves (IdtToTask by))) = true
 over_task Idt (InBody IdtFrame AtTable) = true
 over_task Idt (InBody IdtFrame AtJump) = true
@@ -55,6 +58,8 @@ is_over mode image Fred (InBody FredFrame AtTable) e w b h = refl
 is_over mode image Fred (InBody FredFrame AtJump) e w b h = refl
 is_over mode image Fred (InBody FredFrame AtItem) e w b h = refl
 is_over mode image Idt (InIdt Sys) e w b h = refl
+is_over mode image Idt (InIdt (Stub UserCode has v)) e w b h = refl
+is_over mode image Idt (InIdt (Common UserCode pf)) e w b h = refl
 is_over mode image Idt (InIdt (idt.Leaves (IdtToTask by))) e w b h = refl
 is_over mode image Idt (InBody IdtFrame AtTable) e w b h = refl
 is_over mode image Idt (InBody IdtFrame AtJump) e w b h = refl
@@ -103,6 +108,8 @@ has_windows Fred (InBody FredFrame AtTable) h = record { known = refl; own = ref
 has_windows Fred (InBody FredFrame AtJump) h = record { known = refl; own = refl; written = refl }
 has_windows Fred (InBody FredFrame AtItem) h = record { known = refl; own = refl; written = refl }
 has_windows Idt (InIdt Sys) h = record { known = refl; own = refl; written = refl }
+has_windows Idt (InIdt (Stub UserCode has v)) h = record { known = refl; own = refl; written = refl }
+has_windows Idt (InIdt (Common UserCode pf)) h = record { known = refl; own = refl; written = refl }
 has_windows Idt (InIdt (idt.Leaves (IdtToTask by))) h = record { known = refl; own = refl; written = refl }
 has_windows Idt (InBody IdtFrame AtTable) h = record { known = refl; own = refl; written = refl }
 has_windows Idt (InBody IdtFrame AtJump) h = record { known = refl; own = refl; written = refl }
@@ -118,6 +125,8 @@ never_switches Fred (InBody FredFrame AtTable) h = refl
 never_switches Fred (InBody FredFrame AtJump) h = refl
 never_switches Fred (InBody FredFrame AtItem) h = refl
 never_switches Idt (InIdt Sys) h = refl
+never_switches Idt (InIdt (Stub UserCode has v)) h = refl
+never_switches Idt (InIdt (Common UserCode pf)) h = refl
 never_switches Idt (InIdt (idt.Leaves (IdtToTask by))) h = refl
 never_switches Idt (InBody IdtFrame AtTable) h = refl
 never_switches Idt (InBody IdtFrame AtJump) h = refl
@@ -138,24 +147,30 @@ has_ground Fred (InBody FredFrame AtTable) h = record { fred = refl; descriptors
 has_ground Fred (InBody FredFrame AtJump) h = record { fred = refl; descriptors = refl; tops = refl }
 has_ground Fred (InBody FredFrame AtItem) h = record { fred = refl; descriptors = refl; tops = refl }
 has_ground Idt (InIdt Sys) h = record { fred = refl; descriptors = refl; tops = refl }
+has_ground Idt (InIdt (Stub UserCode has v)) h = record { fred = refl; descriptors = refl; tops = refl }
+has_ground Idt (InIdt (Common UserCode pf)) h = record { fred = refl; descriptors = refl; tops = refl }
 has_ground Idt (InIdt (idt.Leaves (IdtToTask by))) h = record { fred = refl; descriptors = refl; tops = refl }
 has_ground Idt (InBody IdtFrame AtTable) h = record { fred = refl; descriptors = refl; tops = refl }
 has_ground Idt (InBody IdtFrame AtJump) h = record { fred = refl; descriptors = refl; tops = refl }
 has_ground Idt (InBody IdtFrame AtItem) h = record { fred = refl; descriptors = refl; tops = refl }
 has_ground mode _ h = let clash : false ≡ true = h in absurd (cc)
 
+-- at the entry of a vector its base is that entry's address
+abbrev pub IsAtEntry : Spot → Env → Type 0
+IsAtEntry (InIdt s) e = IsAtStub e s
+IsAtEntry s e = Unit {0}
+
 pub lines_stand : (mode : Mode) (code : Code) (e : Env) → e.base 1000 ≡ 0 → HasKernel mode code → (spot : Spot) → over_task mode spot ≡ true
-    → Stands code e (block mode spot).lines
-lines_stand Fred code e z k (InFred s) h = fred_stand code e z k s
-lines_stand Fred code e z k (InBody FredFrame AtTable) h = tt
-lines_stand Fred code e z k (InBody FredFrame AtJump) h = tt
-lines_stand Fred code e z k (InBody FredFrame AtItem) h = tt
-lines_stand Idt code e z k (InIdt Sys) h = idt_stand code e z k Sys tt
-lines_stand Idt code e z k (InIdt (idt.Leaves x)) h = idt_stand code e z k (idt.Leaves x) tt
-lines_stand Idt code e z k (InBody IdtFrame AtTable) h = tt
-lines_stand Idt code e z k (InBody IdtFrame AtJump) h = tt
-lines_stand Idt code e z k (InBody IdtFrame AtItem) h = tt
-lines_stand mode code e z k _ h = let clash : false ≡ true = h in absurd (cc)
+    → IsAtEntry spot e → Stands code e (block mode spot).lines
+lines_stand Fred code e z k (InFred s) h at = fred_stand code e z k s
+lines_stand Fred code e z k (InBody FredFrame AtTable) h at = tt
+lines_stand Fred code e z k (InBody FredFrame AtJump) h at = tt
+lines_stand Fred code e z k (InBody FredFrame AtItem) h at = tt
+lines_stand Idt code e z k (InIdt s) h at = idt_stand code e z k s at
+lines_stand Idt code e z k (InBody IdtFrame AtTable) h at = tt
+lines_stand Idt code e z k (InBody IdtFrame AtJump) h at = tt
+lines_stand Idt code e z k (InBody IdtFrame AtItem) h at = tt
+lines_stand mode code e z k _ h at = let clash : false ≡ true = h in absurd (cc)
 
 -- ---- where their blocks end
 
@@ -171,6 +186,8 @@ runs_to_end Fred (InBody FredFrame AtTable) h = (_, refl)
 runs_to_end Fred (InBody FredFrame AtJump) h = (_, refl)
 runs_to_end Fred (InBody FredFrame AtItem) h = (_, refl)
 runs_to_end Idt (InIdt Sys) h = (_, idt_enters.call.runs)
+runs_to_end Idt (InIdt (Stub UserCode has v)) h = (_, (idt_enters.stub UserCode has v (v == 14) refl).runs)
+runs_to_end Idt (InIdt (Common UserCode pf)) h = (_, (idt_enters.common UserCode pf).runs)
 runs_to_end Idt (InIdt (idt.Leaves (IdtToTask by))) h = exit_end by
 runs_to_end Idt (InBody IdtFrame AtTable) h = (_, refl)
 runs_to_end Idt (InBody IdtFrame AtJump) h = (_, refl)
@@ -203,3 +220,17 @@ unfolding exit_lines idt_places spelling four_bytes size places distance
 idt_exit_elsewhere BySysret = refl
 idt_exit_elsewhere ByOtherRip = refl
 idt_exit_elsewhere ByOtherFlags = refl
+
+pub common_elsewhere : (pf : Bool) → every is_elsewhere (idt_block (Common UserCode pf)) ≡ true
+unfolding common_lines idt_places spelling four_bytes size places distance
+common_elsewhere true = refl
+common_elsewhere false = refl
+
+-- those of a vector's entry lie in its sixteen bytes
+abbrev pub is_in_stub : SS → Bool
+is_in_stub s = (s.rip.tag == stub_tag) && nat_lt s.rip.off 0x10
+
+pub stub_inside : (has : Bool) (v : ℕ) → every is_in_stub (idt_block (Stub UserCode has v)) ≡ true
+unfolding spelling four_bytes
+stub_inside true v = refl
+stub_inside false v = refl

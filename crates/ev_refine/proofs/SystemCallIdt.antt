@@ -1,5 +1,5 @@
 -- The delivery of a system call under IDT: SYSCALL writes no word, and leaves RIP and the flags in RCX and R11; and the activation that it begins.
-use Rattle.std.proofs.Common.{◌≡◌, ℕ, ◌+◌, ◌-◌, ◌^◌, ◌<◌, Bool, List, get_or, set, length, None, refl, sym, ap, ◌∙◌, subst, arith, inr}
+use Rattle.std.proofs.Common.{◌≡◌, ℕ, ◌+◌, ◌-◌, ◌<◌, Bool, List, get_or, set, length, None, refl, ap, ◌∙◌, arith, inr}
 use Rattle.std.specs.Prelude.{bit_and}
 use Rattle.std.proofs.lemmas.List.{length-set}
 use Rattle.ev_isa.specs.Flags.{Flags, flags_word, flags_of}
@@ -10,7 +10,6 @@ use Rattle.ev_state.specs.Processor.{Processor}
 use Rattle.ev_mem.specs.Memory.{Memory}
 use Rattle.ev_apic.specs.declared.apic.Apic.{Apic}
 use Rattle.ev_idt.specs.IdtDelivery.{syscall_idt}
-use Rattle.ev_proc.specs.ProcessorStep.{system_call}
 use Rattle.ev_listing.specs.AddressMap.{stack_top}
 use Rattle.ev_symbolic.specs.Value.{K}
 use Rattle.ev_symbolic.specs.Agrees.{Env, eval, At}
@@ -21,39 +20,42 @@ use Rattle.ev_deliver.proofs.FredDelivers.{listed_is}
 use Rattle.ev_deliver.proofs.IdtDelivers.{call_delivers}
 use Rattle.ev_activation.specs.Seat.{SystemCall, Seat, top_at}
 use Rattle.ev_table.specs.Table.{code_table}
+use Rattle.ev_user.specs.Causes.{Call, own_event, raising}
 use Rattle.ev_refine.specs.Active.{here, AtLoad}
 use Rattle.ev_refine.proofs.Fits.{fits_at, opens_at}
-use Rattle.ev_refine.proofs.SystemCall as call
-use Rattle.ev_refine.proofs.SystemCall.{arrival, Ready, Begins}
-use Rattle.ev_refine.proofs.Facts.{word_of_flags}
+use Rattle.ev_refine.proofs.Raising as raise
+use Rattle.ev_refine.proofs.Raising.{arrival, Ready, Begins}
 
 -- FMASK takes IF and AC from the flags
 abbrev masked_flags : Flags → Flags
 masked_flags f = flags_of (flags_word f - bit_and (flags_word f) 0x40200)
 
-module _ (image : Image) (p n : ℕ) (t : Task) (cr2 next body : ℕ) where
-  -- the task's processor at the next instruction
+module _ (image : Image) (p n : ℕ) (t : Task) (cr2 body : ℕ) where
+  -- the next instruction, and the task's processor there
+  abbrev next : ℕ
+  next = t.rip + 2
+
   abbrev caller : Processor
-  caller = record (call.caller Idt image p n t cr2 next body) { rip = next }
+  caller = record (raise.raiser Idt image p n t cr2 Call body) { rip = next }
 
   abbrev over : Processor
-  over = call.over Idt image p n t cr2 next body
+  over = raise.over Idt image p n t cr2 Call body
 
   abbrev seat : Seat
-  seat = call.seat Idt image p n t cr2 next body
+  seat = raise.seat Idt image p n t cr2 Call body
 
   abbrev place : ℕ → ℕ
-  place = call.first_place Idt image p n t cr2 next body
+  place = raise.first_place Idt image p n t cr2 Call body
 
   abbrev env : Env
   env = here Idt p SystemCall seat 0x18 over place (call_variables caller) (masked_flags t.flags)
 
   -- the instruction delivers it
-  runs : (a : Apic) (m : Memory) (nmi : Bool) → t.rip + 2 ≡ next
-      → system_call (call.caller Idt image p n t cr2 next body) a m nmi (t.rip + 2) ≡ arrival (syscall_idt caller) m.words None a nmi
-  runs a m nmi hn = ap (λ x. arrival (syscall_idt (record caller { rip = x })) m.words None a nmi) hn
+  runs : (a : Apic) (m : Memory) (nmi : Bool)
+      → raising (raise.raiser Idt image p n t cr2 Call body) a m nmi Call ≡ arrival (syscall_idt caller) m.words (own_event Call) None a nmi
+  runs a m nmi = refl
 
-  module _ (m : Memory) (ready : Ready Idt image p n t cr2 next body m) where
+  module _ (m : Memory) (ready : Ready Idt image p n t cr2 Call body m) where
     small : p < 32
     small = let a = ready.within in let b = ready.few in omega arith
 
@@ -72,9 +74,9 @@ module _ (image : Image) (p n : ℕ) (t : Task) (cr2 next body : ℕ) where
     at : At (code_table Idt image) (idt_block Sys) 0 env (syscall_idt caller) m
     unfolding syscall_idt
     at = call_delivers (code_table Idt image) caller m env site refl refl
-        (fits_at Idt image p seat (call.in_seat Idt image p n t cr2 next body ready.running) ready.within ready.few SystemCall 0x18 over place
-        (call_variables caller) (masked_flags t.flags) ready.facts (InIdt Sys) refl refl (call.in_bodies Idt image p n t cr2 next body m ready) tt)
-        (opens_at Idt image p seat (call.in_seat Idt image p n t cr2 next body ready.running) ready.within ready.few SystemCall 0x18 over place
+        (fits_at Idt image p seat (raise.in_seat Idt image p n t cr2 Call body ready.running) ready.within ready.few SystemCall 0x18 over place
+        (call_variables caller) (masked_flags t.flags) ready.facts (InIdt Sys) refl refl (raise.in_bodies Idt image p n t cr2 Call body m ready) tt tt)
+        (opens_at Idt image p seat (raise.in_seat Idt image p n t cr2 Call body ready.running) ready.within ready.few SystemCall 0x18 over place
         (call_variables caller) (masked_flags t.flags) (InIdt Sys) refl m ready.regions_are)
 
     -- RCX and R11 as SYSCALL leaves them
@@ -90,7 +92,7 @@ module _ (image : Image) (p n : ℕ) (t : Task) (cr2 next body : ℕ) where
     r11_is : get_or entered 11 0 ≡ flags_word t.flags
     r11_is = ap (λ xs. get_or (set (set xs 1 next) 11 (flags_word t.flags)) 11 0) (listed_is t.regs ready.long)
 
-    loads : AtLoad Idt image (λ i. eval env (get_or sys_values i (K 0))) over (call.context Idt image p n t cr2 next body)
+    loads : AtLoad Idt image (λ i. eval env (get_or sys_values i (K 0))) over (raise.context Idt image p n t cr2 Call body)
     unfolding eval
     loads = record {
       key = 0x100;
@@ -100,8 +102,6 @@ module _ (image : Image) (p n : ℕ) (t : Task) (cr2 next body : ℕ) where
       begins = refl;
       saved = record {
         regs = listed_is entered long;
-        rcx = subst (λ a. a < 2 ^ 64) (sym rcx_is) ready.next_small;
-        r11 = subst (λ a. a < 2 ^ 64) (sym r11_is) (word_of_flags t.flags);
         rip = rcx_is;
         cs = refl;
         flags = r11_is;
@@ -114,13 +114,14 @@ module _ (image : Image) (p n : ℕ) (t : Task) (cr2 next body : ℕ) where
       locals = refl;
     }
 
-    pub begins_call : Begins Idt image p n t cr2 next body m
+    pub begins_call : Begins Idt image p n t cr2 Call body m
     unfolding syscall_idt
     begins_call = record {
       cpu = syscall_idt caller;
       words = m.words;
       frame = None;
-      runs = λ a nmi. runs a m nmi ready.next_is;
+      event = own_event Call;
+      runs = λ a nmi. runs a m nmi;
       blocking = refl;
       active = λ f. record {
         stands = record {
@@ -141,6 +142,7 @@ module _ (image : Image) (p n : ℕ) (t : Task) (cr2 next body : ℕ) where
         means = (loads, refl);
       };
       changes = λ a off d. refl;
+      told = refl;
       saved = rcx_is;
       safe = λ s only k z. refl;
     }

@@ -1,8 +1,8 @@
--- The body of system calls: it stands in the image, its key is that of SYSCALL, it has an item, and the table has its address.
+-- The body of a key: it stands in the image, has the key and an item, and the table has its address.
 use Rattle.std.proofs.Common.{◌≡◌, ℕ, zero, suc, ◌+◌, ◌-◌, ◌*◌, ◌/◌, ◌%◌, ◌^◌, ◌<◌, ◌≤◌, Bool, true, false, ◌&&◌, List, [], ◌∷◌, ◌++◌, length, Some, refl, ap, ◌∙◌, subst, arith}
 use Rattle.std.specs.Prelude.{◌==◌, if◌then◌else◌, nat_lt, nat_le, slice_get, flat_map}
 use Rattle.std.specs.List.{list_all}
-use Rattle.std.proofs.lemmas.Bool.{eqb-true, eq-eqb, ltb-true, le-leb, lt-leb, lt-ltb, le-ltb}
+use Rattle.std.proofs.lemmas.Bool.{eqb-true, eq-eqb, ne_eqb, ltb-true, leb-true, le-leb, lt-leb, lt-ltb, le-ltb}
 use Rattle.ev_isa.specs.Word.{is_aligned}
 use Rattle.ev_isa.specs.declared.mode.Mode.{Mode}
 use Rattle.ev_body.specs.declared.key.Key.{Key}
@@ -18,6 +18,7 @@ use Rattle.ev_body.specs.WellFormed.{IsImage, is_key, is_ret, ends_with, is_body
 use Rattle.ev_listing.specs.AddressMap.{pcpu, user_table, body_code, fred_page, stack_top, task_words}
 use Rattle.ev_abstract.specs.Run.{item_at}
 use Rattle.ev_concrete.specs.Opening.{opening_word, word_there, body_address}
+use Rattle.ev_concrete.specs.Shown.{key_of_vector}
 use Rattle.ev_symbolic.proofs.Values.{and_left, and_right}
 use Rattle.ev_refine.specs.Relation.{first_word}
 
@@ -44,32 +45,45 @@ all_get p [] i x h k = absurd (cc)
 all_get p (y ∷ ys) zero x h k = ap p (let e : x ≡ y = cc in e) ∙ and_left (p y) (list_all p ys) h
 all_get p (y ∷ ys) (suc i) x h k = all_get p ys i x (and_right (p y) (list_all p ys) h) k
 
-below : (v : ℕ) → v < 0x100 → v ≡ 0x100 → ⊥
-below v h e = omega arith
+-- the key of a number
+abbrev pub key_from : ℕ → Key
+key_from n = if n == 0x100 then Sys else key_of_vector n
 
--- no interrupt has the number of system calls
-only_key : (k : Key) → is_key k ≡ true → key_number k ≡ 0x100 → k ≡ Sys
+only_key : (k : Key) → is_key k ≡ true → k ≡ key_from (key_number k)
 unfolding is_key key_number
-only_key Sys h e = refl
-only_key (Irq v) h e = absurd (below v (ltb-true v 0x100 (and_right (nat_le 0x20 v) _ h)) e)
-only_key _ h e = absurd (omega arith)
+only_key (Irq v) h =
+    let low : 0x20 ≤ v = leb-true 0x20 v (and_left _ _ h) in
+    let high : v < 0x100 = ltb-true v 0x100 (and_right (nat_le 0x20 v) _ h) in
+    rw (
+      ne_eqb v 0x100 (λ e. let z : ⊥ = omega arith in z),
+      ne_eqb v 1 (λ e. let z : ⊥ = omega arith in z),
+      ne_eqb v 2 (λ e. let z : ⊥ = omega arith in z),
+      ne_eqb v 3 (λ e. let z : ⊥ = omega arith in z),
+      ne_eqb v 6 (λ e. let z : ⊥ = omega arith in z),
+      ne_eqb v 12 (λ e. let z : ⊥ = omega arith in z),
+      ne_eqb v 13 (λ e. let z : ⊥ = omega arith in z),
+      ne_eqb v 14 (λ e. let z : ⊥ = omega arith in z),
+      ne_eqb v 17 (λ e. let z : ⊥ = omega arith in z),
+    ) refl
+only_key _ h = refl
 
 first_item : (xs ys : List Item) → ends_with is_ret xs ≡ true → (i : Item) × (slice_get (xs ++ ys) 0 ≡ Some i)
 unfolding ends_with
 first_item [] ys h = absurd (cc)
 first_item (x ∷ xs) ys h = (x, refl)
 
--- the body of system calls, by its number
-pub record IsSystemCall (image : Image) (n : ℕ) : Type 0 where
+-- the body of a key, by its number
+pub record HasBody (image : Image) (key n : ℕ) : Type 0 where
   pub body : Body
   pub is : slice_get image.bodies n ≡ Some body
-  pub key : body.key ≡ Sys
+  pub number : key_number body.key ≡ key
+  pub key_is : body.key ≡ key_from key
   pub item : Item
   pub first : item_at (slice_get image.bodies n) 0 ≡ Some item
 
-pub is_system_call : (image : Image) → IsImage image → (n : ℕ) → first_body 0 image.bodies 0x100 User ≡ Some n → IsSystemCall image n
-is_system_call image formed n h =
-    let f : IsFound image.bodies 0x100 n = found image.bodies 0x100 User n h in
+pub has_body : (image : Image) → IsImage image → (key n : ℕ) → first_body 0 image.bodies key User ≡ Some n → HasBody image key n
+has_body image formed key n h =
+    let f : IsFound image.bodies key n = found image.bodies key User n h in
     let b : Body = f.body in
     let well = all_get (is_body (length image.text)) image.bodies n b formed.bodies_given.1 f.is in
     let front = and_left (_ && ends_with is_ret b.items) _ (and_left _ _ (and_left _ _ (and_left _ _ well))) in
@@ -77,7 +91,8 @@ is_system_call image formed n h =
     record {
       body = b;
       is = f.is;
-      key = only_key b.key (and_left (is_key b.key) _ (and_left (is_key b.key && _) _ front)) f.key_is;
+      number = f.key_is;
+      key_is = only_key b.key (and_left (is_key b.key) _ (and_left (is_key b.key && _) _ front)) ∙ ap key_from f.key_is;
       item = i.0;
       first =
           ap (λ o. item_at o 0) f.is ∙ i.1;

@@ -32,6 +32,7 @@ use Rattle.ev_user.specs.Tasks.{IsTask, task_processor, RunsTask}
 use Rattle.ev_refine.specs.Nmi.{inner_edges}
 use Rattle.ev_refine.specs.Named.{Named, Outside, Changes}
 use Rattle.ev_user.specs.Sees.{IsUserWord, with_write}
+use Rattle.ev_user.specs.Words.{HoldsWords}
 use Rattle.ev_user.specs.Claims.{Site, GoesOn}
 use Rattle.ev_user.proofs.Follows.{user_goes_on}
 use Rattle.ev_symbolic.proofs.Words.{put_other}
@@ -103,6 +104,7 @@ module _ (mode : Mode) (image : Image) (formed : IsImage image) (built : IsBuilt
             text_is = refl;
             holds = facts.holds s.memory h.fixed;
             words = h.shares.user;
+            held = h.shares.held;
             pages = h.shares.pages;
           };
           chosen = next;
@@ -124,14 +126,14 @@ module _ (mode : Mode) (image : Image) (formed : IsImage image) (built : IsBuilt
       → (processor m p).bodies ≡ []
       → Moves p s s' cpu as' words → (names : List Named) → AreSparing p names
       → Changes p (record { stack = (processor m p).running; used = 0 }) names s.memory.words words
-      → (memory : NatMap ℕ) → ((a : ℕ) → IsUserWord a → words a ≡ memory a)
+      → (memory : NatMap ℕ) → ((a : ℕ) → IsUserWord a → words a ≡ memory a) → HoldsWords memory
       → IsTask t → IsInProgram image t.rip → cpu.nmi_blocked ≡ list_any (is_nmi_body image) bs → AreQuiet bs
       → ((class : ℕ) → list_any (λ (b : BodyContext). serves mode image class b.service) bs ≡ false) → own ≤ 500
       → ((r : ℕ) → r ≡ (processor m p).running → Chain mode image p own r t u.on.frame u.on.switching bs as' cpu (with_words s.memory words))
       → (StandsOn mode image p (own + inner_edges (s.latches p)) s' (record (with_task (processor m p) t) { bodies = bs }))
       × Stands mode image (put_at left p (own + inner_edges (s.latches p))) s'
       (with_processor (record m { words = memory }) p (record (with_task (processor m p) t) { bodies = bs }))
-  user_after left s s' m p lt h u cpu as' words t bs own hb mv names sparing changes memory user good at blocked quiet serving few chain =
+  user_after left s s' m p lt h u cpu as' words t bs own hb mv names sparing changes memory user held good at blocked quiet serving few chain =
       let x : abstract.Processor = processor m p in
       let y : abstract.Processor = record (with_task x t) { bodies = bs } in
       let small : p < 32 = omega (arith, built.one_processor) in
@@ -156,7 +158,7 @@ module _ (mode : Mode) (image : Image) (formed : IsImage image) (built : IsBuilt
         stands_after mode image left s s' m (with_processor (record m { words = memory }) p y) p (own + inner_edges (s.latches p)) y
             (record { stack = x.running; used = 0 }) cpu as'
             words
-            eight (four_tasks image built) h lt mv narrow names sparing changes user
+            eight (four_tasks image built) h lt mv narrow names sparing changes user held
             (record {
               own = at_same m.processors p p y refl;
               others = λ q e. at_other m.processors p q y e;
@@ -229,7 +231,8 @@ module _ (mode : Mode) (image : Image) (formed : IsImage image) (built : IsBuilt
       let none : as' ≡ [] = same_activations s p (s.activations p) d u.at_cpl3 ∙ u.rest.none in
       let mv : Moves p s s' d as' words = step_moves s p r refl refl in
       let after = user_after left s s' m p lt h u d as' words t [] 0 hb mv (word_names g.write) (word_spares p m.present g.write g.place)
-      (writes p (record { stack = x.running; used = 0 }) g.write s.memory.words) memory g.sees.words g.runs.task at u.open_to tt (λ class. refl) (omega arith)
+      (writes p (record { stack = x.running; used = 0 }) g.write s.memory.words) memory g.sees.words g.sees.held g.runs.task at u.open_to tt (λ class. refl)
+      (omega arith)
       (λ r e. (subst (λ z. RunsTask mode image p z t d) (sym e) g.runs, u.rest.still, none)) in
       let same : record (with_task x t) { bodies = [] } ≡ with_task x t = ap (λ (bs : List BodyContext). record (with_task x t) { bodies = bs }) (sym hb) in
       record {

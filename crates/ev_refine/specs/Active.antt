@@ -1,5 +1,5 @@
 -- Activations: at an instruction of a block, over the processor to which they will return; and what the variables of blocks are. Own.
-use Rattle.std.specs.Prelude.{◌≡◌, ◌⊎◌, ℕ, ◌+◌, ◌*◌, ◌^◌, ◌<◌, ◌≤◌, Bool, ◌==◌, if◌then◌else◌, [], ◌∷◌, length, get_or, slice_get, Option, Some, None}
+use Rattle.std.specs.Prelude.{◌≡◌, ◌⊎◌, ℕ, ◌+◌, ◌*◌, ◌≤◌, Bool, ◌==◌, if◌then◌else◌, [], ◌∷◌, length, get_or, slice_get, Option, Some, None}
 use Rattle.ev_isa.specs.Word.{NatMap, bit}
 use Rattle.ev_isa.specs.Flags.{Flags}
 use Rattle.ev_isa.specs.declared.mode.Mode.{Mode}
@@ -19,14 +19,15 @@ use Rattle.ev_symbolic.specs.Agrees.{Env, untracked, At}
 use Rattle.ev_symbolic.specs.Join.{env_after}
 use Rattle.ev_symbolic.specs.Names.{item_tag}
 use Rattle.ev_table.specs.Table.{code_table}
-use Rattle.ev_blocks.specs.Shapes.{FredFrame, IdtFrame}
+use Rattle.ev_blocks.specs.Shapes.{UserCode, FredFrame, IdtFrame}
 use Rattle.ev_blocks.specs.Fred.{FromUser, FredToTask, way_values}
 use Rattle.ev_blocks.specs.Fred as fred
-use Rattle.ev_blocks.specs.Idt.{IdtReturn, BySysret, Sys, IdtToTask, sys_values}
+use Rattle.ev_blocks.specs.Idt.{IdtReturn, BySysret, Stub, Sys, Common, IdtToTask, stub_values, common_values, sys_values}
 use Rattle.ev_blocks.specs.Idt as idt
 use Rattle.ev_blocks.specs.Items.{AtTable, AtJump, AtItem}
 use Rattle.ev_blocks.specs.Blocks.{Spot, InFred, InIdt, InBody, block, edges}
 use Rattle.ev_blocks.specs.Blocks as blocks
+use Rattle.ev_paths.specs.Lines.{IsAtStub}
 use Rattle.ev_activation.specs.Seat.{Kind, SystemCall, FromTask, NmiFromBody, Seat, top_at}
 use Rattle.ev_refine.specs.Nmi.{Frame, Knows}
 
@@ -86,11 +87,9 @@ module _ (mode : Mode) (image : Image) where
 
   -- ---- what a block's variables are, where w is the task's processor to which the activation returns, and b its body's context
 
-  -- The saved area, the frame, the other GS base, the selector and RSP of level 0 give back w. RCX and R11, which the exit compares, are words.
+  -- The saved area, the frame, the other GS base, the selector and RSP of level 0 give back w.
   pub record Saved (v : ℕ → ℕ) (w : Processor) : Type 0 where
     pub regs : w.regs ≡ v 30 ∷ v 31 ∷ v 32 ∷ v 33 ∷ v 20 ∷ v 35 ∷ v 36 ∷ v 37 ∷ v 38 ∷ v 39 ∷ v 40 ∷ v 41 ∷ v 42 ∷ v 43 ∷ v 44 ∷ v 45 ∷ []
-    pub rcx : v 31 < 2 ^ 64
-    pub r11 : v 41 < 2 ^ 64
     pub rip : v 17 ≡ w.rip
     pub cs : selector (v 18) ≡ w.cs
     pub flags : v 19 ≡ w.flags
@@ -148,6 +147,9 @@ module _ (mode : Mode) (image : Image) where
   OverTask Fred (InBody FredFrame AtJump) e w b = AtStart e.var w b × HasPlace e b
   OverTask Fred (InBody FredFrame AtItem) e w b = InItem e.var w b × HasPlace e b
   OverTask Idt (InIdt Sys) e w b = AtLoad (env_after e sys_values e.flags).var w b × HasPlace e b
+  OverTask Idt (InIdt (Stub UserCode has v)) e w b = IsAtStub e (Stub UserCode has v)
+      × AtLoad (env_after (env_after e (stub_values has v) e.flags) (common_values UserCode (v == 14)) e.flags).var w b × HasPlace e b
+  OverTask Idt (InIdt (Common UserCode pf)) e w b = AtLoad (env_after e (common_values UserCode pf) e.flags).var w b × HasPlace e b
   OverTask Idt (InIdt (idt.Leaves (IdtToTask by))) e w b = Leaving e.var w b × Matches by e.var
   OverTask Idt (InBody IdtFrame AtTable) e w b = AtLoad e.var w b × HasPlace e b
   OverTask Idt (InBody IdtFrame AtJump) e w b = AtStart e.var w b × HasPlace e b

@@ -27,6 +27,7 @@ use Rattle.ev_user.specs.Tasks.{IsTask, RunsTask}
 use Rattle.ev_refine.specs.Tasks.{IsSaved, CurrentIs}
 use Rattle.ev_refine.specs.Nmi.{Frame, Leads, Layer, Plain, LatchIs, inner_edges}
 use Rattle.ev_user.specs.Sees.{IsUserWord}
+use Rattle.ev_user.specs.Words.{HoldsWords}
 use Rattle.ev_refine.specs.Active.{Active}
 use Rattle.ev_refine.specs.Domain.{IsInDomain}
 
@@ -145,9 +146,10 @@ module _ (mode : Mode) (image : Image) where
 
   -- ---- what all processors share
 
-  -- each word by itself
+  -- each word by itself; what user code sees are words, below 2^64
   pub record Shares (s : System) (m : Machine) : Type 0 where
     pub user : (a : ℕ) → IsUserWord a → s.memory.words a ≡ m.words a
+    pub held : HoldsWords m.words
     pub pages : (i : ℕ) → i < 256 → s.memory.words (page_map + 8 * i) ≡ (if m.present i then 1 else 0)
     pub cells : (k : ℕ) → k < 256 → s.memory.words (cells_base + 8 * k) ≡ m.cells k
     pub mail : (p v : ℕ) → p < image.processors → v < 256 → vectors_of (s.inboxes p).vectors v ≡ (processor m p).mail v

@@ -25,11 +25,13 @@ use Rattle.ev_apic.specs.declared.apic.Apic.{Apic}
 use Rattle.ev_mem.specs.Memory.{Memory, view}
 use Rattle.ev_exec.specs.Exec.{exec, changed, completed}
 use Rattle.ev_proc.specs.ProcessorStep.{After, step, step_by, fetched, executed, after_exec, special, fault, ran, delivering, next_of}
+use Rattle.ev_code.specs.Coding.{FieldsFit}
 use Rattle.ev_code.proofs.Spelled.{spelling_length}
 use Rattle.ev_abstract.specs.UserCode.{UserStep, Goes, Raises, step_of, user_step, fetch_step, read_step, user_view, text_bytes}
 use Rattle.ev_abstract.specs.UserCode as user
 use Rattle.ev_fetch.proofs.Regions.{all_small}
 use Rattle.ev_user.specs.Tasks.{IsTask, task_processor}
+use Rattle.ev_user.specs.Words.{HoldsWords}
 use Rattle.ev_user.specs.Sees.{Sees, with_write}
 use Rattle.ev_user.specs.Causes.{Fault, Undefined, Protection, Page, Faulted, Debug, Breakpoint, Three, Refused, Call, IsCause, fault_event}
 use Rattle.ev_user.specs.Claims.{Site, GoesOn, Raised, UserGoesOn, UserRaises}
@@ -37,6 +39,7 @@ use Rattle.ev_user.proofs.Places.{pages_fault_alike}
 use Rattle.ev_user.proofs.Zero.{vector_byte}
 use Rattle.ev_user.proofs.Fetch.{InText, fetched_in_text, reads_alike, byte_small}
 use Rattle.ev_user.proofs.Alike.{Keeps, Did, Alike, effects}
+use Rattle.ev_user.proofs.Words.{KeepsWords, keeps, fields_fit}
 use Rattle.ev_user.proofs.Writes.{small_code, views_alike, is_write, others_stay, sees_again}
 
 low_canonical : (a : ℕ) → a < 2 ^ 47 → is_canonical a ≡ true
@@ -77,20 +80,22 @@ module _ (mode : Mode) (image : Image) (p r : ℕ) (t : Task) (u : UserMemory) (
   task_at next = ap (λ (f : Flags). record t { rip = next; flags = f }) (flags_of-flags_word t.flags)
 
   -- a plain instruction, whose effect is the same over both views
-  plain : (i j : Ins) (next : ℕ) → is_canonical next ≡ true
+  plain : (i j : Ins) (next : ℕ) → is_canonical next ≡ true → FieldsFit i
       → Follows (step_of t (effect (user_view u) (record t { rip = next }) i))
       (after_exec c a m nmi next j (changed c (effect (view m true) (record (task_of c) { rip = next }) i)))
-  plain i j next h =
+  unfolding KeepsWords
+  plain i j next h fit =
       subst (λ (x : Task). Follows (step_of t (effect (user_view u) at i)) (after_exec c a m nmi next j (changed c (effect (view m true) x i))))
       (sym (task_at next))
-      (pick (effect (user_view u) at i) (effect (view m true) at i) (effects (user_view u) (view m true) (views_alike image u m formed sees) at i))
+      (pick (effect (user_view u) at i) (effect (view m true) at i) (effects (user_view u) (view m true) (views_alike image u m formed sees) at i)
+      (keeps (user_view u) at is_task.words sees.held i fit))
     where
       at : Task
       at = record t { rip = next }
 
-      did : (x y : Changed) → Did (user_view u) (view m true) (views_alike image u m formed sees) at x y
+      did : (x y : Changed) → Did (user_view u) (view m true) (views_alike image u m formed sees) at x y → KeepsWords (Ok x)
           → Follows (Goes x.0 x.1) (ran (with_effect (completed c) y.0) a y.1 nmi)
-      did x y d =
+      did x y d w =
           let place = is_write u d.write d.open_to in
           let k : Keeps at x.0 = d.keeps in record {
             write = d.write;
@@ -100,22 +105,22 @@ module _ (mode : Mode) (image : Image) (p r : ℕ) (t : Task) (u : UserMemory) (
                 ∙ ap (λ ws. ran (cpu x.0) a ws nmi) d.right;
             runs = record {
               is = refl;
-              task = record { long = k.long ∙ is_task.long; canonical = k.canonical h; interrupts = k.interrupts ∙ is_task.interrupts };
+              task = record { long = k.long ∙ is_task.long; canonical = k.canonical h; interrupts = k.interrupts ∙ is_task.interrupts; words = w.0 };
             };
             gs = k.gs;
             sees = subst (λ ws. Sees image (record u { words = ws }) (record m { words = with_write m.words d.write })) (sym d.left)
-                (sees_again image u m d.write sees place);
+                (sees_again image u m d.write sees place (subst HoldsWords d.left w.1));
             others = others_stay u.present m.words d.write place;
           }
 
-      pick : (x y : Result Changed Event) → Alike (user_view u) (view m true) (views_alike image u m formed sees) at x y
+      pick : (x y : Result Changed Event) → Alike (user_view u) (view m true) (views_alike image u m formed sees) at x y → KeepsWords x
           → Follows (step_of t x) (after_exec c a m nmi next j (changed c y))
-      pick (Ok x) (Ok y) d = did x y d
-      pick (Err e) (Err f) d =
+      pick (Ok x) (Ok y) d w = did x y d w
+      pick (Err e) (Err f) d w =
           subst (λ (g : Event). Follows (Raises t.rip e) (fault c a m nmi g)) d.same
           (subst (λ (g : Event). Follows (Raises t.rip g) (fault c a m nmi g)) (sym d.event) (faulted d.fault d.is))
-      pick (Ok x) (Err f) d = absurd d
-      pick (Err e) (Ok y) d = absurd d
+      pick (Ok x) (Err f) d w = absurd d
+      pick (Err e) (Ok y) d w = absurd d
 
   -- INT n: the processor's own event has its vector
   numbered : (n : ℕ) → n < 2 ^ 8 → Follows (user.executed (user_view u) t (t.rip + length (spelling (IntN n))) (IntN n))
@@ -141,29 +146,29 @@ module _ (mode : Mode) (image : Image) (p r : ℕ) (t : Task) (u : UserMemory) (
       }
 
   -- every instruction
-  instruction : (i : Ins) → ((n : ℕ) → i ≡ IntN n → n < 2 ^ 8) → is_canonical (t.rip + length (spelling i)) ≡ true
+  instruction : (i : Ins) → ((n : ℕ) → i ≡ IntN n → n < 2 ^ 8) → is_canonical (t.rip + length (spelling i)) ≡ true → FieldsFit i
       → Follows (user.executed (user_view u) t (t.rip + length (spelling i)) i)
       (executed c a m nmi (Some i))
   unfolding user.executed exec special user_may spelling
-  instruction Int1 n h = record { cause = Debug; is = tt; event = refl; saved_is = refl; step_is = refl }
-  instruction Int3 n h = record { cause = Breakpoint; is = tt; event = refl; saved_is = refl; step_is = refl }
-  instruction Syscall n h = record { cause = Call; is = tt; event = refl; saved_is = refl; step_is = refl }
-  instruction (IntN k) n h = numbered k (n k refl)
-  instruction Sti n h = faulted Protection tt
-  instruction Cli n h = faulted Protection tt
-  instruction Ud2 n h = faulted Undefined tt
-  instruction Sysretq n h = faulted Undefined tt
-  instruction Iretq n h = faulted Undefined tt
-  instruction Swapgs n h = faulted Undefined tt
-  instruction Eretu n h = faulted Undefined tt
-  instruction Erets n h = faulted Undefined tt
-  instruction (Lkgs s) n h = faulted Undefined tt
-  instruction (MovGs s) n h = faulted Undefined tt
-  instruction (ReadCr2 d) n h = faulted Undefined tt
-  instruction (WriteCr2 s) n h = faulted Undefined tt
-  instruction Rdmsr n h = faulted Undefined tt
-  instruction Wrmsr n h = faulted Undefined tt
-  instruction i n h = plain i i (t.rip + length (spelling i)) h
+  instruction Int1 n h fit = record { cause = Debug; is = tt; event = refl; saved_is = refl; step_is = refl }
+  instruction Int3 n h fit = record { cause = Breakpoint; is = tt; event = refl; saved_is = refl; step_is = refl }
+  instruction Syscall n h fit = record { cause = Call; is = tt; event = refl; saved_is = refl; step_is = refl }
+  instruction (IntN k) n h fit = numbered k (n k refl)
+  instruction Sti n h fit = faulted Protection tt
+  instruction Cli n h fit = faulted Protection tt
+  instruction Ud2 n h fit = faulted Undefined tt
+  instruction Sysretq n h fit = faulted Undefined tt
+  instruction Iretq n h fit = faulted Undefined tt
+  instruction Swapgs n h fit = faulted Undefined tt
+  instruction Eretu n h fit = faulted Undefined tt
+  instruction Erets n h fit = faulted Undefined tt
+  instruction (Lkgs s) n h fit = faulted Undefined tt
+  instruction (MovGs s) n h fit = faulted Undefined tt
+  instruction (ReadCr2 d) n h fit = faulted Undefined tt
+  instruction (WriteCr2 s) n h fit = faulted Undefined tt
+  instruction Rdmsr n h fit = faulted Undefined tt
+  instruction Wrmsr n h fit = faulted Undefined tt
+  instruction i n h fit = plain i i (t.rip + length (spelling i)) h fit
 
   -- what was read at RIP
   by_read : InText t.rip → (o : Option Ins) → reading (text_bytes u.text t.rip) ≡ o → Follows (read_step (user_view u) t o) (executed c a m nmi o)
@@ -175,6 +180,7 @@ module _ (mode : Mode) (image : Image) (p r : ℕ) (t : Task) (u : UserMemory) (
       ∙ ap (λ bytes. get_or (text_bytes bytes t.rip) 1 0) sees.text_is in
       let small = byte_small image.text t.rip 1 (all_small image.text formed.text_bytes) in omega arith)
       (low_canonical (t.rip + length (spelling i)) (let l : length (spelling i) ≤ 15 = spelling_length i in omega arith))
+      (fields_fit u t (λ k. subst (λ bytes. get_or bytes k 0 < 256) (sym sees.text_is) (all_small image.text formed.text_bytes k)) i q)
 
   by_fetch : (o : Option ℕ) → fault_at u.present (record { user = true; write = false; fetch = true }) (place_of t.rip) ≡ o
       → Follows (fetch_step u t o) (fetched c a m nmi o)

@@ -1,9 +1,11 @@
 -- At the opening user code sees the same memory on both sides.
-use Rattle.std.proofs.Common.{◌≡◌, ℕ, ◌+◌, ◌-◌, ◌*◌, ◌/◌, ◌%◌, ◌^◌, ◌<◌, ◌≤◌, Bool, true, false, refl, ap, ◌∙◌, arith, ◌⊎◌, inl, inr, ⊎_elim}
+use Rattle.std.proofs.Common.{◌≡◌, ℕ, ◌+◌, ◌-◌, ◌*◌, ◌/◌, ◌%◌, ◌^◌, ◌<◌, ◌≤◌, Bool, true, false, List, get_or, drop, refl, sym, ap, ◌∙◌, subst, arith, ◌⊎◌, inl, inr, ⊎_elim}
 use Rattle.std.specs.Prelude.{nat_lt, nat_le, if◌then◌else◌}
+use Rattle.std.specs.Int.{w64, from_le_bytes}
+use Rattle.std.proofs.lemmas.List.{get_or-drop}
 use Rattle.std.proofs.lemmas.Bool.{le-leb, lt-ltb, leb-true, ltb-true, eq-eqb}
 use Rattle.ev_isa.specs.Word.{is_aligned, members}
-use Rattle.ev_isa.specs.Pages.{text_base}
+use Rattle.ev_isa.specs.Pages.{text_base, text_word, word_at_start, Place, Text, Page, KernelWord, Lower, Upper, place_of}
 use Rattle.ev_isa.specs.declared.mode.Mode.{Mode}
 use Rattle.ev_body.specs.declared.image.Image.{Image}
 use Rattle.ev_body.specs.WellFormed.{IsImage}
@@ -12,7 +14,7 @@ use Rattle.ev_listing.specs.AddressMap.{pcpu, user_table, kernel_table, idt_base
 use Rattle.ev_abstract.specs.Machine.{opening}
 use Rattle.ev_concrete.specs.Opening.{Placed, code_of, listings, within, word_there, opening_word}
 use Rattle.ev_symbolic.proofs.Values.{and_left, and_right}
-use Rattle.ev_fetch.proofs.Regions.{and_both}
+use Rattle.ev_fetch.proofs.Regions.{and_both, all_small}
 use Rattle.ev_fetch.proofs.Opened.{only_if, only_else, not_below, holds_text}
 use Rattle.ev_user.specs.Sees.{IsPageWord, IsUserWord}
 use Rattle.ev_user.specs.Claims.{OpeningSees}
@@ -60,6 +62,20 @@ user_small a h =
     ⊎_elim (λ (k : (text_base ≤ a) × (a < text_base + 0x10000)). let l = k.1 in let z : a < 2 ^ 63 = omega arith in z)
     (λ (k : IsPageWord a). let l = k.1 in let z : a < 2 ^ 63 = omega arith in z) h.1
 
+-- eight bytes make a word
+eight_are : (bytes : List ℕ) → ((i : ℕ) → get_or bytes i 0 < 256) → from_le_bytes w64 bytes < 2 ^ 64
+eight_are bytes are = omega (arith, are 0, are 1, are 2, are 3, are 4, are 5, are 6, are 7)
+
+-- the words of the text and of the pages are made of bytes
+first_small : (text : List ℕ) → ((i : ℕ) → get_or text i 0 < 256) → (a : ℕ) (z : Place) → word_at_start text a z < 2 ^ 64
+unfolding word_at_start text_word
+first_small text h a Text =
+    eight_are (drop (a - text_base) text) (λ i. subst (λ n. n < 256) (sym (get_or-drop (a - text_base) text i 0)) (h (a - text_base + i)))
+first_small text h a (Page n) = omega arith
+first_small text h a KernelWord = omega arith
+first_small text h a Lower = omega arith
+first_small text h a Upper = omega arith
+
 pub opening_sees : OpeningSees
 unfolding opening opening_word word_there
 opening_sees mode image is = record {
@@ -67,5 +83,6 @@ opening_sees mode image is = record {
   text_is = refl;
   holds = holds_text mode image (opening_word (code_of (listings mode image)) mode image) (λ a h k. refl);
   words = λ a h. only_if (is_aligned a) _ _ h.0 ∙ only_if (nat_lt a (2 ^ 63)) _ _ (lt-ltb a (2 ^ 63) (user_small a h));
+  held = λ a. first_small image.text (all_small image.text is.text_bytes) a (place_of a);
   pages = λ i h. mapped (code_of (listings mode image)) mode image is i h;
 }

@@ -63,7 +63,7 @@ right_small a n h = let l : a / 2 ^ n ≤ a = div-le_self a (2 ^ n) in omega ari
 
 -- ---- registers and memory
 
-set_words : (regs : List ℕ) (d v : ℕ) → AreWords regs → v < 2 ^ 64 → AreWords (set regs d v)
+pub set_words : (regs : List ℕ) (d v : ℕ) → AreWords regs → v < 2 ^ 64 → AreWords (set regs d v)
 set_words [] d v h k r = h r
 set_words (x ∷ xs) zero v h k zero = k
 set_words (x ∷ xs) zero v h k (suc r) = h (suc r)
@@ -79,7 +79,7 @@ put_words words a v h k x = pick (x == a)
 
 -- ---- effects
 
-KeepsWords : Result Changed Event → Type 0
+unfoldable pub KeepsWords : Result Changed Event → Type 0
 KeepsWords (Ok x) = AreWords x.0.regs × HoldsWords x.1
 KeepsWords (Err e) = Unit {0}
 
@@ -112,7 +112,7 @@ module _ (v : View) (t : Task) (regs : AreWords t.regs) (words : HoldsWords v.wo
       pick true = (regs, regs s)
       pick false = (set_words t.regs 0 w regs k, k)
 
-  keeps : (i : Ins) → FieldsFit i → KeepsWords (effect v t i)
+  pub keeps : (i : Ins) → FieldsFit i → KeepsWords (effect v t i)
   unfolding effect KeepsWords
   keeps (MovImm d n) h = (set_words t.regs d n regs h.1, words)
   keeps (MovReg d s) h = (set_words t.regs d (reg t s) regs (regs s), words)
@@ -165,6 +165,12 @@ unfolding KeepsWords StepKeeps
 by_effect t (Ok x) h = h
 by_effect t (Err e) h = tt
 
+-- what is read of bytes has fields that fit
+pub fields_fit : (u : UserMemory) (t : Task) → ((i : ℕ) → get_or u.text i 0 < 256) → (i : Ins) → reading (text_bytes u.text t.rip) ≡ Some i → FieldsFit i
+fields_fit u t bytes i q =
+    let k = reading_begins (text_bytes u.text t.rip) i q in
+    (read_takes (text_bytes u.text t.rip) i k.1.0 (λ n. byte_small u.text t.rip n bytes) k.1.2).0.fields
+
 module _ (u : UserMemory) (t : Task) (bytes : (i : ℕ) → get_or u.text i 0 < 256) (regs : AreWords t.regs) (words : HoldsWords u.words) where
   executes : (i : Ins) (next : ℕ) → FieldsFit i → StepKeeps (user.executed (user_view u) t next i)
   unfolding user.executed StepKeeps
@@ -185,16 +191,10 @@ module _ (u : UserMemory) (t : Task) (bytes : (i : ℕ) → get_or u.text i 0 < 
       pick true = by_effect t (effect (user_view u) (record t { rip = next }) i) (keeps (user_view u) (record t { rip = next }) regs words i h)
       pick false = tt
 
-  -- the bytes that are read
-  are_bytes : (i : ℕ) → get_or (text_bytes u.text t.rip) i 0 < 256
-  are_bytes i = byte_small u.text t.rip i bytes
-
   by_read : (o : Option Ins) → reading (text_bytes u.text t.rip) ≡ o → StepKeeps (read_step (user_view u) t o)
   unfolding StepKeeps
   by_read None q = tt
-  by_read (Some i) q =
-      let k = reading_begins (text_bytes u.text t.rip) i q in
-      executes i (t.rip + length (spelling i)) (read_takes (text_bytes u.text t.rip) i k.1.0 are_bytes k.1.2).0.fields
+  by_read (Some i) q = executes i (t.rip + length (spelling i)) (fields_fit u t bytes i q)
 
   by_fetch : (o : Option ℕ) → StepKeeps (fetch_step u t o)
   unfolding StepKeeps

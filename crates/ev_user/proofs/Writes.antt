@@ -10,6 +10,7 @@ use Rattle.ev_mem.specs.Memory.{Memory, page_map, view}
 use Rattle.ev_abstract.specs.UserCode.{user_view}
 use Rattle.ev_symbolic.proofs.Values.{and_left, and_right}
 use Rattle.ev_symbolic.proofs.Words.{put_same, put_other}
+use Rattle.ev_user.specs.Words.{HoldsWords}
 use Rattle.ev_user.specs.Sees.{Sees, IsPageWord, IsUserWord, IsWrite, with_write, written, user_written}
 use Rattle.ev_user.proofs.Alike.{AreAlike, IsOpenTo}
 use Rattle.ev_user.proofs.Places.{pages_fault_alike}
@@ -96,7 +97,8 @@ is_write u (Some x) h = pick (accessed u.present true x.0 h.1)
     pick (inl k) = absurd (let z : true ≡ false = k.1 in cc)
     pick (inr k) = (h.0, k.0, k.1)
 
-pub others_stay : (present : NatSet) (words : NatMap ℕ) (w : Option (ℕ × ℕ)) → IsWrite present w → (a : ℕ) → (IsPageWord a → ⊥) → with_write words w a ≡ words a
+pub others_stay : (present : NatSet) (words : NatMap ℕ) (w : Option (ℕ × ℕ)) → IsWrite present w → (a : ℕ) → (IsPageWord a → ⊥) → with_write words w a ≡ words
+    a
 others_stay present words None h a k = refl
 others_stay present words (Some x) h a k = put_other words x.0 x.1 a (λ q. k (subst IsPageWord (sym q) h.1))
 
@@ -113,11 +115,12 @@ both_written words words' (Some x) a h = pick (a == x.0) refl
 
 -- user code sees the same after the same write
 pub sees_again : (image : Image) (u : UserMemory) (m : Memory) (w : Option (ℕ × ℕ)) → Sees image u m → IsWrite u.present w
-    → Sees image (user_written u w) (written m w)
-sees_again image u m w s h = record {
+    → HoldsWords (with_write u.words w) → Sees image (user_written u w) (written m w)
+sees_again image u m w s h held = record {
   regions_are = s.regions_are;
   text_is = s.text_is;
   holds = λ a al lo hi. others_stay u.present m.words w h a (λ (k : IsPageWord a). let l = k.0 in omega arith) ∙ s.holds a al lo hi;
   words = λ a k. both_written m.words u.words w a (s.words a k);
+  held = held;
   pages = λ i l. others_stay u.present m.words w h (page_map + 8 * i) (λ (k : IsPageWord (page_map + 8 * i)). let g = k.1 in omega arith) ∙ s.pages i l;
 }

@@ -1,6 +1,6 @@
+pub mod Words
 pub mod Tasks
 pub mod Sees
 pub mod Causes
 pub mod Claims
 pub mod Deliveries
-pub mod Words

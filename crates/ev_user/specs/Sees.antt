@@ -6,6 +6,7 @@ use Rattle.ev_body.specs.declared.image.Image.{Image}
 use Rattle.ev_mem.specs.Memory.{Memory, page_map}
 use Rattle.ev_concrete.specs.Opening.{regions}
 use Rattle.ev_fetch.specs.Claims.{HoldsText}
+use Rattle.ev_user.specs.Words.{HoldsWords}
 
 -- addresses of the data pages
 abbrev pub IsPageWord : ℕ → Type 0
@@ -16,13 +17,14 @@ abbrev pub IsUserWord : ℕ → Type 0
 IsUserWord a = (is_aligned a ≡ true)
     × (((text_base ≤ a) × (a < text_base + 0x10000)) ⊎ IsPageWord a)
 
--- The words agree, those of the text are the image's, and the page map has 1 exactly at the pages
--- that are present.
+-- The words agree, and are below 2^64; those of the text are the image's, and the page map has 1
+-- exactly at the pages that are present.
 pub record Sees (image : Image) (u : UserMemory) (m : Memory) : Type 0 where
   pub regions_are : m.regions ≡ regions image
   pub text_is : u.text ≡ image.text
   pub holds : HoldsText image.text m.words
   pub words : (a : ℕ) → IsUserWord a → m.words a ≡ u.words a
+  pub held : HoldsWords u.words
   pub pages : (i : ℕ) → i < 256 → m.words (page_map + 8 * i) ≡ (if u.present i then 1 else 0)
 
 -- ---- what a step writes: one word, with its address, or none

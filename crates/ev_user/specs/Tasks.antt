@@ -9,12 +9,14 @@ use Rattle.ev_effect.specs.Task.{Task}
 use Rattle.ev_state.specs.Processor.{Processor}
 use Rattle.ev_listing.specs.AddressMap.{task_selector, stack_top}
 use Rattle.ev_concrete.specs.Opening.{opening_cpu}
+use Rattle.ev_user.specs.Words.{AreWords}
 
 -- what holds of every task
 pub record IsTask (t : Task) : Type 0 where
   pub long : length t.regs ≡ 16
   pub canonical : is_canonical t.rip ≡ true
   pub interrupts : t.flags.interrupts ≡ true
+  pub words : AreWords t.regs
 
 -- RSP of level 0 while task r runs: under IDT it stays that of task 0
 abbrev pub level_zero : Mode → ℕ → ℕ → ℕ
