@@ -143,7 +143,7 @@ fn first_refusal(rt: HostRuntime) -> Result<(), Fail> {
 #[test]
 fn cut_at_each_byte(rt: HostRuntime) -> Result<(), Fail> {
     let bytes = DOCUMENT.as_bytes();
-    let mut lines = 0;
+    let mut lines: u32 = 0;
     for n in 0..bytes.len() {
         let mut src = source(rt.alloc(), &bytes[..n], &[])?;
         let mut to = sink(rt.alloc(), &[])?;
@@ -157,7 +157,7 @@ fn cut_at_each_byte(rt: HostRuntime) -> Result<(), Fail> {
             assert_eq!(rt; status, Status::Usage);
         }
         if n == 0 || bytes[n - 1] == b'\n' {
-            lines += 1;
+            lines = u32::saturating_add(lines, 1);
         }
     }
     Ok(())
