@@ -176,7 +176,8 @@ module _ (mode : Mode) (image : Image) (p : ℕ) (σ : Seat) (hs : IsSeat σ) (h
   pub kernel_changes : (spot : Spot) → over_task mode spot ≡ true → (m n : NatMap ℕ)
       → Within env (block mode spot).ground.own (block mode spot).ground.shared m n → Changes p σ (names_at p spot) m n
   kernel_changes spot h m n wrote a off d =
-      wrote a (λ l i q. off_forms mode p σ hs (keeps_rsp spot) a off d (forms spot).own (has_windows mode spot h).own (has_windows mode spot h).written (there l i q))
+      wrote a (λ l i q. off_forms mode p σ hs (keeps_rsp spot) a off d (forms spot).own (has_windows mode spot h).own
+      (has_windows mode spot h).written (there l i q))
       (λ l i q. let clash : false ≡ true = sym (ap (λ W. in_win W l) (windows_fit mode spot).0.shared) ∙ i in absurd (cc))
     where
       there : (l : Loc) → in_win (block mode spot).ground.own l ≡ true → a ≡ addr env l

@@ -121,7 +121,7 @@ module _ (mode : Mode) (image : Image) (built : IsBuilt image) (good : IsImage i
   abbrev on : StandsOn mode image p (left p) s x
   on = step.on mode image built good facts left s m h p hp
 
-  abbrev domain : IsInDomain image p x
+  abbrev domain : IsInDomain x
   domain = step.domain mode image built good facts left s m h p hp
 
   abbrev small : p < 32
@@ -266,7 +266,8 @@ module _ (mode : Mode) (image : Image) (built : IsBuilt image) (good : IsImage i
           (step.are_quiet mode image built good facts left s m h p hp o).1
           (ap (λ e. if e then length (processor m p).bodies - 1 else
           (if begins_body c (Some cell.ins) then suc (length (processor m p).bodies) else length (processor m p).bodies))
-          (ends_a_body (Some cell.ins) c x.place x.rip x.outside hu x.is) ∙ ap (λ (bs : List BodyContext). length bs - 1) o.bodies ∙ one_less (length below)) 0 (omega arith)
+          (ends_a_body (Some cell.ins) c x.place x.rip x.outside hu x.is) ∙ ap (λ (bs : List BodyContext). length bs - 1) o.bodies
+          ∙ one_less (length below)) 0 (omega arith)
           (subst (λ ds. Chain mode image p 0 r t on.frame on.switching ds (activations_by s p (s.activations p) back Stepped.Ran) back s.memory) (sym one.none)
           (with_cr2_open mode image p r t w c.cr2 one.task, one.still, gone)) (x.silent p (bodies_on s p) c s.memory.words)
         where
@@ -279,8 +280,8 @@ module _ (mode : Mode) (image : Image) (built : IsBuilt image) (good : IsImage i
       at_zero : (B : Block) (k : ℕ) (e : Env) → At code B k e c s.memory → k ≤ 0 → At code B 0 e c s.memory
       at_zero B k e at l = subst (λ n. At code B n e c s.memory) (let q : k ≡ 0 = omega arith in q) at
 
-      at_the_end : (act : Stood on.own b c s.memory) (over : is_over_task κ ≡ true) → Alone → (m : Mode) → m ≡ mode → (spot : Spot) (k ss : ℕ) → IsKernelSs ss → (extra v : ℕ → ℕ) (f : Flags)
-          → k ≡ (block m spot).steps → At code (block m spot) k (env ss extra v f) c s.memory → OverTask mode image m spot (env ss extra v f) w b
+      at_the_end : (act : Stood on.own b c s.memory) (over : is_over_task κ ≡ true) → Alone → (m : Mode) → m ≡ mode → (spot : Spot) (k ss : ℕ) → IsKernelSs ss
+          → (extra v : ℕ → ℕ) (f : Flags) → k ≡ (block m spot).steps → At code (block m spot) k (env ss extra v f) c s.memory → OverTask mode image m spot (env ss extra v f) w b
           → length c.regs ≡ 16 → edges m spot k ≤ on.own → item_at (Some body') b.place ≡ Some ctx.item → Result
       at_the_end act over one Fred q (InFred (FromUser way)) k ss ss_is extra v f n at means long enough hi =
           let e : Env = env ss extra v f in

@@ -47,7 +47,7 @@ use Rattle.ev_user.specs.Words.{HoldsWords}
 use Rattle.ev_concrete.specs.Opening.{tasks_of}
 use Rattle.ev_refine.specs.Nmi.{Leads, inner_edges}
 use Rattle.ev_refine.specs.Named.{Named, is_slot, is_cell, is_page_bit, is_user_word, have_none, UnknownTo, Changes}
-use Rattle.ev_refine.specs.Domain.{IsInProgram, IsQuiet, AreQuiet, IsInDomain}
+use Rattle.ev_refine.specs.Domain.{IsQuiet, AreQuiet, IsInDomain}
 use Rattle.ev_refine.specs.Active.{item_place, address_of_item, here, IsKernelSs, Means, Active}
 use Rattle.ev_refine.specs.Relation.{IsContext, Beneath, keeps_cr2, switches_at, chained, Interrupted, body_edges, Chain, serves, StandsOn, Stands}
 use Rattle.ev_refine.specs.Claims.{Simulated}
@@ -65,6 +65,7 @@ use Rattle.ev_refine.proofs.Chains.{chain_kept, chain_few, chain_plain}
 use Rattle.ev_refine.proofs.After.{AreNames, AreSparing, own_word, none_spares, slot_same, cell_same, page_same, user_same, few_inner, latch_parts, as_chain, returns_to, own_becomes, own_after, stands_become, stands_after}
 use Rattle.ev_refine.proofs.CallKinds.{is_over_task, is_plain_kind, over_any, beneath_as, stands_alone, ArePlain, none_nmi, seat_under, plain_seat, plain_knows}
 use Rattle.ev_refine.proofs.Domains.{four_tasks, one_task_each}
+use Rattle.ev_refine.proofs.Legality.{turn_legal}
 use Rattle.ev_refine.proofs.Depth.{active_outside, stands_depth, goes_on_inside, ran_counts}
 
 -- the names of a block's writes
@@ -103,7 +104,7 @@ module _ (mode : Mode) (image : Image) (built : IsBuilt image) (good : IsImage i
   pub on : StandsOn mode image p (left p) s x
   on = h.each p hp
 
-  pub domain : IsInDomain image p x
+  pub domain : IsInDomain x
   domain = h.domain p hp
 
   depth : bodies_on s p ≡ length x.bodies
@@ -301,7 +302,8 @@ module _ (mode : Mode) (image : Image) (built : IsBuilt image) (good : IsImage i
         → (now : ℕ) → now < on.own → Stood now b cpu (with_words s.memory words) → Result
     edge cell hc hm hr hu out cpu words he hb names sparing no_user unknown changes now fewer act =
         let run : Runs s p cpu words = runs cell hc hu cpu words he in
-        let same : activations_by s p (s.activations p) cpu Stepped.Ran ≡ o.last ∷ o.others = ran_stays s p cpu cell.ins (fetches c.rip cell hc).1 hr ∙ o.acts in
+        let same : activations_by s p (s.activations p) cpu Stepped.Ran ≡ o.last ∷ o.others
+        = ran_stays s p cpu cell.ins (fetches c.rip cell hc).1 hr ∙ o.acts in
         let goes_on : Chained now t x.bodies (activations_by s p (s.activations p) cpu Stepped.Ran) cpu (with_words s.memory words)
         = subst (λ as'. Chained now t x.bodies as' cpu (with_words s.memory words)) (sym same)
         (subst (λ bs. Chained now t bs (o.last ∷ o.others) cpu (with_words s.memory words)) (sym o.bodies)
@@ -315,7 +317,7 @@ module _ (mode : Mode) (image : Image) (built : IsBuilt image) (good : IsImage i
         (four_tasks image built) h hp (moves cpu words) narrow names sparing changes
         (λ a u. user_same p σ names small narrow s.memory.words words sparing.allowed.written changes no_user a u ∙ h.shares.user a u) h.shares.held
         (record { own = refl; others = λ q e. refl; present = refl; cells = refl; mail = refl; mail_nmi = refl; records = refl; queue = refl })
-        domain there in
+        h.legal domain there in
         let bound = on.enough in record {
           safe = ran_safe mode image s p cpu words run;
           counts = ran_counts image.processors s p cpu words cell.ins run (fetches c.rip cell hc).1 (length x.bodies) (length x.bodies) depth
@@ -338,7 +340,7 @@ module _ (mode : Mode) (image : Image) (built : IsBuilt image) (good : IsImage i
       pub own : processor m' p ≡ record x { tasks = tasks; slots = slots; bodies = bodies }
       pub others : (q : ℕ) → (q == p) ≡ false → processor m' q ≡ processor m q
       pub same_tasks : (i : ℕ) → (i ≡ r → ⊥) → tasks i ≡ x.tasks i
-      pub good_tasks : (i : ℕ) → i < length (tasks_of image p) → IsTask (tasks i) × IsInProgram image (tasks i).rip
+      pub good_tasks : (i : ℕ) → i < length (tasks_of image p) → IsTask (tasks i)
       pub slots_are : (k : ℕ) → k < 64 → words (pcpu p + slot_offset k) ≡ slots k
       pub user : (a : ℕ) → IsUserWord a → words a ≡ m'.words a
       pub held : HoldsWords m'.words
@@ -362,16 +364,10 @@ module _ (mode : Mode) (image : Image) (built : IsBuilt image) (good : IsImage i
         = none_nmi image bs (chain_plain mode image p now r (tasks r) on.frame on.switching bs _ cpu (with_words s.memory words) goes_on) in
         let there : StandsOn mode image p (now + inner_edges (s.latches p)) (after_ran s p cpu words) x'
         = own_becomes mode image p (left p) s (after_ran s p cpu words) x σ cpu _ words tasks slots bs now on small (four_tasks image built p hp)
-        (moves cpu words) on_stack narrow names allowed changes y.slots_are y.same_tasks (λ i l. (y.good_tasks i l).0) (hb ∙ sym none)
+        (moves cpu words) on_stack narrow names allowed changes y.slots_are y.same_tasks y.good_tasks (hb ∙ sym none)
         (λ class. unserved class bs quiet ∙ sym (unserved class x.bodies domain.bodies))
         (let f = few_inner mode image (s.latches p) in omega arith) goes_on in
-        let inside : IsInDomain image p x' = record {
-          pending = domain.pending;
-          nmi = domain.nmi;
-          resched = domain.resched;
-          bodies = quiet;
-          tasks = λ i l. (y.good_tasks i l).1;
-        } in
+        let inside : IsInDomain x' = record { pending = domain.pending; nmi = domain.nmi; resched = domain.resched; bodies = quiet } in
         let all : Stands mode image (put_at left p (now + inner_edges (s.latches p))) (after_ran s p cpu words) m'
         = stands_become mode image left s (after_ran s p cpu words) m m' p (now + inner_edges (s.latches p)) x' σ cpu _ words
         good.count.1 (four_tasks image built) h hp (moves cpu words) narrow names allowed changes
@@ -387,7 +383,7 @@ module _ (mode : Mode) (image : Image) (built : IsBuilt image) (good : IsImage i
           pages = y.pages;
           cells = y.cells;
         })
-        inside there in
+        (turn_legal image good built.accepted m p hp h.legal (m', es) ht) inside there in
         let turned : Stands mode image (put_at left p (now + inner_edges (s.latches p))) (after_ran s p cpu words) (turn image m p).0 =
         subst (λ q. Stands mode image (put_at left p (now + inner_edges (s.latches p))) (after_ran s p cpu words) q.0) (sym ht) all in record {
           safe = ran_safe mode image s p cpu words run;
@@ -424,7 +420,7 @@ module _ (mode : Mode) (image : Image) (built : IsBuilt image) (good : IsImage i
         own = at_same m.processors p p (record x { bodies = bs }) refl;
         others = λ q e. at_other m.processors p q (record x { bodies = bs }) e;
         same_tasks = λ i d. refl;
-        good_tasks = λ i l. (on.tasks i l, domain.tasks i l);
+        good_tasks = on.tasks;
         slots_are = same_slots sparing.slots;
         user = same_user no_user;
         held = h.shares.held;
