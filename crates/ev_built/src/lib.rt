@@ -10,6 +10,3 @@ mod text;
 pub use image::is_built;
 pub use laws::built_laws;
 pub use line::line_is_built;
-
-#[cfg(test)]
-mod tests;
