@@ -9,6 +9,3 @@ mod position;
 
 pub use fred::{fred_code, fred_sections, fred_visible};
 pub use position::{FredBlock, FredPlace, fred_position};
-
-#[cfg(test)]
-mod tests;
