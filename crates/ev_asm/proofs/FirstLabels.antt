@@ -22,7 +22,8 @@ found_append [] ys q = refl
 found_append (e ∷ es) ys q = by (is_name e.0 q) (found_append es ys q)
   where
     by : (b : Bool) → found (es ++ ys) q ≡ option_or (found es q) (found ys q)
-        → ◌≡◌ {A = Option ℕ} (elim b [ true ↦ Some e.1 | false ↦ found (es ++ ys) q ]) (option_or (elim b [ true ↦ Some e.1 | false ↦ found es q ]) (found ys q))
+        → ◌≡◌ {A = Option ℕ} (elim b [ true ↦ Some e.1 | false ↦ found (es ++ ys) q ])
+        (option_or (elim b [ true ↦ Some e.1 | false ↦ found es q ]) (found ys q))
     by true h = refl
     by false h = h
 
@@ -77,7 +78,8 @@ section_end stmts n a labels W le w = alike_then _ _ W (alike_is labels labels _
 -- ---- those of all sections, one section further
 
 pub sections_step : (ss : List Section) (n m : ℕ) (s : Section) (labels more W : Places) → n < length ss → m ≡ suc n → s ≡ get_or ss n s
-    → FindAlike more (labels ++ places s.address s.stmts) → FindAlike (labels ++ section_places (drop n ss)) W → FindAlike (more ++ section_places (drop m ss)) W
+    → FindAlike more (labels ++ places s.address s.stmts) → FindAlike (labels ++ section_places (drop n ss)) W
+    → FindAlike (more ++ section_places (drop m ss)) W
 sections_step ss n m s labels more W lt k e h w =
     let rest : Places = section_places (drop (suc n) ss) in
     let split : (labels ++ places s.address s.stmts) ++ rest ≡ labels ++ section_places (drop n ss) = append_assoc labels (places s.address s.stmts) rest

@@ -18,7 +18,8 @@ loop-section-preserved c =
     let labels = c.in_ok-labels.labels in
     let env = section_places c.args.sections.now in
     let s = c.section-item.result in
-    let bytes : c.from_vec.result ≡ code labels s.address s.stmts = c.from_vec.ensures ∙ c.in_ok-bytes.ensures ∙ ap (code labels s.address) c.as_slice.ensures in
+    let bytes : c.from_vec.result ≡ code labels s.address s.stmts = c.from_vec.ensures ∙ c.in_ok-bytes.ensures
+    ∙ ap (code labels s.address) c.as_slice.ensures in
     blocks_step env c.args.sections.now c.loop-section.section-index _ s _ _ _ _ (omega arith) (omega arith) c.section-item.is
     (ap (λ (x : List ℕ). let b : Block = record { address = s.address; bytes = x } in b) bytes ∙ block_alike labels env s c.in_ok-labels.ensures)
     c.in_ok-push.ensures.items c.loop-section.invariant
