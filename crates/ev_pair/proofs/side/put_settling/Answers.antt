@@ -1,4 +1,4 @@
-use Rattle.std.proofs.Common.{◌≡◌, ◌+◌, ◌<◌, ◌≤◌, length, refl, sym, ◌∙◌, subst, arith}
+use Rattle.std.proofs.Common.{◌≡◌, ◌+◌, ◌<◌, ◌≤◌, refl, sym, ◌∙◌, subst, arith}
 use Rattle.std.specs.Io.KnownBytes.{append_known}
 use Rattle.ev_io.specs.Transfer.{TookPrefix}
 use Rattle.ev_concrete.specs.ConcreteRun.{noted}
@@ -56,6 +56,13 @@ returns-in_err-put_shown_frames-clause-failed g c image script r =
     err_now _ _ (failed_within _ _ _ _ _ _ _ (c.loop-p.invariant.wrote image script r)
     (next_later c.args.frames c.args.mode image script c.loop-p.p (c.loop-p.p + 1) (omega arith) lt)
     (subst (λ fs. TookPrefix old new (shown_frames c.args.frames c.args.mode (noted c.loop-p.p fs))) frames c.in_err-put_shown_frames.ensures.failed))
+
+pub returns-clause-so : goal.returns-clause-so
+returns-clause-so g c = λ image script r.
+    let processors = r.at.shows.processors in
+    let all : c.loop-p.p ≡ image.processors = omega arith in
+    subst (λ k. IsStandingAs c.args.mode image (settled_first c.args.mode image script k).0 (run image script) c.loop-p.machine) all
+    (c.loop-p.invariant.so image script r)
 
 pub returns-clause-ok : goal.returns-clause-ok
 returns-clause-ok g c image script r =
