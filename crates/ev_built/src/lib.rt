@@ -5,11 +5,7 @@
 mod image;
 mod laws;
 mod line;
-mod text;
 
 pub use image::is_built;
 pub use laws::built_laws;
 pub use line::line_is_built;
-
-#[cfg(test)]
-mod tests;

@@ -9,6 +9,7 @@ pub mod Fits
 pub mod Words
 pub mod CallKinds
 pub mod Domains
+pub mod Chains
 pub mod Legality
 pub mod Standing
 pub mod Stays
@@ -21,7 +22,6 @@ pub mod Instructions
 pub mod KernelStep
 pub mod KernelItems
 pub mod Kernel
-pub mod UserText
 pub mod UserState
 pub mod UserStep
 pub mod UserPlain

@@ -10,6 +10,3 @@ mod vectors;
 
 pub use idt::{idt_code, idt_sections, idt_visible};
 pub use position::{IdtBlock, IdtPlace, idt_place_at, position_kind};
-
-#[cfg(test)]
-mod tests;

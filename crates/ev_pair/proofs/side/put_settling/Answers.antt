@@ -58,7 +58,7 @@ returns-in_err-put_shown_frames-clause-failed g c image script r =
     (subst (λ fs. TookPrefix old new (shown_frames c.args.frames c.args.mode (noted c.loop-p.p fs))) frames c.in_err-put_shown_frames.ensures.failed))
 
 pub returns-clause-so : goal.returns-clause-so
-returns-clause-so g c = λ image script r.
+returns-clause-so g c image script r =
     let processors = r.at.shows.processors in
     let all : c.loop-p.p ≡ image.processors = omega arith in
     subst (λ k. IsStandingAs c.args.mode image (settled_first c.args.mode image script k).0 (run image script) c.loop-p.machine) all
