@@ -26,6 +26,7 @@ pub mod UserState
 pub mod UserStep
 pub mod UserPlain
 pub mod UserBody
+pub mod Live
 pub mod UserSafe
 pub mod Raising
 pub mod RaisingFred
@@ -33,4 +34,5 @@ pub mod RaisingIdt
 pub mod SystemCallIdt
 pub mod User
 pub mod CodeFacts
+pub mod Visible
 pub mod Refine

@@ -1,5 +1,5 @@
 -- The whole table of an image: the cells of bodies, then the kernel's, at distinct addresses.
-use Rattle.std.proofs.Common.{◌≡◌, ℕ, zero, suc, pos, negsuc, ◌+◌, ◌-◌, ◌*◌, ◌/◌, ◌%◌, ◌^◌, ◌<◌, ◌≤◌, Bool, true, false, ◌&&◌, List, [], ◌∷◌, ◌++◌, length, take, Some, refl, sym, ap, ◌∙◌, subst, arith, eq-eqb}
+use Rattle.std.proofs.Common.{◌≡◌, ℕ, zero, suc, pos, negsuc, ◌+◌, ◌-◌, ◌/◌, ◌%◌, ◌^◌, ◌<◌, ◌≤◌, Bool, true, false, ◌&&◌, List, [], ◌∷◌, ◌++◌, length, take, Some, refl, sym, ap, ◌∙◌, subst, arith, eq-eqb}
 use Rattle.std.specs.Prelude.{◌==◌, ◌||◌, not, slice_get, if◌then◌else◌}
 use Rattle.std.specs.List.{list_all}
 use Rattle.std.proofs.lemmas.Bool.{lt-leb}
@@ -21,17 +21,17 @@ use Rattle.ev_body.specs.WellFormed.{IsImage, is_body}
 use Rattle.ev_asm.specs.Assembly.{Name, Places, place, size, total_size, distance}
 use Rattle.ev_listing.specs.AddressMap.{body_code}
 use Rattle.ev_listing.specs.Expansion.{exit_of, item_address, expansion, expansions, function_address, body_stmts}
-use Rattle.ev_listing.specs.Marks.{Mark, Never, Always, IfNonzero, IfEqual, Listing, stmts_of, all_places, all_marks}
+use Rattle.ev_listing.specs.Marks.{Mark, Never, Always, IfNonzero, IfEqual, Listing, stmts_of, all_places}
 use Rattle.ev_concrete.specs.Opening.{kernel_listings, listings, body_listings}
-use Rattle.ev_concrete.specs.ConcreteRun.{Marks, marks_of, mark_at}
-use Rattle.ev_symbolic.specs.Agrees.{Cell, Code}
-use Rattle.ev_symbolic.specs.Listed.{Cells, is_seen, cell_at, cells_from, cells_in, AllFound}
+use Rattle.ev_concrete.specs.ConcreteRun.{marks_of, mark_at}
+use Rattle.ev_symbolic.specs.Agrees.{Cell}
+use Rattle.ev_symbolic.specs.Listed.{is_seen, cells_from, cells_in, AllFound}
 use Rattle.ev_symbolic.proofs.Listed.{all_found}
 use Rattle.ev_symbolic.proofs.Values.{and_left, and_right}
 use Rattle.ev_fetch.proofs.Regions.{Each}
 use Rattle.ev_fetch.proofs.Placed.{Disjoint}
 use Rattle.ev_fetch.proofs.Sizes.{items_size, few_items, listings_disjoint}
-use Rattle.ev_table.specs.Table.{code_table, other_exit, exit_address, RetCell, places_of, item_lines, item_cells, MarkedAt, AreMarked, is_call}
+use Rattle.ev_table.specs.Table.{code_table, other_exit, exit_address, RetCell, places_of, item_lines, item_cells, AreMarked, is_call}
 use Rattle.ev_table.proofs.Cells.{found_first, found_rest}
 use Rattle.ev_table.proofs.Distinct.{listings_distinct}
 use Rattle.ev_table.proofs.Expanded.{is_of_body, is_plain, same_sizes}
@@ -230,12 +230,16 @@ module _ (mode : Mode) (image : Image) where
         never Never h = refl
         never _ h = absurd (cc)
 
+    -- no mark depends on memory
+    pub marks_plain : list_all (λ (b : Body). list_all (λ item. not (is_call item)) (body_items b)) image.bodies ≡ true → (a : ℕ)
+        → is_plain (mark_at (marks_of mode image) a) ≡ true
+    unfolding listings
+    marks_plain none a =
+        plain_at (listings mode image) a (plain_append bodies (kernel_listings mode) (plain mode image 0 image.bodies none) (kernel_plain mode))
+
     pub marked_seen : list_all (λ (b : Body). list_all (λ item. not (is_call item)) (body_items b)) image.bodies ≡ true → (a : ℕ) (x : Cell)
         → code_table mode image a ≡ Some x → x.mark ≡ true → mark_at (marks_of mode image) a ≡ Always
-    unfolding listings
-    marked_seen none a x q m =
-        always (mark_at (marks_of mode image) a) (cell_seen a x q ∙ m)
-        (plain_at (listings mode image) a (plain_append bodies (kernel_listings mode) (plain mode image 0 image.bodies none) (kernel_plain mode)))
+    marked_seen none a x q m = always (mark_at (marks_of mode image) a) (cell_seen a x q ∙ m) (marks_plain none a)
       where
         always : (m : Mark) → is_seen m ≡ true → is_plain m ≡ true → m ≡ Always
         always Never h k = absurd (cc)
