@@ -21,6 +21,7 @@ pub mod Items
 pub mod Instructions
 pub mod KernelStep
 pub mod KernelItems
+pub mod BodyTables
 pub mod Kernel
 pub mod UserState
 pub mod UserStep
