@@ -235,7 +235,7 @@ module _ (mode : Mode) (image : Image) (built : IsBuilt image) (good : IsImage i
             knows = plain_knows mode κ on.frame plain_kind (blocks.holds spot);
             means = means_at mode image κ plain_kind AtItem (env ss further v f) w (context.onward b) words (
               record {
-                saved = saved_again mode image (origin_of κ) (env ss extra v f) (env ss further v f) w (λ i l. refl) refl refl means.saved;
+                saved = saved_again mode image (origin_of κ) (env ss extra v f) (env ss further v f) w (λ i l. refl) refl refl refl means.saved;
                 locals = means.locals;
                 flags = means.flags;
               },

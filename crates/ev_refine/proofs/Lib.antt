@@ -33,5 +33,9 @@ pub mod RaisingFred
 pub mod RaisingIdt
 pub mod SystemCallIdt
 pub mod User
+pub mod BodyRaising
+pub mod BodyRaisingFred
+pub mod BodyRaisingIdt
+pub mod KernelSafe
 pub mod CodeFacts
 pub mod Refine
