@@ -9,9 +9,7 @@ ghost use Rattle.ev_concrete.specs.RunText.{run_text};
 ghost use Rattle.ev_io.specs.InputLines.{lines_of};
 ghost use Rattle.ev_io.specs.Lines.{coming, drawn};
 ghost use Rattle.ev_io.specs.Transfer.{Draws, Rose};
-ghost use Rattle.ev_isa.specs.declared.mode.Mode.{Mode};
 ghost use Rattle.ev_pair.specs.Modes as asked;
-ghost use Rattle.ev_pair.specs.Safety.{RunIsSafe};
 ghost use Rattle.ev_script.specs.Script.{read_script};
 ghost use Rattle.ev_status.specs.declared.status.Status.{Status};
 ghost use Rattle.fredbox.specs.Answer.{comes, modes_of};
@@ -68,7 +66,6 @@ fn write_run<K: Sink>(
     requires few { length script.now < 2 ^ 32 }
     ensures wrote { Wrote (K.taken sink.old) (K.taken sink.new)
         (run_text image.now script.now (modes_of mode) frames) result }
-    ensures safe { (m : Mode) → RunIsSafe m image.now script.now }
     ensures cause { result ≡ Status.WriteFault → Rose (K.faults sink.old) (K.faults sink.new) }
 {
     match run_modes(alloc, image, script, modes_asked(mode), frames, sink) {
