@@ -21,6 +21,7 @@ pub mod Items
 pub mod Instructions
 pub mod KernelStep
 pub mod KernelItems
+pub mod BodyTables
 pub mod Kernel
 pub mod UserState
 pub mod UserStep
@@ -33,6 +34,10 @@ pub mod RaisingFred
 pub mod RaisingIdt
 pub mod SystemCallIdt
 pub mod User
+pub mod BodyRaising
+pub mod BodyRaisingFred
+pub mod BodyRaisingIdt
+pub mod KernelSafe
 pub mod CodeFacts
 pub mod Visible
 pub mod Refine

@@ -421,7 +421,9 @@ module _ (image : Image) (built : IsBuilt image) (p n : â„•) (t : Task) (cr2 : â
   frame_high true = let s = small in let r = ready.running in omega arith
   frame_high false = let s = small in let r = ready.running in omega arith
 
-  loads : AtLoad Idt image (behind image p n t cr2 body cause) (over image p n t cr2 cause body) (raise.context Idt image p n t cr2 cause body)
+  loads : AtLoad Idt image UserCode (env_after (env_after at (stub_values (has_error_code (raised_event cause).vector) (raised_event cause).vector)
+      (off_flags image p n t cr2 cause body)) (common_values UserCode ((raised_event cause).vector == 14)) (off_flags image p n t cr2 cause body))
+      (over image p n t cr2 cause body) (raise.context Idt image p n t cr2 cause body)
   loads = record {
     key = cause_key cause;
     small = key_small cause;
