@@ -22,6 +22,7 @@ use Rattle.ev_table.specs.Table.{code_table, other_exit, exit_address, RetCell, 
 use Rattle.ev_table.proofs.Kernel as kernel
 use Rattle.ev_paths.specs.Lines.{HasKernel}
 use Rattle.ev_table.proofs.Whole as whole
+use Rattle.ev_table.proofs.LabelPlaces.{labels_placed}
 use Rattle.ev_fetch.proofs.Kernel.{kernel_fetches}
 use Rattle.ev_fetch.proofs.InCode.{stays_in_code}
 use Rattle.ev_fetch.proofs.AllSpelled.{bodies_are_spelled}
@@ -117,6 +118,9 @@ module _ (mode : Mode) (image : Image) (given : IsImage image) (built : IsBuilt 
     item_range = item_range;
     spaced = spaced_in (all_places (listings mode image)) (listings mode image);
     log_cell = λ n i s b h k. whole.log_stands mode image given n i s b h k;
+    items = λ n i b item h k. whole.item_stands mode image given n i b item h k;
+    follow = λ n i b item k. whole.next_address mode image n i b item k;
+    labels = labels_placed mode image given;
     ret_cell = ret;
     first_item = λ n b. whole.first_item mode n b;
     item_small = λ n i b h. whole.canonical_items mode image given n i b h;

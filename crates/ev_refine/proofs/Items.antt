@@ -94,7 +94,7 @@ module _ (image : Image) (built : IsBuilt image) (good : IsImage image) (n : ℕ
 
 -- ---- locals
 
-from_six : (P : ℕ → Type 0) → P 6 → P 7 → P 8 → P 9 → P 10 → P 11 → P 12 → P 13 → (s : ℕ) → 6 ≤ s → s < 14 → P s
+pub from_six : (P : ℕ → Type 0) → P 6 → P 7 → P 8 → P 9 → P 10 → P 11 → P 12 → P 13 → (s : ℕ) → 6 ≤ s → s < 14 → P s
 from_six P a b c d e f g i zero h k = absurd (omega arith)
 from_six P a b c d e f g i (suc zero) h k = absurd (omega arith)
 from_six P a b c d e f g i (suc (suc zero)) h k = absurd (omega arith)

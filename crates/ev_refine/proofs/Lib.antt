@@ -16,6 +16,11 @@ pub mod Depth
 pub mod Bodies
 pub mod Return
 pub mod Items
+pub mod ItemCells
+pub mod ItemCode
+pub mod ItemState
+pub mod ItemLocals
+pub mod ItemAddresses
 pub mod Instructions
 pub mod KernelStep
 pub mod KernelItems

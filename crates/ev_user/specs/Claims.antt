@@ -1,5 +1,5 @@
 -- The laws of user code, as the contract of this crate states them. Own.
-use Rattle.std.specs.Prelude.{◌≡◌, ℕ, ◌+◌, Bool, true, false, Option, None}
+use Rattle.std.specs.Prelude.{◌≡◌, ℕ, ◌+◌, ◌^◌, ◌<◌, Bool, true, false, Option, None}
 use Rattle.ev_isa.specs.Word.{NatMap}
 use Rattle.ev_isa.specs.Reading.{reading}
 use Rattle.ev_isa.specs.Pages.{place_of, UserMemory, fault_at}
@@ -35,6 +35,13 @@ PagesFaultAlike = (image : Image) (u : UserMemory) (m : Memory) → IsImage imag
     → (write fetch : Bool) (a : ℕ)
     → page_fault m (record { user = true; write = write; fetch = fetch }) a
     ≡ fault_at u.present (record { user = true; write = write; fetch = fetch }) (place_of a)
+
+-- In the lower half so does each access of the kernel's code.
+abbrev pub KernelFaultsAlike : Type 0
+KernelFaultsAlike = (image : Image) (u : UserMemory) (m : Memory) → IsImage image → Sees image u m
+    → (write : Bool) (a : ℕ) → a < 2 ^ 63
+    → page_fault m (record { user = false; write = write; fetch = false }) a
+    ≡ fault_at u.present (record { user = false; write = write; fetch = false }) (place_of a)
 
 -- Where user code can fetch, memory reads as the text with zeros behind it.
 abbrev pub ReadsAlike : Type 0
