@@ -83,7 +83,7 @@ empty_is [] h = refl
 empty_is (x ∷ xs) h = absurd (cc)
 
 pub taken_are_built : TakenAreBuilt
-taken_are_built image is h =
+taken_are_built image is accepted h =
     let p = and_parts ((image.processors == 1) && is_empty image.pages && is_empty image.cells && task_is_built image.text image.tasks)
     (bodies_are_built image.bodies) h in
     let q = and_parts ((image.processors == 1) && is_empty image.pages && is_empty image.cells) (task_is_built image.text image.tasks) p.0 in
@@ -94,6 +94,7 @@ taken_are_built image is h =
     (list_all (λ key. is_some (first_body 0 image.bodies (key_number key) User)) filled_keys) p.1 in
     let bodies = taken_bodies image.bodies b.0 in
     record {
+      accepted = accepted;
       one_processor = eqb-true image.processors 1 s.0;
       no_pages = empty_is image.pages s.1;
       no_cells = empty_is image.cells r.1;

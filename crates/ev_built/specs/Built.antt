@@ -14,6 +14,7 @@ use Rattle.ev_body.specs.declared.image.TaskSpec.{TaskSpec}
 use Rattle.ev_body.specs.declared.image.Image.{Image}
 use Rattle.ev_body.specs.Bodies.{first_body}
 use Rattle.ev_body.specs.WellFormed.{is_user_side, has_no_parts}
+use Rattle.ev_abstract.specs.Accepted.{IsAccepted}
 use Rattle.ev_abstract.specs.declared.script_line.Line.{Line}
 use Rattle.ev_abstract.specs.declared.script_line.Line.TheVariants.{Turn}
 use Rattle.ev_built.specs.Program.{IsProgram}
@@ -34,9 +35,10 @@ is_built_key _ = true
 abbrev pub is_built_body : Body → Bool
 is_built_body b = is_user_side b.side && (has_no_parts b.parts && list_all is_built_item b.items)
 
--- one processor with one task, and no page and no cell; user code that never leaves its instructions; bodies of the user side alone, with
+-- an accepted image of one processor with one task, and no page and no cell; user code that never leaves its instructions; bodies of the user side alone, with
 -- one of system calls among them
 pub record IsBuilt (image : Image) : Type 0 where
+  pub accepted : IsAccepted image
   pub one_processor : image.processors ≡ 1
   pub no_pages : image.pages ≡ []
   pub no_cells : image.cells ≡ []

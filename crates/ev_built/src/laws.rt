@@ -2,7 +2,7 @@
 
 ghost use Rattle.ev_built.specs.Laws.{TakenAreBuilt};
 
-/// An image that `run` takes is one of those for which the theorems stand.
+/// An accepted image that `run` takes is one of those for which the theorems stand.
 pub fn built_laws()
     ensures { TakenAreBuilt }
 {}

@@ -1,11 +1,10 @@
--- Which bodies have spellings: those of accepted images, and those that hold nothing but `log` and `ret`.
+-- The bodies of accepted images have spellings.
 use Rattle.std.proofs.Common.{◌≡◌, ℕ, suc, Bool, true, false, not, ◌&&◌, ◌||◌, List, [], ◌∷◌, ◌++◌, length, Option, Some, None, refl, ap, ◌∙◌}
 use Rattle.std.specs.Prelude.{if◌then◌else◌, flat_map, nat_le}
 use Rattle.std.specs.List.{list_all, list_any}
 use Rattle.std.proofs.lemmas.List.{append-nil}
-use Rattle.ev_isa.specs.declared.mode.Mode.{Mode}
 use Rattle.ev_body.specs.declared.item.Item.{Item}
-use Rattle.ev_body.specs.declared.item.Item.TheVariants.{Log, Finish, Ret}
+use Rattle.ev_body.specs.declared.item.Item.TheVariants.{Finish, Ret}
 use Rattle.ev_body.specs.declared.body.Part.{Part}
 use Rattle.ev_body.specs.declared.body.Body.{Body}
 use Rattle.ev_body.specs.declared.image.Image.{Image}
@@ -17,63 +16,10 @@ use Rattle.ev_abstract.specs.Accepted.{IsAccepted}
 use Rattle.ev_abstract.specs.declared.refusal.Refusal.{Refusal}
 use Rattle.ev_abstract.specs.declared.refusal.Refusal.TheVariants.{SlotRule, CallRule}
 use Rattle.ev_symbolic.proofs.Values.{and_left, and_right}
-use Rattle.ev_fetch.specs.Spelled.{AreSpelled, has_spelling}
-use Rattle.ev_fetch.specs.Claims.{kernel_cells, AcceptedAreSpelled}
+use Rattle.ev_fetch.specs.Spelled.{has_spelling}
+use Rattle.ev_fetch.specs.Claims.{AcceptedAreSpelled}
 use Rattle.ev_fetch.proofs.Regions.{and_both, Each}
 use Rattle.ev_fetch.proofs.AllSpelled.{bodies_are_spelled}
-
--- ---- `log` and `ret`
-
-abbrev pub IsLogOrRet : Item → Type 0
-IsLogOrRet (Log s) = Unit {0}
-IsLogOrRet Ret = Unit {0}
-IsLogOrRet _ = ⊥
-
-plain_slots : (n : ℕ) (item : Item) → IsLogOrRet item → not (breaks_slots n item) ≡ true
-unfolding breaks_slots
-plain_slots n (Log s) h = refl
-plain_slots n Ret h = refl
-plain_slots n _ h = absurd h
-
-plain_finish : (item : Item) → IsLogOrRet item → is_finish item ≡ false
-unfolding is_finish
-plain_finish (Log s) h = refl
-plain_finish Ret h = refl
-plain_finish _ h = absurd h
-
-module _ (test : Item → Bool) (passes : (item : Item) → test item ≡ true → IsLogOrRet item) where
-  all_slots : (n : ℕ) (items : List Item) → list_all test items ≡ true → list_all (λ item. not (breaks_slots n item)) items ≡ true
-  all_slots n [] h = refl
-  all_slots n (item ∷ items) h = and_both _ _ (plain_slots n item (passes item (and_left _ _ h))) (all_slots n items (and_right (test item) _ h))
-
-  no_finish : (items : List Item) → list_all test items ≡ true → list_any is_finish items ≡ false
-  no_finish [] h = refl
-  no_finish (item ∷ items) h = ap (λ t. t || list_any is_finish items) (plain_finish item (passes item (and_left _ _ h)))
-      ∙ no_finish items (and_right (test item) _ h)
-
-  pub without_parts : (items : List Item) (parts : List Part) → has_no_parts parts ≡ true → list_all test items ≡ true
-      → list_all test (items ++ flat_map (λ (part : Part). part.items) parts) ≡ true
-  without_parts [] [] p h = refl
-  without_parts (item ∷ items) [] p h = and_both _ _ (and_left _ _ h) (without_parts items [] p (and_right (test item) _ h))
-  without_parts items (part ∷ parts) p h = absurd (cc)
-
-  -- a body without parts whose items are each `log` or `ret`
-  pub plain_spelled : (n : ℕ) (b : Body) → has_no_parts b.parts ≡ true → list_all test b.items ≡ true → has_spelling n b ≡ true
-  plain_spelled n b p h =
-      let all = without_parts b.items b.parts p h in
-      and_both _ _ (all_slots n (body_items b) all) (last (list_any is_take (body_items b)) (list_any is_finish (body_items b)) (no_finish (body_items b) all))
-    where
-      last : (x y : Bool) → y ≡ false → (x || not y) ≡ true
-      last true y h = refl
-      last false true h = absurd (cc)
-      last false false h = refl
-
-  module _ (is_plain : Body → Bool) (holds : (b : Body) → is_plain b ≡ true → (has_no_parts b.parts ≡ true) × (list_all test b.items ≡ true)) where
-    pub bodies_plain : (n : ℕ) (bs : List Body) → list_all is_plain bs ≡ true → list_all (has_spelling n) bs ≡ true
-    bodies_plain n [] h = refl
-    bodies_plain n (b ∷ bs) h =
-        let k = holds b (and_left _ _ h) in
-        and_both _ _ (plain_spelled n b k.0 k.1) (bodies_plain n bs (and_right (is_plain b) _ h))
 
 -- ---- accepted images
 

@@ -1,9 +1,11 @@
 -- The facts on an image's code hold for the images of today.
 use Rattle.std.proofs.Common.{◌≡◌, ℕ, true, not, ◌&&◌, List, [], ◌∷◌, Some, refl, ap, ◌∙◌, ◌≤◌, ◌+◌, ◌^◌, arith}
-use Rattle.std.specs.Prelude.{slice_get}
+use Rattle.std.specs.Prelude.{slice_get, flat_map, ◌++◌}
+use Rattle.std.proofs.lemmas.List.{append-nil}
 use Rattle.std.specs.List.{list_all}
 use Rattle.ev_body.specs.declared.item.Item.{Item}
 use Rattle.ev_body.specs.declared.body.Body.{Body}
+use Rattle.ev_body.specs.declared.body.Part.{Part}
 use Rattle.ev_body.specs.declared.image.Image.{Image}
 use Rattle.ev_body.specs.WellFormed.{IsImage, has_no_parts, is_user_side}
 use Rattle.ev_body.specs.Bodies.{key_number, body_items}
@@ -25,10 +27,9 @@ use Rattle.ev_table.proofs.Whole as whole
 use Rattle.ev_table.proofs.LabelPlaces.{labels_placed}
 use Rattle.ev_fetch.proofs.Kernel.{kernel_fetches}
 use Rattle.ev_fetch.proofs.InCode.{stays_in_code}
-use Rattle.ev_fetch.proofs.AllSpelled.{bodies_are_spelled}
-use Rattle.ev_fetch.proofs.Ruled.{IsLogOrRet, bodies_plain, without_parts}
+use Rattle.ev_fetch.proofs.Ruled.{accepted_are_spelled}
 use Rattle.ev_fetch.proofs.Opened.{holds_code, holds_text}
-use Rattle.ev_fetch.specs.Spelled.{AreSpelled, has_spelling}
+use Rattle.ev_fetch.specs.Spelled.{AreSpelled}
 use Rattle.ev_fetch.specs.Claims.{kernel_cells}
 use Rattle.ev_refine.specs.Relation.{InText, InCode}
 use Rattle.ev_refine.proofs.Facts.{Facts}
@@ -51,20 +52,10 @@ not_nmi bs n b h k q = other b.key (all_at (λ (b : Body). is_built_key b.key) b
     other Ac h q = absurd (cc)
     other (Irq v) h q = absurd (cc)
 
-log_or_ret : (item : Item) → is_built_item item ≡ true → IsLogOrRet item
-unfolding is_built_item
-log_or_ret (Log s) h = tt
-log_or_ret Ret h = tt
-log_or_ret _ h = absurd (cc)
-
 body_parts : (b : Body) → is_built_body b ≡ true → (has_no_parts b.parts ≡ true) × (list_all is_built_item b.items ≡ true)
 body_parts b h = let r = and_right (is_user_side b.side) _ h in (and_left (has_no_parts b.parts) _ r, and_right (has_no_parts b.parts) _ r)
 
--- what images of today keep of the rules that code stands on
-pub built_spelling : (image : Image) → IsBuilt image → list_all (has_spelling image.processors) image.bodies ≡ true
-built_spelling image built = bodies_plain is_built_item log_or_ret is_built_body body_parts image.processors image.bodies built.bodies
-
--- and they have no `call`
+-- images of today have no `call`
 no_call : (item : Item) → is_built_item item ≡ true → not (is_call item) ≡ true
 unfolding is_built_item is_call
 no_call (Log s) h = refl
@@ -76,16 +67,22 @@ no_calls [] h = refl
 no_calls (item ∷ items) h = ap (λ t. t && list_all (λ item. not (is_call item)) items) (no_call item (and_left _ _ h))
     ∙ no_calls items (and_right (is_built_item item) _ h)
 
+-- the items of a body without parts
+without_parts : (items : List Item) (parts : List Part) → has_no_parts parts ≡ true → list_all is_built_item items ≡ true
+    → list_all is_built_item (items ++ flat_map (λ (part : Part). part.items) parts) ≡ true
+without_parts items [] p h = ap (list_all is_built_item) (append-nil items) ∙ h
+without_parts items (part ∷ parts) p h = absurd (cc)
+
 never_call : (bs : List Body) → list_all is_built_body bs ≡ true → list_all (λ (b : Body). list_all (λ item. not (is_call item)) (body_items b)) bs ≡ true
 never_call [] h = refl
 never_call (b ∷ bs) h =
     let k = body_parts b (and_left _ _ h) in
     ap (λ t. t && list_all (λ (b : Body). list_all (λ item. not (is_call item)) (body_items b)) bs)
-    (no_calls (body_items b) (without_parts is_built_item log_or_ret b.items b.parts k.0 k.1)) ∙ never_call bs (and_right (is_built_body b) _ h)
+    (no_calls (body_items b) (without_parts b.items b.parts k.0 k.1)) ∙ never_call bs (and_right (is_built_body b) _ h)
 
 module _ (mode : Mode) (image : Image) (given : IsImage image) (built : IsBuilt image) where
   spells : AreSpelled (kernel_cells mode image)
-  spells = bodies_are_spelled mode image given (built_spelling image built)
+  spells = accepted_are_spelled mode image given built.accepted
 
   ret : (n i : ℕ) (b : Body) → slice_get image.bodies n ≡ Some b → item_at (Some b) i ≡ Some Ret
       → RetCell (code_table mode image) (item_address mode n b i) (other_exit mode)

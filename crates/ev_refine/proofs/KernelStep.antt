@@ -61,6 +61,7 @@ use Rattle.ev_refine.proofs.Stays.{means_again}
 use Rattle.ev_refine.proofs.After.{kernel_names, kernel_spares, kernel_user, few_inner, latch_parts, returns_to, own_after, stands_after}
 use Rattle.ev_refine.proofs.CallKinds.{is_over_task, plain_no_nmi, means_by, knows_nothing, over_kind}
 use Rattle.ev_refine.proofs.Domains.{four_tasks, one_task_each}
+use Rattle.ev_refine.proofs.Legality.{turn_legal}
 use Rattle.ev_refine.proofs.Depth.{active_outside, stands_depth, goes_on_inside, ran_counts}
 
 module _ (mode : Mode) (image : Image) (built : IsBuilt image) (good : IsImage image) (facts : Facts mode image)
@@ -202,7 +203,7 @@ module _ (mode : Mode) (image : Image) (built : IsBuilt image) (good : IsImage i
         (four_tasks image built) h hp (moves cpu words) (omega arith) (kernel_names p) (kernel_spares p small) changes
         (kernel_user p seat small (omega arith) s.memory.words words m.words changes h.shares.user) h.shares.held
         (record { own = refl; others = λ q e. refl; present = refl; cells = refl; mail = refl; mail_nmi = refl; records = refl; queue = refl })
-        domain there in
+        h.legal domain there in
         let bound = on.enough in record {
           safe = ran_safe mode image s p cpu words run;
           counts = ran_counts image.processors s p cpu words cell.ins run (fetches c.rip cell hc).1 (length x.bodies) (length x.bodies) depth
@@ -257,7 +258,7 @@ module _ (mode : Mode) (image : Image) (built : IsBuilt image) (good : IsImage i
           records = refl;
           queue = refl;
         })
-        inside there in
+        (turn_legal image good built.accepted m p hp h.legal (with_processor m p y, es) ht) inside there in
         let turned : Stands mode image (put_at left p (now + inner_edges (s.latches p))) (after_ran s p cpu words) (turn image m p).0 =
         subst (λ q. Stands mode image (put_at left p (now + inner_edges (s.latches p))) (after_ran s p cpu words) q.0) (sym ht) all in record {
           safe = ran_safe mode image s p cpu words run;

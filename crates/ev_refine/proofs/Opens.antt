@@ -28,6 +28,7 @@ use Rattle.ev_user.proofs.Opened.{opening_sees}
 use Rattle.ev_symbolic.proofs.Values.{and_left, and_right}
 use Rattle.ev_refine.specs.Domain.{IsInDomain}
 use Rattle.ev_refine.specs.Relation.{Shares, Stands, StandsOn, first_word}
+use Rattle.ev_law.proofs.Runs.{opening_is_legal}
 use Rattle.ev_refine.proofs.Domains.{one_task_each}
 use Rattle.ev_refine.proofs.UserText.{task_canonical}
 
@@ -342,6 +343,7 @@ module _ (mode : Mode) (image : Image) (built : IsBuilt image) (given : IsImage 
     regions_are = refl;
     fixed = λ a f. refl;
     shares = shares;
+    legal = opening_is_legal image;
     domain = λ p lt. subst (λ q. IsInDomain image q (processor (opening image) q)) (only p lt) domain;
     each = λ p lt. subst (λ q. StandsOn mode image q 0 (opening_system mode image) (processor (opening image) q)) (only p lt) first_processor;
   }

@@ -31,7 +31,7 @@ use Rattle.ev_abstract.specs.Machine as abstract
 use Rattle.ev_abstract.specs.Delivery.{event_key, service_of, body_at_start, delivered, entered}
 use Rattle.ev_abstract.specs.UserCode.{Raises, user_step, user_view}
 use Rattle.ev_abstract.specs.UserCode as user
-use Rattle.ev_abstract.specs.Run.{task_step}
+use Rattle.ev_abstract.specs.Run.{turn, task_step}
 use Rattle.ev_concrete.specs.ConcreteRun.{System, Activation, acted, after_step, activations_by, interrupted, starts_inner}
 use Rattle.ev_concrete.specs.Depth.{bodies_on}
 use Rattle.ev_built.specs.Built.{IsBuilt}
@@ -53,6 +53,7 @@ use Rattle.ev_refine.specs.Claims.{Simulated}
 use Rattle.ev_refine.proofs.Facts.{Facts, word_of_canonical, word_of_flags}
 use Rattle.ev_refine.proofs.CallKinds.{is_over_task, plain_no_nmi, over_kind}
 use Rattle.ev_refine.proofs.Domains.{one_task_each}
+use Rattle.ev_refine.proofs.Legality.{turn_legal}
 use Rattle.ev_refine.proofs.Standing.{Moves, step_moves, delivery_moves}
 use Rattle.ev_refine.proofs.After.{kernel_names, kernel_spares, kernel_user}
 use Rattle.ev_refine.proofs.Depth.{stands_depth}
@@ -307,9 +308,13 @@ module _ (mode : Mode) (image : Image) (formed : IsImage image) (built : IsBuilt
       let is_context : IsContext mode image b = record { item = holder.item; is = holder.first } in
       let chain : Chain mode image p entry_edges n back u.on.frame u.on.switching (b ∷ []) (last ∷ []) d mem =
       (w, is_context, refl, tt, tail.0, tail.1, tail.2) in
+      let turns : turn image m p ≡ (with_processor m p (raised_in x cause body), entry_of p (raised_event cause) next ∷ [])
+      = u.turns ∙ ap (task_step image m p) raises ∙ raise_steps image m p cause body holder hb found st in
       let after = user_after mode image formed built facts left s s' m p lt h u d as' words' back (b ∷ []) entry_edges hb mv (kernel_names p)
       (kernel_spares p small) begun.changes m.words
-      (kernel_user p (record { stack = n; used = 0 }) small (omega arith) words words' m.words begun.changes h.shares.user) h.shares.held st.task at
+      (kernel_user p (record { stack = n; used = 0 }) small (omega arith) words words' m.words begun.changes h.shares.user) h.shares.held
+      (turn_legal image formed built.accepted m p lt h.legal (with_processor m p (raised_in x cause body), entry_of p (raised_event cause) next ∷ []) turns)
+      st.task at
       (begun.blocking ∙ sym (plain_no_nmi image b (ap is_over_task kind ∙ over_one cause)))
       (record { interrupts = refl; service = st.service; calls = refl }, tt)
       (λ class. ap (λ o. serves mode image class o || false) st.service)
@@ -328,7 +333,7 @@ module _ (mode : Mode) (image : Image) (formed : IsImage image) (built : IsBuilt
             ∙ ap (λ z. raising z (s.apics p) s.memory false cause) is_raiser ∙ begun.runs (s.apics p) false;
         machine = with_processor m p (raised_in x cause body);
         entries = entry_of p (raised_event cause) next ∷ [];
-        turns = u.turns ∙ ap (task_step image m p) raises ∙ raise_steps image m p cause body holder hb found st;
+        turns = turns;
         seen = u.seen;
         now_left = entry_edges + inner_edges (s.latches p);
         stands = after.1;

@@ -1,12 +1,12 @@
 use Rattle.std.proofs.Common.{◌∙◌, ap, replicate, subst}
 use Rattle.ev_body.specs.WellFormed.{IsImage}
-use Rattle.ev_refine.proofs.CodeFacts.{built_spelling}
+use Rattle.ev_fetch.proofs.Ruled.{accepted_spelling}
 use Rattle.ev_core.specs.Local.{start}
 use Rattle.ev_core.proofs.Opening.{open_shows, open_run, open_stands}
 use Rattle.ev_core.proofs.machine.Machine.open.Goals as goal
 
 pub build-requires : goal.build-requires
-build-requires c = built_spelling c.args.image.now c.requires.image
+build-requires c = accepted_spelling c.args.image.now (subst IsImage c.image.view_is c.image.invariant) c.requires.image.accepted
 
 pub invariant_of-result : goal.invariant_of-result
 invariant_of-result c =
