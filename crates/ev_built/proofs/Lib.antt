@@ -1,3 +1,1 @@
-pub mod Programs
-pub mod Walks
 pub mod Taken

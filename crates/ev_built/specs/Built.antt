@@ -1,23 +1,19 @@
 -- The images and script lines that the program can run today. Own.
-use Rattle.std.specs.Prelude.{◌≡◌, Bool, true, false, ◌&&◌, ◌==◌, List, [], ◌∷◌, is_some}
+use Rattle.std.specs.Prelude.{◌≡◌, Bool, true, false, ◌&&◌, ◌==◌, [], ◌∷◌}
 use Rattle.std.specs.List.{list_all}
-use Rattle.ev_isa.specs.declared.instruction.Ins.{Ins}
 use Rattle.ev_isa.specs.declared.mode.Mode.{Mode}
 use Rattle.ev_isa.specs.declared.mode.Mode.TheVariants.{Idt, Fred}
 use Rattle.ev_body.specs.declared.key.Key.{Key}
 use Rattle.ev_body.specs.declared.key.Key.TheVariants.{Nmi, Irq}
-use Rattle.ev_body.specs.declared.key.Side.TheVariants.{User}
 use Rattle.ev_body.specs.declared.item.Item.{Item}
 use Rattle.ev_body.specs.declared.item.Item.TheVariants.{Log, Ret}
 use Rattle.ev_body.specs.declared.body.Body.{Body}
 use Rattle.ev_body.specs.declared.image.TaskSpec.{TaskSpec}
 use Rattle.ev_body.specs.declared.image.Image.{Image}
-use Rattle.ev_body.specs.Bodies.{first_body}
 use Rattle.ev_body.specs.WellFormed.{is_user_side, has_no_parts}
 use Rattle.ev_abstract.specs.Accepted.{IsAccepted}
 use Rattle.ev_abstract.specs.declared.script_line.Line.{Line}
 use Rattle.ev_abstract.specs.declared.script_line.Line.TheVariants.{Turn}
-use Rattle.ev_built.specs.Program.{IsProgram}
 
 -- `log` and `ret`
 unfoldable pub is_built_item : Item → Bool
@@ -35,20 +31,14 @@ is_built_key _ = true
 abbrev pub is_built_body : Body → Bool
 is_built_body b = is_user_side b.side && (has_no_parts b.parts && list_all is_built_item b.items)
 
--- an accepted image of one processor with one task, and no page and no cell; user code that never leaves its instructions; bodies of the user side alone, with
--- one of system calls among them
+-- an accepted image of one processor with one task, whose user code is any, and with bodies of the user side alone
 pub record IsBuilt (image : Image) : Type 0 where
   pub accepted : IsAccepted image
   pub one_processor : image.processors ≡ 1
-  pub no_pages : image.pages ≡ []
-  pub no_cells : image.cells ≡ []
   pub task : TaskSpec
   pub one_task : image.tasks ≡ (task ∷ []) ∷ []
-  pub program : List Ins
-  pub is_program : IsProgram image.text task.start program
   pub bodies : list_all is_built_body image.bodies ≡ true
   pub keys : list_all (λ (b : Body). is_built_key b.key) image.bodies ≡ true
-  pub system_calls : is_some (first_body 0 image.bodies 0x100 User) ≡ true
 
 -- the modes in which machines run
 unfoldable pub mode_is_built : Mode → Bool

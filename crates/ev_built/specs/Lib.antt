@@ -1,4 +1,3 @@
-pub mod Program
 pub mod Built
 pub mod RunTakes
 pub mod Laws

@@ -5,7 +5,6 @@
 mod image;
 mod laws;
 mod line;
-mod text;
 
 pub use image::is_built;
 pub use laws::built_laws;

@@ -371,15 +371,15 @@ module _ (mode : Mode) (image : Image) where
       (as' : List Activation) (words : NatMap ℕ) → image.processors ≤ 8 → ((q : ℕ) → q < image.processors → length (tasks_of image q) ≤ 4)
       → Stands mode image left s m → p < image.processors → Moves p s s' cpu as' words → σ.stack < 7 → (names : List Named) → AreSparing p names
       → Changes p σ names s.memory.words words → ((b : ℕ) → IsUserWord b → words b ≡ m'.words b) → HoldsWords m'.words → Alike p m m' x
-      → Legal image m' → IsInDomain image p x → StandsOn mode image p now s' x
+      → Legal image m' → IsInDomain x → StandsOn mode image p now s' x
       → Stands mode image (put_at left p now) s' m'
   stands_after left s s' m m' p now x σ cpu as' words eight four h lt mv hs names sparing changes user held a legal domain on = record {
     regions_are = mv.regions ∙ h.regions_are;
     fixed = λ b f. ap (λ w. w b) mv.words_are ∙ fixed_stays p σ names s.memory.words words hp hs sparing.written changes b f ∙ h.fixed b f;
     shares = shares_after p s s' m m' x σ cpu as' words hp eight mv hs names sparing changes user held a h.shares;
     legal = legal;
-    domain = λ q lq. ⊎_elim (λ e. subst (λ r. IsInDomain image r (processor m' r)) (sym e.1) (subst (IsInDomain image p) (sym a.own) domain))
-        (λ e. subst (IsInDomain image q) (sym (a.others q e.0)) (h.domain q lq)) (eqb_tells q p);
+    domain = λ q lq. ⊎_elim (λ e. subst (λ r. IsInDomain (processor m' r)) (sym e.1) (subst IsInDomain (sym a.own) domain))
+        (λ e. subst IsInDomain (sym (a.others q e.0)) (h.domain q lq)) (eqb_tells q p);
     each = λ q lq. ⊎_elim
         (λ e. subst (λ r. StandsOn mode image r (put_at left p now r) s' (processor m' r)) (sym e.1)
         (subst (λ n. StandsOn mode image p n s' (processor m' p)) (sym (at_same left p p now refl)) (subst (StandsOn mode image p now s') (sym a.own) on)))

@@ -126,7 +126,7 @@ module _ (mode : Mode) (image : Image) (built : IsBuilt image) (good : IsImage i
   abbrev on : StandsOn mode image p (left p) s x
   on = step.on mode image built good facts left s m h p hp
 
-  abbrev domain : IsInDomain image p x
+  abbrev domain : IsInDomain x
   domain = step.domain mode image built good facts left s m h p hp
 
   abbrev small : p < 32

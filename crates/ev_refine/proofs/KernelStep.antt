@@ -81,7 +81,7 @@ module _ (mode : Mode) (image : Image) (built : IsBuilt image) (good : IsImage i
   pub on : StandsOn mode image p (left p) s x
   on = h.each p hp
 
-  pub domain : IsInDomain image p x
+  pub domain : IsInDomain x
   domain = h.domain p hp
 
   depth : bodies_on s p ≡ length x.bodies
@@ -242,8 +242,8 @@ module _ (mode : Mode) (image : Image) (built : IsBuilt image) (good : IsImage i
         (λ class. serving class ∙ sym (none class))
         (let f = few_inner mode image (s.latches p) in omega arith)
         chain in
-        let inside : IsInDomain image p y
-        = record { pending = domain.pending; nmi = domain.nmi; resched = domain.resched; bodies = quiet; tasks = domain.tasks } in
+        let inside : IsInDomain y
+        = record { pending = domain.pending; nmi = domain.nmi; resched = domain.resched; bodies = quiet } in
         let all : Stands mode image (put_at left p (now + inner_edges (s.latches p))) (after_ran s p cpu words) (with_processor m p y)
         = stands_after mode image left s (after_ran s p cpu words) m (with_processor m p y) p (now + inner_edges (s.latches p)) y seat cpu _ words
         good.count.1 (four_tasks image built) h hp (moves cpu words) (omega arith) (kernel_names p) (kernel_spares p small) changes

@@ -26,7 +26,6 @@ pub mod Instructions
 pub mod KernelStep
 pub mod KernelItems
 pub mod Kernel
-pub mod UserText
 pub mod UserState
 pub mod UserStep
 pub mod UserPlain

@@ -2,10 +2,10 @@
 use Rattle.std.proofs.Common.{◌≡◌, ℕ, suc, ◌+◌, ◌-◌, ◌*◌, ◌/◌, ◌%◌, ◌^◌, ◌<◌, ◌≤◌, ◌⊎◌, inl, inr, zero, Bool, true, false, ◌&&◌, ◌||◌, List, [], ◌∷◌, get_or, length, map, refl, sym, ap, ◌∙◌, subst, arith, ⊎_elim}
 use Rattle.std.specs.Prelude.{◌==◌, nat_lt, nat_le, if◌then◌else◌}
 use Rattle.std.specs.List.{list_all, list_any}
-use Rattle.std.proofs.lemmas.Bool.{eqb-true, ltb-true, eq-eqb, le-leb, lt-ltb, lt-leb, le-ltb}
+use Rattle.std.proofs.lemmas.Bool.{eqb-true, ltb-true, leb-true, eq-eqb, le-leb, lt-ltb, lt-leb, le-ltb}
 use Rattle.std.proofs.lemmas.Bool.Decides.{eqb_tells}
 use Rattle.std.proofs.Math.Nat.{zero-div}
-use Rattle.ev_isa.specs.Word.{numbers_from, is_aligned, members, values, bit}
+use Rattle.ev_isa.specs.Word.{numbers_from, is_aligned, is_canonical, members, values, bit}
 use Rattle.ev_isa.specs.declared.mode.Mode.{Mode}
 use Rattle.ev_isa.specs.declared.mode.Mode.TheVariants.{Idt, Fred}
 use Rattle.ev_body.specs.declared.image.Image.{Image}
@@ -18,7 +18,6 @@ use Rattle.ev_abstract.specs.Machine.{opening, processor, no_task, task_at_start
 use Rattle.ev_concrete.specs.ConcreteRun.{opening_system}
 use Rattle.ev_concrete.specs.Opening.{Placed, opening_word, word_there, pcpu_word, within, tasks_of, opening_cpu}
 use Rattle.ev_built.specs.Built.{IsBuilt}
-use Rattle.ev_built.specs.Program.{begins}
 use Rattle.ev_user.specs.Tasks.{IsTask, level_zero}
 use Rattle.ev_refine.specs.Tasks.{TssIs, CurrentIs}
 use Rattle.ev_refine.specs.Nmi.{Held, Plain}
@@ -30,7 +29,7 @@ use Rattle.ev_refine.specs.Domain.{IsInDomain}
 use Rattle.ev_refine.specs.Relation.{Shares, Stands, StandsOn, first_word}
 use Rattle.ev_law.proofs.Runs.{opening_is_legal}
 use Rattle.ev_refine.proofs.Domains.{one_task_each}
-use Rattle.ev_refine.proofs.UserText.{task_canonical}
+use Rattle.ev_user.proofs.Follows.{low_canonical}
 
 -- ---- words of the first processor's area, which has offsets o
 
@@ -198,10 +197,14 @@ are_words [] h r = omega arith
 are_words (x ∷ xs) h zero = ltb-true x (2 ^ 64) (and_left (is_word x) (list_all is_word xs) h)
 are_words (x ∷ xs) h (suc r) = are_words xs (and_right (is_word x) (list_all is_word xs) h) r
 
--- the registers of a task of the image
+-- what a task of the image is given
+record IsGiven (bytes : ℕ) (t : TaskSpec) : Type 0 where
+  place : is_text_place bytes t.start ≡ true
+  long : length t.regs ≡ 16
+  words : AreWords t.regs
+
 the_one : (ts : List (List TaskSpec)) (t : TaskSpec) (n : ℕ) → ts ≡ (t ∷ []) ∷ []
-    → list_all (λ (us : List TaskSpec). nat_lt 0 (length us) && nat_le (length us) 4 && list_all (is_task n) us) ts ≡ true → (length t.regs ≡ 16) × AreWords
-    t.regs
+    → list_all (λ (us : List TaskSpec). nat_lt 0 (length us) && nat_le (length us) 4 && list_all (is_task n) us) ts ≡ true → IsGiven n t
 the_one ts t n h k = found
     (subst (λ (us : List (List TaskSpec)). list_all (λ (us : List TaskSpec). nat_lt 0 (length us) && nat_le (length us) 4 && list_all (is_task n) us) us
     ≡ true) h k)
@@ -214,15 +217,16 @@ the_one ts t n h k = found
     right true b h = h
     right false b h = absurd (cc)
 
-    found : list_all (λ (us : List TaskSpec). nat_lt 0 (length us) && nat_le (length us) 4 && list_all (is_task n) us) ((t ∷ []) ∷ []) ≡ true
-        → (length t.regs ≡ 16) × AreWords t.regs
+    found : list_all (λ (us : List TaskSpec). nat_lt 0 (length us) && nat_le (length us) 4 && list_all (is_task n) us) ((t ∷ []) ∷ []) ≡ true → IsGiven n t
     found h =
         let a = left (list_all (is_task n) (t ∷ [])) true h in
         let b = left (is_task n t) true a in
-        let c = left (is_text_place n t.start && nat_lt t.gs (2 ^ 32) && (length t.regs == 16)) (list_all is_word t.regs) b in (
-          eqb-true (length t.regs) 16 (right (is_text_place n t.start && nat_lt t.gs (2 ^ 32)) (length t.regs == 16) c),
-          are_words t.regs (right (is_text_place n t.start && nat_lt t.gs (2 ^ 32) && (length t.regs == 16)) (list_all is_word t.regs) b),
-        )
+        let c = left (is_text_place n t.start && nat_lt t.gs (2 ^ 32) && (length t.regs == 16)) (list_all is_word t.regs) b in
+        let d = left (is_text_place n t.start && nat_lt t.gs (2 ^ 32)) (length t.regs == 16) c in record {
+          place = left (is_text_place n t.start) (nat_lt t.gs (2 ^ 32)) d;
+          long = eqb-true (length t.regs) 16 (right (is_text_place n t.start && nat_lt t.gs (2 ^ 32)) (length t.regs == 16) c);
+          words = are_words t.regs (right (is_text_place n t.start && nat_lt t.gs (2 ^ 32) && (length t.regs == 16)) (list_all is_word t.regs) b);
+        }
 
 level_first : (mode : Mode) (p : ℕ) → level_zero mode p 0 ≡ stack_top p 0
 level_first Idt p = refl
@@ -235,15 +239,20 @@ module _ (mode : Mode) (image : Image) (built : IsBuilt image) (given : IsImage 
   spec_is : get_or (get_or image.tasks 0 []) 0 no_task ≡ built.task
   spec_is = ap (λ ts. get_or (get_or ts 0 []) 0 no_task) built.one_task
 
-  regs_good : (length built.task.regs ≡ 16) × AreWords built.task.regs
-  regs_good = the_one image.tasks built.task (length image.text) built.one_task given.tasks_given.1
+  task_given : IsGiven (length image.text) built.task
+  task_given = the_one image.tasks built.task (length image.text) built.one_task given.tasks_given.1
+
+  -- in the text or at its end
+  start_canonical : is_canonical built.task.start ≡ true
+  start_canonical =
+      let high = leb-true built.task.start (0x400000 + length image.text) (and_right (nat_le 0x400000 built.task.start) _ task_given.place) in
+      low_canonical built.task.start (omega (arith, given.text_fits))
 
   task_good : IsTask (task_at_start (get_or (get_or image.tasks 0 []) 0 no_task))
   task_good = record {
-    long = ap (λ (t : TaskSpec). length t.regs) spec_is ∙ regs_good.0;
-    words = subst (λ (t : TaskSpec). AreWords t.regs) (sym spec_is) regs_good.1;
-    canonical = task_canonical image given built.task.start built.program built.is_program _
-        (subst (λ (t : TaskSpec). begins built.program t.start ≡ true) (sym spec_is) built.is_program.starts);
+    long = ap (λ (t : TaskSpec). length t.regs) spec_is ∙ task_given.long;
+    words = subst (λ (t : TaskSpec). AreWords t.regs) (sym spec_is) task_given.words;
+    canonical = subst (λ (t : TaskSpec). is_canonical t.start ≡ true) (sym spec_is) start_canonical;
     interrupts = refl;
   }
 
@@ -325,16 +334,13 @@ module _ (mode : Mode) (image : Image) (built : IsBuilt image) (given : IsImage 
     queues = λ p lt. subst (λ q. first_word mode image (pcpu q + 0x30) ≡ 0) (only p lt) (word 0x30 (omega arith) refl ∙ pcpu_zero 0x30 (inr (inl refl)));
   }
 
-  domain : IsInDomain image 0 (processor (opening image) 0)
+  domain : IsInDomain (processor (opening image) 0)
   unfolding opening
   domain = record {
     pending = refl;
     nmi = refl;
     resched = refl;
     bodies = tt;
-    tasks = λ i lt program is.
-        let count : length (tasks_of image 0) ≡ 1 = one_task_each image built 0 (let o = one in omega arith) in
-        subst (λ k. begins program (get_or (get_or image.tasks 0 []) k no_task).start ≡ true) (let e : 0 ≡ i = omega arith in e) is.starts;
   }
 
   pub opens : Stands mode image (λ p. 0) (opening_system mode image) (opening image)
@@ -344,6 +350,6 @@ module _ (mode : Mode) (image : Image) (built : IsBuilt image) (given : IsImage 
     fixed = λ a f. refl;
     shares = shares;
     legal = opening_is_legal image;
-    domain = λ p lt. subst (λ q. IsInDomain image q (processor (opening image) q)) (only p lt) domain;
+    domain = λ p lt. subst (λ q. IsInDomain (processor (opening image) q)) (only p lt) domain;
     each = λ p lt. subst (λ q. StandsOn mode image q 0 (opening_system mode image) (processor (opening image) q)) (only p lt) first_processor;
   }

@@ -27,7 +27,7 @@ use Rattle.ev_concrete.specs.Shown.{is_refused, told_rip, told_event, saved_rip}
 use Rattle.ev_symbolic.specs.Agrees.{with_words}
 use Rattle.ev_activation.specs.Seat.{Kind, Seat, kind_from}
 use Rattle.ev_user.specs.Tasks.{level_zero, task_processor}
-use Rattle.ev_user.specs.Causes.{Fault, Undefined, Protection, Page, Cause, Faulted, Debug, Breakpoint, Three, Refused, Call, IsCause, raised_event, raising}
+use Rattle.ev_user.specs.Causes.{Fault, Undefined, Protection, Page, Cause, Faulted, Debug, Breakpoint, Three, Refused, Call, IsCause, own_event, raised_event, raising}
 use Rattle.ev_refine.specs.Active.{address_of_item, item_place, Active}
 use Rattle.ev_refine.specs.Nmi.{Frame}
 use Rattle.ev_refine.specs.Tasks.{TssIs}
@@ -129,7 +129,7 @@ module _ (mode : Mode) (image : Image) (p n : ℕ) (t : Task) (cr2 : ℕ) (cause
     pub facts : Facts mode image
     pub is_cause : IsCause cause
     pub long : length t.regs ≡ 16
-    pub rip_small : t.rip + 2 < 2 ^ 64
+    pub rip_small : (own_event cause).length ≡ 2 → t.rip + 2 < 2 ^ 64
     pub regions_are : m.regions ≡ regions image
     pub fixed : HasFixed mode image m
     pub found : first_body 0 image.bodies (cause_key cause) User ≡ Some body

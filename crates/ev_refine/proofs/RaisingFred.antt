@@ -89,7 +89,7 @@ module _ (image : Image) (p n : ℕ) (t : Task) (cr2 body : ℕ) where
     told : told_event (is_refused true (own_event cause)) (own_event cause) ≡ raised_event cause
     saved : told_rip (is_refused true (own_event cause)) (t.rip + (own_event cause).length) ≡ saved_at t cause
 
-  comes : (cause : Cause) → IsCause cause → t.rip + 2 < 2 ^ 64 → Comes cause
+  comes : (cause : Cause) → IsCause cause → ((own_event cause).length ≡ 2 → t.rip + 2 < 2 ^ 64) → Comes cause
   comes (Faulted Undefined) h l = record { rest = refl; single = refl; blocking = refl; told = refl; saved = refl }
   comes (Faulted Fault.Stack) h l = record { rest = refl; single = refl; blocking = refl; told = refl; saved = refl }
   comes (Faulted Protection) h l = record { rest = refl; single = refl; blocking = refl; told = refl; saved = refl }
@@ -101,6 +101,7 @@ module _ (image : Image) (p n : ℕ) (t : Task) (cr2 body : ℕ) where
   comes Call h l = record { rest = refl; single = refl; blocking = refl; told = refl; saved = refl }
   comes (Refused k) h l =
       let other : (k == 3) ≡ false = ne_eqb k 3 h.1 in
+      let short = l refl in
       let e : Event = own_event (Refused k) in record {
         rest = refl;
         single = refl;
@@ -113,7 +114,8 @@ module _ (image : Image) (p n : ℕ) (t : Task) (cr2 body : ℕ) where
   error_is : (v k : ℕ) → v ≡ k → k < 2 ^ 8 → ((v * 2 ^ 3) % 2 ^ 64 + 2) % 2 ^ 64 ≡ 8 * k + 2
   error_is v k h l = omega arith
 
-  finds : (cause : Cause) → IsCause cause → length t.regs ≡ 16 → t.rip + 2 < 2 ^ 64 → Finds Fred p n t body cause (behind cause (way_of (own_event cause)))
+  finds : (cause : Cause) → IsCause cause → length t.regs ≡ 16 → ((own_event cause).length ≡ 2 → t.rip + 2 < 2 ^ 64)
+      → Finds Fred p n t body cause (behind cause (way_of (own_event cause)))
   unfolding eval ss_word type_number
   finds (Faulted Undefined) h l s = record {
     place = refl;
@@ -241,6 +243,7 @@ module _ (image : Image) (p n : ℕ) (t : Task) (cr2 body : ℕ) where
     locals = refl;
   }
   finds (Refused k) h l s =
+      let short = s refl in
       let by_n : way_of (own_event (Refused k)) ≡ ByIntN = ap (λ b. if b then ByInt3 else ByIntN) (ne_eqb k 3 h.1) in
       let tells : FrameTells (from image p n t cr2 (Refused k) body) (own_event (Refused k)) (env image p n t cr2 (Refused k) body)
       = frames_tell (from image p n t cr2 (Refused k) body) (own_event (Refused k)) (env image p n t cr2 (Refused k) body) refl (omega arith) (omega arith)

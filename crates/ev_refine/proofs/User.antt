@@ -1,17 +1,12 @@
--- The turns of the task: a plain instruction, or a system call, which begins an activation.
-use Rattle.std.proofs.Common.{◌≡◌, ℕ, suc, ◌+◌, ◌^◌, ◌<◌, Bool, true, false, List, [], ◌∷◌, set, length, Option, Some, None, refl, sym, ap, ◌∙◌, subst, arith, inr, ⊎_elim}
+-- The turns of the task: its user code goes on, or raises an event, which begins an activation.
+use Rattle.std.proofs.Common.{◌≡◌, ℕ, suc, ◌+◌, ◌^◌, ◌<◌, Bool, true, false, List, [], ◌∷◌, set, length, Option, Some, None, refl, sym, ap, ◌∙◌, subst, arith, inr}
 use Rattle.std.specs.Prelude.{◌||◌, if◌then◌else◌, slice_get, is_some}
 use Rattle.std.proofs.lemmas.List.{length-set}
 use Rattle.ev_isa.specs.Word.{NatMap, is_canonical}
 use Rattle.ev_isa.specs.Flags.{flags_word}
-use Rattle.ev_isa.specs.Spelling.{spelling}
-use Rattle.ev_isa.specs.declared.instruction.Ins.TheVariants.{Syscall}
 use Rattle.ev_isa.specs.declared.mode.Mode.{Mode}
 use Rattle.ev_isa.specs.declared.mode.Mode.TheVariants.{Idt, Fred}
-use Rattle.ev_isa.specs.Pages.{UserMemory}
 use Rattle.ev_event.specs.declared.event.Event.{Event}
-use Rattle.ev_event.specs.declared.event.EventType.{EventType}
-use Rattle.ev_event.specs.declared.event.EventType.TheVariants.{Hardware, SoftInt, Other}
 use Rattle.ev_body.specs.declared.key.Side.TheVariants.{User}
 use Rattle.ev_body.specs.declared.body.Body.{Body}
 use Rattle.ev_body.specs.declared.image.Image.{Image}
@@ -29,24 +24,22 @@ use Rattle.ev_abstract.specs.declared.entry.Entry.TheVariants.{Enter}
 use Rattle.ev_abstract.specs.Machine.{Machine, processor, with_processor, task, with_task, user_memory}
 use Rattle.ev_abstract.specs.Machine as abstract
 use Rattle.ev_abstract.specs.Delivery.{event_key, service_of, body_at_start, delivered, entered}
-use Rattle.ev_abstract.specs.UserCode.{Raises, user_step, user_view}
-use Rattle.ev_abstract.specs.UserCode as user
+use Rattle.ev_abstract.specs.UserCode.{UserStep, Goes, Raises, user_step}
 use Rattle.ev_abstract.specs.Run.{turn, task_step}
 use Rattle.ev_concrete.specs.ConcreteRun.{System, Activation, acted, after_step, activations_by, interrupted, starts_inner}
 use Rattle.ev_concrete.specs.Depth.{bodies_on}
+use Rattle.ev_law.proofs.Required.{user_events_have_bodies}
 use Rattle.ev_built.specs.Built.{IsBuilt}
-use Rattle.ev_built.specs.Program.{leads_to}
 use Rattle.ev_symbolic.specs.Agrees.{with_words}
 use Rattle.ev_concrete.specs.Shown.{shown_by, shown_event, told_event, told_rip, is_refused, saved_rip, key_of}
 use Rattle.ev_activation.specs.Seat.{Kind, kind_from, key_by, kind_of, seat_by, seat_of, room_of}
 use Rattle.ev_user.specs.Tasks.{IsTask, task_processor, RunsTask}
-use Rattle.ev_user.specs.Causes.{Fault, Undefined, Stack, Protection, Page, Alignment, Cause, Faulted, Debug, Breakpoint, Three, Refused, Call, IsCause, own_event, raised_event, raising}
+use Rattle.ev_user.specs.Causes.{Fault, Undefined, Protection, Page, Cause, Faulted, Debug, Breakpoint, Three, Refused, Call, IsCause, own_event, raised_event, raising}
 use Rattle.ev_user.specs.Claims.{Raised}
 use Rattle.ev_user.proofs.Follows.{user_raises}
 use Rattle.ev_user.proofs.Words.{set_words}
 use Rattle.ev_refine.specs.Tasks.{CurrentIs}
 use Rattle.ev_refine.specs.Nmi.{Leads, inner_edges}
-use Rattle.ev_refine.specs.Domain.{IsInProgram}
 use Rattle.ev_refine.specs.Active.{Active}
 use Rattle.ev_refine.specs.Relation.{IsContext, serves, Beneath, keeps_cr2, chained, switches_at, most_edges, Chain, Stands}
 use Rattle.ev_refine.specs.Claims.{Simulated}
@@ -58,9 +51,8 @@ use Rattle.ev_refine.proofs.Standing.{Moves, step_moves, delivery_moves}
 use Rattle.ev_refine.proofs.After.{kernel_names, kernel_spares, kernel_user}
 use Rattle.ev_refine.proofs.Depth.{stands_depth}
 use Rattle.ev_refine.proofs.UserState.{put_same, TurnsTo, makes_turn, is_safe, tells_bodies}
-use Rattle.ev_refine.proofs.UserPlain.{AtUser, at_user, user_after, plain_turn}
+use Rattle.ev_refine.proofs.UserPlain.{AtUser, at_user, user_after, goes_turn}
 use Rattle.ev_refine.proofs.Raising.{cause_key, kind_at, saved_at, over_one, entry_edges, returning, arrival, raiser, over, context, Ready, Begins}
-use Rattle.ev_refine.proofs.UserStep.{Makes, makes}
 use Rattle.ev_refine.proofs.UserBody.{key_from, HasBody, has_body}
 use Rattle.ev_refine.proofs.UserSafe.{OnlyTask}
 use Rattle.ev_refine.proofs.RaisingFred as fred
@@ -203,29 +195,6 @@ shown_is p depth user fred told c words event frame e next hu hd he hs =
     ap (λ u. shown_event p (suc depth) u is rip ∷ []) hu ∙ ap (λ d. shown_event p (suc d) true is rip ∷ []) hd
     ∙ ap (λ x. shown_event p 1 true x rip ∷ []) he ∙ ap (λ n. shown_event p 1 true e n ∷ []) hs
 
--- ---- what SYSCALL raises, and what the processor's step delivers
-
-call_bytes : length (spelling Syscall) ≡ 2
-unfolding spelling
-call_bytes = refl
-
-call_raises : (t : Task) (next : ℕ) (u : UserMemory) → user.executed (user_view u) t next Syscall ≡ Raises next call_event
-unfolding user.executed
-call_raises t next u = refl
-
--- nothing else raises its event
-is_call : (cause : Cause) → call_event ≡ raised_event cause → cause ≡ Call
-is_call Call h = refl
-is_call (Faulted Undefined) h = let clash : Other ≡ Hardware = ap (λ (e : Event). e.kind) h in absurd (cc)
-is_call (Faulted Stack) h = let clash : Other ≡ Hardware = ap (λ (e : Event). e.kind) h in absurd (cc)
-is_call (Faulted Protection) h = let clash : Other ≡ Hardware = ap (λ (e : Event). e.kind) h in absurd (cc)
-is_call (Faulted (Page code address)) h = let clash : Other ≡ Hardware = ap (λ (e : Event). e.kind) h in absurd (cc)
-is_call (Faulted Alignment) h = let clash : Other ≡ Hardware = ap (λ (e : Event). e.kind) h in absurd (cc)
-is_call Debug h = let clash : Other ≡ EventType.Int1 = ap (λ (e : Event). e.kind) h in absurd (cc)
-is_call Breakpoint h = let clash : Other ≡ EventType.Int3 = ap (λ (e : Event). e.kind) h in absurd (cc)
-is_call Three h = let clash : Other ≡ SoftInt = ap (λ (e : Event). e.kind) h in absurd (cc)
-is_call (Refused n) h = let clash : Other ≡ Hardware = ap (λ (e : Event). e.kind) h in absurd (cc)
-
 -- ---- what the delivery comes to, by the mode
 
 -- a system call under IDT writes no frame
@@ -246,8 +215,8 @@ module _ (mode : Mode) (image : Image) (formed : IsImage image) (built : IsBuilt
       → user_step (user_memory image m) (task (processor m p)) ≡ Raises (saved_at (task (processor m p)) cause) (raised_event cause)
       → step (s.cpus p) (s.apics p) s.memory (s.latches p) ≡ raising (s.cpus p) (s.apics p) s.memory (s.latches p) cause
       → (body : ℕ) → first_body 0 image.bodies (cause_key cause) User ≡ Some body → is_canonical (saved_at (task (processor m p)) cause) ≡ true
-      → (task (processor m p)).rip + 2 < 2 ^ 64 → IsInProgram image (saved_at (task (processor m p)) cause) → TurnsTo mode image left s m p
-  raise_turn left s m h p lt hb u cause is_cause raises steps body found next_good next_small inside =
+      → ((own_event cause).length ≡ 2 → (task (processor m p)).rip + 2 < 2 ^ 64) → TurnsTo mode image left s m p
+  raise_turn left s m h p lt hb u cause is_cause raises steps body found next_good next_small =
       let x : abstract.Processor = processor m p in
       let c : Processor = s.cpus p in
       let t : Task = task x in
@@ -293,7 +262,6 @@ module _ (mode : Mode) (image : Image) (formed : IsImage image) (built : IsBuilt
       = (λ i. record { rsp = 0; rip = 0; inner = starts_inner_not i } ∷ nothing_under c (s.activations p) u.rest.none i) in
       let mv : Moves p s s' d as' words' = delivery_moves image.processors p s (after_step s p r) d as' words' begun.event begun.frame
       (step_moves s p r refl (sym u.latch)) in
-      let at : IsInProgram image back.rip = subst (IsInProgram image) (sym st.rip) inside in
       let mem : Memory = with_words s.memory words' in
       let under : RunsTask mode image p n back w = record { is = refl; task = st.task } in
       let stood : Active mode image p entry_edges κ (record { stack = n; used = 0 }) u.on.frame u.on.switching w b d mem
@@ -314,7 +282,7 @@ module _ (mode : Mode) (image : Image) (formed : IsImage image) (built : IsBuilt
       (kernel_spares p small) begun.changes m.words
       (kernel_user p (record { stack = n; used = 0 }) small (omega arith) words words' m.words begun.changes h.shares.user) h.shares.held
       (turn_legal image formed built.accepted m p lt h.legal (with_processor m p (raised_in x cause body), entry_of p (raised_event cause) next ∷ []) turns)
-      st.task at
+      st.task
       (begun.blocking ∙ sym (plain_no_nmi image b (ap is_over_task kind ∙ over_one cause)))
       (record { interrupts = refl; service = st.service; calls = refl }, tt)
       (λ class. ap (λ o. serves mode image class o || false) st.service)
@@ -350,34 +318,34 @@ module _ (mode : Mode) (image : Image) (formed : IsImage image) (built : IsBuilt
       starts_inner_not : starts_inner s p (next_of (s.cpus p) (s.apics p) (s.latches p)) ≡ false
       starts_inner_not = ap (starts_inner s p) u.next
 
-  -- a system call
-  call_turn : (left : NatMap ℕ) (s : System) (m : Machine) → Stands mode image left s m → (p : ℕ) → p < image.processors → (processor m p).bodies ≡ []
-      → (u : AtUser mode image formed built facts left s m p) → u.ins ≡ Syscall → TurnsTo mode image left s m p
-  call_turn left s m h p lt hb u hi =
+  -- whatever the task raises has one
+  pub raised_turn : (left : NatMap ℕ) (s : System) (m : Machine) → Stands mode image left s m → (p : ℕ) → p < image.processors → (processor m p).bodies ≡ []
+      → (u : AtUser mode image formed built facts left s m p) (saved : ℕ) (e : Event) → user_step (user_memory image m) (task (processor m p)) ≡ Raises saved e
+      → TurnsTo mode image left s m p
+  raised_turn left s m h p lt hb u saved e raises =
       let t : Task = task (processor m p) in
-      let next : ℕ = t.rip + 2 in
-      let found = the_some (first_body 0 image.bodies 0x100 User) built.system_calls in
-      let raises : user_step (user_memory image m) t ≡ Raises next call_event
-      = u.reads ∙ ap (λ i. user.executed (user_view (user_memory image m)) t (t.rip + length (spelling i)) i) hi
-      ∙ ap (λ k. user.executed (user_view (user_memory image m)) t (t.rip + k) Syscall) call_bytes ∙ call_raises t next (user_memory image m) in
-      let raised : Raised t (s.cpus p) (s.apics p) s.memory (s.latches p) next call_event (step (s.cpus p) (s.apics p) s.memory (s.latches p))
-      = user_raises mode image p (processor m p).running t (user_memory image m) (s.cpus p) (s.apics p) s.memory (s.latches p) u.site next call_event
-      raises in
-      let leads : leads_to t.rip u.ins ≡ next = ap (leads_to t.rip) hi ∙ ap (λ k. t.rip + k) call_bytes in
-      let next_good : is_canonical next ≡ true = ap is_canonical (sym leads) ∙ u.canonical in
-      raise_turn left s m h p lt hb u Call tt raises
-      (raised.step_is ∙ ap (raising (s.cpus p) (s.apics p) s.memory (s.latches p)) (is_call raised.cause raised.event)) found.0 found.1 next_good
-      (word_of_canonical next next_good) (subst (IsInProgram image) leads u.leads)
+      let c : Processor = s.cpus p in
+      let r : Raised t c (s.apics p) s.memory (s.latches p) saved e (step c (s.apics p) s.memory (s.latches p))
+      = user_raises mode image p (processor m p).running t (user_memory image m) c (s.apics p) s.memory (s.latches p) u.site saved e raises in
+      let has : is_some (first_body 0 image.bodies (event_key e.kind e.vector) User) ≡ true
+      = user_events_have_bodies image (user_memory image m) t saved e formed built.accepted raises in
+      let found = the_some (first_body 0 image.bodies (cause_key r.cause) User)
+      (subst (λ (z : Event). is_some (first_body 0 image.bodies (event_key z.kind z.vector) User) ≡ true) r.event has) in
+      raise_turn left s m h p lt hb u r.cause r.is (raises ∙ ap (λ n. Raises n e) r.saved_is ∙ ap (Raises (saved_at t r.cause)) r.event) r.step_is found.0
+      found.1 (subst (λ n. is_canonical n ≡ true) r.saved_is r.canonical) r.behind
+
+  task_turn : (left : NatMap ℕ) (s : System) (m : Machine) → Stands mode image left s m → (p : ℕ) → p < image.processors → (processor m p).bodies ≡ []
+      → AtUser mode image formed built facts left s m p → (x : UserStep) → user_step (user_memory image m) (task (processor m p)) ≡ x
+      → TurnsTo mode image left s m p
+  task_turn left s m h p lt hb u (Goes t memory) goes = goes_turn mode image formed built facts left s m h p lt hb u t memory goes
+  task_turn left s m h p lt hb u (Raises saved e) raises = raised_turn left s m h p lt hb u saved e raises
 
   -- a turn of the task is visible, and the abstract machine makes the same; it writes over no live word
   pub user_turn : (left : NatMap ℕ) (s : System) (m : Machine) → Stands mode image left s m → (p : ℕ) → p < image.processors → (processor m p).bodies ≡ []
       → Simulated mode image left s m p
   user_turn left s m h p lt hb =
       let u : AtUser mode image formed built facts left s m p = at_user mode image formed built facts left s m h p lt hb in
-      let t : TurnsTo mode image left s m p
-      = ⊎_elim (λ (hi : u.ins ≡ Syscall). call_turn left s m h p lt hb u hi)
-      (λ (k : Makes (task (processor m p)) u.ins). plain_turn mode image formed built facts left s m h p lt hb u k)
-      (makes (task (processor m p)) u.ins u.is_built u.canonical) in record {
+      let t : TurnsTo mode image left s m p = task_turn left s m h p lt hb u (user_step (user_memory image m) (task (processor m p))) refl in record {
         safe = is_safe mode image left s m p t;
         counts = tells_bodies mode image left s m p t;
         how = inr (makes_turn mode image left s m p t);

@@ -1,11 +1,9 @@
--- A turn of the task: what both machines make of it, and the turns that raise no event.
+-- A turn of the task: what both machines find, the relation behind it, and the turns that raise no event.
 use Rattle.std.proofs.Common.{◌≡◌, ℕ, suc, ◌+◌, ◌-◌, ◌<◌, ◌≤◌, Bool, true, false, ◌&&◌, not, List, [], length, Option, Some, None, refl, inl, inr, ⊎_elim, sym, ap, ◌∙◌, subst, arith}
 use Rattle.std.specs.List.{list_any}
 use Rattle.std.proofs.lemmas.Bool.Decides.{eqb_tells}
 use Rattle.std.specs.Prelude.{◌||◌, if◌then◌else◌, nat_le, nat_lt}
-use Rattle.ev_isa.specs.Word.{NatMap, put_at, is_canonical}
-use Rattle.ev_isa.specs.Spelling.{spelling}
-use Rattle.ev_isa.specs.declared.instruction.Ins.{Ins}
+use Rattle.ev_isa.specs.Word.{NatMap, put_at}
 use Rattle.ev_isa.specs.declared.mode.Mode.{Mode}
 use Rattle.ev_body.specs.declared.image.Image.{Image}
 use Rattle.ev_body.specs.WellFormed.{IsImage}
@@ -20,13 +18,11 @@ use Rattle.ev_law.specs.Legal.{Legal}
 use Rattle.ev_abstract.specs.Boundary.{is_nmi_body}
 use Rattle.ev_abstract.specs.Context.{BodyContext}
 use Rattle.ev_symbolic.specs.Agrees.{with_words}
-use Rattle.ev_abstract.specs.UserCode.{Goes, user_step, user_view, step_of}
-use Rattle.ev_abstract.specs.UserCode as user
+use Rattle.ev_abstract.specs.UserCode.{Goes, user_step}
 use Rattle.ev_abstract.specs.Run.{turn, task_step}
 use Rattle.ev_concrete.specs.Opening.{tasks_of}
 use Rattle.ev_concrete.specs.ConcreteRun.{System, marks_of, mark_at, is_visible, is_visible_by, is_seen, after_step, activations_by, is_return, is_repeated, without_last, Activation}
 use Rattle.ev_built.specs.Built.{IsBuilt}
-use Rattle.ev_built.specs.Program.{begins, leads_to, is_built_instruction, IsProgram}
 use Rattle.ev_concrete.specs.Depth.{is_in_repeat, bodies_on, is_jump}
 use Rattle.ev_listing.specs.AddressMap.{nmi_entry, repeat_entry}
 use Rattle.ev_user.specs.Tasks.{IsTask, task_processor, RunsTask}
@@ -38,7 +34,7 @@ use Rattle.ev_user.specs.Claims.{Site, GoesOn}
 use Rattle.ev_user.proofs.Follows.{user_goes_on}
 use Rattle.ev_symbolic.proofs.Words.{put_other}
 use Rattle.ev_activation.specs.Seat.{Seat}
-use Rattle.ev_refine.specs.Domain.{first_start, IsInProgram, AreQuiet, IsInDomain}
+use Rattle.ev_refine.specs.Domain.{AreQuiet, IsInDomain}
 use Rattle.ev_refine.specs.Relation.{Chain, serves, StandsOn, Stands}
 use Rattle.ev_refine.proofs.Maps.{at_same, at_other}
 use Rattle.ev_refine.proofs.Standing.{instruction_first, Moves, step_moves}
@@ -48,16 +44,15 @@ use Rattle.ev_refine.proofs.Legality.{turn_legal}
 use Rattle.ev_refine.proofs.Depth.{stands_depth}
 use Rattle.ev_refine.proofs.Tells.{AtRest, at_rest}
 use Rattle.ev_refine.proofs.Facts.{Facts}
-use Rattle.ev_refine.proofs.UserText.{Reads, reads, task_canonical, first_program, leads_again}
 use Rattle.ev_refine.proofs.UserState.{TurnsTo}
-use Rattle.ev_refine.proofs.UserStep.{task_turns, user_reads, Makes}
+use Rattle.ev_refine.proofs.UserStep.{task_turns}
 
 module _ (mode : Mode) (image : Image) (formed : IsImage image) (built : IsBuilt image) (facts : Facts mode image) where
-  -- the task that runs, what it sees of memory, and its instruction, on both sides
+  -- the task that runs, and what it sees of memory, on both sides
   pub record AtUser (left : NatMap ℕ) (s : System) (m : Machine) (p : ℕ) : Type 0 where
     pub on : StandsOn mode image p (left p) s (processor m p)
     pub rest : AtRest mode image p (left p) s (processor m p) on
-    pub domain : IsInDomain image p (processor m p)
+    pub domain : IsInDomain (processor m p)
     pub latch : s.latches p ≡ false
     pub open_to : (s.cpus p).nmi_blocked ≡ false
     pub at_cpl3 : is_user (s.cpus p) ≡ true
@@ -65,28 +60,18 @@ module _ (mode : Mode) (image : Image) (formed : IsImage image) (built : IsBuilt
     pub site : Site mode image p (processor m p).running (task (processor m p)) (user_memory image m) (s.cpus p) (s.apics p) s.memory (s.latches p)
     pub turns : turn image m p ≡ task_step image m p (user_step (user_memory image m) (task (processor m p)))
     pub seen : is_visible (marks_of mode image) s p ≡ true
-    pub ins : Ins
-    pub is_built : is_built_instruction ins ≡ true
-    pub leads : IsInProgram image (leads_to (task (processor m p)).rip ins)
-    pub canonical : is_canonical (leads_to (task (processor m p)).rip ins) ≡ true
-    pub reads : user_step (user_memory image m) (task (processor m p))
-        ≡ user.executed (user_view (user_memory image m)) (task (processor m p)) ((task (processor m p)).rip + length (spelling ins)) ins
 
   pub at_user : (left : NatMap ℕ) (s : System) (m : Machine) → Stands mode image left s m → (p : ℕ) → p < image.processors → (processor m p).bodies ≡ []
       → AtUser left s m p
   unfolding is_visible
   at_user left s m h p lt hb =
       let x : abstract.Processor = processor m p in
-      let t : Task = task x in
       let c : Processor = s.cpus p in
       let on : StandsOn mode image p (left p) s x = h.each p lt in
-      let domain : IsInDomain image p x = h.domain p lt in
+      let domain : IsInDomain x = h.domain p lt in
       let rest : AtRest mode image p (left p) s x on = at_rest mode image p (left p) s x on hb in
       let latches = latch_parts on.layer on.frame _ (s.latches p) c.nmi_blocked x.nmi on.latch in
       let latch : s.latches p ≡ false = sym latches.0 ∙ domain.nmi in
-      let is_program : IsProgram image.text (first_start image) built.program = first_program image built in
-      let reads_it : Reads built.program image.text t.rip =
-      reads image.text (first_start image) built.program is_program t.rip (domain.tasks x.running on.running built.program is_program) in
       let is_it : is_user c ≡ true = ap is_user rest.task.is in
       let next : next_of c (s.apics p) (s.latches p) ≡ Instruction
       = instruction_first c (s.apics p) (s.latches p) latch (λ v l. on.pending v l ∙ ap (λ q. q v) domain.pending) in
@@ -113,11 +98,6 @@ module _ (mode : Mode) (image : Image) (formed : IsImage image) (built : IsBuilt
         };
         turns = task_turns image m p domain.nmi domain.pending hb;
         seen = ap (is_visible_by (marks_of mode image) s p c) next ∙ ap (λ b. b || is_seen (mark_at (marks_of mode image) c.rip) s c) is_it;
-        ins = reads_it.ins;
-        is_built = reads_it.built;
-        leads = λ program k. leads_again image t.rip reads_it.ins program k reads_it.is (domain.tasks x.running on.running program k);
-        canonical = task_canonical image formed (first_start image) built.program is_program (leads_to t.rip reads_it.ins) reads_it.leads;
-        reads = user_reads (user_memory image m) t reads_it.ins reads_it.from (omega (arith, reads_it.to, formed.text_fits)) reads_it.is;
       }
 
   -- ---- the relation after a step of the task
@@ -130,13 +110,13 @@ module _ (mode : Mode) (image : Image) (formed : IsImage image) (built : IsBuilt
       → Changes p (record { stack = (processor m p).running; used = 0 }) names s.memory.words words
       → (memory : NatMap ℕ) → ((a : ℕ) → IsUserWord a → words a ≡ memory a) → HoldsWords memory
       → Legal image (with_processor (record m { words = memory }) p (record (with_task (processor m p) t) { bodies = bs }))
-      → IsTask t → IsInProgram image t.rip → cpu.nmi_blocked ≡ list_any (is_nmi_body image) bs → AreQuiet bs
+      → IsTask t → cpu.nmi_blocked ≡ list_any (is_nmi_body image) bs → AreQuiet bs
       → ((class : ℕ) → list_any (λ (b : BodyContext). serves mode image class b.service) bs ≡ false) → own ≤ 500
       → ((r : ℕ) → r ≡ (processor m p).running → Chain mode image p own r t u.on.frame u.on.switching bs as' cpu (with_words s.memory words))
       → (StandsOn mode image p (own + inner_edges (s.latches p)) s' (record (with_task (processor m p) t) { bodies = bs }))
       × Stands mode image (put_at left p (own + inner_edges (s.latches p))) s'
       (with_processor (record m { words = memory }) p (record (with_task (processor m p) t) { bodies = bs }))
-  user_after left s s' m p lt h u cpu as' words t bs own hb mv names sparing changes memory user held legal good at blocked quiet serving few chain =
+  user_after left s s' m p lt h u cpu as' words t bs own hb mv names sparing changes memory user held legal good blocked quiet serving few chain =
       let x : abstract.Processor = processor m p in
       let y : abstract.Processor = record (with_task x t) { bodies = bs } in
       let small : p < 32 = omega (arith, built.one_processor) in
@@ -150,12 +130,11 @@ module _ (mode : Mode) (image : Image) (formed : IsImage image) (built : IsBuilt
       (let f = few_inner mode image (s.latches p) in omega arith)
       (subst (λ k. Chain mode image p own u.on.returning k u.on.frame u.on.switching bs as' cpu (with_words s.memory words))
       (sym (at_same x.tasks x.running u.on.returning t u.rest.returning)) (chain u.on.returning u.rest.returning)) in
-      let inside : IsInDomain image p y = record {
+      let inside : IsInDomain y = record {
         pending = u.domain.pending;
         nmi = u.domain.nmi;
         resched = u.domain.resched;
         bodies = quiet;
-        tasks = programs;
       } in (
         there,
         stands_after mode image left s s' m (with_processor (record m { words = memory }) p y) p (own + inner_edges (s.latches p)) y
@@ -180,12 +159,6 @@ module _ (mode : Mode) (image : Image) (formed : IsImage image) (built : IsBuilt
       tasks : (i : ℕ) → i < length (tasks_of image p) → IsTask (put_at (processor m p).tasks (processor m p).running t i)
       tasks i l = ⊎_elim (λ e. subst IsTask (sym (at_same (processor m p).tasks (processor m p).running i t e.1)) good)
           (λ e. subst IsTask (sym (at_other (processor m p).tasks (processor m p).running i t e.0)) (u.on.tasks i l)) (eqb_tells i (processor m p).running)
-
-      programs : (i : ℕ) → i < length (tasks_of image p) → IsInProgram image (put_at (processor m p).tasks (processor m p).running t i).rip
-      programs i l = ⊎_elim
-          (λ e. subst (λ (z : Task). IsInProgram image z.rip) (sym (at_same (processor m p).tasks (processor m p).running i t e.1)) at)
-          (λ e. subst (λ (z : Task). IsInProgram image z.rip) (sym (at_other (processor m p).tasks (processor m p).running i t e.0)) (u.domain.tasks i l))
-          (eqb_tells i (processor m p).running)
 
   -- a step of user code leaves the activations
   same_activations : (s : System) (p : ℕ) (as' : List Activation) (d : Processor) → is_user (s.cpus p) ≡ true → activations_by s p as' d Stepped.Ran ≡ as'
@@ -219,8 +192,8 @@ module _ (mode : Mode) (image : Image) (formed : IsImage image) (built : IsBuilt
 
   pub goes_turn : (left : NatMap ℕ) (s : System) (m : Machine) → Stands mode image left s m → (p : ℕ) → p < image.processors → (processor m p).bodies ≡ []
       → (u : AtUser left s m p) (t : Task) (memory : NatMap ℕ) → user_step (user_memory image m) (task (processor m p)) ≡ Goes t memory
-      → IsInProgram image t.rip → TurnsTo mode image left s m p
-  goes_turn left s m h p lt hb u t memory goes at =
+      → TurnsTo mode image left s m p
+  goes_turn left s m h p lt hb u t memory goes =
       let x : abstract.Processor = processor m p in
       let c : Processor = s.cpus p in
       let g : GoesOn mode image p x.running (task x) (user_memory image m) c (s.apics p) s.memory (s.latches p) t memory
@@ -238,7 +211,7 @@ module _ (mode : Mode) (image : Image) (formed : IsImage image) (built : IsBuilt
       (writes p (record { stack = x.running; used = 0 }) g.write s.memory.words) memory g.sees.words g.sees.held
       (turn_legal image formed built.accepted m p lt h.legal (with_processor (record m { words = memory }) p (record (with_task x t) { bodies = [] }), [])
       (u.turns ∙ ap (task_step image m p) goes ∙ ap (λ z. (with_processor (record m { words = memory }) p z, [])) (sym same)))
-      g.runs.task at u.open_to tt (λ class. refl)
+      g.runs.task u.open_to tt (λ class. refl)
       (omega arith)
       (λ r e. (subst (λ z. RunsTask mode image p z t d) (sym e) g.runs, u.rest.still, none)) in
       record {
@@ -257,11 +230,3 @@ module _ (mode : Mode) (image : Image) (formed : IsImage image) (built : IsBuilt
             (is_jump (instruction_at s.memory.words c.rip)) (is_in_repeat c.rip) (is_user c) (bodies_on s p) u.at_cpl3);
         safe = refl;
       }
-
-  -- so it does for today's instructions but SYSCALL
-  pub plain_turn : (left : NatMap ℕ) (s : System) (m : Machine) → Stands mode image left s m → (p : ℕ) → p < image.processors → (processor m p).bodies ≡ []
-      → (u : AtUser left s m p) → Makes (task (processor m p)) u.ins → TurnsTo mode image left s m p
-  plain_turn left s m h p lt hb u k =
-      goes_turn left s m h p lt hb u k.task m.words
-      (u.reads ∙ k.user (user_view (user_memory image m)) ∙ ap (step_of (task (processor m p))) (k.is (user_view (user_memory image m))))
-      (λ program is. ap (begins program) k.rip ∙ u.leads program is)

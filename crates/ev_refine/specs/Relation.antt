@@ -168,5 +168,5 @@ module _ (mode : Mode) (image : Image) where
     pub fixed : (a : ℕ) → IsFixed a → s.memory.words a ≡ first_word mode image a
     pub shares : Shares s m
     pub legal : Legal image m
-    pub domain : (p : ℕ) → p < image.processors → IsInDomain image p (processor m p)
+    pub domain : (p : ℕ) → p < image.processors → IsInDomain (processor m p)
     pub each : (p : ℕ) → p < image.processors → StandsOn p (left p) s (processor m p)

@@ -56,6 +56,11 @@ kernel_code : at [] 0xffffffff81000000 ≡ Raises 0xffffffff81000000 (pf 0x15 0x
 unfolding computing
 kernel_code = refl
 
+-- a place in the kernel that the definitions name: the first instruction of REPEAT
+repeat_code : at [] 0xffffffff81004800 ≡ Raises 0xffffffff81004800 (pf 0x15 0xffffffff81004800)
+unfolding computing
+repeat_code = refl
+
 -- a jump whose displacement is the zeros behind the text
 across_the_end : at (0xe9 ∷ []) 0x400000 ≡ Goes (task 0x400005 0 0) (λ a. 0)
 unfolding computing
@@ -91,6 +96,11 @@ not_canonical = refl
 stack_not_canonical : does (Push 0) 0 0x800000000008 ≡ Raises 0x400000 (ss 0)
 unfolding computing
 stack_not_canonical = refl
+
+-- a push at RSP 0 is above all
+stack_wraps : does (Push 0) 0 0 ≡ Raises 0x400000 (pf 7 0xfffffffffffffff8)
+unfolding computing
+stack_wraps = refl
 
 -- ---- events
 

@@ -42,7 +42,7 @@ use Rattle.ev_user.proofs.Alike.{Keeps, Did, Alike, effects}
 use Rattle.ev_user.proofs.Words.{KeepsWords, keeps, fields_fit}
 use Rattle.ev_user.proofs.Writes.{small_code, views_alike, is_write, others_stay, sees_again}
 
-low_canonical : (a : ℕ) → a < 2 ^ 47 → is_canonical a ≡ true
+pub low_canonical : (a : ℕ) → a < 2 ^ 47 → is_canonical a ≡ true
 low_canonical a h = ap (λ b. b || (a / 2 ^ 47 == 2 ^ 17 - 1)) (eq-eqb (a / 2 ^ 47) 0 (let e : a / 140737488355328 ≡ 0 = omega arith in e))
 
 -- a fault has no length
@@ -70,7 +70,15 @@ module _ (mode : Mode) (image : Image) (p r : ℕ) (t : Task) (u : UserMemory) (
   faulted : (f : Fault) → IsCause (Faulted f) → Follows (Raises t.rip (fault_event f)) (fault c a m nmi (fault_event f))
   faulted f h =
       let at_rip : t.rip ≡ t.rip + (fault_event f).length = omega (arith, no_length f) in
-      record { cause = Faulted f; is = h; event = refl; saved_is = at_rip; step_is = ap (delivering c a m nmi (fault_event f)) at_rip }
+      record {
+        cause = Faulted f;
+        is = h;
+        event = refl;
+        saved_is = at_rip;
+        canonical = is_task.canonical;
+        behind = λ e. let z : ⊥ = omega (arith, e, no_length f) in absurd z;
+        step_is = ap (delivering c a m nmi (fault_event f)) at_rip;
+      }
 
   -- the processor after an effect is that of the task after it
   processor_after : (x : Task) → x.gs ≡ t.gs → with_effect (completed c) x ≡ cpu x
@@ -123,10 +131,11 @@ module _ (mode : Mode) (image : Image) (p r : ℕ) (t : Task) (u : UserMemory) (
       pick (Err e) (Ok y) d w = absurd d
 
   -- INT n: the processor's own event has its vector
-  numbered : (n : ℕ) → n < 2 ^ 8 → Follows (user.executed (user_view u) t (t.rip + length (spelling (IntN n))) (IntN n))
+  numbered : (n : ℕ) → n < 2 ^ 8 → is_canonical (t.rip + length (spelling (IntN n))) ≡ true → t.rip + 2 < 2 ^ 64
+      → Follows (user.executed (user_view u) t (t.rip + length (spelling (IntN n))) (IntN n))
       (delivering c a m nmi (software SoftInt n 2) (t.rip + length (spelling (IntN n))))
   unfolding user.executed spelling
-  numbered n small = pick (n == 3) refl
+  numbered n small next short = pick (n == 3) refl
     where
       pick : (b : Bool) → (n == 3) ≡ b → Follows (if b then Raises (t.rip + 2) (software SoftInt 3 2) else Raises t.rip (gp (8 * n + 2)))
           (delivering c a m nmi (software SoftInt n 2) (t.rip + 2))
@@ -135,6 +144,8 @@ module _ (mode : Mode) (image : Image) (p r : ℕ) (t : Task) (u : UserMemory) (
         is = tt;
         event = refl;
         saved_is = refl;
+        canonical = next;
+        behind = λ e. short;
         step_is = ap (λ k. delivering c a m nmi (software SoftInt k 2) (t.rip + 2)) (eqb-true n 3 q);
       }
       pick false q = record {
@@ -142,33 +153,35 @@ module _ (mode : Mode) (image : Image) (p r : ℕ) (t : Task) (u : UserMemory) (
         is = (small, eqb-false n 3 q);
         event = refl;
         saved_is = omega arith;
+        canonical = is_task.canonical;
+        behind = λ e. short;
         step_is = refl;
       }
 
   -- every instruction
-  instruction : (i : Ins) → ((n : ℕ) → i ≡ IntN n → n < 2 ^ 8) → is_canonical (t.rip + length (spelling i)) ≡ true → FieldsFit i
+  instruction : (i : Ins) → ((n : ℕ) → i ≡ IntN n → n < 2 ^ 8) → is_canonical (t.rip + length (spelling i)) ≡ true → t.rip + 2 < 2 ^ 64 → FieldsFit i
       → Follows (user.executed (user_view u) t (t.rip + length (spelling i)) i)
       (executed c a m nmi (Some i))
   unfolding user.executed exec special user_may spelling
-  instruction Int1 n h fit = record { cause = Debug; is = tt; event = refl; saved_is = refl; step_is = refl }
-  instruction Int3 n h fit = record { cause = Breakpoint; is = tt; event = refl; saved_is = refl; step_is = refl }
-  instruction Syscall n h fit = record { cause = Call; is = tt; event = refl; saved_is = refl; step_is = refl }
-  instruction (IntN k) n h fit = numbered k (n k refl)
-  instruction Sti n h fit = faulted Protection tt
-  instruction Cli n h fit = faulted Protection tt
-  instruction Ud2 n h fit = faulted Undefined tt
-  instruction Sysretq n h fit = faulted Undefined tt
-  instruction Iretq n h fit = faulted Undefined tt
-  instruction Swapgs n h fit = faulted Undefined tt
-  instruction Eretu n h fit = faulted Undefined tt
-  instruction Erets n h fit = faulted Undefined tt
-  instruction (Lkgs s) n h fit = faulted Undefined tt
-  instruction (MovGs s) n h fit = faulted Undefined tt
-  instruction (ReadCr2 d) n h fit = faulted Undefined tt
-  instruction (WriteCr2 s) n h fit = faulted Undefined tt
-  instruction Rdmsr n h fit = faulted Undefined tt
-  instruction Wrmsr n h fit = faulted Undefined tt
-  instruction i n h fit = plain i i (t.rip + length (spelling i)) h fit
+  instruction Int1 n h short fit = record { cause = Debug; is = tt; event = refl; saved_is = refl; canonical = h; behind = λ e. short; step_is = refl }
+  instruction Int3 n h short fit = record { cause = Breakpoint; is = tt; event = refl; saved_is = refl; canonical = h; behind = λ e. short; step_is = refl }
+  instruction Syscall n h short fit = record { cause = Call; is = tt; event = refl; saved_is = refl; canonical = h; behind = λ e. short; step_is = refl }
+  instruction (IntN k) n h short fit = numbered k (n k refl) h short
+  instruction Sti n h short fit = faulted Protection tt
+  instruction Cli n h short fit = faulted Protection tt
+  instruction Ud2 n h short fit = faulted Undefined tt
+  instruction Sysretq n h short fit = faulted Undefined tt
+  instruction Iretq n h short fit = faulted Undefined tt
+  instruction Swapgs n h short fit = faulted Undefined tt
+  instruction Eretu n h short fit = faulted Undefined tt
+  instruction Erets n h short fit = faulted Undefined tt
+  instruction (Lkgs s) n h short fit = faulted Undefined tt
+  instruction (MovGs s) n h short fit = faulted Undefined tt
+  instruction (ReadCr2 d) n h short fit = faulted Undefined tt
+  instruction (WriteCr2 s) n h short fit = faulted Undefined tt
+  instruction Rdmsr n h short fit = faulted Undefined tt
+  instruction Wrmsr n h short fit = faulted Undefined tt
+  instruction i n h short fit = plain i i (t.rip + length (spelling i)) h fit
 
   -- what was read at RIP
   by_read : InText t.rip → (o : Option Ins) → reading (text_bytes u.text t.rip) ≡ o → Follows (read_step (user_view u) t o) (executed c a m nmi o)
@@ -180,6 +193,7 @@ module _ (mode : Mode) (image : Image) (p r : ℕ) (t : Task) (u : UserMemory) (
       ∙ ap (λ bytes. get_or (text_bytes bytes t.rip) 1 0) sees.text_is in
       let small = byte_small image.text t.rip 1 (all_small image.text formed.text_bytes) in omega arith)
       (low_canonical (t.rip + length (spelling i)) (let l : length (spelling i) ≤ 15 = spelling_length i in omega arith))
+      (let e : t.rip + 2 < 2 ^ 64 = omega arith in e)
       (fields_fit u t (λ k. subst (λ bytes. get_or bytes k 0 < 256) (sym sees.text_is) (all_small image.text formed.text_bytes k)) i q)
 
   by_fetch : (o : Option ℕ) → fault_at u.present (record { user = true; write = false; fetch = true }) (place_of t.rip) ≡ o

@@ -1,6 +1,6 @@
 -- The laws of user code, as the contract of this crate states them. Own.
 use Rattle.std.specs.Prelude.{◌≡◌, ℕ, ◌+◌, ◌^◌, ◌<◌, Bool, true, false, Option, None}
-use Rattle.ev_isa.specs.Word.{NatMap}
+use Rattle.ev_isa.specs.Word.{NatMap, is_canonical}
 use Rattle.ev_isa.specs.Reading.{reading}
 use Rattle.ev_isa.specs.Pages.{place_of, UserMemory, fault_at}
 use Rattle.ev_isa.specs.declared.mode.Mode.{Mode}
@@ -18,7 +18,7 @@ use Rattle.ev_abstract.specs.Machine.{user_memory, opening}
 use Rattle.ev_concrete.specs.Opening.{opening_memory}
 use Rattle.ev_user.specs.Tasks.{RunsTask, task_processor}
 use Rattle.ev_user.specs.Sees.{Sees, IsPageWord, IsWrite, with_write, written}
-use Rattle.ev_user.specs.Causes.{Cause, IsCause, raised_event, raising}
+use Rattle.ev_user.specs.Causes.{Cause, IsCause, own_event, raised_event, raising}
 
 -- ---- memory
 
@@ -77,13 +77,16 @@ pub record GoesOn (mode : Mode) (image : Image) (p r : ℕ) (t : Task) (u : User
   pub others : (x : ℕ) → (IsPageWord x → ⊥) → with_write m.words write x ≡ m.words x
 
 -- The step s delivers what the task raises, from the task's processor with the RIP that is saved;
--- of INT n other than INT 3 the processor's own event.
+-- of INT n other than INT 3 the processor's own event. That RIP is canonical, and behind an
+-- instruction of two bytes, which was read in the text, it is no wrapped one.
 pub record Raised (t : Task) (c : Processor) (a : Apic) (m : Memory) (nmi : Bool) (saved : ℕ)
     (e : Event) (s : After) : Type 0 where
   pub cause : Cause
   pub is : IsCause cause
   pub event : e ≡ raised_event cause
   pub saved_is : saved ≡ t.rip + (raised_event cause).length
+  pub canonical : is_canonical saved ≡ true
+  pub behind : (own_event cause).length ≡ 2 → t.rip + 2 < 2 ^ 64
   pub step_is : s ≡ raising c a m nmi cause
 
 -- Where the abstract machine's user code goes on, so does the processor.

@@ -20,7 +20,7 @@ pub fn reads()
 /// One step of a processor that runs a task, where the boundary chooses the instruction. Where the
 /// abstract machine's user code goes on, the processor is that of the task after the step, and the
 /// same word is written, if any; where it raises an event, the step is the event's delivery, with
-/// the RIP that is saved. Of INT n other than INT 3, which the abstract machine raises as a general
+/// the RIP that is saved, which is canonical. Of INT n other than INT 3, which the abstract machine raises as a general
 /// protection fault, the step delivers the processor's own event of that vector. Where registers and
 /// memory hold words, they do behind the step.
 pub fn steps()
