@@ -22,6 +22,7 @@ pub mod ItemCode
 pub mod ItemState
 pub mod ItemLocals
 pub mod ItemAddresses
+pub mod ItemSaved
 pub mod Instructions
 pub mod KernelStep
 pub mod KernelItems
