@@ -1,5 +1,5 @@
 -- The relation after a step of one processor: of that processor, of the others, and of the words that all share.
-use Rattle.std.proofs.Common.{◌≡◌, ◌⊎◌, inl, inr, ⊎_elim, ℕ, ◌+◌, ◌*◌, ◌%◌, ◌<◌, ◌≤◌, Bool, true, false, List, [], ◌∷◌, length, map, get_or, Option, Some, None, refl, sym, ap, ◌∙◌, subst, arith}
+use Rattle.std.proofs.Common.{◌≡◌, ◌⊎◌, inl, inr, ⊎_elim, ℕ, ◌+◌, ◌*◌, ◌%◌, ◌<◌, ◌≤◌, Bool, true, false, not, List, [], ◌∷◌, length, map, get_or, Option, Some, None, refl, sym, ap, ◌∙◌, subst, arith}
 use Rattle.std.specs.Prelude.{if◌then◌else◌, ◌==◌, ◌&&◌, ◌/◌, reverse}
 use Rattle.std.specs.List.{list_any}
 use Rattle.std.proofs.lemmas.Bool.Decides.{eqb_tells, leb_tells}
@@ -29,15 +29,17 @@ use Rattle.ev_refine.specs.Tasks.{IsSaved, TssIs, CurrentIs}
 use Rattle.ev_refine.specs.Nmi.{Frame, Held, Layer, Plain, LatchIs, inner_edges}
 use Rattle.ev_user.specs.Words.{HoldsWords}
 use Rattle.ev_user.specs.Sees.{IsUserWord, IsWrite}
-use Rattle.ev_refine.specs.Named.{Named, UserRsp, Port, UserWord, Outside, NotNamed, AreWritten, NoneOf, Changes}
+use Rattle.ev_refine.specs.Named.{Named, UserRsp, Top, Current, Mark, Port, Head, TssTop, Slot, RecordWord, CellAt, PageBit, UserWord, address_of, is_kernel_word, is_slot, is_cell, is_page_bit, is_user_word, have_none, IsWritten, Outside, NotNamed, AreWritten, NoneOf, Changes}
 use Rattle.ev_refine.specs.Domain.{IsInDomain}
 use Rattle.ev_refine.specs.Relation.{Chain, Runs, serves, StandsOn, RecordIs, Linked, Shares, Stands, most_edges}
 use Rattle.ev_refine.proofs.Maps.{at_same}
-use Rattle.ev_refine.proofs.Words.{fixed_stays, stack_stays, stacks_stay, saved_stays}
+use Rattle.ev_refine.proofs.Words.{fixed_stays, stack_stays, stacks_stay, area_stays, saved_stays}
+use Rattle.ev_symbolic.proofs.Values.{and_left, and_right}
+use Rattle.ev_refine.proofs.Chains.{chain_plain, chain_few}
 use Rattle.ev_refine.proofs.Standing.{Moves}
 use Rattle.ev_refine.proofs.Stays.{chain_stays, others_spared}
 
--- what a step of today may write of the words with a name
+-- SYSCALL's RSP and the port: what blocks and `log` write of the words with a name
 abbrev pub kernel_names : ℕ → List Named
 kernel_names p = UserRsp p ∷ Port p ∷ []
 
@@ -50,6 +52,7 @@ in_order p q = ⊎_elim (λ x. ⊎_elim (λ y. inr (inl y.1)) (λ y. inl (strict
     strict : (p ≡ q → ⊥) → p ≤ q → p < q
     strict n l = ⊎_elim (λ x. absurd (n (let z = x.1 in omega arith))) (λ x. let z = x.1 in omega arith) (leb_tells q p)
 
+-- the word at an offset of an area, and an address at another one
 area_word : (p q o o' : ℕ) → o + 8 ≤ 0x10000 → o' < 0x10000 → (o' < o) ⊎ (o + 8 ≤ o') → Outside (pcpu p + o) (pcpu p + o + 8) (pcpu q + o')
 area_word p q o o' h k d = go (in_order p q)
   where
@@ -62,28 +65,130 @@ area_word p q o o' h k d = go (in_order p q)
     go (inr (inl e)) = here e d
     go (inr (inr l)) = inl (omega arith)
 
--- the offset of a word of an area that is neither SYSCALL's RSP nor the port
-abbrev pub IsOther : ℕ → Type 0
-IsOther o = (o < 0x10000) × ((o < 8) ⊎ (0x10 ≤ o)) × ((o < 0x28) ⊎ (0x30 ≤ o))
+-- the offset of a word of an area by which the kernel names tasks, or of calls
+abbrev pub IsKernelOffset : ℕ → Type 0
+IsKernelOffset o = (o < 0x10000) × (0x10 ≤ o) × ((o < 0x28) ⊎ (0x30 ≤ o)) × ((o < 0x200) ⊎ (0x400 ≤ o))
 
--- What is asked of the names of a step of p: they are written ones, no other processor's, and no word of an area but SYSCALL's RSP and the port, nor of the
--- page map or the cells.
-pub record AreSparing (p : ℕ) (names : List Named) : Type 0 where
+record_word : (p i o : ℕ) → record_address p i + o ≡ pcpu p + (0x800 + 0x40 * i + o)
+record_word p i o = omega arith
+
+-- addresses that no other component's name has
+kernel_apart : (x : Named) → IsWritten x → not (is_kernel_word x) ≡ true → (q o : ℕ) → q < 32 → IsKernelOffset o
+    → Outside (address_of x) (address_of x + 8) (pcpu q + o)
+kernel_apart (UserRsp p) w s q o hq h = area_word p q 8 o (omega arith) h.0 (inr h.1)
+kernel_apart (Top p) w s q o hq h = let clash : false ≡ true = s in absurd (cc)
+kernel_apart (Current p) w s q o hq h = let clash : false ≡ true = s in absurd (cc)
+kernel_apart (Mark p) w s q o hq h = let clash : false ≡ true = s in absurd (cc)
+kernel_apart (Port p) w s q o hq h = area_word p q 0x28 o (omega arith) h.0 h.2
+kernel_apart (Head p) w s q o hq h = let clash : false ≡ true = s in absurd (cc)
+kernel_apart (TssTop p) w s q o hq h = let clash : false ≡ true = s in absurd (cc)
+kernel_apart (Slot p k) w s q o hq h =
+    let l = w.1 in
+    area_word p q (0x200 + 8 * k) o (omega arith) h.0
+    (⊎_elim (λ (b : o < 0x200). inl (omega arith)) (λ (b : 0x400 ≤ o). inr (omega arith)) h.3)
+kernel_apart (RecordWord p k i) w s q o hq h = let clash : false ≡ true = s in absurd (cc)
+kernel_apart (CellAt k) w s q o hq h = let l = h.0 in inl (omega arith)
+kernel_apart (PageBit i) w s q o hq h = let l = h.0 in inl (omega arith)
+kernel_apart (UserWord a) w s q o hq h = let l = w.1 in inr (omega arith)
+
+slot_apart : (x : Named) → IsWritten x → not (is_slot x) ≡ true → (q k : ℕ) → q < 32 → k < 64
+    → Outside (address_of x) (address_of x + 8) (pcpu q + slot_offset k)
+slot_apart (UserRsp p) w s q k hq hk = area_word p q 8 (0x200 + 8 * k) (omega arith) (omega arith) (inr (omega arith))
+slot_apart (Top p) w s q k hq hk = area_word p q 0x10 (0x200 + 8 * k) (omega arith) (omega arith) (inr (omega arith))
+slot_apart (Current p) w s q k hq hk = area_word p q 0x18 (0x200 + 8 * k) (omega arith) (omega arith) (inr (omega arith))
+slot_apart (Mark p) w s q k hq hk = area_word p q 0x20 (0x200 + 8 * k) (omega arith) (omega arith) (inr (omega arith))
+slot_apart (Port p) w s q k hq hk = area_word p q 0x28 (0x200 + 8 * k) (omega arith) (omega arith) (inr (omega arith))
+slot_apart (Head p) w s q k hq hk = area_word p q 0x30 (0x200 + 8 * k) (omega arith) (omega arith) (inr (omega arith))
+slot_apart (TssTop p) w s q k hq hk = area_word p q 0x408 (0x200 + 8 * k) (omega arith) (omega arith) (inl (omega arith))
+slot_apart (Slot p i) w s q k hq hk = let clash : false ≡ true = s in absurd (cc)
+slot_apart (RecordWord p i o) w s q k hq hk =
+    let a = w.1 in let b = w.2 in
+    subst (λ z. Outside z (z + 8) (pcpu q + slot_offset k)) (sym (record_word p i o))
+    (area_word p q (0x800 + 0x40 * i + o) (0x200 + 8 * k) (omega arith) (omega arith) (inl (omega arith)))
+slot_apart (CellAt i) w s q k hq hk = inl (omega arith)
+slot_apart (PageBit i) w s q k hq hk = inl (omega arith)
+slot_apart (UserWord a) w s q k hq hk = let l = w.1 in inr (omega arith)
+
+cell_apart : (x : Named) → IsWritten x → not (is_cell x) ≡ true → (k : ℕ) → k < 256 → Outside (address_of x) (address_of x + 8) (cells_base + 8 * k)
+cell_apart (UserRsp p) w s k h = inr (omega arith)
+cell_apart (Top p) w s k h = inr (omega arith)
+cell_apart (Current p) w s k h = inr (omega arith)
+cell_apart (Mark p) w s k h = inr (omega arith)
+cell_apart (Port p) w s k h = inr (omega arith)
+cell_apart (Head p) w s k h = inr (omega arith)
+cell_apart (TssTop p) w s k h = inr (omega arith)
+cell_apart (Slot p i) w s k h = let a = w.0 in let b = w.1 in inr (omega arith)
+cell_apart (RecordWord p i o) w s k h = let a = w.0 in let b = w.1 in let c = w.2 in inr (omega arith)
+cell_apart (CellAt i) w s k h = let clash : false ≡ true = s in absurd (cc)
+cell_apart (PageBit i) w s k h = inr (omega arith)
+cell_apart (UserWord a) w s k h = let l = w.1 in inr (omega arith)
+
+page_apart : (x : Named) → IsWritten x → not (is_page_bit x) ≡ true → (i : ℕ) → i < 256 → Outside (address_of x) (address_of x + 8) (page_map + 8 * i)
+page_apart (UserRsp p) w s i h = inr (omega arith)
+page_apart (Top p) w s i h = inr (omega arith)
+page_apart (Current p) w s i h = inr (omega arith)
+page_apart (Mark p) w s i h = inr (omega arith)
+page_apart (Port p) w s i h = inr (omega arith)
+page_apart (Head p) w s i h = inr (omega arith)
+page_apart (TssTop p) w s i h = inr (omega arith)
+page_apart (Slot p k) w s i h = let a = w.0 in let b = w.1 in inr (omega arith)
+page_apart (RecordWord p k o) w s i h = let a = w.0 in let b = w.1 in let c = w.2 in inr (omega arith)
+page_apart (CellAt k) w s i h = inl (omega arith)
+page_apart (PageBit k) w s i h = let clash : false ≡ true = s in absurd (cc)
+page_apart (UserWord a) w s i h = let l = w.1 in inr (omega arith)
+
+-- words of user code lie below all others
+user_apart : (x : Named) → IsWritten x → not (is_user_word x) ≡ true → (b : ℕ) → b < 0x20000000 → Outside (address_of x) (address_of x + 8) b
+user_apart (UserWord a) w s b h = let clash : false ≡ true = s in absurd (cc)
+user_apart (UserRsp p) w s b h = inl (omega arith)
+user_apart (Top p) w s b h = inl (omega arith)
+user_apart (Current p) w s b h = inl (omega arith)
+user_apart (Mark p) w s b h = inl (omega arith)
+user_apart (Port p) w s b h = inl (omega arith)
+user_apart (Head p) w s b h = inl (omega arith)
+user_apart (TssTop p) w s b h = inl (omega arith)
+user_apart (Slot p k) w s b h = inl (omega arith)
+user_apart (RecordWord p k o) w s b h = inl (omega arith)
+user_apart (CellAt k) w s b h = inl (omega arith)
+user_apart (PageBit i) w s b h = inl (omega arith)
+
+user_low : (b : ℕ) → IsUserWord b → b < 0x20000000
+user_low b u = ⊎_elim (λ t. let k = t.1 in omega arith) (λ t. let k = t.1 in omega arith) u.1
+
+-- so no name of a list has it
+free : (f : Named → Bool) (a : ℕ) → ((x : Named) → IsWritten x → not (f x) ≡ true → Outside (address_of x) (address_of x + 8) a) → (names : List Named)
+    → AreWritten names → have_none f names ≡ true → NotNamed names a
+free f a apart [] w s = tt
+free f a apart (x ∷ xs) w s = (apart x w.0 (and_left (not (f x)) _ s), free f a apart xs w.1 (and_right (not (f x)) _ s))
+
+-- What is asked of the names of a step of p: they are ever written, no other processor's, and none by which the kernel names tasks, or of calls.
+pub record AreNames (p : ℕ) (names : List Named) : Type 0 where
   pub written : AreWritten names
   pub own : (q : ℕ) → (q ≡ p → ⊥) → NoneOf q names
-  pub areas : (q o : ℕ) → IsOther o → NotNamed names (pcpu q + o)
-  pub maps : (a : ℕ) → 0xffff888000200000 ≤ a → a < 0xffffc90000000000 → NotNamed names a
+  pub kernel : have_none is_kernel_word names ≡ true
+
+-- no slot, cell or page is among them either
+pub record AreSparing (p : ℕ) (names : List Named) : Type 0 where
+  pub allowed : AreNames p names
+  pub slots : have_none is_slot names ≡ true
+  pub cells : have_none is_cell names ≡ true
+  pub pages : have_none is_page_bit names ≡ true
+
+-- a word of the processor is no other's
+pub own_word : (p q : ℕ) → (q ≡ p → ⊥) → Some p ≡ Some q → ⊥
+own_word p q d f = d (sym (let same : p ≡ q = cc in same))
 
 pub kernel_spares : (p : ℕ) → p < 32 → AreSparing p (kernel_names p)
 kernel_spares p hp = record {
-  written = (hp, (hp, tt));
-  own = λ q d. ((λ f. d (sym (some_same p q f))), ((λ f. d (sym (some_same p q f))), tt));
-  areas = λ q o h. (area_word p q 8 o (omega arith) h.0 h.1, (area_word p q 0x28 o (omega arith) h.0 h.2, tt));
-  maps = λ a l h. (inr (omega arith), (inr (omega arith), tt));
+  allowed = record { written = (hp, (hp, tt)); own = λ q d. (own_word p q d, (own_word p q d, tt)); kernel = refl };
+  slots = refl;
+  cells = refl;
+  pages = refl;
 }
-  where
-    some_same : (a b : ℕ) → Some a ≡ Some b → a ≡ b
-    some_same a b h = cc
+
+-- a step that writes none
+pub none_spares : (p : ℕ) → AreSparing p []
+none_spares p = record { allowed = record { written = tt; own = λ q d. tt; kernel = refl }; slots = refl; cells = refl; pages = refl }
 
 -- a word of a data page, or none
 abbrev pub word_names : Option (ℕ × ℕ) → List Named
@@ -91,84 +196,86 @@ word_names None = []
 word_names (Some w) = UserWord w.0 ∷ []
 
 pub word_spares : (p : ℕ) (present : NatSet) (w : Option (ℕ × ℕ)) → IsWrite present w → AreSparing p (word_names w)
-word_spares p present None h = record { written = tt; own = λ q d. tt; areas = λ q o k. tt; maps = λ a l k. tt }
-word_spares p present (Some w) h =
-    let page = h.1.1 in
-    record {
-      written = (h.1, tt);
-      own = λ q d. (λ f. let clash : None ≡ Some q = f in cc, tt);
-      areas = λ q o k. (inr (omega arith), tt);
-      maps = λ a l k. (inr (omega arith), tt);
-    }
+word_spares p present None h = none_spares p
+word_spares p present (Some w) h = record {
+  allowed = record { written = (h.1, tt); own = λ q d. ((λ f. let clash : None ≡ Some q = f in cc), tt); kernel = refl };
+  slots = refl;
+  cells = refl;
+  pages = refl;
+}
 
 -- what a step of kernel code leaves of user words
 pub kernel_user : (p : ℕ) (σ : Seat) → p < 32 → σ.stack < 7 → (m n user : NatMap ℕ) → Changes p σ (kernel_names p) m n
     → ((b : ℕ) → IsUserWord b → m b ≡ user b) → (b : ℕ) → IsUserWord b → n b ≡ user b
-kernel_user p σ hp hs m n user changes same b u = below_areas (lower u) ∙ same b u
-  where
-    lower : IsUserWord b → b < 0x20000000
-    lower u = ⊎_elim (λ t. let k = t.1 in omega arith) (λ t. let k = t.1 in omega arith) u.1
-
-    below_areas : b < 0x20000000 → n b ≡ m b
-    below_areas l = changes b (inl (omega arith)) (inl (omega arith), (inl (omega arith), tt))
+kernel_user p σ hp hs m n user changes same b u =
+    let l = user_low b u in changes b (inl (omega arith)) (inl (omega arith), (inl (omega arith), tt)) ∙ same b u
 
 -- ---- what a step of p says of memory
 
-module _ (p : ℕ) (σ : Seat) (names : List Named) (hp : p < 32) (hs : σ.stack < 7) (m n : NatMap ℕ) (spares : AreSparing p names)
+module _ (p : ℕ) (σ : Seat) (names : List Named) (hp : p < 32) (hs : σ.stack < 7) (m n : NatMap ℕ) (written : AreWritten names)
     (changes : Changes p σ names m n) where
-  pub area_same : (q o : ℕ) → q < 32 → IsOther o → n (pcpu q + o) ≡ m (pcpu q + o)
-  area_same q o hq h = let small = h.0 in changes (pcpu q + o) (inl (omega arith)) (spares.areas q o h)
+  pub slot_same : have_none is_slot names ≡ true → (q k : ℕ) → q < 32 → k < 64 → n (pcpu q + slot_offset k) ≡ m (pcpu q + slot_offset k)
+  slot_same s q k hq hk = changes (pcpu q + slot_offset k) (inl (omega arith))
+      (free is_slot (pcpu q + slot_offset k) (λ x w s. slot_apart x w s q k hq hk) names written s)
 
-  pub map_same : (a : ℕ) → 0xffff888000200000 ≤ a → a < 0xffffc90000000000 → n a ≡ m a
-  map_same a l h = changes a (inl (omega arith)) (spares.maps a l h)
+  pub cell_same : have_none is_cell names ≡ true → (k : ℕ) → k < 256 → n (cells_base + 8 * k) ≡ m (cells_base + 8 * k)
+  cell_same s k hk = changes (cells_base + 8 * k) (inl (omega arith)) (free is_cell (cells_base + 8 * k) (λ x w s. cell_apart x w s k hk) names written s)
 
-  record_same : (q k o : ℕ) → q < 32 → k < 8 → o < 0x40 → n (record_address q k + o) ≡ m (record_address q k + o)
-  record_same q k o hq hk ho =
-      let e : record_address q k + o ≡ pcpu q + (0x800 + 0x40 * k + o) = omega arith in
-      ap n e ∙ area_same q (0x800 + 0x40 * k + o) hq (omega arith, inr (omega arith), inr (omega arith)) ∙ sym (ap m e)
+  pub page_same : have_none is_page_bit names ≡ true → (i : ℕ) → i < 256 → n (page_map + 8 * i) ≡ m (page_map + 8 * i)
+  page_same s i hi = changes (page_map + 8 * i) (inl (omega arith)) (free is_page_bit (page_map + 8 * i) (λ x w s. page_apart x w s i hi) names written s)
 
-  -- ---- call records
+  pub user_same : have_none is_user_word names ≡ true → (b : ℕ) → IsUserWord b → n b ≡ m b
+  user_same s b u = let l = user_low b u in changes b (inl (omega arith)) (free is_user_word b (λ x w s. user_apart x w s b l) names written s)
 
-  record_is : (q k : ℕ) (r : CallRecord) (st : CallState) → q < 32 → k < 8 → RecordIs m (record_address q k) r st → RecordIs n (record_address q k) r st
-  record_is q k r st hq hk h = go st h
-    where
-      first : n (record_address q k) ≡ m (record_address q k)
-      first = let e : record_address q k ≡ record_address q k + 0 = omega arith in ap n e ∙ record_same q k 0 hq hk (omega arith) ∙ sym (ap m e)
+  module _ (spared : have_none is_kernel_word names ≡ true) where
+    pub area_same : (q o : ℕ) → q < 32 → IsKernelOffset o → n (pcpu q + o) ≡ m (pcpu q + o)
+    area_same q o hq h = let small = h.0 in changes (pcpu q + o) (inl (omega arith))
+        (free is_kernel_word (pcpu q + o) (λ x w s. kernel_apart x w s q o hq h) names written spared)
 
-      go : (st : CallState) → RecordIs m (record_address q k) r st → RecordIs n (record_address q k) r st
-      go Free h = first ∙ h
-      go Queued h = (first ∙ h.0, record_same q k 0x10 hq hk (omega arith) ∙ h.1, record_same q k 0x38 hq hk (omega arith) ∙ h.2)
-      go Taken h = (first ∙ h.0, record_same q k 0x10 hq hk (omega arith) ∙ h.1, record_same q k 0x38 hq hk (omega arith) ∙ h.2)
+    record_same : (q k o : ℕ) → q < 32 → k < 8 → o < 0x40 → n (record_address q k + o) ≡ m (record_address q k + o)
+    record_same q k o hq hk ho =
+        let e : record_address q k + o ≡ pcpu q + (0x800 + 0x40 * k + o) = record_word q k o in
+        ap n e ∙ area_same q (0x800 + 0x40 * k + o) hq (omega arith, omega arith, inr (omega arith), inr (omega arith)) ∙ sym (ap m e)
 
-  linked_is : (a : ℕ) (ks : List CallId) → Linked m a ks → Linked n a ks
-  linked_is a [] h = h
-  linked_is a (k ∷ ks) h =
-      let next : n (a + 0x18) ≡ m (a + 0x18)
-      = ap (λ x. n (x + 0x18)) h.2 ∙ record_same k.from k.site 0x18 h.0 h.1 (omega arith) ∙ sym (ap (λ x. m (x + 0x18)) h.2) in
-      (h.0, h.1, h.2, subst (λ x. Linked n x ks) (sym next) (linked_is (m (a + 0x18)) ks h.3))
+    -- ---- call records
 
-  queue_is : (q : ℕ) (ks : List CallId) → q < 32 → Linked m (m (pcpu q + 0x30)) ks → Linked n (n (pcpu q + 0x30)) ks
-  queue_is q ks hq h =
-      subst (λ x. Linked n x ks) (sym (area_same q 0x30 hq (omega arith, inr (omega arith), inr (omega arith)))) (linked_is (m (pcpu q + 0x30)) ks h)
+    record_is : (q k : ℕ) (r : CallRecord) (st : CallState) → q < 32 → k < 8 → RecordIs m (record_address q k) r st → RecordIs n (record_address q k) r st
+    record_is q k r st hq hk h = go st h
+      where
+        first : n (record_address q k) ≡ m (record_address q k)
+        first = let e : record_address q k ≡ record_address q k + 0 = omega arith in ap n e ∙ record_same q k 0 hq hk (omega arith) ∙ sym (ap m e)
 
-  -- ---- the running task's words
+        go : (st : CallState) → RecordIs m (record_address q k) r st → RecordIs n (record_address q k) r st
+        go Free h = first ∙ h
+        go Queued h = (first ∙ h.0, record_same q k 0x10 hq hk (omega arith) ∙ h.1, record_same q k 0x38 hq hk (omega arith) ∙ h.2)
+        go Taken h = (first ∙ h.0, record_same q k 0x10 hq hk (omega arith) ∙ h.1, record_same q k 0x38 hq hk (omega arith) ∙ h.2)
 
-  tss_is : (mode : Mode) (q r : ℕ) → q < 32 → TssIs mode q r m → TssIs mode q r n
-  tss_is Fred q r hq h = h
-  tss_is Idt q r hq h = area_same q 0x408 hq (omega arith, inr (omega arith), inr (omega arith)) ∙ h
+    linked_is : (a : ℕ) (ks : List CallId) → Linked m a ks → Linked n a ks
+    linked_is a [] h = h
+    linked_is a (k ∷ ks) h =
+        let next : n (a + 0x18) ≡ m (a + 0x18)
+        = ap (λ x. n (x + 0x18)) h.2 ∙ record_same k.from k.site 0x18 h.0 h.1 (omega arith) ∙ sym (ap (λ x. m (x + 0x18)) h.2) in
+        (h.0, h.1, h.2, subst (λ x. Linked n x ks) (sym next) (linked_is (m (a + 0x18)) ks h.3))
 
-  pub current_is : (mode : Mode) (q r : ℕ) → q < 32 → CurrentIs mode q r m → CurrentIs mode q r n
-  current_is mode q r hq h = record {
-    top = area_same q 0x10 hq (omega arith, inr (omega arith), inl (omega arith)) ∙ h.top;
-    current = area_same q 0x18 hq (omega arith, inr (omega arith), inl (omega arith)) ∙ h.current;
-    tss = tss_is mode q r hq h.tss;
-  }
+    queue_is : (q : ℕ) (ks : List CallId) → q < 32 → Linked m (m (pcpu q + 0x30)) ks → Linked n (n (pcpu q + 0x30)) ks
+    queue_is q ks hq h = subst (λ x. Linked n x ks)
+        (sym (area_same q 0x30 hq (omega arith, omega arith, inr (omega arith), inl (omega arith)))) (linked_is (m (pcpu q + 0x30)) ks h)
 
-  pub mark_is : (q : ℕ) → q < 32 → n (pcpu q + 0x20) ≡ m (pcpu q + 0x20)
-  mark_is q hq = area_same q 0x20 hq (omega arith, inr (omega arith), inl (omega arith))
+    -- ---- the running task's words
 
-  pub slot_is : (q k : ℕ) → q < 32 → k < 64 → n (pcpu q + slot_offset k) ≡ m (pcpu q + slot_offset k)
-  slot_is q k hq hk = area_same q (0x200 + 8 * k) hq (omega arith, inr (omega arith), inr (omega arith))
+    tss_is : (mode : Mode) (q r : ℕ) → q < 32 → TssIs mode q r m → TssIs mode q r n
+    tss_is Fred q r hq h = h
+    tss_is Idt q r hq h = area_same q 0x408 hq (omega arith, omega arith, inr (omega arith), inr (omega arith)) ∙ h
+
+    pub current_is : (mode : Mode) (q r : ℕ) → q < 32 → CurrentIs mode q r m → CurrentIs mode q r n
+    current_is mode q r hq h = record {
+      top = area_same q 0x10 hq (omega arith, omega arith, inl (omega arith), inl (omega arith)) ∙ h.top;
+      current = area_same q 0x18 hq (omega arith, omega arith, inl (omega arith), inl (omega arith)) ∙ h.current;
+      tss = tss_is mode q r hq h.tss;
+    }
+
+    pub mark_is : (q : ℕ) → q < 32 → n (pcpu q + 0x20) ≡ m (pcpu q + 0x20)
+    mark_is q hq = area_same q 0x20 hq (omega arith, omega arith, inl (omega arith), inl (omega arith))
 
 -- ---- the processor that made it
 
@@ -205,7 +312,60 @@ module _ (mode : Mode) (image : Image) where
   few_inner true = omega arith
   few_inner false = omega arith
 
-  -- Its bodies, and its returning task, are new; of the rest the step leaves all.
+  -- Its tasks, slots and bodies may be others; of the rest the step leaves all.
+  pub own_becomes : (p left : ℕ) (s s' : System) (x : abstract.Processor) (σ : Seat) (cpu : Processor) (as' : List Activation) (words : NatMap ℕ)
+      (ts : NatMap Task) (slots : NatMap ℕ) (bs : List BodyContext) (own : ℕ) (on : StandsOn mode image p left s x) → p < 32
+      → length (tasks_of image p) ≤ 4 → Moves p s s' cpu as' words → σ.stack ≡ on.returning → σ.stack < 7 → (names : List Named) → AreNames p names
+      → Changes p σ names s.memory.words words → ((k : ℕ) → k < 64 → words (pcpu p + slot_offset k) ≡ slots k)
+      → ((i : ℕ) → (i ≡ on.returning → ⊥) → ts i ≡ x.tasks i) → ((i : ℕ) → i < length (tasks_of image p) → IsTask (ts i))
+      → cpu.nmi_blocked ≡ list_any (is_nmi_body image) bs
+      → ((class : ℕ) → list_any (λ (b : BodyContext). serves mode image class b.service) bs
+      ≡ list_any (λ (b : BodyContext). serves mode image class b.service) x.bodies)
+      → own + inner_edges (s.latches p) ≤ most_edges mode image
+      → Chain mode image p own on.returning (ts on.returning) on.frame on.switching bs as' cpu (with_words s.memory words)
+      → StandsOn mode image p (own + inner_edges (s.latches p)) s' (record x { tasks = ts; slots = slots; bodies = bs })
+  own_becomes p left s s' x σ cpu as' words ts slots bs own on hp four mv at hs names good_names changes slots_are same good blocked serving few chain =
+      let written = good_names.written in let spared = good_names.kernel in record {
+        few = few;
+        own = own;
+        more = 0;
+        enough = subst (λ b. own + 0 + inner_edges b ≤ own + inner_edges (s.latches p)) (sym mv.latch) (omega arith);
+        running = on.running;
+        waiting = on.waiting;
+        layer = on.layer;
+        frame = on.frame;
+        switching = on.switching;
+        marked = on.marked;
+        returning = on.returning;
+        is_returning = on.is_returning;
+        current = λ e. in_words (CurrentIs mode p x.running)
+            (current_is p σ names hp hs s.memory.words words written changes spared mode p x.running hp (on.current e));
+        mark = λ e. ap (λ w. w (pcpu p + 0x20)) mv.words_are ∙ mark_is p σ names hp hs s.memory.words words written changes spared p hp ∙ on.mark e;
+        saved = λ i lt d. in_words (IsSaved mode p i (ts i)) (subst (λ t. IsSaved mode p i t words) (sym (same i d))
+            (saved_stays mode p i (x.tasks i) s.memory.words words hp (omega arith)
+            (stack_stays p σ names s.memory.words words hp hs written changes i (λ e. d (e ∙ at)))
+            (on.saved i lt d)));
+        tasks = good;
+        latch = latch_again on.layer on.frame (list_any (is_nmi_body image) x.bodies) (list_any (is_nmi_body image) bs) (s.latches p) (s'.latches p)
+            (s.cpus p).nmi_blocked (s'.cpus p).nmi_blocked x.nmi mv.latch (ap (λ (c : Processor). c.nmi_blocked) mv.cpu_is ∙ blocked) on.latch;
+        pending = λ v lt. ap (λ (a : Apic). vectors_of a.irr v) mv.apic ∙ on.pending v lt;
+        service = λ class. ap (λ (a : Apic). list_any (λ v. vectors_of a.isr v && (v / 16 == class)) (numbers_from 0 256)) mv.apic
+            ∙ on.service class ∙ sym (serving class);
+        slots = λ k lt. ap (λ w. w (pcpu p + slot_offset k)) mv.words_are ∙ slots_are k lt;
+        runs = as_runs on.layer p own 0 on.returning (ts on.returning) on.frame on.switching bs (s'.activations p) (s'.cpus p) s'.memory
+            (moved (λ a c w r. Chain mode image p own on.returning (ts on.returning) on.frame on.switching bs a c (record { regions = r; words = w })) chain);
+      }
+    where
+      in_words : (P : NatMap ℕ → Type 0) → P words → P s'.memory.words
+      in_words P h = subst P (sym mv.words_are) h
+
+      moved : (P : List Activation → Processor → NatMap ℕ → List Region → Type 0) → P as' cpu words s.memory.regions
+          → P (s'.activations p) (s'.cpus p) s'.memory.words s'.memory.regions
+      moved P h = subst (λ a. P a (s'.cpus p) s'.memory.words s'.memory.regions) (sym mv.activations_are)
+          (subst (λ c. P as' c s'.memory.words s'.memory.regions) (sym mv.cpu_is)
+          (subst (λ w. P as' cpu w s'.memory.regions) (sym mv.words_are) (subst (λ r. P as' cpu words r) (sym mv.regions) h)))
+
+  -- its slots are as they were
   pub own_after : (p left : ℕ) (s s' : System) (x : abstract.Processor) (σ : Seat) (cpu : Processor) (as' : List Activation) (words : NatMap ℕ)
       (ts : NatMap Task) (bs : List BodyContext) (own : ℕ) (on : StandsOn mode image p left s x) → p < 32 → length (tasks_of image p) ≤ 4
       → Moves p s s' cpu as' words → σ.stack ≡ on.returning → σ.stack < 7 → (names : List Named) → AreSparing p names
@@ -217,89 +377,64 @@ module _ (mode : Mode) (image : Image) where
       → own + inner_edges (s.latches p) ≤ most_edges mode image
       → Chain mode image p own on.returning (ts on.returning) on.frame on.switching bs as' cpu (with_words s.memory words)
       → StandsOn mode image p (own + inner_edges (s.latches p)) s' (record x { tasks = ts; bodies = bs })
-  own_after p left s s' x σ cpu as' words ts bs own on hp four mv at hs names sparing changes same good blocked serving few chain = record {
-    few = few;
-    own = own;
-    more = 0;
-    enough = subst (λ b. own + 0 + inner_edges b ≤ own + inner_edges (s.latches p)) (sym mv.latch) (omega arith);
-    running = on.running;
-    waiting = on.waiting;
-    layer = on.layer;
-    frame = on.frame;
-    switching = on.switching;
-    marked = on.marked;
-    returning = on.returning;
-    is_returning = on.is_returning;
-    current = λ e. in_words (CurrentIs mode p x.running) (current_is p σ names hp hs s.memory.words words sparing changes mode p x.running hp (on.current e));
-    mark = λ e. ap (λ w. w (pcpu p + 0x20)) mv.words_are ∙ mark_is p σ names hp hs s.memory.words words sparing changes p hp ∙ on.mark e;
-    saved = λ i lt d. in_words (IsSaved mode p i (ts i)) (subst (λ t. IsSaved mode p i t words) (sym (same i d))
-        (saved_stays mode p i (x.tasks i) s.memory.words words hp (omega arith)
-        (stack_stays p σ names s.memory.words words hp hs sparing.written changes i (λ e. d (e ∙ at)))
-        (on.saved i lt d)));
-    tasks = good;
-    latch = latch_again on.layer on.frame (list_any (is_nmi_body image) x.bodies) (list_any (is_nmi_body image) bs) (s.latches p) (s'.latches p)
-        (s.cpus p).nmi_blocked (s'.cpus p).nmi_blocked x.nmi mv.latch (ap (λ (c : Processor). c.nmi_blocked) mv.cpu_is ∙ blocked) on.latch;
-    pending = λ v lt. ap (λ (a : Apic). vectors_of a.irr v) mv.apic ∙ on.pending v lt;
-    service = λ class. ap (λ (a : Apic). list_any (λ v. vectors_of a.isr v && (v / 16 == class)) (numbers_from 0 256)) mv.apic
-        ∙ on.service class ∙ sym (serving class);
-    slots = λ k lt. ap (λ w. w (pcpu p + slot_offset k)) mv.words_are ∙ slot_is p σ names hp hs s.memory.words words sparing changes p k hp lt ∙ on.slots k
-        lt;
-    runs = as_runs on.layer p own 0 on.returning (ts on.returning) on.frame on.switching bs (s'.activations p) (s'.cpus p) s'.memory
-        (moved (λ a c w r. Chain mode image p own on.returning (ts on.returning) on.frame on.switching bs a c (record { regions = r; words = w })) chain);
-  }
-    where
-      in_words : (P : NatMap ℕ → Type 0) → P words → P s'.memory.words
-      in_words P h = subst P (sym mv.words_are) h
-
-      moved : (P : List Activation → Processor → NatMap ℕ → List Region → Type 0) → P as' cpu words s.memory.regions
-          → P (s'.activations p) (s'.cpus p) s'.memory.words s'.memory.regions
-      moved P h = subst (λ a. P a (s'.cpus p) s'.memory.words s'.memory.regions) (sym mv.activations_are)
-          (subst (λ c. P as' c s'.memory.words s'.memory.regions) (sym mv.cpu_is)
-          (subst (λ w. P as' cpu w s'.memory.regions) (sym mv.words_are) (subst (λ r. P as' cpu words r) (sym mv.regions) h)))
+  own_after p left s s' x σ cpu as' words ts bs own on hp four mv at hs names sparing changes same good blocked serving few chain =
+      own_becomes p left s s' x σ cpu as' words ts x.slots bs own on hp four mv at hs names sparing.allowed changes
+      (λ k lt. slot_same p σ names hp hs s.memory.words words sparing.allowed.written changes sparing.slots p k hp lt ∙ on.slots k lt)
+      same good blocked serving few chain
 
   -- ---- another processor
 
   pub other_stays : (p q left : ℕ) (s s' : System) (x : abstract.Processor) (σ : Seat) (cpu : Processor) (as' : List Activation) (words : NatMap ℕ)
       → p < 32 → q < image.processors → image.processors ≤ 8 → length (tasks_of image q) ≤ 4 → (q ≡ p → ⊥) → (q == p) ≡ false
-      → Moves p s s' cpu as' words → σ.stack < 7 → (names : List Named) → AreSparing p names
+      → Moves p s s' cpu as' words → σ.stack < 7 → (names : List Named) → AreNames p names
       → Changes p σ names s.memory.words words → StandsOn mode image q left s x → StandsOn mode image q left s' x
-  other_stays p q left s s' x σ cpu as' words hp lq eight four d e mv hs names sparing changes on = record {
-    few = on.few;
-    own = on.own;
-    more = on.more;
-    enough = subst (λ b. on.own + on.more + inner_edges b ≤ left) (sym (mv.other_latch q e)) on.enough;
-    running = on.running;
-    waiting = on.waiting;
-    layer = on.layer;
-    frame = on.frame;
-    switching = on.switching;
-    marked = on.marked;
-    returning = on.returning;
-    is_returning = on.is_returning;
-    current = λ f. in_words (CurrentIs mode q x.running) (current_is p σ names hp hs s.memory.words words sparing changes mode q x.running hq (on.current f));
-    mark = λ f. ap (λ w. w (pcpu q + 0x20)) mv.words_are ∙ mark_is p σ names hp hs s.memory.words words sparing changes q hq ∙ on.mark f;
-    saved = λ i lt f. in_words (IsSaved mode q i (x.tasks i)) (saved_stays mode q i (x.tasks i) s.memory.words words hq (omega arith)
-        (λ a h k. stacks_stay p σ names s.memory.words words hp hs sparing.written changes q d a (omega arith) (omega arith)) (on.saved i lt f));
-    tasks = on.tasks;
-    latch = subst (λ b. LatchIs on.layer on.frame (list_any (is_nmi_body image) x.bodies) (s'.latches q) b x.nmi)
-        (sym (ap (λ (c : Processor). c.nmi_blocked) (mv.other_cpu q e)))
-        (subst (λ b. LatchIs on.layer on.frame (list_any (is_nmi_body image) x.bodies) b (s.cpus q).nmi_blocked x.nmi) (sym (mv.other_latch q e)) on.latch);
-    pending = λ v lt. ap (λ (a : Apic). vectors_of a.irr v) (mv.other_apic q e) ∙ on.pending v lt;
-    service = λ class. ap (λ (a : Apic). list_any (λ v. vectors_of a.isr v && (v / 16 == class)) (numbers_from 0 256)) (mv.other_apic q e) ∙ on.service class;
-    slots = λ k lt. ap (λ w. w (pcpu q + slot_offset k)) mv.words_are ∙ slot_is p σ names hp hs s.memory.words words sparing changes q k hq lt ∙ on.slots k
-        lt;
-    runs = as_runs on.layer q on.own on.more on.returning (x.tasks on.returning) on.frame on.switching x.bodies (s'.activations q) (s'.cpus q) s'.memory
-        (moved (λ a c w r. Chain mode image q on.own on.returning (x.tasks on.returning) on.frame on.switching x.bodies a c
-        (record { regions = r; words = w }))
-        (chain_stays mode image q on.own on.returning (x.tasks on.returning) on.frame on.switching x.bodies (s.activations q) (s.cpus q) s.memory words lq
-        eight returning_small
-        (others_spared p q σ names s.memory.words words hp hs hq d sparing.written (sparing.own q d) changes)
-        (as_chain on.layer q on.own on.more on.returning (x.tasks on.returning) on.frame on.switching x.bodies (s.activations q) (s.cpus q) s.memory
-        on.runs)));
-  }
+  other_stays p q left s s' x σ cpu as' words hp lq eight four d e mv hs names good_names changes on =
+      let written = good_names.written in let spared = good_names.kernel in record {
+        few = on.few;
+        own = on.own;
+        more = on.more;
+        enough = subst (λ b. on.own + on.more + inner_edges b ≤ left) (sym (mv.other_latch q e)) on.enough;
+        running = on.running;
+        waiting = on.waiting;
+        layer = on.layer;
+        frame = on.frame;
+        switching = on.switching;
+        marked = on.marked;
+        returning = on.returning;
+        is_returning = on.is_returning;
+        current = λ f. in_words (CurrentIs mode q x.running)
+            (current_is p σ names hp hs s.memory.words words written changes spared mode q x.running hq (on.current f));
+        mark = λ f. ap (λ w. w (pcpu q + 0x20)) mv.words_are ∙ mark_is p σ names hp hs s.memory.words words written changes spared q hq ∙ on.mark f;
+        saved = λ i lt f. in_words (IsSaved mode q i (x.tasks i)) (saved_stays mode q i (x.tasks i) s.memory.words words hq (omega arith)
+            (λ a h k. stacks_stay p σ names s.memory.words words hp hs written changes q d a (omega arith) (omega arith)) (on.saved i lt f));
+        tasks = on.tasks;
+        latch = subst (λ b. LatchIs on.layer on.frame (list_any (is_nmi_body image) x.bodies) (s'.latches q) b x.nmi)
+            (sym (ap (λ (c : Processor). c.nmi_blocked) (mv.other_cpu q e)))
+            (subst (λ b. LatchIs on.layer on.frame (list_any (is_nmi_body image) x.bodies) b (s.cpus q).nmi_blocked x.nmi) (sym (mv.other_latch q e)) on.latch);
+        pending = λ v lt. ap (λ (a : Apic). vectors_of a.irr v) (mv.other_apic q e) ∙ on.pending v lt;
+        service = λ class. ap (λ (a : Apic). list_any (λ v. vectors_of a.isr v && (v / 16 == class)) (numbers_from 0 256)) (mv.other_apic q e)
+            ∙ on.service class;
+        slots = λ k lt. ap (λ w. w (pcpu q + slot_offset k)) mv.words_are
+            ∙ area_stays p σ names s.memory.words words hp hs written changes q hq (good_names.own q d) (pcpu q + slot_offset k) (omega arith) (omega arith)
+            ∙ on.slots k lt;
+        runs = as_runs on.layer q on.own on.more on.returning (x.tasks on.returning) on.frame on.switching x.bodies (s'.activations q) (s'.cpus q) s'.memory
+            (moved (λ a c w r. Chain mode image q on.own on.returning (x.tasks on.returning) on.frame on.switching x.bodies a c
+            (record { regions = r; words = w }))
+            (chain_stays mode image q on.own on.returning (x.tasks on.returning) on.frame on.switching x.bodies (s.activations q) (s.cpus q) s.memory words lq
+            eight
+            (others_spared mode image p q on.returning σ names s.memory.words words x.bodies hp hs hq d written (good_names.own q d) changes
+            (chain_plain mode image q on.own on.returning (x.tasks on.returning) on.frame on.switching x.bodies (s.activations q) (s.cpus q) s.memory chain)
+            returning_small
+            (chain_few mode image q on.own on.returning (x.tasks on.returning) on.frame on.switching x.bodies (s.activations q) (s.cpus q) s.memory chain))
+            chain));
+      }
     where
       hq : q < 32
       hq = omega arith
+
+      chain : Chain mode image q on.own on.returning (x.tasks on.returning) on.frame on.switching x.bodies (s.activations q) (s.cpus q) s.memory
+      chain = as_chain on.layer q on.own on.more on.returning (x.tasks on.returning) on.frame on.switching x.bodies (s.activations q) (s.cpus q) s.memory
+          on.runs
 
       in_words : (P : NatMap ℕ → Type 0) → P words → P s'.memory.words
       in_words P h = subst P (sym mv.words_are) h
@@ -316,7 +451,82 @@ module _ (mode : Mode) (image : Image) where
 
   -- ---- what all share
 
-  -- the machines m and m' differ in processor p alone, and there in nothing that others see
+  -- The machines m and m' differ, of the processors, in p alone, which is x in m', and there in nothing that others see; and the words are those of what m' has
+  -- of user memory, pages and cells.
+  pub record Becomes (p : ℕ) (m m' : Machine) (x : abstract.Processor) (words : NatMap ℕ) : Type 0 where
+    pub own : processor m' p ≡ x
+    pub others : (q : ℕ) → (q == p) ≡ false → processor m' q ≡ processor m q
+    pub mail : x.mail ≡ (processor m p).mail
+    pub mail_nmi : x.mail_nmi ≡ (processor m p).mail_nmi
+    pub records : x.records ≡ (processor m p).records
+    pub queue : x.queue ≡ (processor m p).queue
+    pub user : (b : ℕ) → IsUserWord b → words b ≡ m'.words b
+    pub held : HoldsWords m'.words
+    pub pages : (i : ℕ) → i < 256 → words (page_map + 8 * i) ≡ (if m'.present i then 1 else 0)
+    pub cells : (k : ℕ) → k < 256 → words (cells_base + 8 * k) ≡ m'.cells k
+
+  component : {Z : Type 0} (f : abstract.Processor → Z) (p q : ℕ) (m m' : Machine) (x : abstract.Processor) (words : NatMap ℕ) → Becomes p m m' x words
+      → f x ≡ f (processor m p) → f (processor m' q) ≡ f (processor m q)
+  component f p q m m' x words a h = ⊎_elim (λ e. ap (λ r. f (processor m' r)) e.1 ∙ ap f a.own ∙ h ∙ sym (ap (λ r. f (processor m r)) e.1))
+      (λ e. ap f (a.others q e.0)) (eqb_tells q p)
+
+  shares_become : (p : ℕ) (s s' : System) (m m' : Machine) (x : abstract.Processor) (σ : Seat) (cpu : Processor) (as' : List Activation) (words : NatMap ℕ)
+      → p < 32 → image.processors ≤ 8 → Moves p s s' cpu as' words → σ.stack < 7 → (names : List Named) → AreNames p names
+      → Changes p σ names s.memory.words words → Becomes p m m' x words → Shares mode image s m → Shares mode image s' m'
+  shares_become p s s' m m' x σ cpu as' words hp eight mv hs names good_names changes a h =
+      let written = good_names.written in let spared = good_names.kernel in record {
+        user = λ b u. at b ∙ a.user b u;
+        held = a.held;
+        pages = λ i lt. at (page_map + 8 * i) ∙ a.pages i lt;
+        cells = λ k lt. at (cells_base + 8 * k) ∙ a.cells k lt;
+        mail = λ q v lt l. ap (λ b. vectors_of (b q).vectors v) mv.inboxes ∙ h.mail q v lt l
+            ∙ sym (ap (λ w. w v) (component (λ y. y.mail) p q m m' x words a a.mail));
+        mail_nmi = λ q lt. ap (λ b. (b q).nmi) mv.inboxes ∙ h.mail_nmi q lt ∙ sym (component (λ y. y.mail_nmi) p q m m' x words a a.mail_nmi);
+        numbers = λ q k lt l. at (record_address q k + 0x28)
+            ∙ record_same p σ names hp hs s.memory.words words written changes spared q k 0x28 (omega arith) l (omega arith)
+            ∙ h.numbers q k lt l ∙ sym (ap (λ w. (w k).number) (component (λ y. y.records) p q m m' x words a a.records));
+        records = λ q k lt l. in_words (λ w. RecordIs w (record_address q k) ((processor m' q).records k) ((processor m' q).records k).state)
+            (subst (λ r. RecordIs words (record_address q k) (r k) (r k).state) (sym (component (λ y. y.records) p q m m' x words a a.records))
+            (record_is p σ names hp hs s.memory.words words written changes spared q k ((processor m q).records k) ((processor m q).records k).state
+            (omega arith) l (h.records q k lt l)));
+        queues = λ q lt. in_words (λ w. Linked w (w (pcpu q + 0x30)) (reverse (processor m' q).queue))
+            (subst (λ ks. Linked words (words (pcpu q + 0x30)) (reverse ks)) (sym (component (λ y. y.queue) p q m m' x words a a.queue))
+            (queue_is p σ names hp hs s.memory.words words written changes spared q (reverse (processor m q).queue) (omega arith) (h.queues q lt)));
+      }
+    where
+      in_words : (P : NatMap ℕ → Type 0) → P words → P s'.memory.words
+      in_words P k = subst P (sym mv.words_are) k
+
+      at : (b : ℕ) → s'.memory.words b ≡ words b
+      at b = ap (λ w. w b) mv.words_are
+
+  -- ---- the whole
+
+  pub stands_become : (left : NatMap ℕ) (s s' : System) (m m' : Machine) (p now : ℕ) (x : abstract.Processor) (σ : Seat) (cpu : Processor)
+      (as' : List Activation) (words : NatMap ℕ) → image.processors ≤ 8 → ((q : ℕ) → q < image.processors → length (tasks_of image q) ≤ 4)
+      → Stands mode image left s m → p < image.processors → Moves p s s' cpu as' words → σ.stack < 7 → (names : List Named) → AreNames p names
+      → Changes p σ names s.memory.words words → Becomes p m m' x words → Legal image m' → IsInDomain x → StandsOn mode image p now s' x
+      → Stands mode image (put_at left p now) s' m'
+  stands_become left s s' m m' p now x σ cpu as' words eight four h lt mv hs names good_names changes a legal domain on = record {
+    regions_are = mv.regions ∙ h.regions_are;
+    fixed = λ b f. ap (λ w. w b) mv.words_are ∙ fixed_stays p σ names s.memory.words words hp hs good_names.written changes b f ∙ h.fixed b f;
+    shares = shares_become p s s' m m' x σ cpu as' words hp eight mv hs names good_names changes a h.shares;
+    legal = legal;
+    domain = λ q lq. ⊎_elim (λ e. subst (λ r. IsInDomain (processor m' r)) (sym e.1) (subst IsInDomain (sym a.own) domain))
+        (λ e. subst IsInDomain (sym (a.others q e.0)) (h.domain q lq)) (eqb_tells q p);
+    each = λ q lq. ⊎_elim
+        (λ e. subst (λ r. StandsOn mode image r (put_at left p now r) s' (processor m' r)) (sym e.1)
+        (subst (λ n. StandsOn mode image p n s' (processor m' p)) (sym (at_same left p p now refl)) (subst (StandsOn mode image p now s') (sym a.own) on)))
+        (λ e. subst (λ n. StandsOn mode image q n s' (processor m' q)) (sym (ap (λ b. elim b [ true ↦ now | false ↦ left q ]) e.0))
+        (subst (StandsOn mode image q (left q) s') (sym (a.others q e.0))
+        (other_stays p q (left q) s s' (processor m q) σ cpu as' words hp lq eight (four q lq) e.1 e.0 mv hs names good_names changes (h.each q lq))))
+        (eqb_tells q p);
+  }
+    where
+      hp : p < 32
+      hp = omega arith
+
+  -- cells and pages are as they were
   pub record Alike (p : ℕ) (m m' : Machine) (x : abstract.Processor) : Type 0 where
     pub own : processor m' p ≡ x
     pub others : (q : ℕ) → (q == p) ≡ false → processor m' q ≡ processor m q
@@ -327,67 +537,28 @@ module _ (mode : Mode) (image : Image) where
     pub records : x.records ≡ (processor m p).records
     pub queue : x.queue ≡ (processor m p).queue
 
-  component : {Z : Type 0} (f : abstract.Processor → Z) (p q : ℕ) (m m' : Machine) (x : abstract.Processor) → Alike p m m' x → f x ≡ f (processor m p)
-      → f (processor m' q) ≡ f (processor m q)
-  component f p q m m' x a h = ⊎_elim (λ e. ap (λ r. f (processor m' r)) e.1 ∙ ap f a.own ∙ h ∙ sym (ap (λ r. f (processor m r)) e.1))
-      (λ e. ap f (a.others q e.0)) (eqb_tells q p)
-
-  shares_after : (p : ℕ) (s s' : System) (m m' : Machine) (x : abstract.Processor) (σ : Seat) (cpu : Processor) (as' : List Activation) (words : NatMap ℕ)
-      → p < 32 → image.processors ≤ 8 → Moves p s s' cpu as' words → σ.stack < 7 → (names : List Named) → AreSparing p names
-      → Changes p σ names s.memory.words words → ((b : ℕ) → IsUserWord b → words b ≡ m'.words b) → HoldsWords m'.words → Alike p m m' x
-      → Shares mode image s m → Shares mode image s' m'
-  shares_after p s s' m m' x σ cpu as' words hp eight mv hs names sparing changes user held a h = record {
-    user = λ b u. at b ∙ user b u;
-    held = held;
-    pages = λ i lt. at (page_map + 8 * i) ∙ low (page_map + 8 * i) (omega arith) (omega arith) ∙ h.pages i lt
-        ∙ sym (ap (λ w. if w i then 1 else 0) a.present);
-    cells = λ k lt. at (cells_base + 8 * k) ∙ low (cells_base + 8 * k) (omega arith) (omega arith) ∙ h.cells k lt ∙ sym (ap (λ w. w k) a.cells);
-    mail = λ q v lt l. ap (λ b. vectors_of (b q).vectors v) mv.inboxes ∙ h.mail q v lt l ∙ sym (ap (λ w. w v) (component (λ y. y.mail) p q m m' x a a.mail));
-    mail_nmi = λ q lt. ap (λ b. (b q).nmi) mv.inboxes ∙ h.mail_nmi q lt ∙ sym (component (λ y. y.mail_nmi) p q m m' x a a.mail_nmi);
-    numbers = λ q k lt l. at (record_address q k + 0x28) ∙ record_same p σ names hp hs s.memory.words words sparing changes q k 0x28 (omega arith) l
-        (omega arith)
-        ∙ h.numbers q k lt l ∙ sym (ap (λ w. (w k).number) (component (λ y. y.records) p q m m' x a a.records));
-    records = λ q k lt l. in_words (λ w. RecordIs w (record_address q k) ((processor m' q).records k) ((processor m' q).records k).state)
-        (subst (λ r. RecordIs words (record_address q k) (r k) (r k).state) (sym (component (λ y. y.records) p q m m' x a a.records))
-        (record_is p σ names hp hs s.memory.words words sparing changes q k ((processor m q).records k) ((processor m q).records k).state (omega arith) l
-        (h.records q k lt l)));
-    queues = λ q lt. in_words (λ w. Linked w (w (pcpu q + 0x30)) (reverse (processor m' q).queue))
-        (subst (λ ks. Linked words (words (pcpu q + 0x30)) (reverse ks)) (sym (component (λ y. y.queue) p q m m' x a a.queue))
-        (queue_is p σ names hp hs s.memory.words words sparing changes q (reverse (processor m q).queue) (omega arith) (h.queues q lt)));
-  }
-    where
-      in_words : (P : NatMap ℕ → Type 0) → P words → P s'.memory.words
-      in_words P k = subst P (sym mv.words_are) k
-
-      at : (b : ℕ) → s'.memory.words b ≡ words b
-      at b = ap (λ w. w b) mv.words_are
-
-      low : (b : ℕ) → 0xffff888000200000 ≤ b → b < 0xffffc90000000000 → words b ≡ s.memory.words b
-      low b l d = map_same p σ names hp hs s.memory.words words sparing changes b l d
-
-  -- ---- the whole
-
   pub stands_after : (left : NatMap ℕ) (s s' : System) (m m' : Machine) (p now : ℕ) (x : abstract.Processor) (σ : Seat) (cpu : Processor)
       (as' : List Activation) (words : NatMap ℕ) → image.processors ≤ 8 → ((q : ℕ) → q < image.processors → length (tasks_of image q) ≤ 4)
       → Stands mode image left s m → p < image.processors → Moves p s s' cpu as' words → σ.stack < 7 → (names : List Named) → AreSparing p names
       → Changes p σ names s.memory.words words → ((b : ℕ) → IsUserWord b → words b ≡ m'.words b) → HoldsWords m'.words → Alike p m m' x
       → Legal image m' → IsInDomain x → StandsOn mode image p now s' x
       → Stands mode image (put_at left p now) s' m'
-  stands_after left s s' m m' p now x σ cpu as' words eight four h lt mv hs names sparing changes user held a legal domain on = record {
-    regions_are = mv.regions ∙ h.regions_are;
-    fixed = λ b f. ap (λ w. w b) mv.words_are ∙ fixed_stays p σ names s.memory.words words hp hs sparing.written changes b f ∙ h.fixed b f;
-    shares = shares_after p s s' m m' x σ cpu as' words hp eight mv hs names sparing changes user held a h.shares;
-    legal = legal;
-    domain = λ q lq. ⊎_elim (λ e. subst (λ r. IsInDomain (processor m' r)) (sym e.1) (subst IsInDomain (sym a.own) domain))
-        (λ e. subst IsInDomain (sym (a.others q e.0)) (h.domain q lq)) (eqb_tells q p);
-    each = λ q lq. ⊎_elim
-        (λ e. subst (λ r. StandsOn mode image r (put_at left p now r) s' (processor m' r)) (sym e.1)
-        (subst (λ n. StandsOn mode image p n s' (processor m' p)) (sym (at_same left p p now refl)) (subst (StandsOn mode image p now s') (sym a.own) on)))
-        (λ e. subst (λ n. StandsOn mode image q n s' (processor m' q)) (sym (ap (λ b. elim b [ true ↦ now | false ↦ left q ]) e.0))
-        (subst (StandsOn mode image q (left q) s') (sym (a.others q e.0))
-        (other_stays p q (left q) s s' (processor m q) σ cpu as' words hp lq eight (four q lq) e.1 e.0 mv hs names sparing changes (h.each q lq))))
-        (eqb_tells q p);
-  }
+  stands_after left s s' m m' p now x σ cpu as' words eight four h lt mv hs names sparing changes user held a legal domain on =
+      stands_become left s s' m m' p now x σ cpu as' words eight four h lt mv hs names sparing.allowed changes
+      (record {
+        own = a.own;
+        others = a.others;
+        mail = a.mail;
+        mail_nmi = a.mail_nmi;
+        records = a.records;
+        queue = a.queue;
+        user = user;
+        held = held;
+        pages = λ i l. page_same p σ names hp hs s.memory.words words sparing.allowed.written changes sparing.pages i l ∙ h.shares.pages i l
+            ∙ sym (ap (λ w. if w i then 1 else 0) a.present);
+        cells = λ k l. cell_same p σ names hp hs s.memory.words words sparing.allowed.written changes sparing.cells k l ∙ h.shares.cells k l
+            ∙ sym (ap (λ w. w k) a.cells);
+      }) legal domain on
     where
       hp : p < 32
       hp = omega arith

@@ -159,7 +159,7 @@ pub means_start : (mode : Mode) (image : Image) (e : Env) (w : Processor) (b : B
 means_start Fred image e w b h p = (h, p)
 means_start Idt image e w b h p = (h, p)
 
-pub means_item : (mode : Mode) (image : Image) (e : Env) (w : Processor) (b : BodyContext) → InItem mode image e.var w b → HasPlace mode image e b
+pub means_item : (mode : Mode) (image : Image) (e : Env) (w : Processor) (b : BodyContext) → InItem mode image e.var e.flags w b → HasPlace mode image e b
     → OverTask mode image mode (body mode AtItem) e w b
 means_item Fred image e w b h p = (h, p)
 means_item Idt image e w b h p = (h, p)

@@ -1,5 +1,5 @@
--- Kinds of activations: that of a system call, and of another event of a task, stands on the task alone, and is no NMI's.
-use Rattle.std.proofs.Common.{◌≡◌, ℕ, Bool, true, false, List, [], ◌∷◌, Option, Some, None, refl, ap}
+-- Kinds of activations: that of a system call, and of another event of a task, stands on the task alone; those and that of an event of a body are no NMI's.
+use Rattle.std.proofs.Common.{◌≡◌, ℕ, suc, ◌+◌, ◌*◌, Bool, true, false, List, [], ◌∷◌, length, Option, Some, None, refl, ap, ◌∙◌, arith}
 use Rattle.std.specs.Prelude.{◌==◌, ◌||◌, if◌then◌else◌, slice_get}
 use Rattle.std.specs.List.{list_any}
 use Rattle.std.proofs.lemmas.Bool.{eqb-true}
@@ -8,9 +8,10 @@ use Rattle.ev_body.specs.declared.image.Image.{Image}
 use Rattle.ev_body.specs.Bodies.{key_number}
 use Rattle.ev_abstract.specs.Boundary.{has_key, is_nmi_body}
 use Rattle.ev_abstract.specs.Context.{BodyContext}
-use Rattle.ev_activation.specs.Seat.{Kind, SystemCall, FromTask, FromBody, NmiFromTask, NmiFromBody, key_by, key_at, kind_from, kind_of, seat_by, seat_of, room_of}
+use Rattle.ev_activation.specs.Seat.{Kind, SystemCall, FromTask, FromBody, NmiFromTask, NmiFromBody, Seat, plain_room, room, key_by, key_at, kind_from, kind_of, seat_by, seat_of, room_of}
 use Rattle.ev_isa.specs.Word.{NatMap}
 use Rattle.ev_isa.specs.declared.mode.Mode.{Mode}
+use Rattle.ev_isa.specs.declared.mode.Mode.TheVariants.{Idt, Fred}
 use Rattle.ev_effect.specs.Task.{Task}
 use Rattle.ev_state.specs.Processor.{Processor}
 use Rattle.ev_mem.specs.Memory.{Memory}
@@ -19,7 +20,7 @@ use Rattle.ev_blocks.specs.Blocks.{Spot}
 use Rattle.ev_user.specs.Tasks.{RunsTask}
 use Rattle.ev_refine.specs.Nmi.{Frame, Knows, Leads}
 use Rattle.ev_refine.specs.Active.{OverTask, Means, Active, level_in}
-use Rattle.ev_refine.specs.Relation.{Beneath, keeps_cr2, most_edges, chained, switches_at, Chain}
+use Rattle.ev_refine.specs.Relation.{Beneath, keeps_cr2, body_edges, chained, switches_at, Chain}
 use Rattle.ev_refine.proofs.Domains.{with_cr2}
 
 -- those of an activation over a task, but for NMIs
@@ -27,6 +28,29 @@ abbrev pub is_over_task : Kind → Bool
 is_over_task SystemCall = true
 is_over_task FromTask = true
 is_over_task κ = false
+
+-- all but those of NMIs
+abbrev pub is_plain_kind : Kind → Bool
+is_plain_kind NmiFromTask = false
+is_plain_kind NmiFromBody = false
+is_plain_kind κ = true
+
+pub plain_over : (κ : Kind) → is_over_task κ ≡ true → is_plain_kind κ ≡ true
+plain_over SystemCall h = refl
+plain_over FromTask h = refl
+plain_over FromBody h = let clash : false ≡ true = h in absurd (cc)
+plain_over NmiFromTask h = let clash : false ≡ true = h in absurd (cc)
+plain_over NmiFromBody h = let clash : false ≡ true = h in absurd (cc)
+
+-- what stands beneath an activation stands with the CR2 that it has
+pub over_any : (mode : Mode) (image : Image) (C : Processor → Type 0) (b : Bool) (w : Processor) → Beneath mode image b C w → C w
+over_any mode image C true w h = h
+over_any mode image C false w h = h w.cr2
+
+pub beneath_as : (mode : Mode) (image : Image) (b : Bool) (C D : Processor → Type 0) → ((v : Processor) → C v → D v) → (w : Processor)
+    → Beneath mode image b C w → Beneath mode image b D w
+beneath_as mode image true C D k w h = k w h
+beneath_as mode image false C D k w h = λ a. k (record w { cr2 = a }) (h a)
 
 pub stands_alone : (image : Image) (b : BodyContext) (below : List BodyContext) → is_over_task (kind_of image b below) ≡ true → below ≡ []
 stands_alone image b [] h = refl
@@ -36,23 +60,80 @@ stands_alone image b (d ∷ ds) h = pick (key_at image b == 2) h
     pick true k = absurd (let clash : false ≡ true = k in cc)
     pick false k = absurd (let clash : false ≡ true = k in cc)
 
-other_key : (key : ℕ) → is_over_task (kind_from key []) ≡ true → (key == 2) ≡ false
-other_key key h = pick (key == 0x100) refl h
+-- the key of an NMI makes it one
+other_key : (key : ℕ) (below : List BodyContext) → is_plain_kind (kind_from key below) ≡ true → (key == 2) ≡ false
+other_key key [] h = pick (key == 0x100) refl h
   where
-    plain : (t : Bool) → is_over_task (if t then NmiFromTask else FromTask) ≡ true → t ≡ false
+    plain : (t : Bool) → is_plain_kind (if t then NmiFromTask else FromTask) ≡ true → t ≡ false
     plain true k = let clash : false ≡ true = k in absurd (cc)
     plain false k = refl
 
-    pick : (t : Bool) → (key == 0x100) ≡ t → is_over_task (if t then SystemCall else (if key == 2 then NmiFromTask else FromTask)) ≡ true → (key == 2) ≡ false
+    pick : (t : Bool) → (key == 0x100) ≡ t → is_plain_kind (if t then SystemCall else (if key == 2 then NmiFromTask else FromTask)) ≡ true → (key == 2) ≡ false
     pick true q k = ap (λ n. n == 2) (eqb-true key 0x100 q)
     pick false q k = plain (key == 2) k
+other_key key (d ∷ ds) h = plain (key == 2) h
+  where
+    plain : (t : Bool) → is_plain_kind (if t then NmiFromBody else FromBody) ≡ true → t ≡ false
+    plain true k = let clash : false ≡ true = k in absurd (cc)
+    plain false k = refl
 
-no_nmi : (o : Option Body) → is_over_task (kind_from (key_by o) []) ≡ true → has_key 2 o ≡ false
-no_nmi None h = refl
-no_nmi (Some b) h = other_key (key_number b.key) h
+no_nmi : (o : Option Body) (below : List BodyContext) → is_plain_kind (kind_from (key_by o) below) ≡ true → has_key 2 o ≡ false
+no_nmi None below h = refl
+no_nmi (Some b) below h = other_key (key_number b.key) below h
 
 pub plain_no_nmi : (image : Image) (b : BodyContext) → is_over_task (kind_of image b []) ≡ true → list_any (is_nmi_body image) (b ∷ []) ≡ false
-plain_no_nmi image b h = ap (λ t. t || false) (no_nmi (slice_get image.bodies b.body) h)
+plain_no_nmi image b h = ap (λ t. t || false) (no_nmi (slice_get image.bodies b.body) [] (plain_over (kind_of image b []) h))
+
+-- ---- contexts of which none is an NMI's
+
+abbrev pub ArePlain : Image → List BodyContext → Type 0
+ArePlain image [] = Unit {0}
+ArePlain image (b ∷ below) = (is_plain_kind (kind_of image b below) ≡ true) × ArePlain image below
+
+pub none_nmi : (image : Image) (bs : List BodyContext) → ArePlain image bs → list_any (is_nmi_body image) bs ≡ false
+none_nmi image [] h = refl
+none_nmi image (b ∷ below) h =
+    ap (λ t. t || list_any (is_nmi_body image) below) (no_nmi (slice_get image.bodies b.body) below h.0) ∙ none_nmi image below h.1
+
+-- the seats of these lie on the task's stack, one below the other
+abbrev pub seat_under : Mode → (r n : ℕ) → Seat
+seat_under mode r n = record { stack = r; used = plain_room mode * n }
+
+pub plain_seat : (mode : Mode) (image : Image) (r : ℕ) (b : BodyContext) (below : List BodyContext) → ArePlain image (b ∷ below)
+    → seat_of mode image r (b ∷ below) ≡ seat_under mode r (length below)
+plain_seat mode image r b [] h = first (kind_of image b []) h.0 refl
+  where
+    none : 0 ≡ plain_room mode * 0
+    none = omega arith
+
+    first : (κ : Kind) → is_plain_kind κ ≡ true → kind_of image b [] ≡ κ
+        → seat_by mode κ r (seat_of mode image r []) (room_of mode image []) ≡ seat_under mode r 0
+    first SystemCall h q = ap (λ n. record { stack = r; used = n }) none
+    first FromTask h q = ap (λ n. record { stack = r; used = n }) none
+    first FromBody h q = ap (λ n. record { stack = r; used = n }) none
+    first NmiFromTask h q = let clash : false ≡ true = h in absurd (cc)
+    first NmiFromBody h q = let clash : false ≡ true = h in absurd (cc)
+plain_seat mode image r b (d ∷ ds) h = on_body (plain_seat mode image r d ds h.1) (key_at image b == 2) h.0
+  where
+    room_is : (κ : Kind) → is_plain_kind κ ≡ true → room mode κ ≡ plain_room mode
+    room_is SystemCall h = refl
+    room_is FromTask h = refl
+    room_is FromBody h = refl
+    room_is NmiFromTask h = let clash : false ≡ true = h in absurd (cc)
+    room_is NmiFromBody h = let clash : false ≡ true = h in absurd (cc)
+
+    more : (mode : Mode) (n : ℕ) → plain_room mode * n + plain_room mode ≡ plain_room mode * suc n
+    more Fred n = omega arith
+    more Idt n = omega arith
+
+    on_body : seat_of mode image r (d ∷ ds) ≡ seat_under mode r (length ds) → (t : Bool) → is_plain_kind (if t then NmiFromBody else FromBody) ≡ true
+        → seat_by mode (if t then NmiFromBody else FromBody) r (seat_of mode image r (d ∷ ds)) (room_of mode image (d ∷ ds))
+        ≡ seat_under mode r (suc (length ds))
+    on_body q true k = let clash : false ≡ true = k in absurd (cc)
+    on_body q false k =
+        ap (λ (σ : Seat). record { stack = σ.stack; used = σ.used + room mode (kind_of image d ds) }) q
+        ∙ ap (λ n. record { stack = r; used = plain_room mode * length ds + n }) (room_is (kind_of image d ds) h.1.0)
+        ∙ ap (λ n. record { stack = r; used = n }) (more mode (length ds))
 
 -- ---- what depends on the kind alone
 
@@ -72,12 +153,25 @@ means_of mode image FromBody a spot e w b m h = absurd h
 means_of mode image NmiFromTask a spot e w b m h = absurd h
 means_of mode image NmiFromBody a spot e w b m h = absurd h
 
+-- only an NMI's knows of a frame
+pub plain_knows : (mode : Mode) (κ : Kind) (f : Frame) → is_plain_kind κ ≡ true → (known : Bool) → Knows mode κ known f
+plain_knows mode SystemCall f a known = tt
+plain_knows mode FromTask f a known = tt
+plain_knows mode FromBody f a known = tt
+plain_knows mode NmiFromTask f a known = let clash : false ≡ true = a in absurd (cc)
+plain_knows mode NmiFromBody f a known = let clash : false ≡ true = a in absurd (cc)
+
 pub knows_nothing : (mode : Mode) (κ : Kind) (f : Frame) → is_over_task κ ≡ true → (known : Bool) → Knows mode κ known f
-knows_nothing mode SystemCall f a known = tt
-knows_nothing mode FromTask f a known = tt
-knows_nothing mode FromBody f a known = tt
-knows_nothing mode NmiFromTask f a known = let clash : false ≡ true = a in absurd (cc)
-knows_nothing mode NmiFromBody f a known = let clash : false ≡ true = a in absurd (cc)
+knows_nothing mode κ f a known = plain_knows mode κ f (plain_over κ a) known
+
+-- no variable of an NMI's activation means anything yet
+pub means_plain : (mode : Mode) (image : Image) (κ : Kind) (spot : Spot) (e : Env) (w : Processor) (b : BodyContext) (m : NatMap ℕ)
+    → Means mode image κ spot e w b m → is_plain_kind κ ≡ true
+means_plain mode image SystemCall spot e w b m h = refl
+means_plain mode image FromTask spot e w b m h = refl
+means_plain mode image FromBody spot e w b m h = refl
+means_plain mode image NmiFromTask spot e w b m h = absurd h
+means_plain mode image NmiFromBody spot e w b m h = absurd h
 
 pub level_of : (mode : Mode) (κ : Kind) (w : Processor) → is_over_task κ ≡ true → level_in mode κ w ≡ w.level
 level_of mode SystemCall w a = refl
@@ -91,7 +185,7 @@ pub over_kind : (mode : Mode) (image : Image) (p left r : ℕ) (t : Task) (f : F
     (κ : Kind) → is_over_task κ ≡ true → RunsTask mode image p r t w → sw ≡ false
     → Active mode image p left κ (record { stack = r; used = 0 }) f sw w b c m
     → Beneath mode image (keeps_cr2 mode image κ)
-    (λ v. Chain mode image p (most_edges mode image) r t f (chained mode image sw []) [] [] v m) w
+    (λ v. Chain mode image p (body_edges mode image) r t f (chained mode image sw []) [] [] v m) w
     × Leads mode p κ f w m.words
     × Active mode image p left κ (seat_by mode κ r (seat_of mode image r []) (room_of mode image [])) f (switches_at mode image sw []) w b c m
 over_kind mode image p left r t f sw w b c m SystemCall a task still act = (λ n. (with_cr2 mode image p r t w n task, refl, refl), tt, act)

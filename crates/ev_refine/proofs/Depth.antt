@@ -39,11 +39,11 @@ use Rattle.ev_blocks.specs.Blocks.{Spot, InFred, InIdt, InBody, block}
 use Rattle.ev_table.specs.Table.{code_table}
 use Rattle.ev_refine.specs.Nmi.{Frame}
 use Rattle.ev_refine.specs.Active.{address_of_item, item_place, OverTask, Active}
-use Rattle.ev_refine.specs.Relation.{IsContext, most_edges, chained, Interrupted, Chain, StandsOn}
+use Rattle.ev_refine.specs.Relation.{IsContext, body_edges, chained, Interrupted, Chain, StandsOn}
 use Rattle.ev_refine.proofs.Facts.{Facts}
 use Rattle.ev_refine.proofs.Spots.{is_elsewhere, entry_elsewhere, fred_exit_elsewhere, sys_elsewhere, common_elsewhere, idt_exit_elsewhere, is_in_stub, stub_inside}
 use Rattle.ev_refine.proofs.Standing.{after_ran, Runs, ran_step}
-use Rattle.ev_refine.proofs.Stays.{over_any}
+use Rattle.ev_refine.proofs.CallKinds.{over_any}
 use Rattle.ev_refine.proofs.After.{as_chain}
 
 -- the body of a context
@@ -150,15 +150,15 @@ module _ (mode : Mode) (image : Image) (facts : Facts mode image) where
       let outside : is_in_repeat c.rip ≡ false = active_outside p left _ _ f _ h.0 b c m h.1 h.6 in
       let seen : (not a.inner && not (is_in_repeat c.rip)) ≡ true = ap (λ i. not i && not (is_in_repeat c.rip)) h.2 ∙ ap not outside in
       let top : Activation = record a { rsp = rsp c; rip = c.rip } in
-      let under : Chain mode image p (most_edges mode image) r t f (chained mode image sw below) below as' h.0 m
-      = over_any mode image (λ v. Chain mode image p (most_edges mode image) r t f (chained mode image sw below) below as' v m) _ h.0 h.4 in
+      let under : Chain mode image p (body_edges mode image) r t f (chained mode image sw below) below as' h.0 m
+      = over_any mode image (λ v. Chain mode image p (body_edges mode image) r t f (chained mode image sw below) below as' v m) _ h.0 h.4 in
       ap (λ x. length (if x then top ∷ filter has_body as' else filter has_body as')) seen
       ∙ ap suc (below_same below h.0 as' h.3 under
-      ∙ counted p (most_edges mode image) r t f (chained mode image sw below) below as' h.0 m under)
+      ∙ counted p (body_edges mode image) r t f (chained mode image sw below) below as' h.0 m under)
     where
       -- what was interrupted stands where the processor below it does
       below_same : (ds : List BodyContext) (w : Processor) (as' : List Activation) → Interrupted mode image ds w as'
-          → Chain mode image p (most_edges mode image) r t f (chained mode image sw ds) ds as' w m
+          → Chain mode image p (body_edges mode image) r t f (chained mode image sw ds) ds as' w m
           → length (filter has_body as') ≡ length (filter has_body (interrupted w as'))
       below_same [] w as' i k = ap (λ xs. length (filter has_body xs)) k.2 ∙ sym (ap (λ xs. length (filter has_body (interrupted w xs))) k.2)
       below_same (d ∷ ds) w [] i k = absurd i

@@ -1,5 +1,5 @@
 -- Activations fit the blocks of their spots: their windows lie apart, the kernel has access to them, and what a step writes there has names.
-use Rattle.std.proofs.Common.{◌≡◌, ◌⊎◌, inl, inr, ℕ, ◌+◌, ◌-◌, ◌%◌, ◌<◌, ◌≤◌, true, false, List, [], ◌∷◌, refl, sym, ap, ◌∙◌, subst, arith, ⊎_elim}
+use Rattle.std.proofs.Common.{◌≡◌, ◌⊎◌, inl, inr, ℕ, ◌+◌, ◌-◌, ◌%◌, ◌<◌, ◌≤◌, Bool, true, false, ◌&&◌, List, [], ◌∷◌, refl, sym, ap, ◌∙◌, subst, arith, ⊎_elim}
 use Rattle.std.specs.Prelude.{◌==◌, nat_le}
 use Rattle.std.proofs.lemmas.Bool.{eqb-true, leb-true}
 use Rattle.ev_isa.specs.Word.{NatMap}
@@ -27,15 +27,16 @@ use Rattle.ev_grounds.proofs.Grounds.{windows_fit, all_grounded}
 use Rattle.ev_activation.specs.Seat.{Kind, Seat, top_at}
 use Rattle.ev_table.specs.Table.{code_table}
 use Rattle.ev_refine.specs.Active.{here}
-use Rattle.ev_refine.specs.Named.{UserRsp, Port, Outside, NotNamed, Changes}
+use Rattle.ev_concrete.specs.LiveWords.{area_bytes}
+use Rattle.ev_refine.specs.Named.{Outside, NotNamed, Changes}
 use Rattle.ev_refine.proofs.Facts.{Facts}
 use Rattle.ev_refine.proofs.ModeFacts.{is_fred}
-use Rattle.ev_refine.proofs.Spots.{over_task, is_plain, are_plain, is_written, are_written, has_windows, HasGround, has_ground, IsAtEntry, lines_stand}
+use Rattle.ev_refine.proofs.Spots.{over_task, keeps_rsp, names_if, names_at, is_plain, are_plain, is_written, are_written, area_small, has_windows, HasGround, has_ground, IsAtEntry, lines_stand}
 
 -- in a seat, of which the frame and the saved area lie on the stack
 pub record IsSeat (σ : Seat) : Type 0 where
   pub stack : σ.stack < 7
-  pub room : σ.used + 0x118 ≤ 0x2000
+  pub room : σ.used + 0xc0 ≤ 0x2000
   pub aligned : σ.used % 8 ≡ 0
 
 -- where an activation stands that switches to no other task and fills no record
@@ -44,22 +45,22 @@ where_at p σ = record { p = p; stack = σ.stack; used = σ.used; task = 0; next
 
 -- ---- forms on the stack and in the area
 
-module _ (n : ℕ) (e : Env) (x : Where) (at : IsWhere n x) (top : e.base top_tag + x.used ≡ stack_top x.p x.stack) (area : e.base gs_tag ≡ pcpu x.p)
-    (room : x.used + 0x118 ≤ 0x2000) where
-  based : (f : Form) → is_plain f ≡ true → HasBase e x f × HasRoom x f
-  based (OnStack k) h = let l = leb-true k 0x118 h in (top, omega arith)
-  based (Stretch d k) h = let l = leb-true d 0x118 (and_left (nat_le d 0x118) _ h) in (top, omega arith)
+module _ (mode : Mode) (n : ℕ) (e : Env) (x : Where) (at : IsWhere n x) (top : e.base top_tag + x.used ≡ stack_top x.p x.stack)
+    (area : e.base gs_tag ≡ pcpu x.p) (room : x.used + 0xc0 ≤ 0x2000) where
+  based : (f : Form) → is_plain mode f ≡ true → HasBase e x f × HasRoom x f
+  based (OnStack k) h = let l = leb-true k (area_bytes mode) h in let s = (area_small mode).0 in (top, omega arith)
+  based (Stretch d k) h = let l = leb-true d (area_bytes mode) (and_left (nat_le d (area_bytes mode)) _ h) in let s = (area_small mode).0 in (top, omega arith)
   based (InArea lo k) h = (area, omega arith)
   based _ h = let clash : false ≡ true = h in absurd (cc)
 
-  all_based : (fs : List Form) → are_plain fs ≡ true → Each (HasBase e x) fs × Each (HasRoom x) fs
+  all_based : (fs : List Form) → are_plain mode fs ≡ true → Each (HasBase e x) fs × Each (HasRoom x) fs
   all_based [] h = (tt, tt)
   all_based (f ∷ fs) h =
-      let one = based f (and_left (is_plain f) _ h) in
-      let rest = all_based fs (and_right (is_plain f) _ h) in
+      let one = based f (and_left (is_plain mode f) _ h) in
+      let rest = all_based fs (and_right (is_plain mode f) _ h) in
       ((one.0, rest.0), (one.1, rest.1))
 
-  pub fitting : (fs : List Form) → are_forms fs ≡ true → are_plain fs ≡ true → Fitting n e x fs
+  pub fitting : (fs : List Form) → are_forms fs ≡ true → are_plain mode fs ≡ true → Fitting n e x fs
   fitting fs forms plain = let b = all_based fs plain in record { at = at; forms = forms; bases = b.0; room = b.1 }
 
 -- ---- which form's interval an address is in
@@ -79,36 +80,43 @@ module _ (e : Env) (x : Where) (l : Loc) where
       (cases _ (wins_of fs) l i)
 
 -- an address of a form of the stack, or of the word for RSP
-module _ (p : ℕ) (σ : Seat) (hs : IsSeat σ) (a : ℕ) where
-  off_form : Outside (stack_top p σ.stack - stack_bytes) (top_at p σ) a → NotNamed (UserRsp p ∷ Port p ∷ []) a → (f : Form) → is_plain f ≡ true
-      → is_written f ≡ true → IsSpan (span_of (where_at p σ) f) → InSpan (span_of (where_at p σ) f) a → ⊥
+module _ (mode : Mode) (p : ℕ) (σ : Seat) (hs : IsSeat σ) (rsp : Bool) (a : ℕ) where
+  off_area : (rsp : Bool) (lo k : ℕ) → NotNamed (names_if rsp p) a → (rsp && ((lo == 8) && (k == 8))) ≡ true → pcpu p + lo ≤ a → a < pcpu p + lo + k → ⊥
+  off_area true lo k d h from to =
+      let lo_is : lo ≡ 8 = eqb-true lo 8 (and_left (lo == 8) _ h) in
+      let k_is : k ≡ 8 = eqb-true k 8 (and_right (lo == 8) _ h) in
+      ⊎_elim (λ (o : a < pcpu p + 8). absurd (omega arith)) (λ (o : pcpu p + 8 + 8 ≤ a). absurd (omega arith)) d.0
+  off_area false lo k d h from to = let clash : false ≡ true = h in absurd (cc)
+
+  off_form : Outside (stack_top p σ.stack - stack_bytes) (top_at p σ) a → NotNamed (names_if rsp p) a → (f : Form) → is_plain mode f ≡ true
+      → is_written rsp f ≡ true → IsSpan (span_of (where_at p σ) f) → InSpan (span_of (where_at p σ) f) a → ⊥
   off_form off d (OnStack k) h i is at = on_stack off
     where
       on_stack : Outside (stack_top p σ.stack - stack_bytes) (top_at p σ) a → ⊥
-      on_stack (inl o) = let l = leb-true k 0x118 h in let from = at.from in let r = hs.room in omega arith
-      on_stack (inr o) = let l = leb-true k 0x118 h in let to = at.to in let r = hs.room in omega arith
+      on_stack (inl o) =
+          let l = leb-true k (area_bytes mode) h in let s = (area_small mode).0 in let from = at.from in let r = hs.room in omega arith
+      on_stack (inr o) =
+          let l = leb-true k (area_bytes mode) h in let s = (area_small mode).0 in let to = at.to in let r = hs.room in omega arith
   off_form off d (Stretch e k) h i is at = on_stack off
     where
       on_stack : Outside (stack_top p σ.stack - stack_bytes) (top_at p σ) a → ⊥
-      on_stack (inl o) = let l = leb-true e 0x118 (and_left (nat_le e 0x118) _ h) in let from = at.from in let r = hs.room in omega arith
+      on_stack (inl o) =
+          let l = leb-true e (area_bytes mode) (and_left (nat_le e (area_bytes mode)) _ h) in
+          let s = (area_small mode).0 in let from = at.from in let r = hs.room in omega arith
       on_stack (inr o) =
-          let l = leb-true e 0x118 (and_left (nat_le e 0x118) _ h) in
-          let l' = leb-true k e (and_right (nat_le e 0x118) _ h) in
-          let to = at.to in let r = hs.room in omega arith
-  off_form off d (InArea lo k) h i is at =
-      let lo_is : lo ≡ 8 = eqb-true lo 8 (and_left (lo == 8) _ i) in
-      let k_is : k ≡ 8 = eqb-true k 8 (and_right (lo == 8) _ i) in
-      let from = at.from in let to = at.to in
-      ⊎_elim (λ (o : a < pcpu p + 8). absurd (omega arith)) (λ (o : pcpu p + 8 + 8 ≤ a). absurd (omega arith)) d.0
+          let l = leb-true e (area_bytes mode) (and_left (nat_le e (area_bytes mode)) _ h) in
+          let l' = leb-true k e (and_right (nat_le e (area_bytes mode)) _ h) in
+          let s = (area_small mode).0 in let to = at.to in let r = hs.room in omega arith
+  off_form off d (InArea lo k) h i is at = let from = at.from in let to = at.to in off_area rsp lo k d i (omega arith) (omega arith)
   off_form off d _ h i is at = let clash : false ≡ true = h in absurd (cc)
 
-  off_forms : Outside (stack_top p σ.stack - stack_bytes) (top_at p σ) a → NotNamed (UserRsp p ∷ Port p ∷ []) a → (fs : List Form) → are_plain fs ≡ true
-      → are_written fs ≡ true → InSome (λ f. IsSpan (span_of (where_at p σ) f) × InSpan (span_of (where_at p σ) f) a) fs → ⊥
+  off_forms : Outside (stack_top p σ.stack - stack_bytes) (top_at p σ) a → NotNamed (names_if rsp p) a → (fs : List Form) → are_plain mode fs ≡ true
+      → are_written rsp fs ≡ true → InSome (λ f. IsSpan (span_of (where_at p σ) f) × InSpan (span_of (where_at p σ) f) a) fs → ⊥
   unfolding InSome
   off_forms off d [] h i s = s
   off_forms off d (f ∷ fs) h i s =
-      ⊎_elim (λ t. off_form off d f (and_left (is_plain f) _ h) (and_left (is_written f) _ i) t.0 t.1)
-      (λ t. off_forms off d fs (and_right (is_plain f) _ h) (and_right (is_written f) _ i) t) s
+      ⊎_elim (λ t. off_form off d f (and_left (is_plain mode f) _ h) (and_left (is_written rsp f) _ i) t.0 t.1)
+      (λ t. off_forms off d fs (and_right (is_plain mode f) _ h) (and_right (is_written rsp f) _ i) t) s
 
 -- ---- activations over a task
 
@@ -121,10 +129,10 @@ module _ (mode : Mode) (image : Image) (p : ℕ) (σ : Seat) (hs : IsSeat σ) (h
   abbrev pub env : Env
   env = here mode p κ σ ss w extra v f
 
-  fits_forms : (fs : List Form) → are_forms fs ≡ true → are_plain fs ≡ true → Fitting image.processors env (where_at p σ) fs
+  fits_forms : (fs : List Form) → are_forms fs ≡ true → are_plain mode fs ≡ true → Fitting image.processors env (where_at p σ) fs
   fits_forms fs forms plain =
       let r = hs.room in
-      fitting image.processors env (where_at p σ)
+      fitting mode image.processors env (where_at p σ)
       (record { processor = hp; few = few; stack = hs.stack; task = omega arith; next = omega arith; site = omega arith; aligned = hs.aligned })
       (let e : top_at p σ + σ.used ≡ stack_top p σ.stack = omega arith in e) refl hs.room fs forms plain
 
@@ -166,9 +174,10 @@ module _ (mode : Mode) (image : Image) (p : ℕ) (σ : Seat) (hs : IsSeat σ) (h
 
   -- what an activation writes in a block: words of its stack below its top, and the word for RSP
   pub kernel_changes : (spot : Spot) → over_task mode spot ≡ true → (m n : NatMap ℕ)
-      → Within env (block mode spot).ground.own (block mode spot).ground.shared m n → Changes p σ (UserRsp p ∷ Port p ∷ []) m n
+      → Within env (block mode spot).ground.own (block mode spot).ground.shared m n → Changes p σ (names_at p spot) m n
   kernel_changes spot h m n wrote a off d =
-      wrote a (λ l i q. off_forms p σ hs a off d (forms spot).own (has_windows mode spot h).own (has_windows mode spot h).written (there l i q))
+      wrote a (λ l i q. off_forms mode p σ hs (keeps_rsp spot) a off d (forms spot).own (has_windows mode spot h).own
+      (has_windows mode spot h).written (there l i q))
       (λ l i q. let clash : false ≡ true = sym (ap (λ W. in_win W l) (windows_fit mode spot).0.shared) ∙ i in absurd (cc))
     where
       there : (l : Loc) → in_win (block mode spot).ground.own l ≡ true → a ≡ addr env l
@@ -187,4 +196,9 @@ module _ (mode : Mode) (image : Image) (p : ℕ) (σ : Seat) (hs : IsSeat σ) (h
   -- the kernel has access to the port of `log`
   pub port_open : (m : Memory) → m.regions ≡ regions image → Open env (wins_of (InArea 0x28 8 ∷ [])) m.regions
   port_open m hr = subst (Open env (wins_of (InArea 0x28 8 ∷ []))) (sym hr)
-      (forms_open image env (where_at p σ) (InArea 0x28 8 ∷ []) (fits_forms (InArea 0x28 8 ∷ []) refl refl))
+      (forms_open image env (where_at p σ) (InArea 0x28 8 ∷ []) (record {
+        at = (fits_forms [] refl refl).at;
+        forms = refl;
+        bases = (refl, tt);
+        room = (omega arith, tt);
+      }))

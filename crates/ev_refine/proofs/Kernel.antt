@@ -1,7 +1,6 @@
 -- A step of a processor on which a body stands: an instruction of the kernel's code, an item, or the return.
 use Rattle.std.proofs.Common.{◌≡◌, ℕ, suc, ◌+◌, ◌-◌, ◌*◌, ◌%◌, ◌<◌, ◌≤◌, Bool, true, false, not, ◌&&◌, List, [], ◌∷◌, length, Some, refl, sym, ap, ◌∙◌, subst, arith}
 use Rattle.std.specs.Prelude.{ℤ, pos, ◌==◌, if◌then◌else◌, slice_get, nat_le}
-use Rattle.std.specs.List.{list_any}
 use Rattle.std.proofs.lemmas.Bool.{eqb-true, eq-eqb, leb-true, leb-false}
 use Rattle.ev_isa.specs.Word.{NatMap, is_canonical, displaced}
 use Rattle.ev_isa.specs.Flags.{Flags, flags_of}
@@ -20,9 +19,8 @@ use Rattle.ev_state.specs.Processor.{Processor, is_user, register, selector}
 use Rattle.ev_apic.specs.declared.apic.Apic.{Apic}
 use Rattle.ev_isa.specs.Pages.{KernelWord}
 use Rattle.ev_mem.specs.Memory.{Memory, place_in}
-use Rattle.ev_proc.specs.ProcessorStep.{has_fred, executed, ran}
+use Rattle.ev_proc.specs.ProcessorStep.{executed, ran}
 use Rattle.ev_proc.specs.declared.stepped.Stepped.{Stepped}
-use Rattle.ev_abstract.specs.Boundary.{is_nmi_body}
 use Rattle.ev_abstract.specs.Context.{BodyContext}
 use Rattle.ev_abstract.specs.Machine.{Machine, processor, with_processor, task}
 use Rattle.ev_abstract.specs.Machine as abstract
@@ -54,23 +52,20 @@ use Rattle.ev_paths.proofs.FredEnds.{fred_enters}
 use Rattle.ev_paths.proofs.IdtEnds.{idt_enters}
 use Rattle.ev_deliver.specs.GoesOn.{GoesOn, with_item, continued}
 use Rattle.ev_deliver.proofs.GoesOn.{stub_rip, stubs_go_on, entries_continue}
-use Rattle.ev_activation.specs.Seat.{Kind, SystemCall, FromTask, FromBody, NmiFromTask, NmiFromBody, Seat, kind_of, seat_by, seat_of, room_of}
+use Rattle.ev_activation.specs.Seat.{Kind, SystemCall, FromTask, FromBody, NmiFromTask, NmiFromBody, Seat, kind_of, seat_of}
 use Rattle.ev_table.specs.Table.{code_table}
 use Rattle.ev_user.specs.Tasks.{RunsTask}
 use Rattle.ev_refine.specs.Domain.{IsInDomain}
-use Rattle.ev_refine.specs.Active.{item_place, here, IsKernelSs, Saved, AtLoad, AtStart, Matches, OverTask, Active}
-use Rattle.ev_refine.specs.Relation.{InTables, IsContext, keeps_cr2, switches_at, chained, most_edges, Chain, StandsOn, Stands}
+use Rattle.ev_refine.specs.Active.{item_place, here, IsKernelSs, Saved, AtLoad, AtStart, FlagsAre, Matches, OverTask, Means, Active}
+use Rattle.ev_refine.specs.Relation.{InTables, IsContext, switches_at, Chain, StandsOn, Stands}
 use Rattle.ev_refine.specs.Claims.{Simulated}
 use Rattle.ev_refine.proofs.Facts.{Facts}
 use Rattle.ev_tables.proofs.Gates.{upper_canonical}
-use Rattle.ev_refine.proofs.ModeFacts.{is_fred}
-use Rattle.ev_refine.proofs.Spots.{over_task, means_over, never_switches}
-use Rattle.ev_refine.proofs.Fits.{IsSeat}
+use Rattle.ev_refine.proofs.Spots.{over_task}
 use Rattle.ev_refine.proofs.Bodies.{body, Goes, goes_by, unlike, loads, jumps, at_the_table, at_the_jump, at_the_item, table_falls, jump_falls, saved_beside, means_start, means_item, rax_at}
 use Rattle.ev_refine.proofs.Standing.{ran_returns}
-use Rattle.ev_refine.proofs.Stays.{over_any}
-use Rattle.ev_refine.proofs.After.{as_chain}
-use Rattle.ev_refine.proofs.CallKinds.{is_over_task, stands_alone, means_of, level_of}
+use Rattle.ev_refine.proofs.After.{none_spares}
+use Rattle.ev_refine.proofs.CallKinds.{is_over_task, means_by, means_of, level_of}
 use Rattle.ev_refine.proofs.Domains.{with_cr2_open}
 use Rattle.ev_refine.proofs.Return.{Exits, fred_exits, idt_exits}
 use Rattle.ev_refine.proofs.UserBody.{table_word_is}
@@ -142,21 +137,21 @@ module _ (mode : Mode) (image : Image) (built : IsBuilt image) (good : IsImage i
   abbrev t : Task
   t = x.tasks r
 
-  abbrev seat : Seat
-  seat = record { stack = r; used = 0 }
-
-  abbrev in_seat : IsSeat seat
-  in_seat = step.in_seat mode image built good facts left s m h p hp
-
   abbrev Executes : Ins → Processor → NatMap ℕ → Type 0
   Executes i cpu words = (a : Apic) (nmi : Bool) → executed c a s.memory nmi (Some i) ≡ ran cpu a words nmi
 
-  module _ (o : step.One mode image built good facts left s m h p hp) where
+  module _ (o : step.Top mode image built good facts left s m h p hp) where
     abbrev b : BodyContext
     b = o.b
 
+    abbrev below : List BodyContext
+    below = o.below
+
     abbrev κ : Kind
     κ = o.κ
+
+    abbrev σ : Seat
+    σ = o.σ
 
     abbrev w : Processor
     w = o.w
@@ -164,28 +159,25 @@ module _ (mode : Mode) (image : Image) (built : IsBuilt image) (good : IsImage i
     abbrev ctx : IsContext mode image b
     ctx = o.ctx
 
-    abbrev fred_is : has_fred w ≡ is_fred mode
-    fred_is = step.fred_is mode image built good facts left s m h p hp o
-
-    abbrev plain : list_any (is_nmi_body image) (b ∷ []) ≡ false
-    plain = step.plain mode image built good facts left s m h p hp o
-
     abbrev blocked : c.nmi_blocked ≡ false
-    blocked = step.blocked mode image built good facts left s m h p hp o
+    blocked = step.blocked mode image built good facts left s m h p hp
 
     abbrev env : ℕ → (extra v : ℕ → ℕ) → Flags → Env
-    env ss extra v f = here mode p κ seat ss w extra v f
+    env ss extra v f = here mode p κ σ ss w extra v f
 
     abbrev Stood : ℕ → BodyContext → Processor → Memory → Type 0
-    Stood now b' cpu mem = Active mode image p now κ seat on.frame on.switching w b' cpu mem
+    Stood now b' cpu mem = Active mode image p now κ σ on.frame (switches_at mode image on.switching below) w b' cpu mem
+
+    abbrev Alone : Type 0
+    Alone = step.Alone mode image built good facts left s m h p hp o
 
     module _ (body' : Body) (is : slice_get image.bodies b.body ≡ Some body') where
       -- ---- at the load of the body's address
 
-      at_table : (act : Stood on.own b c s.memory) (ss : ℕ) → IsKernelSs ss → (extra v : ℕ → ℕ) (f : Flags)
+      at_table : (act : Stood on.own b c s.memory) → is_over_task κ ≡ true → (ss : ℕ) → IsKernelSs ss → (extra v : ℕ → ℕ) (f : Flags)
           → At code (block mode (body mode AtTable)) 0 (env ss extra v f) c s.memory → AtLoad mode image v w b
           → extra 20 ≡ item_place mode image b.body b.place → length c.regs ≡ 16 → edges mode (body mode AtTable) 0 ≤ on.own → Result
-      at_table act ss ss_is extra v f at l place long enough =
+      at_table act over ss ss_is extra v f at l place long enough =
           let e : Env = env ss extra v f in
           let B : Block = block mode (body mode AtTable) in
           let a : ℕ = user_table + 8 * l.key in
@@ -209,12 +201,13 @@ module _ (mode : Mode) (image : Image) (built : IsBuilt image) (good : IsImage i
           (step.fits mode image built good facts left s m h p hp o body' is (body mode AtJump) way.over ss extra u f place tt (way.told (env ss extra u f)))
           (step.windows mode image built good facts left s m h p hp o body' is (body mode AtJump) way.over ss extra u f))
           (omega arith) long way.off
-          (means_start mode image (env ss extra u f) w b (record {
+          (means_by mode image κ over (body mode AtJump) (env ss extra u f) w b s.memory.words (means_start mode image (env ss extra u f) w b (record {
             code = refl;
             begins = l.begins;
+            unknown = l.unknown;
             saved = saved_beside mode image v (body_code b.body) w l.saved;
             locals = l.locals;
-          }) place)
+          }) place))
 
       -- ---- at the jump to the body
 
@@ -229,10 +222,10 @@ module _ (mode : Mode) (image : Image) (built : IsBuilt image) (good : IsImage i
               pick true q = sym h ∙ ap e.base (sym (eqb-true t item_tag q))
               pick false q = refl
 
-      at_jump : (act : Stood on.own b c s.memory) (ss : ℕ) → IsKernelSs ss → (extra v : ℕ → ℕ) (f : Flags)
+      at_jump : (act : Stood on.own b c s.memory) → is_over_task κ ≡ true → (ss : ℕ) → IsKernelSs ss → (extra v : ℕ → ℕ) (f : Flags)
           → At code (block mode (body mode AtJump)) 0 (env ss extra v f) c s.memory → AtStart mode image v w b
           → extra 20 ≡ item_place mode image b.body b.place → length c.regs ≡ 16 → edges mode (body mode AtJump) 0 ≤ on.own → Result
-      at_jump act ss ss_is extra v f at l place long enough =
+      at_jump act over ss ss_is extra v f at l place long enough =
           let e : Env = env ss extra v f in
           let B : Block = block mode (body mode AtJump) in
           let g : Agrees e B.ground B.opening c s.memory = at_end code B 0 B.opening refl e c s.memory at in
@@ -251,26 +244,35 @@ module _ (mode : Mode) (image : Image) (built : IsBuilt image) (good : IsImage i
           (subst (λ y. Open y (block mode (body mode AtItem)).ground.known s.memory.regions) (sym item)
           (step.windows mode image built good facts left s m h p hp o body' is (body mode AtItem) way.over ss extra v f))))
           (omega arith) long way.off
-          (means_item mode image e w b (record { saved = l.saved; locals = l.locals }) place)
+          (means_by mode image κ over (body mode AtItem) e w b s.memory.words (means_item mode image e w b
+          (record { saved = l.saved; locals = l.locals; flags = subst (λ q. FlagsAre mode image q f) (sym l.unknown) tt }) place))
 
       -- ---- the exit's end: the return
 
-      at_exit : Exits code c s.memory w → is_user c ≡ false → item_at (slice_get image.bodies b.body) b.place ≡ Some Ret → Result
-      at_exit x hu ret =
+      at_exit : Alone → Exits code c s.memory w → is_user c ≡ false → item_at (slice_get image.bodies b.body) b.place ≡ Some Ret → Result
+      at_exit one x hu ret =
           let cell : Cell = record { ins = x.ins; next = x.next; mark = true } in
           let hc : code c.rip ≡ Some cell = ap code x.rip ∙ x.cell in
           let back : Processor = record w { cr2 = c.cr2; nmi_blocked = false } in
           let gone : activations_by s p (s.activations p) back Stepped.Ran ≡ []
           = ran_returns s p back x.ins (fetches c.rip cell hc).1 x.is hu
           (ap (λ y. (y == nlast_entry + 12) && (back.rip == repeat_entry) && not (is_user back)) x.rip
-          ∙ ap (λ q. q && (back.rip == repeat_entry) && not (is_user back)) x.unlike) ∙ ap without_last o.acts in
-          step.visible mode image built good facts left s m h p hp o cell hc refl hu back s.memory.words x.back refl (λ y far far'. refl) [] refl tt
-          (λ class. refl)
+          ∙ ap (λ q. q && (back.rip == repeat_entry) && not (is_user back)) x.unlike) ∙ ap without_last o.acts ∙ one.no_others in
+          step.visible mode image built good facts left s m h p hp o cell hc refl hu back s.memory.words x.back refl [] (none_spares p).allowed
+          (λ y far far'. refl) (with_processor m p (record (processor m p) { bodies = below })) []
+          (step.ret_turn mode image built good facts left s m h p hp o ret) (processor m p).tasks (processor m p).slots below
+          (step.bodies_alone mode image built good facts left s m h p hp o [] (none_spares p).allowed s.memory.words (λ y far far'. refl) (none_spares p) refl
+          below)
+          (step.are_quiet mode image built good facts left s m h p hp o).1
           (ap (λ e. if e then length (processor m p).bodies - 1 else
           (if begins_body c (Some cell.ins) then suc (length (processor m p).bodies) else length (processor m p).bodies))
-          (ends_a_body (Some cell.ins) c x.place x.rip x.outside hu x.is) ∙ ap (λ (bs : List BodyContext). length bs - 1) o.bodies) 0 (omega arith)
-          (with_cr2_open mode image p r t w c.cr2 o.task, o.still, gone) [] (x.silent p (bodies_on s p) c s.memory.words)
-          (step.ret_turn mode image built good facts left s m h p hp o ret)
+          (ends_a_body (Some cell.ins) c x.place x.rip x.outside hu x.is) ∙ ap (λ (bs : List BodyContext). length bs - 1) o.bodies
+          ∙ one_less (length below)) 0 (omega arith)
+          (subst (λ ds. Chain mode image p 0 r t on.frame on.switching ds (activations_by s p (s.activations p) back Stepped.Ran) back s.memory) (sym one.none)
+          (with_cr2_open mode image p r t w c.cr2 one.task, one.still, gone)) (x.silent p (bodies_on s p) c s.memory.words)
+        where
+          one_less : (n : ℕ) → suc n - 1 ≡ n
+          one_less n = omega arith
 
       -- ---- every spot
 
@@ -278,62 +280,62 @@ module _ (mode : Mode) (image : Image) (built : IsBuilt image) (good : IsImage i
       at_zero : (B : Block) (k : ℕ) (e : Env) → At code B k e c s.memory → k ≤ 0 → At code B 0 e c s.memory
       at_zero B k e at l = subst (λ n. At code B n e c s.memory) (let q : k ≡ 0 = omega arith in q) at
 
-      at_the_end : (act : Stood on.own b c s.memory) (m : Mode) → m ≡ mode → (spot : Spot) (k ss : ℕ) → IsKernelSs ss → (extra v : ℕ → ℕ) (f : Flags)
-          → k ≡ (block m spot).steps → At code (block m spot) k (env ss extra v f) c s.memory → OverTask mode image m spot (env ss extra v f) w b
+      at_the_end : (act : Stood on.own b c s.memory) (over : is_over_task κ ≡ true) → Alone → (m : Mode) → m ≡ mode → (spot : Spot) (k ss : ℕ) → IsKernelSs ss
+          → (extra v : ℕ → ℕ) (f : Flags) → k ≡ (block m spot).steps → At code (block m spot) k (env ss extra v f) c s.memory → OverTask mode image m spot (env ss extra v f) w b
           → length c.regs ≡ 16 → edges m spot k ≤ on.own → item_at (Some body') b.place ≡ Some ctx.item → Result
-      at_the_end act Fred q (InFred (FromUser way)) k ss ss_is extra v f n at means long enough hi =
+      at_the_end act over one Fred q (InFred (FromUser way)) k ss ss_is extra v f n at means long enough hi =
           let e : Env = env ss extra v f in
           let g : Flags = flags_of c.flags in
           let u : ℕ → ℕ = (continued e (way_values way) c).var in
-          let over = (at_the_table mode).over in
+          let fine = (at_the_table mode).over in
           let falls = (edges_fall Fred).from_user way in
-          at_table act ss ss_is extra u g
+          at_table act over ss ss_is extra u g
           (subst (λ m. At code (block m (body m AtTable)) 0 (env ss extra u g) c s.memory) q
           (entries_continue code (fred_block (FromUser way)) (body_block true FredFrame AtTable) _ (way_values way) e c s.memory (fred_enters.0 way)
           (subst (λ j. At code (fred_block (FromUser way)) j e c s.memory) n at) refl refl
           (subst (λ m. Fits code (env ss extra u g) (block m (body m AtTable))) (sym q)
-          (step.fits mode image built good facts left s m h p hp o body' is (body mode AtTable) over ss extra u g means.1 tt
+          (step.fits mode image built good facts left s m h p hp o body' is (body mode AtTable) fine ss extra u g means.1 tt
           ((at_the_table mode).told (env ss extra u g))))
           (subst (λ m. Open (env ss extra u g) (block m (body m AtTable)).ground.known s.memory.regions) (sym q)
-          (step.windows mode image built good facts left s m h p hp o body' is (body mode AtTable) over ss extra u g))))
+          (step.windows mode image built good facts left s m h p hp o body' is (body mode AtTable) fine ss extra u g))))
           means.0 means.1 long (subst (λ m. edges m (body m AtTable) 0 ≤ on.own) q (omega arith))
-      at_the_end act Fred q (InFred (fred.Leaves FredToTask)) k ss ss_is extra v f n at means long enough hi =
-          at_exit (fred_exits image p small κ seat r t w ss extra v f code c s.memory blocked (subst (λ m. HasKernel m code) (sym q) facts.kernel)
-          (subst (λ m. RunsTask m image p r t w) (sym q) o.task) (level_of Fred κ w o.alone) (subst (λ m. Saved m image v w) (sym q) means.saved)
-          (subst (λ m. At code (fred_block (fred.Leaves FredToTask)) (fred_block (fred.Leaves FredToTask)).steps (here m p κ seat ss w extra v f) c s.memory)
+      at_the_end act over one Fred q (InFred (fred.Leaves FredToTask)) k ss ss_is extra v f n at means long enough hi =
+          at_exit one (fred_exits image p small κ σ r t w ss extra v f code c s.memory blocked (subst (λ m. HasKernel m code) (sym q) facts.kernel)
+          (subst (λ m. RunsTask m image p r t w) (sym q) one.task) (level_of Fred κ w over) (subst (λ m. Saved m image v w) (sym q) means.saved)
+          (subst (λ m. At code (fred_block (fred.Leaves FredToTask)) (fred_block (fred.Leaves FredToTask)).steps (here m p κ σ ss w extra v f) c s.memory)
           (sym q) (subst (λ j. At code (fred_block (fred.Leaves FredToTask)) j (env ss extra v f) c s.memory) n at)))
           (ap is_user at.agrees.rest) means.ret
-      at_the_end act Fred q (InBody FredFrame AtTable) k ss ss_is extra v f n at means long enough hi =
-          at_table act ss ss_is extra v f (subst (λ m. At code (block m (body m AtTable)) 0 (env ss extra v f) c s.memory) q
+      at_the_end act over one Fred q (InBody FredFrame AtTable) k ss ss_is extra v f n at means long enough hi =
+          at_table act over ss ss_is extra v f (subst (λ m. At code (block m (body m AtTable)) 0 (env ss extra v f) c s.memory) q
           (subst (λ j. At code (body_block true FredFrame AtTable) j (env ss extra v f) c s.memory) n at)) means.0 means.1 long
           (subst (λ m. edges m (body m AtTable) 0 ≤ on.own) q (subst (λ j. edges Fred (InBody FredFrame AtTable) j ≤ on.own) n enough))
-      at_the_end act Fred q (InBody FredFrame AtJump) k ss ss_is extra v f n at means long enough hi =
-          at_jump act ss ss_is extra v f (subst (λ m. At code (block m (body m AtJump)) 0 (env ss extra v f) c s.memory) q
+      at_the_end act over one Fred q (InBody FredFrame AtJump) k ss ss_is extra v f n at means long enough hi =
+          at_jump act over ss ss_is extra v f (subst (λ m. At code (block m (body m AtJump)) 0 (env ss extra v f) c s.memory) q
           (subst (λ j. At code (body_block true FredFrame AtJump) j (env ss extra v f) c s.memory) n at)) means.0 means.1 long
           (subst (λ m. edges m (body m AtJump) 0 ≤ on.own) q (subst (λ j. edges Fred (InBody FredFrame AtJump) j ≤ on.own) n enough))
-      at_the_end act Fred q (InBody FredFrame AtItem) k ss ss_is extra v f n at means long enough hi =
-          items.by_item mode image built good facts left s m h p hp o body' is act ss ss_is extra v f
+      at_the_end act over one Fred q (InBody FredFrame AtItem) k ss ss_is extra v f n at means long enough hi =
+          items.by_item mode image built good facts left s m h p hp o body' is act over ss ss_is extra v f
           (subst (λ m. At code (block m (body m AtItem)) 0 (env ss extra v f) c s.memory) q
           (subst (λ j. At code (body_block true FredFrame AtItem) j (env ss extra v f) c s.memory) n at)) means.0 means.1 long
           (subst (λ m. edges m (body m AtItem) 0 ≤ on.own) q (subst (λ j. edges Fred (InBody FredFrame AtItem) j ≤ on.own) n enough))
           ctx.item (which image built good b.body body' is b.place ctx.item hi) hi
-      at_the_end act Idt q (InIdt Sys) k ss ss_is extra v f n at means long enough hi =
+      at_the_end act over one Idt q (InIdt Sys) k ss ss_is extra v f n at means long enough hi =
           let e : Env = env ss extra v f in
           let g : Flags = flags_of c.flags in
           let u : ℕ → ℕ = (continued e sys_values c).var in
-          let over = (at_the_table mode).over in
+          let fine = (at_the_table mode).over in
           let falls = (edges_fall Idt).call in
-          at_table act ss ss_is extra u g
+          at_table act over ss ss_is extra u g
           (subst (λ m. At code (block m (body m AtTable)) 0 (env ss extra u g) c s.memory) q
           (entries_continue code (idt_block Sys) (body_block false IdtFrame AtTable) _ sys_values e c s.memory idt_enters.call
           (subst (λ j. At code (idt_block Sys) j e c s.memory) n at) refl refl
           (subst (λ m. Fits code (env ss extra u g) (block m (body m AtTable))) (sym q)
-          (step.fits mode image built good facts left s m h p hp o body' is (body mode AtTable) over ss extra u g means.1 tt
+          (step.fits mode image built good facts left s m h p hp o body' is (body mode AtTable) fine ss extra u g means.1 tt
           ((at_the_table mode).told (env ss extra u g))))
           (subst (λ m. Open (env ss extra u g) (block m (body m AtTable)).ground.known s.memory.regions) (sym q)
-          (step.windows mode image built good facts left s m h p hp o body' is (body mode AtTable) over ss extra u g))))
+          (step.windows mode image built good facts left s m h p hp o body' is (body mode AtTable) fine ss extra u g))))
           means.0 means.1 long (subst (λ m. edges m (body m AtTable) 0 ≤ on.own) q (omega arith))
-      at_the_end act Idt q (InIdt (Stub UserCode has v)) k ss ss_is extra u f n at means long enough hi =
+      at_the_end act over one Idt q (InIdt (Stub UserCode has v)) k ss ss_is extra u f n at means long enough hi =
           let e : Env = env ss extra u f in
           let pf : Bool = v == 14 in
           let spot : Spot = InIdt (Common UserCode pf) in
@@ -343,133 +345,115 @@ module _ (mode : Mode) (image : Image) (built : IsBuilt image) (good : IsImage i
           let j : StubJump code v has = subst (StubJump code v) means.0.1
           (stubs_jump code (subst (λ m. HasKernel m code) (sym q) facts.kernel) v small_vector) in
           let there = subst (λ i. At code (idt_block (Stub UserCode has v)) i e c s.memory) n at in
-          let over : over_task mode spot ≡ true = subst (λ m. over_task m spot ≡ true) q refl in
+          let fine : over_task mode spot ≡ true = subst (λ m. over_task m spot ≡ true) q refl in
           let falls = (edges_fall Idt).stub UserCode has v pf in
           let told : FactsHold (env ss extra u' g) (idt_block (Common UserCode pf)).ground.facts
-          = common_told e g has v small_vector (means.1.saved.cs ∙ ap (λ (y : Processor). y.cs) o.task.is) in
+          = common_told e g has v small_vector (means.1.saved.cs ∙ ap (λ (y : Processor). y.cs) one.task.is) in
           let on_way : GoesOn code c s.memory (idt_block (Common UserCode pf)) (env ss extra u' g)
           = stubs_go_on code UserCode has v pf e c s.memory small_vector refl means.0.2 j there
           (subst (λ m. Fits code (env ss extra u' g) (block m spot)) (sym q)
-          (step.fits mode image built good facts left s m h p hp o body' is spot over ss extra u' g means.2 tt
+          (step.fits mode image built good facts left s m h p hp o body' is spot fine ss extra u' g means.2 tt
           (subst (λ m. FactsHold (env ss extra u' g) (block m spot).ground.facts) q told)))
           (subst (λ m. Open (env ss extra u' g) (block m spot).ground.known s.memory.regions) (sym q)
-          (step.windows mode image built good facts left s m h p hp o body' is spot over ss extra u' g)) in
+          (step.windows mode image built good facts left s m h p hp o body' is spot fine ss extra u' g)) in
           step.goes mode image built good facts left s m h p hp o body' is act spot ss ss_is extra u' g (ap is_user at.agrees.rest)
           (subst (λ m. Goes code c s.memory (block m spot) (env ss extra u' g)) q
           (goes_by code c s.memory _ _ (Jmp j.distance) _ _ on_way
           (stub_rip code UserCode has v e c s.memory small_vector means.0.2 there) j.is (jump_stays j.distance)))
           (subst (λ m. edges m spot 0 < on.own) q (omega arith)) long refl
-          (subst (λ m. OverTask mode image m spot (env ss extra u' g) w b) q
-          (loads_behind mode image e g (stub_values has v) (common_values UserCode pf) w b means.1, means.2))
-      at_the_end act Idt q (InIdt (Common UserCode pf)) k ss ss_is extra v f n at means long enough hi =
+          (means_by mode image κ over spot (env ss extra u' g) w b s.memory.words (subst (λ m. OverTask mode image m spot (env ss extra u' g) w b) q
+          (loads_behind mode image e g (stub_values has v) (common_values UserCode pf) w b means.1, means.2)))
+      at_the_end act over one Idt q (InIdt (Common UserCode pf)) k ss ss_is extra v f n at means long enough hi =
           let e : Env = env ss extra v f in
           let g : Flags = flags_of c.flags in
           let u : ℕ → ℕ = (continued e (common_values UserCode pf) c).var in
-          let over = (at_the_table mode).over in
+          let fine = (at_the_table mode).over in
           let falls = (edges_fall Idt).common UserCode pf in
-          at_table act ss ss_is extra u g
+          at_table act over ss ss_is extra u g
           (subst (λ m. At code (block m (body m AtTable)) 0 (env ss extra u g) c s.memory) q
           (entries_continue code (idt_block (Common UserCode pf)) (body_block false IdtFrame AtTable) _ (common_values UserCode pf) e c s.memory
           (idt_enters.common UserCode pf)
           (subst (λ j. At code (idt_block (Common UserCode pf)) j e c s.memory) n at) refl refl
           (subst (λ m. Fits code (env ss extra u g) (block m (body m AtTable))) (sym q)
-          (step.fits mode image built good facts left s m h p hp o body' is (body mode AtTable) over ss extra u g means.1 tt
+          (step.fits mode image built good facts left s m h p hp o body' is (body mode AtTable) fine ss extra u g means.1 tt
           ((at_the_table mode).told (env ss extra u g))))
           (subst (λ m. Open (env ss extra u g) (block m (body m AtTable)).ground.known s.memory.regions) (sym q)
-          (step.windows mode image built good facts left s m h p hp o body' is (body mode AtTable) over ss extra u g))))
+          (step.windows mode image built good facts left s m h p hp o body' is (body mode AtTable) fine ss extra u g))))
           means.0 means.1 long (subst (λ m. edges m (body m AtTable) 0 ≤ on.own) q (omega arith))
-      at_the_end act Idt q (InIdt (idt.Leaves (IdtToTask by))) k ss ss_is extra v f n at means long enough hi =
-          at_exit (idt_exits image p small κ seat r t w ss extra v f code c s.memory blocked by (subst (λ m. HasKernel m code) (sym q) facts.kernel)
-          (subst (λ m. RunsTask m image p r t w) (sym q) o.task) (level_of Idt κ w o.alone) (subst (λ m. Saved m image v w) (sym q) means.0.saved)
+      at_the_end act over one Idt q (InIdt (idt.Leaves (IdtToTask by))) k ss ss_is extra v f n at means long enough hi =
+          at_exit one (idt_exits image p small κ σ r t w ss extra v f code c s.memory blocked by (subst (λ m. HasKernel m code) (sym q) facts.kernel)
+          (subst (λ m. RunsTask m image p r t w) (sym q) one.task) (level_of Idt κ w over) (subst (λ m. Saved m image v w) (sym q) means.0.saved)
           (subst (λ m. Matches m image by v) (sym q) means.1)
-          (subst (λ m. At code (idt_block (idt.Leaves (IdtToTask by))) (idt_block (idt.Leaves (IdtToTask by))).steps (here m p κ seat ss w extra v f) c
+          (subst (λ m. At code (idt_block (idt.Leaves (IdtToTask by))) (idt_block (idt.Leaves (IdtToTask by))).steps (here m p κ σ ss w extra v f) c
           s.memory)
           (sym q) (subst (λ j. At code (idt_block (idt.Leaves (IdtToTask by))) j (env ss extra v f) c s.memory) n at)))
           (ap is_user at.agrees.rest) means.0.ret
-      at_the_end act Idt q (InBody IdtFrame AtTable) k ss ss_is extra v f n at means long enough hi =
-          at_table act ss ss_is extra v f (subst (λ m. At code (block m (body m AtTable)) 0 (env ss extra v f) c s.memory) q
+      at_the_end act over one Idt q (InBody IdtFrame AtTable) k ss ss_is extra v f n at means long enough hi =
+          at_table act over ss ss_is extra v f (subst (λ m. At code (block m (body m AtTable)) 0 (env ss extra v f) c s.memory) q
           (subst (λ j. At code (body_block false IdtFrame AtTable) j (env ss extra v f) c s.memory) n at)) means.0 means.1 long
           (subst (λ m. edges m (body m AtTable) 0 ≤ on.own) q (subst (λ j. edges Idt (InBody IdtFrame AtTable) j ≤ on.own) n enough))
-      at_the_end act Idt q (InBody IdtFrame AtJump) k ss ss_is extra v f n at means long enough hi =
-          at_jump act ss ss_is extra v f (subst (λ m. At code (block m (body m AtJump)) 0 (env ss extra v f) c s.memory) q
+      at_the_end act over one Idt q (InBody IdtFrame AtJump) k ss ss_is extra v f n at means long enough hi =
+          at_jump act over ss ss_is extra v f (subst (λ m. At code (block m (body m AtJump)) 0 (env ss extra v f) c s.memory) q
           (subst (λ j. At code (body_block false IdtFrame AtJump) j (env ss extra v f) c s.memory) n at)) means.0 means.1 long
           (subst (λ m. edges m (body m AtJump) 0 ≤ on.own) q (subst (λ j. edges Idt (InBody IdtFrame AtJump) j ≤ on.own) n enough))
-      at_the_end act Idt q (InBody IdtFrame AtItem) k ss ss_is extra v f n at means long enough hi =
-          items.by_item mode image built good facts left s m h p hp o body' is act ss ss_is extra v f
+      at_the_end act over one Idt q (InBody IdtFrame AtItem) k ss ss_is extra v f n at means long enough hi =
+          items.by_item mode image built good facts left s m h p hp o body' is act over ss ss_is extra v f
           (subst (λ m. At code (block m (body m AtItem)) 0 (env ss extra v f) c s.memory) q
           (subst (λ j. At code (body_block false IdtFrame AtItem) j (env ss extra v f) c s.memory) n at)) means.0 means.1 long
           (subst (λ m. edges m (body m AtItem) 0 ≤ on.own) q (subst (λ j. edges Idt (InBody IdtFrame AtItem) j ≤ on.own) n enough))
           ctx.item (which image built good b.body body' is b.place ctx.item hi) hi
-      at_the_end act m q _ k ss ss_is extra v f n at means long enough hi = absurd means
+      at_the_end act over one m q _ k ss ss_is extra v f n at means long enough hi = absurd means
 
-    act_step : Stood on.own b c s.memory → Result
-    act_step act =
+    over_step : is_over_task κ ≡ true → Stood on.own b c s.memory → Result
+    over_step over act =
         let found = body_at (slice_get image.bodies b.body) b.place ctx.item ctx.is in
         pick (nat_le (suc act.stands.k) (block mode act.stands.spot).steps) refl found.0 found.1 found.2
       where
         pick : (t : Bool) → nat_le (suc act.stands.k) (block mode act.stands.spot).steps ≡ t → (body : Body) → slice_get image.bodies b.body ≡ Some body
             → item_at (Some body) b.place ≡ Some ctx.item → Result
         pick true q body is hi = step.inside mode image built good facts left s m h p hp o act (leb-true _ _ q)
-        pick false q body is hi = at_the_end body is act mode refl act.stands.spot act.stands.k act.stands.ss act.stands.ss_is act.stands.extra act.stands.var
+        pick false q body is hi =
+            at_the_end body is act over
+            (step.alone mode image built good facts left s m h p hp o over (step.still mode image built good facts left s m h p hp o act))
+            mode refl act.stands.spot act.stands.k act.stands.ss act.stands.ss_is act.stands.extra act.stands.var
             act.stands.flags (let up = leb-false _ _ q in let down = act.stands.within in omega arith) act.stands.at
-            (means_of mode image κ o.alone act.stands.spot _ w b s.memory.words act.means) act.stands.long act.stands.enough hi
+            (means_of mode image κ over act.stands.spot _ w b s.memory.words act.means) act.stands.long act.stands.enough hi
+
+  -- a step of the last context, by its kind
+  act_step : (o : step.Top mode image built good facts left s m h p hp) → Stood o on.own o.b c s.memory → Result
+  act_step o act = by_kind o.κ refl act.means
+    where
+      by_kind : (κ : Kind) → o.κ ≡ κ → Means mode image κ act.stands.spot (env o act.stands.ss act.stands.extra act.stands.var act.stands.flags) o.w o.b
+          s.memory.words → Result
+      by_kind SystemCall q means = over_step o (ap is_over_task q) act
+      by_kind FromTask q means = over_step o (ap is_over_task q) act
+      by_kind FromBody q means = absurd means
+      by_kind NmiFromTask q means = absurd means
+      by_kind NmiFromBody q means = absurd means
 
   -- a step of a processor on which a body stands: an edge or a turn, and it writes no frame
   pub kernel_step : (b : BodyContext) (below : List BodyContext) → x.bodies ≡ b ∷ below → Result
-  kernel_step b below hb = by_acts (s.activations p) refl chain
+  kernel_step b below hb = by_acts (s.activations p) refl
+      (subst (λ bs. Chain mode image p on.own r t on.frame on.switching bs (s.activations p) c s.memory) hb
+      (step.chain mode image built good facts left s m h p hp))
     where
-      chain : Chain mode image p on.own r t on.frame on.switching (b ∷ below) (s.activations p) c s.memory
-      chain = subst (λ bs. Chain mode image p on.own r t on.frame on.switching bs (s.activations p) c s.memory) hb
-          (as_chain mode image on.layer p on.own on.more r t on.frame on.switching x.bodies (s.activations p) c s.memory on.runs)
-
-      alone : (as' : List Activation) (w : Processor)
-          → Chain mode image p (most_edges mode image) r t on.frame (chained mode image on.switching below) below as' w s.memory → below ≡ []
-          → RunsTask mode image p r t w × (as' ≡ [])
-      alone as' w h e =
-          let k : Chain mode image p (most_edges mode image) r t on.frame (chained mode image on.switching []) [] as' w s.memory
-          = subst (λ ds. Chain mode image p (most_edges mode image) r t on.frame (chained mode image on.switching ds) ds as' w s.memory) e h in (k.0, k.2)
-
-      over_one : (κ : Kind) → is_over_task κ ≡ true → (a : Activation) (as' : List Activation) → s.activations p ≡ a ∷ as' → IsContext mode image b
-          → a.inner ≡ false → (w : Processor)
-          → Chain mode image p (most_edges mode image) r t on.frame (chained mode image on.switching below) below as' w s.memory
-          → kind_of image b below ≡ κ
-          → Active mode image p on.own κ seat on.frame (switches_at mode image on.switching below) w b c s.memory → Result
-      over_one κ one a as' ha ctx outer w under q act =
-          let none : below ≡ [] = stands_alone image b below (ap is_over_task q ∙ one) in
-          let task = alone as' w under none in
-          let stood : Active mode image p on.own κ seat on.frame on.switching w b c s.memory
-          = subst (λ ds. Active mode image p on.own κ seat on.frame (switches_at mode image on.switching ds) w b c s.memory) none act in
-          act_step (record {
-            b = b;
-            bodies = hb ∙ ap (λ bs. b ∷ bs) none;
-            κ = κ;
-            kind = subst (λ ds. kind_of image b ds ≡ κ) none q;
-            alone = one;
-            ctx = ctx;
-            last = a;
-            acts = ha ∙ ap (λ ys. a ∷ ys) task.1;
-            outer = outer;
-            w = w;
-            task = task.0;
-            still = not_switching stood;
-          }) stood
-        where
-          not_switching : Active mode image p on.own κ seat on.frame on.switching w b c s.memory → on.switching ≡ false
-          not_switching act = sym act.switches ∙ never_switches mode act.stands.spot (means_over mode image κ act.stands.spot _ w b s.memory.words act.means)
-
-      by_kind : (a : Activation) (as' : List Activation) → s.activations p ≡ a ∷ as' → IsContext mode image b → a.inner ≡ false → (w : Processor)
-          → Chain mode image p (most_edges mode image) r t on.frame (chained mode image on.switching below) below as' w s.memory
-          → (κ : Kind) → kind_of image b below ≡ κ
-          → Active mode image p on.own κ (seat_by mode κ r (seat_of mode image r below) (room_of mode image below)) on.frame
-          (switches_at mode image on.switching below) w b c s.memory → Result
-      by_kind a as' ha ctx outer w under SystemCall q act = over_one SystemCall refl a as' ha ctx outer w under q act
-      by_kind a as' ha ctx outer w under FromTask q act = over_one FromTask refl a as' ha ctx outer w under q act
-      by_kind a as' ha ctx outer w under FromBody q act = absurd act.means
-      by_kind a as' ha ctx outer w under NmiFromTask q act = absurd act.means
-      by_kind a as' ha ctx outer w under NmiFromBody q act = absurd act.means
-
       by_acts : (as' : List Activation) → s.activations p ≡ as' → Chain mode image p on.own r t on.frame on.switching (b ∷ below) as' c s.memory → Result
       by_acts [] e k = absurd k
-      by_acts (a ∷ as') e k = by_kind a as' e k.1 k.2 k.0
-          (over_any mode image (λ v. Chain mode image p (most_edges mode image) r t on.frame (chained mode image on.switching below) below as' v s.memory)
-          (keeps_cr2 mode image (kind_of image b below)) k.0 k.4) (kind_of image b below) refl k.6
+      by_acts (a ∷ as') e k = act_step (record {
+        b = b;
+        below = below;
+        bodies = hb;
+        κ = kind_of image b below;
+        kind = refl;
+        σ = seat_of mode image r (b ∷ below);
+        seat = refl;
+        ctx = k.1;
+        last = a;
+        others = as';
+        acts = e;
+        outer = k.2;
+        w = k.0;
+        interrupted = k.3;
+        under = k.4;
+        leads = k.5;
+      }) k.6

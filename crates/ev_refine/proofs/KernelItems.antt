@@ -1,7 +1,6 @@
 -- A step of a processor at an item: `log`, which the abstract machine sees, and `ret`, which leads to the exit.
-use Rattle.std.proofs.Common.{◌≡◌, inl, inr, ℕ, suc, ◌+◌, ◌%◌, ◌^◌, ◌<◌, ◌≤◌, Bool, true, false, ◌||◌, [], ◌∷◌, map, length, Some, refl, sym, ap, ◌∙◌, subst, arith}
+use Rattle.std.proofs.Common.{◌≡◌, inl, inr, ℕ, suc, ◌+◌, ◌%◌, ◌^◌, ◌<◌, ◌≤◌, Bool, true, false, List, [], ◌∷◌, map, length, Some, refl, sym, ap, ◌∙◌, subst, arith}
 use Rattle.std.specs.Prelude.{pos, if◌then◌else◌, slice_get}
-use Rattle.std.specs.List.{list_any}
 use Rattle.ev_isa.specs.Word.{NatMap, put_at, is_canonical, displaced}
 use Rattle.ev_isa.specs.Flags.{Flags, flags_word}
 use Rattle.ev_isa.specs.Spelling.{spelling}
@@ -22,7 +21,6 @@ use Rattle.ev_apic.specs.declared.apic.Apic.{Apic}
 use Rattle.ev_mem.specs.Memory.{Memory}
 use Rattle.ev_proc.specs.ProcessorStep.{has_fred, executed, ran}
 use Rattle.ev_proc.specs.declared.stepped.Stepped.{Stepped}
-use Rattle.ev_abstract.specs.Boundary.{is_nmi_body}
 use Rattle.ev_abstract.specs.Context.{BodyContext, local}
 use Rattle.ev_abstract.specs.Context as context
 use Rattle.ev_abstract.specs.declared.entry.Entry.{Entry}
@@ -50,10 +48,10 @@ use Rattle.ev_grounds.proofs.Grounds.{windows_fit}
 use Rattle.ev_user.specs.Words.{AreWords}
 use Rattle.ev_activation.specs.Seat.{Kind, Seat}
 use Rattle.ev_table.specs.Table.{code_table, other_exit, RetCell}
-use Rattle.ev_refine.specs.Named.{Outside, Changes}
+use Rattle.ev_refine.specs.Named.{Named, Port, Outside, UnknownTo, Changes}
 use Rattle.ev_refine.specs.Domain.{IsInDomain}
 use Rattle.ev_refine.specs.Active.{item_place, address_of_item, here, IsKernelSs, InItem, Active}
-use Rattle.ev_refine.specs.Relation.{IsContext, Chain, serves, StandsOn, Stands}
+use Rattle.ev_refine.specs.Relation.{IsContext, Chain, switches_at, StandsOn, Stands}
 use Rattle.ev_refine.specs.Claims.{Simulated}
 use Rattle.ev_concrete.specs.Shown.{shown_always}
 use Rattle.ev_refine.proofs.Facts.{Facts, word_of_flags, word_of_canonical}
@@ -61,8 +59,8 @@ use Rattle.ev_refine.proofs.ModeFacts.{is_fred}
 use Rattle.ev_refine.proofs.Fits.{IsSeat, where_at, InSome, IsThere, fits_at, known_in, port_open}
 use Rattle.ev_refine.proofs.Bodies.{layout_of, body, at_the_item, item_edges_few, exit_canonical, means_item, OpensItem, item_opening, gs_at, SaysSame, any_item, on_stack_alone, nothing_open, OpensExit, exits}
 use Rattle.ev_refine.proofs.Standing.{ran_stays}
-use Rattle.ev_refine.proofs.After.{kernel_names}
-use Rattle.ev_refine.proofs.CallKinds.{means_by, knows_nothing}
+use Rattle.ev_refine.proofs.After.{AreSparing, own_word, none_spares}
+use Rattle.ev_refine.proofs.CallKinds.{is_over_task, is_plain_kind, means_by, plain_knows}
 use Rattle.ev_refine.proofs.Items.{Today, IsLog, IsRet, behind_log, local_is}
 use Rattle.ev_refine.proofs.KernelStep as step
 
@@ -107,21 +105,21 @@ module _ (mode : Mode) (image : Image) (built : IsBuilt image) (good : IsImage i
   abbrev t : Task
   t = x.tasks r
 
-  abbrev seat : Seat
-  seat = record { stack = r; used = 0 }
-
-  abbrev in_seat : IsSeat seat
-  in_seat = step.in_seat mode image built good facts left s m h p hp
-
   abbrev Executes : Ins → Processor → NatMap ℕ → Type 0
   Executes i cpu words = (a : Apic) (nmi : Bool) → executed c a s.memory nmi (Some i) ≡ ran cpu a words nmi
 
-  module _ (o : step.One mode image built good facts left s m h p hp) where
+  module _ (o : step.Top mode image built good facts left s m h p hp) where
     abbrev b : BodyContext
     b = o.b
 
+    abbrev below : List BodyContext
+    below = o.below
+
     abbrev κ : Kind
     κ = o.κ
+
+    abbrev σ : Seat
+    σ = o.σ
 
     abbrev w : Processor
     w = o.w
@@ -129,20 +127,23 @@ module _ (mode : Mode) (image : Image) (built : IsBuilt image) (good : IsImage i
     abbrev ctx : IsContext mode image b
     ctx = o.ctx
 
+    abbrev in_seat : IsSeat σ
+    in_seat = step.in_seat mode image built good facts left s m h p hp o
+
     abbrev fred_is : has_fred w ≡ is_fred mode
     fred_is = step.fred_is mode image built good facts left s m h p hp o
 
-    abbrev plain : list_any (is_nmi_body image) (b ∷ []) ≡ false
-    plain = step.plain mode image built good facts left s m h p hp o
+    abbrev plain_kind : is_plain_kind κ ≡ true
+    plain_kind = step.plain_kind mode image built good facts left s m h p hp o
 
     abbrev blocked : c.nmi_blocked ≡ false
-    blocked = step.blocked mode image built good facts left s m h p hp o
+    blocked = step.blocked mode image built good facts left s m h p hp
 
     abbrev env : ℕ → (extra v : ℕ → ℕ) → Flags → Env
-    env ss extra v f = here mode p κ seat ss w extra v f
+    env ss extra v f = here mode p κ σ ss w extra v f
 
     abbrev Stood : ℕ → BodyContext → Processor → Memory → Type 0
-    Stood now b' cpu mem = Active mode image p now κ seat on.frame on.switching w b' cpu mem
+    Stood now b' cpu mem = Active mode image p now κ σ on.frame (switches_at mode image on.switching below) w b' cpu mem
 
     module _ (body' : Body) (is : slice_get image.bodies b.body ≡ Some body') where
       -- ---- an item
@@ -162,12 +163,12 @@ module _ (mode : Mode) (image : Image) (built : IsBuilt image) (good : IsImage i
           let g = at_end code B 0 B.opening refl e c s.memory at in
           record { kernel = hu; flags = kept c.flags _ g.flags; ends = sym (facts.spaced c.rip _ hc) }
 
-      at_log : (act : Stood on.own b c s.memory) (ss : ℕ) → IsKernelSs ss → (extra v : ℕ → ℕ) (f : Flags)
-          → At code (block mode (body mode AtItem)) 0 (env ss extra v f) c s.memory → InItem mode image v w b
+      at_log : (act : Stood on.own b c s.memory) → is_over_task κ ≡ true → (ss : ℕ) → IsKernelSs ss → (extra v : ℕ → ℕ) (f : Flags)
+          → At code (block mode (body mode AtItem)) 0 (env ss extra v f) c s.memory → InItem mode image v f w b
           → extra 20 ≡ item_place mode image b.body b.place → length c.regs ≡ 16 → (q : ℕ) → item_at (Some body') b.place ≡ Some (Log q)
           → 6 ≤ q → q < 14 → Result
       unfolding is_return is_jump shown_always InSome
-      at_log act ss ss_is extra v f at means place long q hi lo hq =
+      at_log act over ss ss_is extra v f at means place long q hi lo hq =
           let e : Env = env ss extra v f in
           let spot : Spot = body mode AtItem in
           let B : Block = block mode spot in
@@ -185,11 +186,10 @@ module _ (mode : Mode) (image : Image) (built : IsBuilt image) (good : IsImage i
           let gs : displaced c.msrs.gs_base (pos 0x28) ≡ port = ap (λ n. displaced n (pos 0x28)) (gs_at mode e c s.memory a)
           ∙ (let z : displaced ((pcpu p + 0) % M) (pos 0x28) ≡ pcpu p + 0x28 = omega arith in z) in
           let access : IsOpen s.memory.regions port = subst (IsOpen s.memory.regions) (let z : (pcpu p + 0x28) % M ≡ pcpu p + 0x28 = omega arith in z)
-          (port_open mode image p seat in_seat hp good.count.1 κ ss w extra v f s.memory h.regions_are (gs_word 0x28) refl) in
+          (port_open mode image p σ in_seat hp good.count.1 κ ss w extra v f s.memory h.regions_are (gs_word 0x28) refl) in
           let does : Executes cell.ins (onward c c.regs next) words
           = (singles c s.memory next).stores_to_gs (pos 0x28) q port (is_at cell.ins next true e B at hu hc) gs access in
-          let changes : Changes p seat (kernel_names p) s.memory.words words = λ y off d. put_other s.memory.words port (register c q) y (port_apart y d.1.0)
-          in
+          let changes : Changes p σ names s.memory.words words = λ y off d. put_other s.memory.words port (register c q) y (port_apart y d.0) in
           let kept_at : At code B 0 e c (with_words s.memory words) = stays code B 0 e c s.memory (with_words s.memory words) at refl
           (λ l i. put_other s.memory.words port (register c q) (addr e l) (off_stack ss extra v f l i)) in
           let b' : Agrees e B.ground B.opening c (with_words s.memory words) = at_end code B 0 B.opening refl e c (with_words s.memory words) kept_at in
@@ -197,7 +197,7 @@ module _ (mode : Mode) (image : Image) (built : IsBuilt image) (good : IsImage i
           let on_next : IsContext mode image (context.onward b) = record { item = behind.0; is = ap (λ o. item_at o (suc b.place)) is ∙ behind.1 } in
           let further : ℕ → ℕ = λ n. item_place mode image b.body (suc b.place) in
           let next_is : item_place mode image b.body (suc b.place) ≡ next = ap (address_of_item mode b.body (suc b.place)) is in
-          let same : SaysSame e (env ss further v f) B.ground.known B.opening = any_item mode p κ seat ss w extra further v f in
+          let same : SaysSame e (env ss further v f) B.ground.known B.opening = any_item mode p κ σ ss w extra further v f in
           let agrees : Agrees (env ss further v f) B.ground B.opening (onward c c.regs next) (with_words s.memory words) = record {
             regs = b'.regs ∙ same.regs;
             rip = plus_zero next next_small ∙ ap (λ y. (y + 0) % M) (sym next_is) ∙ ap (addr (env ss further v f)) (sym io.rip);
@@ -215,7 +215,7 @@ module _ (mode : Mode) (image : Image) (built : IsBuilt image) (good : IsImage i
                 (nothing_open (env ss further v f) s.memory);
           } in
           let spread = facts.item_range b.body (suc b.place) body' is in
-          let fit : Fits code (env ss further v f) B = fits_at mode image p seat in_seat hp good.count.1 κ ss w further v f facts spot way.over fred_is
+          let fit : Fits code (env ss further v f) B = fits_at mode image p σ in_seat hp good.count.1 κ ss w further v f facts spot way.over fred_is
           (subst (λ y. (0xffffffff82000000 ≤ y) × (y + 0x100 ≤ M)) (sym next_is) spread) tt (way.told (env ss further v f)) in
           let act' : Stood (edges mode spot 0) (context.onward b) (onward c c.regs next) (with_words s.memory words) = record {
             stands = record {
@@ -231,67 +231,79 @@ module _ (mode : Mode) (image : Image) (built : IsBuilt image) (good : IsImage i
               at = begins code B (env ss further v f) (onward c c.regs next) (with_words s.memory words) fit agrees;
               long = long;
             };
-            switches = way.off ∙ sym o.still;
-            knows = knows_nothing mode κ on.frame o.alone (blocks.holds spot);
-            means = means_by mode image κ o.alone spot (env ss further v f) w (context.onward b) words
-                (means_item mode image (env ss further v f) w (context.onward b) (record { saved = means.saved; locals = means.locals }) refl);
+            switches = way.off ∙ sym (step.still mode image built good facts left s m h p hp o act);
+            knows = plain_knows mode κ on.frame plain_kind (blocks.holds spot);
+            means = means_by mode image κ over spot (env ss further v f) w (context.onward b) words
+                (means_item mode image (env ss further v f) w (context.onward b)
+                (record { saved = means.saved; locals = means.locals; flags = means.flags }) refl);
           } in
-          let still_one : activations_by s p (s.activations p) (onward c c.regs next) Stepped.Ran ≡ o.last ∷ []
+          let still_there : activations_by s p (s.activations p) (onward c c.regs next) Stepped.Ran ≡ o.last ∷ o.others
           = ran_stays s p (onward c c.regs next) cell.ins (fetches c.rip cell hc).1 refl ∙ o.acts in
+          let quiet = step.are_quiet mode image built good facts left s m h p hp o in
           let few = item_edges_few mode in
-          step.visible mode image built good facts left s m h p hp o cell hc refl hu (onward c c.regs next) words does blocked changes (context.onward b ∷ [])
-          plain (
-            record {
-              interrupts = (step.quiet mode image built good facts left s m h p hp o).interrupts;
-              service =
-                  (step.quiet mode image built good facts left s m h p hp o).service;
-              calls = (step.quiet mode image built good facts left s m h p hp o).calls;
-            },
-            tt,
-          )
-          (λ class. ap (λ o. serves mode image class o || false) (step.quiet mode image built good facts left s m h p hp o).service)
-          (ap length o.bodies) (edges mode spot 0) few
-          (subst (λ as'. Chain mode image p (edges mode spot 0) r t on.frame on.switching (context.onward b ∷ []) as' (onward c c.regs next)
-          (with_words s.memory words)) (sym still_one)
-          (step.one_context mode image built good facts left s m h p hp o (context.onward b) o.kind on_next (edges mode spot 0) (onward c c.regs next)
-          (with_words s.memory words) act'))
-          (Entry.Log p (local b q) ∷ [])
-          (ap (λ y. Entry.Log p y ∷ []) (local_is e io.rsp c.regs b.locals (a.regs ∙ ap (map (eval e)) io.regs) means.locals q lo hq))
+          step.visible mode image built good facts left s m h p hp o cell hc refl hu (onward c c.regs next) words does blocked names (sparing.allowed) changes
+          (with_processor m p (record x { bodies = context.onward b ∷ below })) (Entry.Log p (local b q) ∷ [])
           (step.log_turn mode image built good facts left s m h p hp o q (ap (λ o. item_at o b.place) is ∙ hi))
+          x.tasks x.slots (context.onward b ∷ below)
+          (step.bodies_alone mode image built good facts left s m h p hp o names sparing.allowed words changes sparing refl (context.onward b ∷ below))
+          (record { interrupts = quiet.0.interrupts; service = quiet.0.service; calls = quiet.0.calls }, quiet.1)
+          (ap length o.bodies) (edges mode spot 0) (omega arith)
+          (subst (λ as'. Chain mode image p (edges mode spot 0) r t on.frame on.switching (context.onward b ∷ below) as' (onward c c.regs next)
+          (with_words s.memory words)) (sym still_there)
+          (step.with_last mode image built good facts left s m h p hp o (context.onward b) o.kind on_next (edges mode spot 0) (onward c c.regs next)
+          words names sparing.allowed (unknown below) changes act'))
+          (ap (λ y. Entry.Log p y ∷ []) (local_is e io.rsp c.regs b.locals (a.regs ∙ ap (map (eval e)) io.regs) means.locals q lo hq))
         where
+          names : List Named
+          names = Port p ∷ []
+
+          sparing : AreSparing p (Port p ∷ [])
+          sparing = record {
+            allowed = record { written = (small, tt); own = λ q d. (own_word p q d, tt); kernel = refl };
+            slots = refl;
+            cells = refl;
+            pages = refl;
+          }
+
+          unknown : (ds : List BodyContext) → UnknownTo ds (Port p ∷ [])
+          unknown [] = tt
+          unknown (d ∷ ds) = refl
+
           port_apart : (y : ℕ) → Outside (pcpu p + 0x28) (pcpu p + 0x28 + 8) y → y ≡ pcpu p + 0x28 → ⊥
           port_apart y (inl o) q = omega arith
           port_apart y (inr o) q = omega arith
 
           off_stack : (ss : ℕ) (extra v : ℕ → ℕ) (f : Flags) (l : Loc) → in_win (block mode (body mode AtItem)).ground.known l ≡ true
               → addr (env ss extra v f) l ≡ pcpu p + 0x28 → ⊥
-          off_stack ss extra v f l i q = on_its_stack (subst (InSome (IsThere (env ss extra v f) (where_at p seat) l)) (on_stack_alone mode)
-              (known_in mode image p seat in_seat hp good.count.1 κ ss w extra v f (body mode AtItem) (at_the_item mode).over l i))
+          off_stack ss extra v f l i q = on_its_stack (subst (InSome (IsThere (env ss extra v f) (where_at p σ) l)) (on_stack_alone mode)
+              (known_in mode image p σ in_seat hp good.count.1 κ ss w extra v f (body mode AtItem) (at_the_item mode).over l i))
             where
-              on_its_stack : InSome (IsThere (env ss extra v f) (where_at p seat) l) (OnStack (body_bytes (layout_of mode)) ∷ []) → ⊥
-              on_its_stack (inl t) = let from = t.1.from in let narrow = small in omega arith
+              on_its_stack : InSome (IsThere (env ss extra v f) (where_at p σ) l) (OnStack (body_bytes (layout_of mode)) ∷ []) → ⊥
+              on_its_stack (inl t) = let from = t.1.from in let narrow = small in let room = in_seat.room in let few = in_seat.stack in omega arith
               on_its_stack (inr t) = t
 
-      at_ret : (act : Stood on.own b c s.memory) (ss : ℕ) → IsKernelSs ss → (extra v : ℕ → ℕ) (f : Flags)
-          → At code (block mode (body mode AtItem)) 0 (env ss extra v f) c s.memory → InItem mode image v w b
+      at_ret : (act : Stood on.own b c s.memory) → is_over_task κ ≡ true → (ss : ℕ) → IsKernelSs ss → (extra v : ℕ → ℕ) (f : Flags)
+          → At code (block mode (body mode AtItem)) 0 (env ss extra v f) c s.memory → InItem mode image v f w b
           → extra 20 ≡ item_place mode image b.body b.place → length c.regs ≡ 16 → edges mode (body mode AtItem) 0 ≤ on.own
           → item_at (Some body') b.place ≡ Some Ret → Result
       unfolding is_return
-      at_ret act ss ss_is extra v f at means place long enough hi =
+      at_ret act over ss ss_is extra v f at means place long enough hi =
+          let one : step.Alone mode image built good facts left s m h p hp o
+          = step.alone mode image built good facts left s m h p hp o over (step.still mode image built good facts left s m h p hp o act) in
           let e : Env = env ss extra v f in
           let B : Block = block mode (body mode AtItem) in
           let a : Agrees e B.ground B.opening c s.memory = at_end code B 0 B.opening refl e c s.memory at in
           let hu : is_user c ≡ false = ap is_user a.rest in
           let rc : RetCell (code_table mode image) (item_address mode b.body body' b.place) (other_exit mode) = facts.ret_cell b.body b.place body' is hi in
           let hc : code c.rip ≡ Some rc.cell = ap code (at_item ss extra v f a place) ∙ rc.is in
-          let off : s.memory.words (pcpu p + 0x20) ≡ 0 = on.mark o.still ∙ ap (λ r. if r then 1 else 0) domain.resched in
-          let cs : w.cs ≡ 0x33 = ap (λ (y : Processor). y.cs) o.task.is in
+          let off : s.memory.words (pcpu p + 0x20) ≡ 0 = on.mark one.still ∙ ap (λ r. if r then 1 else 0) domain.resched in
+          let cs : w.cs ≡ 0x33 = ap (λ (y : Processor). y.cs) one.task.is in
           let cpu : Processor = onward c c.regs (other_exit mode) in
-          let x : OpensExit mode p κ seat ss w extra v f c cpu s.memory = exits image p small κ seat ss w cs extra v f c s.memory off mode means.saved
+          let x : OpensExit mode p κ σ ss w extra v f c cpu s.memory = exits image p small κ σ ss w cs extra v f c s.memory off mode means.saved
           (subst (λ n. n < 2 ^ 64) (sym means.saved.rip)
-          (word_of_canonical w.rip (ap (λ (y : Processor). is_canonical y.rip) o.task.is ∙ o.task.task.canonical)))
-          (subst (λ n. n < 2 ^ 64) (sym (means.saved.flags ∙ ap (λ (y : Processor). y.flags) o.task.is)) (word_of_flags t.flags))
-          (subst (λ (y : Processor). AreWords y.regs) (sym o.task.is) o.task.task.words) a in
+          (word_of_canonical w.rip (ap (λ (y : Processor). is_canonical y.rip) one.task.is ∙ one.task.task.canonical)))
+          (subst (λ n. n < 2 ^ 64) (sym (means.saved.flags ∙ ap (λ (y : Processor). y.flags) one.task.is)) (word_of_flags t.flags))
+          (subst (λ (y : Processor). AreWords y.regs) (sym one.task.is) one.task.task.words) a in
           let at_ret_cell : IsAt c (Jmp rc.distance) rc.cell.next = record {
             kernel = hu;
             flags = kept c.flags _ a.flags;
@@ -302,8 +314,8 @@ module _ (mode : Mode) (image : Image) (built : IsBuilt image) (good : IsImage i
           ((singles c s.memory rc.cell.next).jumps rc.distance at_ret_cell (ap is_canonical rc.leads ∙ exit_canonical mode))) in
           let falls = x.fewer in
           step.edge mode image built good facts left s m h p hp o rc.cell hc rc.unmarked (ap (λ i. is_return (Some i)) rc.jump) hu
-          (step.outside mode image built good facts left s m h p hp o act) cpu s.memory.words does blocked (λ y far far'. refl)
-          (edges mode x.spot 0) (omega arith)
+          (step.outside mode image built good facts left s m h p hp o act) cpu s.memory.words does blocked [] (none_spares p) refl
+          (step.unknown_none below) (λ y far far'. refl) (edges mode x.spot 0) (omega arith)
           (record {
             stands = record {
               spot = x.spot;
@@ -320,17 +332,17 @@ module _ (mode : Mode) (image : Image) (built : IsBuilt image) (good : IsImage i
                   (x.agrees (step.windows mode image built good facts left s m h p hp o body' is x.spot x.over ss extra v f));
               long = long;
             };
-            switches = x.off ∙ sym o.still;
-            knows = knows_nothing mode κ on.frame o.alone (blocks.holds x.spot);
-            means = means_by mode image κ o.alone x.spot e w b s.memory.words
+            switches = x.off ∙ sym (step.still mode image built good facts left s m h p hp o act);
+            knows = plain_knows mode κ on.frame plain_kind (blocks.holds x.spot);
+            means = means_by mode image κ over x.spot e w b s.memory.words
                 (x.means image b (record { saved = means.saved; ret = ap (λ o. item_at o b.place) is ∙ hi }));
           })
 
-      pub by_item : (act : Stood on.own b c s.memory) (ss : ℕ) → IsKernelSs ss → (extra v : ℕ → ℕ) (f : Flags)
-          → At code (block mode (body mode AtItem)) 0 (env ss extra v f) c s.memory → InItem mode image v w b
+      pub by_item : (act : Stood on.own b c s.memory) → is_over_task κ ≡ true → (ss : ℕ) → IsKernelSs ss → (extra v : ℕ → ℕ) (f : Flags)
+          → At code (block mode (body mode AtItem)) 0 (env ss extra v f) c s.memory → InItem mode image v f w b
           → extra 20 ≡ item_place mode image b.body b.place → length c.regs ≡ 16 → edges mode (body mode AtItem) 0 ≤ on.own
           → (i : Item) → Today i → item_at (Some body') b.place ≡ Some i → Result
-      by_item act ss ss_is extra v f at means place long enough i (IsLog q e lo hq) hi =
-          at_log act ss ss_is extra v f at means place long q (hi ∙ ap (λ j. Some j) e) lo hq
-      by_item act ss ss_is extra v f at means place long enough i (IsRet e) hi =
-          at_ret act ss ss_is extra v f at means place long enough (hi ∙ ap (λ j. Some j) e)
+      by_item act over ss ss_is extra v f at means place long enough i (IsLog q e lo hq) hi =
+          at_log act over ss ss_is extra v f at means place long q (hi ∙ ap (λ j. Some j) e) lo hq
+      by_item act over ss ss_is extra v f at means place long enough i (IsRet e) hi =
+          at_ret act over ss ss_is extra v f at means place long enough (hi ∙ ap (λ j. Some j) e)

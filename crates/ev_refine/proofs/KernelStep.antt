@@ -1,8 +1,8 @@
 -- What a step of kernel code gives: an edge, or a turn of the abstract machine; and steps inside blocks.
-use Rattle.std.proofs.Common.{◌≡◌, inl, inr, ℕ, suc, ◌+◌, ◌-◌, ◌<◌, ◌≤◌, Bool, true, false, not, ◌&&◌, ◌||◌, List, [], ◌∷◌, length, Some, refl, sym, ap, ◌∙◌, subst, arith}
-use Rattle.std.specs.Prelude.{if◌then◌else◌, slice_get, nat_le, nat_lt}
+use Rattle.std.proofs.Common.{◌≡◌, inl, inr, ℕ, suc, ◌+◌, ◌-◌, ◌*◌, ◌<◌, ◌≤◌, Bool, true, false, not, ◌&&◌, ◌||◌, List, [], ◌∷◌, length, Some, refl, sym, ap, ◌∙◌, subst, arith}
+use Rattle.std.specs.Prelude.{if◌then◌else◌, ◌==◌, slice_get, nat_le, nat_lt}
 use Rattle.std.specs.List.{list_any}
-use Rattle.ev_isa.specs.Word.{NatMap, put_at, bit, greatest_below}
+use Rattle.ev_isa.specs.Word.{NatMap, put_at, greatest_below}
 use Rattle.ev_isa.specs.Flags.{Flags}
 use Rattle.ev_isa.specs.declared.instruction.Ins.{Ins}
 use Rattle.ev_isa.specs.declared.mode.Mode.{Mode}
@@ -13,11 +13,11 @@ use Rattle.ev_body.specs.declared.item.Item.TheVariants.{Log, Ret}
 use Rattle.ev_body.specs.declared.body.Body.{Body}
 use Rattle.ev_body.specs.declared.image.Image.{Image}
 use Rattle.ev_body.specs.WellFormed.{IsImage}
-use Rattle.ev_listing.specs.AddressMap.{nmi_entry, repeat_entry}
+use Rattle.ev_listing.specs.AddressMap.{pcpu, slot_offset, cells_base, nmi_entry, repeat_entry}
 use Rattle.ev_listing.specs.Expansion.{item_address}
 use Rattle.ev_state.specs.Processor.{Processor, is_user}
 use Rattle.ev_apic.specs.declared.apic.Apic.{Apic}
-use Rattle.ev_mem.specs.Memory.{Memory}
+use Rattle.ev_mem.specs.Memory.{Memory, page_map}
 use Rattle.ev_proc.specs.ProcessorStep.{has_fred, next_of, executed, ran}
 use Rattle.ev_proc.specs.declared.stepped.Stepped.{Stepped}
 use Rattle.ev_abstract.specs.Boundary.{Choice, choice, maskable, open_to_interrupts, interrupt_or_next, deliverable, is_nmi_body}
@@ -39,30 +39,53 @@ use Rattle.ev_symbolic.specs.Machine.{Fetches, Inside}
 use Rattle.ev_symbolic.proofs.Blocks.{earlier, goes_on, cell_step}
 use Rattle.ev_blocks.specs.Blocks.{Spot, InFred, InIdt, InBody, block, edges}
 use Rattle.ev_blocks.specs.Blocks as blocks
-use Rattle.ev_activation.specs.Seat.{Kind, Seat, kind_of, seat_by, seat_of, room_of}
+use Rattle.ev_activation.specs.Seat.{Kind, SystemCall, FromTask, FromBody, NmiFromTask, NmiFromBody, Seat, kind_of, seat_by, seat_of, room_of}
 use Rattle.ev_table.specs.Table.{code_table}
-use Rattle.ev_user.specs.Tasks.{RunsTask}
+use Rattle.ev_user.specs.Tasks.{IsTask, RunsTask}
+use Rattle.ev_user.specs.Sees.{IsUserWord}
+use Rattle.ev_user.specs.Words.{HoldsWords}
+use Rattle.ev_concrete.specs.Opening.{tasks_of}
 use Rattle.ev_refine.specs.Nmi.{Leads, inner_edges}
-use Rattle.ev_refine.specs.Named.{Changes}
+use Rattle.ev_refine.specs.Named.{Named, is_slot, is_cell, is_page_bit, is_user_word, have_none, UnknownTo, Changes}
 use Rattle.ev_refine.specs.Domain.{IsQuiet, AreQuiet, IsInDomain}
-use Rattle.ev_refine.specs.Active.{item_place, address_of_item, here, IsKernelSs, OverTask, Active}
-use Rattle.ev_refine.specs.Relation.{IsContext, Beneath, keeps_cr2, switches_at, chained, most_edges, Chain, serves, StandsOn, Stands}
+use Rattle.ev_refine.specs.Active.{item_place, address_of_item, here, IsKernelSs, Means, Active}
+use Rattle.ev_refine.specs.Relation.{IsContext, Beneath, keeps_cr2, switches_at, chained, Interrupted, body_edges, Chain, serves, StandsOn, Stands}
 use Rattle.ev_refine.specs.Claims.{Simulated}
 use Rattle.ev_concrete.specs.Shown.{shown_always}
 use Rattle.ev_refine.proofs.Facts.{Facts}
 use Rattle.ev_refine.proofs.Maps.{at_same, at_other}
-use Rattle.ev_refine.proofs.ModeFacts.{is_fred, controls}
-use Rattle.ev_refine.proofs.Spots.{over_task, IsAtEntry, means_over, runs_to_end}
+use Rattle.ev_refine.proofs.ModeFacts.{is_fred}
+use Rattle.ev_refine.proofs.Spots.{over_task, IsAtEntry, keeps_rsp, names_if, names_at, means_over, never_switches, runs_to_end}
 use Rattle.ev_refine.proofs.Fits.{IsSeat, InBodies, fits_at, opens_at, kernel_changes}
 use Rattle.ev_refine.proofs.Bodies.{Goes}
 use Rattle.ev_refine.proofs.Instructions.{stays_inside}
 use Rattle.ev_refine.proofs.Standing.{instruction_first, hidden, seen, after_ran, Runs, ran_step, ran_writes, ran_safe, ran_shown, ran_stays, Moves, step_moves}
-use Rattle.ev_refine.proofs.Stays.{means_again}
-use Rattle.ev_refine.proofs.After.{kernel_names, kernel_spares, kernel_user, few_inner, latch_parts, returns_to, own_after, stands_after}
-use Rattle.ev_refine.proofs.CallKinds.{is_over_task, plain_no_nmi, means_by, knows_nothing, over_kind}
+use Rattle.ev_refine.proofs.Stays.{means_again, leads_again, AreSpared, chain_stays, seat_fits, below_spared}
+use Rattle.ev_refine.proofs.Chains.{chain_kept, chain_few, chain_plain}
+use Rattle.ev_refine.proofs.After.{AreNames, AreSparing, own_word, none_spares, slot_same, cell_same, page_same, user_same, few_inner, latch_parts, as_chain, returns_to, own_becomes, own_after, stands_become, stands_after}
+use Rattle.ev_refine.proofs.CallKinds.{is_over_task, is_plain_kind, over_any, beneath_as, stands_alone, ArePlain, none_nmi, seat_under, plain_seat, plain_knows}
 use Rattle.ev_refine.proofs.Domains.{four_tasks, one_task_each}
 use Rattle.ev_refine.proofs.Legality.{turn_legal}
 use Rattle.ev_refine.proofs.Depth.{active_outside, stands_depth, goes_on_inside, ran_counts}
+
+-- the names of a block's writes
+rsp_spares : (p : ℕ) → p < 32 → (rsp : Bool) → AreSparing p (names_if rsp p)
+rsp_spares p hp true = record {
+  allowed = record { written = (hp, tt); own = λ q d. (own_word p q d, tt); kernel = refl };
+  slots = refl;
+  cells = refl;
+  pages = refl;
+}
+rsp_spares p hp false = none_spares p
+
+rsp_no_user : (p : ℕ) (rsp : Bool) → have_none is_user_word (names_if rsp p) ≡ true
+rsp_no_user p true = refl
+rsp_no_user p false = refl
+
+-- who writes no word writes none that others know
+pub unknown_none : (below : List BodyContext) → UnknownTo below []
+unknown_none [] = tt
+unknown_none (b ∷ below) = refl
 
 module _ (mode : Mode) (image : Image) (built : IsBuilt image) (good : IsImage image) (facts : Facts mode image)
     (left : NatMap ℕ) (s : System) (m : Machine) (h : Stands mode image left s m) (p : ℕ) (hp : p < image.processors) where
@@ -109,11 +132,29 @@ module _ (mode : Mode) (image : Image) (built : IsBuilt image) (good : IsImage i
   pub first_task : r ≡ 0
   first_task = let n = returns_to mode image p (left p) s x on in let one = one_task_each image built p hp in omega arith
 
-  abbrev pub seat : Seat
-  seat = record { stack = r; used = 0 }
+  abbrev pub Chained : (now : ℕ) (t : Task) → List BodyContext → List Activation → Processor → Memory → Type 0
+  Chained now t bs as' cpu mem = Chain mode image p now r t on.frame on.switching bs as' cpu mem
 
-  pub in_seat : IsSeat seat
-  in_seat = let z = first_task in record { stack = omega arith; room = omega arith; aligned = refl }
+  pub chain : Chained on.own t x.bodies (s.activations p) c s.memory
+  chain = as_chain mode image on.layer p on.own on.more r t on.frame on.switching x.bodies (s.activations p) c s.memory on.runs
+
+  pub plain : ArePlain image x.bodies
+  plain = chain_plain mode image p on.own r t on.frame on.switching x.bodies (s.activations p) c s.memory chain
+
+  pub none_is_nmi : list_any (is_nmi_body image) x.bodies ≡ false
+  none_is_nmi = none_nmi image x.bodies plain
+
+  pub deep : length x.bodies ≤ 32
+  deep = chain_few mode image p on.own r t on.frame on.switching x.bodies (s.activations p) c s.memory chain
+
+  pub blocked : c.nmi_blocked ≡ false
+  blocked = (latch_parts on.layer on.frame _ (s.latches p) c.nmi_blocked x.nmi on.latch).1 ∙ none_is_nmi
+
+  -- no interrupt is in service
+  unserved : (class : ℕ) (ys : List BodyContext) → AreQuiet ys → list_any (λ (a : BodyContext). serves mode image class a.service) ys ≡ false
+  unserved class [] q = refl
+  unserved class (a ∷ ys) q = ap (λ o. serves mode image class o || list_any (λ (a : BodyContext). serves mode image class a.service) ys) q.0.service
+      ∙ unserved class ys q.1
 
   abbrev pub Executes : Ins → Processor → NatMap ℕ → Type 0
   Executes i cpu words = (a : Apic) (nmi : Bool) → executed c a s.memory nmi (Some i) ≡ ran cpu a words nmi
@@ -121,27 +162,42 @@ module _ (mode : Mode) (image : Image) (built : IsBuilt image) (good : IsImage i
   runs : (cell : Cell) → code c.rip ≡ Some cell → is_user c ≡ false → (cpu : Processor) (words : NatMap ℕ) → Executes cell.ins cpu words → Runs s p cpu words
   runs cell hc hu cpu words he = cell_step code c (s.apics p) s.memory (s.latches p) cell fetches hc first hu ∙ he (s.apics p) (s.latches p)
 
-  -- the processor runs the activation of one context alone, over a task
-  pub record One : Type 0 where
+  moves : (cpu : Processor) (words : NatMap ℕ) → Moves p s (after_ran s p cpu words) cpu (activations_by s p (s.activations p) cpu Stepped.Ran) words
+  moves cpu words = step_moves s p (ran cpu (s.apics p) words (s.latches p)) refl refl
+
+  -- ---- the last context, on any contexts below
+
+  pub record Top : Type 0 where
     pub b : BodyContext
-    pub bodies : x.bodies ≡ b ∷ []
+    pub below : List BodyContext
+    pub bodies : x.bodies ≡ b ∷ below
     pub κ : Kind
-    pub kind : kind_of image b [] ≡ κ
-    pub alone : is_over_task κ ≡ true
+    pub kind : kind_of image b below ≡ κ
+    pub σ : Seat
+    pub seat : seat_by mode κ r (seat_of mode image r below) (room_of mode image below) ≡ σ
     pub ctx : IsContext mode image b
     pub last : Activation
-    pub acts : s.activations p ≡ last ∷ []
+    pub others : List Activation
+    pub acts : s.activations p ≡ last ∷ others
     pub outer : last.inner ≡ false
     pub w : Processor
-    pub task : RunsTask mode image p r t w
-    pub still : on.switching ≡ false
+    pub interrupted : Interrupted mode image below w others
+    pub under : Beneath mode image (keeps_cr2 mode image κ)
+        (λ v. Chain mode image p (body_edges mode image) r t on.frame (chained mode image on.switching below) below others v s.memory) w
+    pub leads : Leads mode p κ on.frame w s.memory.words
 
-  module _ (o : One) where
+  module _ (o : Top) where
     abbrev pub b : BodyContext
     b = o.b
 
+    abbrev pub below : List BodyContext
+    below = o.below
+
     abbrev pub κ : Kind
     κ = o.κ
+
+    abbrev pub σ : Seat
+    σ = o.σ
 
     abbrev pub w : Processor
     w = o.w
@@ -150,58 +206,116 @@ module _ (mode : Mode) (image : Image) (built : IsBuilt image) (good : IsImage i
     ctx = o.ctx
 
     abbrev pub env : ℕ → (extra v : ℕ → ℕ) → Flags → Env
-    env ss extra v f = here mode p κ seat ss w extra v f
+    env ss extra v f = here mode p κ σ ss w extra v f
 
     abbrev pub Stood : ℕ → BodyContext → Processor → Memory → Type 0
-    Stood now b' cpu mem = Active mode image p now κ seat on.frame on.switching w b' cpu mem
+    Stood now b' cpu mem = Active mode image p now κ σ on.frame (switches_at mode image on.switching below) w b' cpu mem
+
+    pub all_plain : ArePlain image (b ∷ below)
+    all_plain = subst (ArePlain image) o.bodies plain
+
+    pub plain_kind : is_plain_kind κ ≡ true
+    plain_kind = sym (ap is_plain_kind o.kind) ∙ all_plain.0
+
+    pub shallow : length below < 32
+    shallow = let d = deep in let e = ap length o.bodies in omega arith
+
+    pub seat_is : seat_of mode image r (b ∷ below) ≡ σ
+    seat_is = ap (λ k. seat_by mode k r (seat_of mode image r below) (room_of mode image below)) o.kind ∙ o.seat
+
+    pub under_is : σ ≡ seat_under mode r (length below)
+    under_is = sym seat_is ∙ plain_seat mode image r b below all_plain
+
+    pub in_seat : IsSeat σ
+    in_seat = let z = first_task in subst IsSeat seat_is (seat_fits mode image r b below all_plain (omega arith) shallow)
+
+    on_stack : σ.stack ≡ r
+    on_stack = ap (λ (y : Seat). y.stack) under_is
+
+    narrow : σ.stack < 7
+    narrow = in_seat.stack
+
+    -- ---- what stands below
+
+    pub lower : Chain mode image p (body_edges mode image) r t on.frame (chained mode image on.switching below) below o.others w s.memory
+    lower = over_any mode image
+        (λ v. Chain mode image p (body_edges mode image) r t on.frame (chained mode image on.switching below) below o.others v s.memory)
+        (keeps_cr2 mode image κ) w o.under
 
     pub fred_is : has_fred w ≡ is_fred mode
-    fred_is = ap (λ (y : Processor). bit 32 y.cr4) o.task.is ∙ controls mode
+    fred_is = (chain_kept mode image p (body_edges mode image) r t on.frame (chained mode image on.switching below) below o.others w s.memory lower).fred
 
-    pub plain : list_any (is_nmi_body image) (b ∷ []) ≡ false
-    plain = plain_no_nmi image b (ap is_over_task o.kind ∙ o.alone)
+    -- what stands over a task
+    pub record Alone : Type 0 where
+      pub none : below ≡ []
+      pub task : RunsTask mode image p r t w
+      pub still : on.switching ≡ false
+      pub no_others : o.others ≡ []
 
-    pub blocked : c.nmi_blocked ≡ false
-    blocked = (latch_parts on.layer on.frame _ (s.latches p) c.nmi_blocked x.nmi on.latch).1 ∙ ap (list_any (is_nmi_body image)) o.bodies ∙ plain
+    pub alone : is_over_task κ ≡ true → switches_at mode image on.switching below ≡ false → Alone
+    alone h off =
+        let none : below ≡ [] = stands_alone image b below (ap is_over_task o.kind ∙ h) in
+        let k : Chain mode image p (body_edges mode image) r t on.frame (chained mode image on.switching []) [] o.others w s.memory
+        = subst (λ ds. Chain mode image p (body_edges mode image) r t on.frame (chained mode image on.switching ds) ds o.others w s.memory) none lower in
+        record {
+          none = none;
+          task = k.0;
+          still = sym (ap (switches_at mode image on.switching) none) ∙ off;
+          no_others = k.2;
+        }
 
-    -- a chain of one context
-    pub one_context : (b' : BodyContext) → kind_of image b' [] ≡ κ → IsContext mode image b' → (now : ℕ) (cpu : Processor) (mem : Memory)
-        → Stood now b' cpu mem → Chain mode image p now r t on.frame on.switching (b' ∷ []) (o.last ∷ []) cpu mem
-    one_context b' k ctx' now cpu mem act =
-        let rest = over_kind mode image p now r t on.frame on.switching w b' cpu mem κ o.alone o.task o.still act in
+    -- a step that writes its own stretch of the stack, and words that no block below knows
+    pub below_stays : (names : List Named) → AreNames p names → UnknownTo below names → (words : NatMap ℕ) → Changes p σ names s.memory.words words
+        → Beneath mode image (keeps_cr2 mode image κ)
+        (λ v. Chain mode image p (body_edges mode image) r t on.frame (chained mode image on.switching below) below o.others v (with_words s.memory words)) w
+    below_stays names allowed unknown words changes =
+        let z = first_task in
+        let spared : AreSpared mode image p r below s.memory.words words
+        = below_spared mode image p r names s.memory.words words b below small (omega arith) shallow allowed.written unknown
+        (subst (λ y. Changes p y names s.memory.words words) (sym seat_is) changes) all_plain in
+        beneath_as mode image (keeps_cr2 mode image κ) _ _
+        (λ v k. chain_stays mode image p (body_edges mode image) r t on.frame (chained mode image on.switching below) below o.others v s.memory words hp
+        good.count.1 spared k) w o.under
+
+    -- the chain with another last context of the same kind
+    pub with_last : (b' : BodyContext) → kind_of image b' below ≡ κ → IsContext mode image b' → (now : ℕ) (cpu : Processor) (words : NatMap ℕ)
+        → (names : List Named) → AreNames p names → UnknownTo below names → Changes p σ names s.memory.words words
+        → Stood now b' cpu (with_words s.memory words) → Chained now t (b' ∷ below) (o.last ∷ o.others) cpu (with_words s.memory words)
+    with_last b' k ctx' now cpu words names allowed unknown changes act =
+        let mem : Memory = with_words s.memory words in
         let at = subst (λ n. Beneath mode image (keeps_cr2 mode image n)
-        (λ v. Chain mode image p (most_edges mode image) r t on.frame (chained mode image on.switching []) [] [] v mem) w
+        (λ v. Chain mode image p (body_edges mode image) r t on.frame (chained mode image on.switching below) below o.others v mem) w
         × Leads mode p n on.frame w mem.words
-        × Active mode image p now n (seat_by mode n r (seat_of mode image r []) (room_of mode image [])) on.frame
-        (switches_at mode image on.switching []) w b' cpu mem) (sym k) rest in
-        (w, ctx', o.outer, tt, at.0, at.1, at.2)
+        × Active mode image p now n (seat_by mode n r (seat_of mode image r below) (room_of mode image below)) on.frame
+        (switches_at mode image on.switching below) w b' cpu mem) (sym k) (
+          below_stays names allowed unknown words changes,
+          leads_again mode image p κ on.frame w s.memory.words words o.leads,
+          subst (λ y. Active mode image p now κ y on.frame (switches_at mode image on.switching below) w b' cpu mem) (sym o.seat) act,
+        ) in
+        (w, ctx', o.outer, o.interrupted, at.0, at.1, at.2)
 
     -- ---- what a step gives
 
-    moves : (cpu : Processor) (words : NatMap ℕ) → Moves p s (after_ran s p cpu words) cpu (activations_by s p (s.activations p) cpu Stepped.Ran) words
-    moves cpu words = step_moves s p (ran cpu (s.apics p) words (s.latches p)) refl refl
-
     pub edge : (cell : Cell) → code c.rip ≡ Some cell → cell.mark ≡ false → is_return (Some cell.ins) ≡ false
         → is_user c ≡ false → is_in_repeat c.rip ≡ false → (cpu : Processor) (words : NatMap ℕ) → Executes cell.ins cpu words → cpu.nmi_blocked ≡ false
-        → Changes p seat (kernel_names p) s.memory.words words
+        → (names : List Named) → AreSparing p names → have_none is_user_word names ≡ true → UnknownTo below names → Changes p σ names s.memory.words words
         → (now : ℕ) → now < on.own → Stood now b cpu (with_words s.memory words) → Result
-    edge cell hc hm hr hu out cpu words he hb changes now fewer act =
+    edge cell hc hm hr hu out cpu words he hb names sparing no_user unknown changes now fewer act =
         let run : Runs s p cpu words = runs cell hc hu cpu words he in
-        let same : activations_by s p (s.activations p) cpu Stepped.Ran ≡ o.last ∷ [] = ran_stays s p cpu cell.ins (fetches c.rip cell hc).1 hr ∙ o.acts in
-        let chain : Chain mode image p now r t on.frame on.switching x.bodies (activations_by s p (s.activations p) cpu Stepped.Ran) cpu
-        (with_words s.memory words)
-        = subst (λ as'. Chain mode image p now r t on.frame on.switching x.bodies as' cpu (with_words s.memory words)) (sym same)
-        (subst (λ bs. Chain mode image p now r t on.frame on.switching bs (o.last ∷ []) cpu (with_words s.memory words)) (sym o.bodies)
-        (one_context b o.kind ctx now cpu (with_words s.memory words) act)) in
-        let z = first_task in
+        let same : activations_by s p (s.activations p) cpu Stepped.Ran ≡ o.last ∷ o.others
+        = ran_stays s p cpu cell.ins (fetches c.rip cell hc).1 hr ∙ o.acts in
+        let goes_on : Chained now t x.bodies (activations_by s p (s.activations p) cpu Stepped.Ran) cpu (with_words s.memory words)
+        = subst (λ as'. Chained now t x.bodies as' cpu (with_words s.memory words)) (sym same)
+        (subst (λ bs. Chained now t bs (o.last ∷ o.others) cpu (with_words s.memory words)) (sym o.bodies)
+        (with_last b o.kind ctx now cpu words names sparing.allowed unknown changes act)) in
         let there : StandsOn mode image p (now + inner_edges (s.latches p)) (after_ran s p cpu words) x
-        = own_after mode image p (left p) s (after_ran s p cpu words) x seat cpu _ words x.tasks x.bodies now on small (four_tasks image built p hp)
-        (moves cpu words) refl (omega arith) (kernel_names p) (kernel_spares p small) changes (λ i d. refl) on.tasks
-        (hb ∙ sym (ap (list_any (is_nmi_body image)) o.bodies ∙ plain)) (λ class. refl) (let l = on.enough in let f = on.few in omega arith) chain in
+        = own_after mode image p (left p) s (after_ran s p cpu words) x σ cpu _ words x.tasks x.bodies now on small (four_tasks image built p hp)
+        (moves cpu words) on_stack narrow names sparing changes (λ i d. refl) on.tasks
+        (hb ∙ sym none_is_nmi) (λ class. refl) (let l = on.enough in let f = on.few in omega arith) goes_on in
         let all : Stands mode image (put_at left p (now + inner_edges (s.latches p))) (after_ran s p cpu words) m
-        = stands_after mode image left s (after_ran s p cpu words) m m p (now + inner_edges (s.latches p)) x seat cpu _ words good.count.1
-        (four_tasks image built) h hp (moves cpu words) (omega arith) (kernel_names p) (kernel_spares p small) changes
-        (kernel_user p seat small (omega arith) s.memory.words words m.words changes h.shares.user) h.shares.held
+        = stands_after mode image left s (after_ran s p cpu words) m m p (now + inner_edges (s.latches p)) x σ cpu _ words good.count.1
+        (four_tasks image built) h hp (moves cpu words) narrow names sparing changes
+        (λ a u. user_same p σ names small narrow s.memory.words words sparing.allowed.written changes no_user a u ∙ h.shares.user a u) h.shares.held
         (record { own = refl; others = λ q e. refl; present = refl; cells = refl; mail = refl; mail_nmi = refl; records = refl; queue = refl })
         h.legal domain there in
         let bound = on.enough in record {
@@ -220,50 +334,61 @@ module _ (mode : Mode) (image : Image) (built : IsBuilt image) (good : IsImage i
           });
         }
 
+    -- What a visible step makes of the abstract machine: these are processor p's tasks, slots and bodies behind it, of which the returning task may be another;
+    -- other processors are as they were, and memory holds these slots, and the cells, pages and user words of the machine behind it.
+    pub record Makes (m' : Machine) (words : NatMap ℕ) (tasks : NatMap Task) (slots : NatMap ℕ) (bodies : List BodyContext) : Type 0 where
+      pub own : processor m' p ≡ record x { tasks = tasks; slots = slots; bodies = bodies }
+      pub others : (q : ℕ) → (q == p) ≡ false → processor m' q ≡ processor m q
+      pub same_tasks : (i : ℕ) → (i ≡ r → ⊥) → tasks i ≡ x.tasks i
+      pub good_tasks : (i : ℕ) → i < length (tasks_of image p) → IsTask (tasks i)
+      pub slots_are : (k : ℕ) → k < 64 → words (pcpu p + slot_offset k) ≡ slots k
+      pub user : (a : ℕ) → IsUserWord a → words a ≡ m'.words a
+      pub held : HoldsWords m'.words
+      pub pages : (i : ℕ) → i < 256 → words (page_map + 8 * i) ≡ (if m'.present i then 1 else 0)
+      pub cells : (k : ℕ) → k < 256 → words (cells_base + 8 * k) ≡ m'.cells k
+
     pub visible : (cell : Cell) → code c.rip ≡ Some cell → cell.mark ≡ true → is_user c ≡ false
         → (cpu : Processor) (words : NatMap ℕ) → Executes cell.ins cpu words → cpu.nmi_blocked ≡ false
-        → Changes p seat (kernel_names p) s.memory.words words
-        → (bs : List BodyContext) → list_any (is_nmi_body image) bs ≡ false → AreQuiet bs
-        → ((class : ℕ) → list_any (λ (y : BodyContext). serves mode image class y.service) bs ≡ false)
+        → (names : List Named) → AreNames p names → Changes p σ names s.memory.words words
+        → (m' : Machine) (es : List Entry) → turn image m p ≡ (m', es) → (tasks : NatMap Task) (slots : NatMap ℕ) (bs : List BodyContext)
+        → Makes m' words tasks slots bs → AreQuiet bs
         → (if ends_body c (Some cell.ins) then length x.bodies - 1
         else (if begins_body c (Some cell.ins) then suc (length x.bodies) else length x.bodies)) ≡ length bs
-        → (now : ℕ) → now ≤ 100
-        → Chain mode image p now r t on.frame on.switching bs (activations_by s p (s.activations p) cpu Stepped.Ran) cpu (with_words s.memory words)
-        → (es : List Entry) → shown_always p (bodies_on s p) c s.memory.words (Some cell.ins) ≡ es
-        → turn image m p ≡ (with_processor m p (record x { bodies = bs }), es) → Result
-    visible cell hc hm hu cpu words he hb changes bs none_nmi quiet serving told now few chain es hes ht =
+        → (now : ℕ) → now ≤ body_edges mode image
+        → Chained now (tasks r) bs (activations_by s p (s.activations p) cpu Stepped.Ran) cpu (with_words s.memory words)
+        → shown_always p (bodies_on s p) c s.memory.words (Some cell.ins) ≡ es → Result
+    visible cell hc hm hu cpu words he hb names allowed changes m' es ht tasks slots bs y quiet told now few goes_on hes =
         let run : Runs s p cpu words = runs cell hc hu cpu words he in
-        let y : abstract.Processor = record x { bodies = bs } in
-        let z = first_task in
-        let none : (class : ℕ) → list_any (λ (a : BodyContext). serves mode image class a.service) x.bodies ≡ false = nothing_served in
-        let there : StandsOn mode image p (now + inner_edges (s.latches p)) (after_ran s p cpu words) y
-        = own_after mode image p (left p) s (after_ran s p cpu words) x seat cpu _ words x.tasks bs now on small (four_tasks image built p hp)
-        (moves cpu words) refl (omega arith) (kernel_names p) (kernel_spares p small) changes (λ i d. refl) on.tasks (hb ∙ sym none_nmi)
-        (λ class. serving class ∙ sym (none class))
-        (let f = few_inner mode image (s.latches p) in omega arith)
-        chain in
-        let inside : IsInDomain y
-        = record { pending = domain.pending; nmi = domain.nmi; resched = domain.resched; bodies = quiet } in
-        let all : Stands mode image (put_at left p (now + inner_edges (s.latches p))) (after_ran s p cpu words) (with_processor m p y)
-        = stands_after mode image left s (after_ran s p cpu words) m (with_processor m p y) p (now + inner_edges (s.latches p)) y seat cpu _ words
-        good.count.1 (four_tasks image built) h hp (moves cpu words) (omega arith) (kernel_names p) (kernel_spares p small) changes
-        (kernel_user p seat small (omega arith) s.memory.words words m.words changes h.shares.user) h.shares.held
+        let x' : abstract.Processor = record x { tasks = tasks; slots = slots; bodies = bs } in
+        let none : list_any (is_nmi_body image) bs ≡ false
+        = none_nmi image bs (chain_plain mode image p now r (tasks r) on.frame on.switching bs _ cpu (with_words s.memory words) goes_on) in
+        let there : StandsOn mode image p (now + inner_edges (s.latches p)) (after_ran s p cpu words) x'
+        = own_becomes mode image p (left p) s (after_ran s p cpu words) x σ cpu _ words tasks slots bs now on small (four_tasks image built p hp)
+        (moves cpu words) on_stack narrow names allowed changes y.slots_are y.same_tasks y.good_tasks (hb ∙ sym none)
+        (λ class. unserved class bs quiet ∙ sym (unserved class x.bodies domain.bodies))
+        (let f = few_inner mode image (s.latches p) in omega arith) goes_on in
+        let inside : IsInDomain x' = record { pending = domain.pending; nmi = domain.nmi; resched = domain.resched; bodies = quiet } in
+        let all : Stands mode image (put_at left p (now + inner_edges (s.latches p))) (after_ran s p cpu words) m'
+        = stands_become mode image left s (after_ran s p cpu words) m m' p (now + inner_edges (s.latches p)) x' σ cpu _ words
+        good.count.1 (four_tasks image built) h hp (moves cpu words) narrow names allowed changes
         (record {
-          own = at_same m.processors p p y refl;
-          others = λ q e. at_other m.processors p q y e;
-          present = refl;
-          cells = refl;
+          own = y.own;
+          others = y.others;
           mail = refl;
           mail_nmi = refl;
           records = refl;
           queue = refl;
+          user = y.user;
+          held = y.held;
+          pages = y.pages;
+          cells = y.cells;
         })
-        (turn_legal image good built.accepted m p hp h.legal (with_processor m p y, es) ht) inside there in
+        (turn_legal image good built.accepted m p hp h.legal (m', es) ht) inside there in
         let turned : Stands mode image (put_at left p (now + inner_edges (s.latches p))) (after_ran s p cpu words) (turn image m p).0 =
         subst (λ q. Stands mode image (put_at left p (now + inner_edges (s.latches p))) (after_ran s p cpu words) q.0) (sym ht) all in record {
           safe = ran_safe mode image s p cpu words run;
           counts = ran_counts image.processors s p cpu words cell.ins run (fetches c.rip cell hc).1 (length x.bodies) (length bs) depth
-              (stands_depth mode image facts p (now + inner_edges (s.latches p)) (after_ran s p cpu words) y there) told;
+              (stands_depth mode image facts p (now + inner_edges (s.latches p)) (after_ran s p cpu words) x' there) told;
           how = inr (record {
             seen = seen (marks_of mode image) s p first hu (facts.marked c.rip cell hc hm);
             now = put_at left p (now + inner_edges (s.latches p));
@@ -273,22 +398,45 @@ module _ (mode : Mode) (image : Image) (built : IsBuilt image) (good : IsImage i
                 ∙ hes ∙ sym (ap (λ (q : Step). q.1) ht);
           });
         }
-      where
-        nothing_served : (class : ℕ) → list_any (λ (a : BodyContext). serves mode image class a.service) x.bodies ≡ false
-        nothing_served class = unserved class x.bodies domain.bodies
-          where
-            unserved : (class : ℕ) (ys : List BodyContext) → AreQuiet ys → list_any (λ (a : BodyContext). serves mode image class a.service) ys ≡ false
-            unserved class [] q = refl
-            unserved class (a ∷ ys) q = ap (λ o. serves mode image class o || list_any (λ (a : BodyContext). serves mode image class a.service) ys)
-                q.0.service
-                ∙ unserved class ys q.1
+
+    -- what holds of the components that a step leaves alone, by the names that it writes
+    module _ (names : List Named) (allowed : AreNames p names) (words : NatMap ℕ) (changes : Changes p σ names s.memory.words words) where
+      pub same_slots : have_none is_slot names ≡ true → (k : ℕ) → k < 64 → words (pcpu p + slot_offset k) ≡ x.slots k
+      same_slots none k l = slot_same p σ names small narrow s.memory.words words allowed.written changes none p k small l ∙ on.slots k l
+
+      pub same_user : have_none is_user_word names ≡ true → (a : ℕ) → IsUserWord a → words a ≡ m.words a
+      same_user none a u = user_same p σ names small narrow s.memory.words words allowed.written changes none a u ∙ h.shares.user a u
+
+      pub same_pages : have_none is_page_bit names ≡ true → (i : ℕ) → i < 256 → words (page_map + 8 * i) ≡ (if m.present i then 1 else 0)
+      same_pages none i l = page_same p σ names small narrow s.memory.words words allowed.written changes none i l ∙ h.shares.pages i l
+
+      pub same_cells : have_none is_cell names ≡ true → (k : ℕ) → k < 256 → words (cells_base + 8 * k) ≡ m.cells k
+      same_cells none k l = cell_same p σ names small narrow s.memory.words words allowed.written changes none k l ∙ h.shares.cells k l
+
+      -- a step that changes the bodies alone
+      pub bodies_alone : AreSparing p names → have_none is_user_word names ≡ true → (bs : List BodyContext)
+          → Makes (with_processor m p (record x { bodies = bs })) words x.tasks x.slots bs
+      bodies_alone sparing no_user bs = record {
+        own = at_same m.processors p p (record x { bodies = bs }) refl;
+        others = λ q e. at_other m.processors p q (record x { bodies = bs }) e;
+        same_tasks = λ i d. refl;
+        good_tasks = on.tasks;
+        slots_are = same_slots sparing.slots;
+        user = same_user no_user;
+        held = h.shares.held;
+        pages = same_pages sparing.pages;
+        cells = same_cells sparing.cells;
+      }
 
     -- ---- the abstract machine's step
 
-    pub quiet : IsQuiet b
-    quiet = (subst AreQuiet o.bodies domain.bodies).0
+    pub are_quiet : AreQuiet (b ∷ below)
+    are_quiet = subst AreQuiet o.bodies domain.bodies
 
-    turns : (i : Item) → item_at (slice_get image.bodies b.body) b.place ≡ Some i → turn image m p ≡ item_step image m p b i
+    pub quiet : IsQuiet b
+    quiet = are_quiet.0
+
+    pub turns : (i : Item) → item_at (slice_get image.bodies b.body) b.place ≡ Some i → turn image m p ≡ item_step image m p b i
     unfolding turn choice
     turns i hi =
         ap (chosen_step image m p) (ap (λ n. if n && not (list_any (is_nmi_body image) x.bodies) then Choice.Nmi else maskable x) domain.nmi
@@ -297,25 +445,45 @@ module _ (mode : Mode) (image : Image) (built : IsBuilt image) (good : IsImage i
         ∙ ap (next_step image m p) o.bodies ∙ ap (item_or_nothing image m p b) hi
 
     pub log_turn : (q : ℕ) → item_at (slice_get image.bodies b.body) b.place ≡ Some (Log q)
-        → turn image m p ≡ (with_processor m p (record x { bodies = context.onward b ∷ [] }), Entry.Log p (local b q) ∷ [])
+        → turn image m p ≡ (with_processor m p (record x { bodies = context.onward b ∷ below }), Entry.Log p (local b q) ∷ [])
     unfolding item_step
     log_turn q hi = turns (Log q) hi ∙ ap
         (λ bs. (with_processor m p (record x { bodies = replace_last (context.onward b) bs }), Entry.Log p (local b q) ∷ [])) o.bodies
 
-    pub ret_turn : item_at (slice_get image.bodies b.body) b.place ≡ Some Ret → turn image m p ≡ (with_processor m p (record x { bodies = [] }), [])
+    -- the processor without its last context
+    below_is : (ds : List BodyContext) → dropped image b x ds ≡ record x { bodies = ds }
+    below_is [] = ap (λ z. if z && not (is_nmi_body image b) then rescheduled (record x { bodies = [] }) else record x { bodies = [] }) domain.resched
+    below_is (d ∷ ds) = refl
+
+    pub ret_turn : item_at (slice_get image.bodies b.body) b.place ≡ Some Ret → turn image m p ≡ (with_processor m p (record x { bodies = below }), [])
     unfolding item_step
     ret_turn hi =
         turns Ret hi ∙ ap (λ bs. (with_processor m p (dropped image b x (below_last bs)), [])) o.bodies
-        ∙ ap (λ z. (with_processor m p (if z && not (is_nmi_body image b) then rescheduled (record x { bodies = [] }) else record x { bodies = [] }), []))
-        domain.resched
+        ∙ ap (λ y. (with_processor m p y, [])) (below_is below)
 
     -- ---- inside a block
 
     pub over_spot : (act : Stood on.own b c s.memory) → over_task mode act.stands.spot ≡ true
     over_spot act = means_over mode image κ act.stands.spot _ w b s.memory.words act.means
 
+    pub still : (act : Stood on.own b c s.memory) → switches_at mode image on.switching below ≡ false
+    still act = sym act.switches ∙ never_switches mode act.stands.spot (over_spot act)
+
     pub outside : (act : Stood on.own b c s.memory) → is_in_repeat c.rip ≡ false
-    outside act = active_outside mode image facts p on.own κ seat on.frame on.switching w b c s.memory ctx act
+    outside act = active_outside mode image facts p on.own κ σ on.frame (switches_at mode image on.switching below) w b c s.memory ctx act
+
+    -- only SYSCALL's entry writes a word with a name, and it stands over a task
+    spot_names : (spot : Spot) (e : Env) → Means mode image κ spot e w b s.memory.words → UnknownTo below (names_at p spot)
+    spot_names spot e means = by_kind κ o.kind means below o.kind
+      where
+        by_kind : (κ : Kind) → kind_of image b below ≡ κ → Means mode image κ spot e w b s.memory.words → (ds : List BodyContext) → kind_of image b ds ≡ κ
+            → UnknownTo ds (names_at p spot)
+        by_kind κ q means [] k = tt
+        by_kind SystemCall q means (d ∷ ds) k = let z = ap length (stands_alone image b (d ∷ ds) (ap is_over_task k)) in absurd (omega arith)
+        by_kind FromTask q means (d ∷ ds) k = let z = ap length (stands_alone image b (d ∷ ds) (ap is_over_task k)) in absurd (omega arith)
+        by_kind FromBody q means (d ∷ ds) k = absurd means
+        by_kind NmiFromTask q means (d ∷ ds) k = absurd means
+        by_kind NmiFromBody q means (d ∷ ds) k = absurd means
 
     pub inside : (act : Stood on.own b c s.memory) → act.stands.k < (block mode act.stands.spot).steps → Result
     inside act lt =
@@ -327,10 +495,12 @@ module _ (mode : Mode) (image : Image) (built : IsBuilt image) (good : IsImage i
         let next = earlier (block mode a.spot) (suc a.k) (S - suc a.k) end.0
         (ap (brun (block mode a.spot)) (let q : (S - suc a.k) + suc a.k ≡ S = omega arith in q) ∙ end.1) in
         let few = a.enough in
+        let rsp : Bool = keeps_rsp a.spot in
         edge (edge_cell i.ins i.next) i.stands refl
         (stays_inside code (block mode a.spot) a.k e c s.memory a.at next.0 next.1 i.ins i.next i.stands)
         (ap is_user a.at.agrees.rest) (outside act) i.cpu i.words i.runs (i.blocking ∙ blocked)
-        (kernel_changes mode image p seat in_seat hp good.count.1 κ a.ss w a.extra a.var a.flags a.spot (over_spot act) s.memory.words i.words i.within)
+        (names_at p a.spot) (rsp_spares p small rsp) (rsp_no_user p rsp) (spot_names a.spot e act.means)
+        (kernel_changes mode image p σ in_seat hp good.count.1 κ a.ss w a.extra a.var a.flags a.spot (over_spot act) s.memory.words i.words i.within)
         (edges mode a.spot (suc a.k)) (one_less S a.k (blocks.behind a.spot) on.own lt few)
         (record {
           stands = record {
@@ -371,19 +541,19 @@ module _ (mode : Mode) (image : Image) (built : IsBuilt image) (good : IsImage i
       pub fits : (spot : Spot) → over_task mode spot ≡ true → (ss : ℕ) (extra v : ℕ → ℕ) (f : Flags) → extra 20 ≡ item_place mode image b.body b.place
           → IsAtEntry spot (env ss extra v f) → FactsHold (env ss extra v f) (block mode spot).ground.facts → Fits code (env ss extra v f) (block mode spot)
       fits spot over ss extra v f h at told =
-          fits_at mode image p seat in_seat hp good.count.1 κ ss w extra v f facts spot over fred_is (in_bodies extra h) at told
+          fits_at mode image p σ in_seat hp good.count.1 κ ss w extra v f facts spot over fred_is (in_bodies extra h) at told
 
       pub windows : (spot : Spot) → over_task mode spot ≡ true → (ss : ℕ) (extra v : ℕ → ℕ) (f : Flags)
           → Open (env ss extra v f) (block mode spot).ground.known s.memory.regions
-      windows spot over ss extra v f = opens_at mode image p seat in_seat hp good.count.1 κ ss w extra v f spot over s.memory h.regions_are
+      windows spot over ss extra v f = opens_at mode image p σ in_seat hp good.count.1 κ ss w extra v f spot over s.memory h.regions_are
 
       -- an edge to the opening of a block
       pub goes : (act : Stood on.own b c s.memory) (spot : Spot) (ss : ℕ) → IsKernelSs ss → (extra v : ℕ → ℕ) (f : Flags) → is_user c ≡ false
           → Goes code c s.memory (block mode spot) (env ss extra v f) → edges mode spot 0 < on.own → length c.regs ≡ 16 → blocks.switches spot ≡ false
-          → OverTask mode image mode spot (env ss extra v f) w b → Result
+          → Means mode image κ spot (env ss extra v f) w b s.memory.words → Result
       goes act spot ss ss_is extra v f hu g fewer long off means =
           edge (edge_cell g.step.ins g.step.next) g.step.cell refl g.inner hu (outside act) g.step.cpu s.memory.words g.step.leads (g.step.blocking ∙ blocked)
-          (λ a far far'. refl) (edges mode spot 0) fewer
+          [] (none_spares p) refl (unknown_none below) (λ a far far'. refl) (edges mode spot 0) fewer
           (record {
             stands = record {
               spot = spot;
@@ -398,7 +568,7 @@ module _ (mode : Mode) (image : Image) (built : IsBuilt image) (good : IsImage i
               at = g.step.at;
               long = g.step.long ∙ long;
             };
-            switches = off ∙ sym o.still;
-            knows = knows_nothing mode κ on.frame o.alone (blocks.holds spot);
-            means = means_by mode image κ o.alone spot (env ss extra v f) w b s.memory.words means;
+            switches = off ∙ sym (still act);
+            knows = plain_knows mode κ on.frame plain_kind (blocks.holds spot);
+            means = means;
           })

@@ -9,6 +9,7 @@ pub mod Fits
 pub mod Words
 pub mod CallKinds
 pub mod Domains
+pub mod Chains
 pub mod Legality
 pub mod Standing
 pub mod Stays

@@ -342,6 +342,7 @@ module _ (image : Image) (built : IsBuilt image) (p n : â„•) (t : Task) (cr2 : â
     place = found.place;
     found = ready.found;
     begins = refl;
+    unknown = refl;
     saved = record {
       regs = found.regs;
       rip = found.rip;

@@ -1,5 +1,5 @@
 -- The spots at which activations over a task stand: their windows, where their blocks end, and that none lies in REPEAT.
-use Rattle.std.proofs.Common.{◌≡◌, ℕ, Bool, true, false, not, ◌&&◌, List, [], ◌∷◌, Some, refl}
+use Rattle.std.proofs.Common.{◌≡◌, ℕ, ◌+◌, ◌≤◌, arith, Bool, true, false, not, ◌&&◌, List, [], ◌∷◌, Some, refl}
 use Rattle.std.specs.Prelude.{◌==◌, nat_lt, nat_le}
 use Rattle.ev_isa.specs.Spelling.{spelling, four_bytes}
 use Rattle.ev_isa.specs.Word.{NatMap}
@@ -23,13 +23,16 @@ use Rattle.ev_blocks.specs.Fred as fred
 use Rattle.ev_blocks.specs.Idt.{IdtReturn, BySysret, ByOtherRip, ByOtherFlags, Stub, Sys, Common, IdtToTask, idt_block, idt_places, sys_lines, common_lines, exit_lines}
 use Rattle.ev_blocks.specs.Idt as idt
 use Rattle.ev_blocks.specs.Items.{AtTable, AtJump, AtItem}
-use Rattle.ev_blocks.specs.Blocks.{Spot, InFred, InIdt, InBody, block, forms}
+use Rattle.ev_blocks.specs.Blocks.{Spot, InFred, InIdt, InBody, block, forms, edges}
 use Rattle.ev_blocks.specs.Blocks as blocks
 use Rattle.ev_paths.specs.Lines.{HasKernel, IsAtStub}
 use Rattle.ev_paths.proofs.Lines.{fred_stand, idt_stand}
 use Rattle.ev_paths.proofs.FredEnds.{fred_enters, fred_returns}
 use Rattle.ev_paths.proofs.IdtEnds.{idt_enters, idt_returns}
-use Rattle.ev_activation.specs.Seat.{Kind, SystemCall, FromTask, FromBody, NmiFromTask, NmiFromBody}
+use Rattle.ev_concrete.specs.LiveWords.{area_bytes}
+use Rattle.ev_refine.specs.Named.{Named, UserRsp}
+use Rattle.ev_refine.specs.Relation.{body_edges}
+use Rattle.ev_activation.specs.Seat.{plain_room, Kind, SystemCall, FromTask, FromBody, NmiFromTask, NmiFromBody}
 use Rattle.ev_refine.specs.Active.{OverTask, Means}
 use Rattle.ev_refine.proofs.ModeFacts.{is_fred}
 
@@ -76,32 +79,49 @@ means_over mode image NmiFromBody spot e w b m h = absurd h
 
 -- ---- their windows: on the activation's stack or in the processor's area; it writes its stack, and the word for RSP
 
-abbrev pub is_plain : Form → Bool
-is_plain (OnStack n) = nat_le n 0x118
-is_plain (Stretch d n) = nat_le d 0x118 && nat_le n d
-is_plain (InArea lo n) = true
-is_plain f = false
+-- SYSCALL's entry alone writes the word for RSP
+abbrev pub keeps_rsp : Spot → Bool
+keeps_rsp (InIdt Sys) = true
+keeps_rsp spot = false
 
-abbrev pub are_plain : List Form → Bool
-are_plain [] = true
-are_plain (f ∷ fs) = is_plain f && are_plain fs
+abbrev pub names_if : Bool → ℕ → List Named
+names_if true p = UserRsp p ∷ []
+names_if false p = []
 
-abbrev pub is_written : Form → Bool
-is_written (OnStack n) = true
-is_written (Stretch d n) = true
-is_written (InArea lo n) = (lo == 8) && (n == 8)
-is_written f = false
+abbrev pub names_at : ℕ → Spot → List Named
+names_at p spot = names_if (keeps_rsp spot) p
 
-abbrev pub are_written : List Form → Bool
-are_written [] = true
-are_written (f ∷ fs) = is_written f && are_written fs
+abbrev pub is_plain : Mode → Form → Bool
+is_plain mode (OnStack n) = nat_le n (area_bytes mode)
+is_plain mode (Stretch d n) = nat_le d (area_bytes mode) && nat_le n d
+is_plain mode (InArea lo n) = nat_le (lo + n) 0x28
+is_plain mode f = false
 
-pub record HasWindows (spot : Spot) : Type 0 where
-  pub known : are_plain (forms spot).known ≡ true
-  pub own : are_plain (forms spot).own ≡ true
-  pub written : are_written (forms spot).own ≡ true
+abbrev pub are_plain : Mode → List Form → Bool
+are_plain mode [] = true
+are_plain mode (f ∷ fs) = is_plain mode f && are_plain mode fs
 
-pub has_windows : (mode : Mode) (spot : Spot) → over_task mode spot ≡ true → HasWindows spot
+abbrev pub is_written : (rsp : Bool) → Form → Bool
+is_written rsp (OnStack n) = true
+is_written rsp (Stretch d n) = true
+is_written rsp (InArea lo n) = rsp && ((lo == 8) && (n == 8))
+is_written rsp f = false
+
+abbrev pub are_written : Bool → List Form → Bool
+are_written rsp [] = true
+are_written rsp (f ∷ fs) = is_written rsp f && are_written rsp fs
+
+-- the bytes of an activation
+pub area_small : (mode : Mode) → (area_bytes mode ≤ 0xc0) × (area_bytes mode ≤ plain_room mode)
+area_small Fred = (omega arith, omega arith)
+area_small Idt = (omega arith, omega arith)
+
+pub record HasWindows (mode : Mode) (spot : Spot) : Type 0 where
+  pub known : are_plain mode (forms spot).known ≡ true
+  pub own : are_plain mode (forms spot).own ≡ true
+  pub written : are_written (keeps_rsp spot) (forms spot).own ≡ true
+
+pub has_windows : (mode : Mode) (spot : Spot) → over_task mode spot ≡ true → HasWindows mode spot
 has_windows Fred (InFred (FromUser way)) h = record { known = refl; own = refl; written = refl }
 has_windows Fred (InFred (fred.Leaves FredToTask)) h = record { known = refl; own = refl; written = refl }
 has_windows Fred (InBody FredFrame AtTable) h = record { known = refl; own = refl; written = refl }
@@ -115,6 +135,29 @@ has_windows Idt (InBody IdtFrame AtTable) h = record { known = refl; own = refl;
 has_windows Idt (InBody IdtFrame AtJump) h = record { known = refl; own = refl; written = refl }
 has_windows Idt (InBody IdtFrame AtItem) h = record { known = refl; own = refl; written = refl }
 has_windows mode _ h = let clash : false ≡ true = h in absurd (cc)
+
+-- few edges are left at each
+pub few_edges : (mode : Mode) (image : Image) (spot : Spot) → over_task mode spot ≡ true → (k : ℕ) → edges mode spot k ≤ body_edges mode image
+few_edges Fred image (InFred (FromUser ByCall)) h k = omega arith
+few_edges Fred image (InFred (FromUser ByInt3)) h k = omega arith
+few_edges Fred image (InFred (FromUser ByIntN)) h k = omega arith
+few_edges Fred image (InFred (FromUser ByOther)) h k = omega arith
+few_edges Fred image (InFred (fred.Leaves FredToTask)) h k = omega arith
+few_edges Fred image (InBody FredFrame AtTable) h k = omega arith
+few_edges Fred image (InBody FredFrame AtJump) h k = omega arith
+few_edges Fred image (InBody FredFrame AtItem) h k = omega arith
+few_edges Idt image (InIdt Sys) h k = omega arith
+few_edges Idt image (InIdt (Stub UserCode true v)) h k = omega arith
+few_edges Idt image (InIdt (Stub UserCode false v)) h k = omega arith
+few_edges Idt image (InIdt (Common UserCode true)) h k = omega arith
+few_edges Idt image (InIdt (Common UserCode false)) h k = omega arith
+few_edges Idt image (InIdt (idt.Leaves (IdtToTask BySysret))) h k = omega arith
+few_edges Idt image (InIdt (idt.Leaves (IdtToTask ByOtherRip))) h k = omega arith
+few_edges Idt image (InIdt (idt.Leaves (IdtToTask ByOtherFlags))) h k = omega arith
+few_edges Idt image (InBody IdtFrame AtTable) h k = omega arith
+few_edges Idt image (InBody IdtFrame AtJump) h k = omega arith
+few_edges Idt image (InBody IdtFrame AtItem) h k = omega arith
+few_edges mode image _ h k = let clash : false ≡ true = h in absurd (cc)
 
 -- ---- none switches to another task
 

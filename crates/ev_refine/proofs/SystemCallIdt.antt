@@ -100,6 +100,7 @@ module _ (image : Image) (p n : ℕ) (t : Task) (cr2 body : ℕ) where
       place = refl;
       found = ready.found;
       begins = refl;
+      unknown = refl;
       saved = record {
         regs = listed_is entered long;
         rip = rcx_is;

@@ -1,82 +1,32 @@
 -- What the relation says to those who make the steps.
-use Rattle.std.proofs.Common.{◌≡◌, ℕ, ◌+◌, ◌<◌, ◌≤◌, arith, Bool, true, false, List, [], ◌∷◌, length, get_or, refl, sym, ap, ◌∙◌, subst}
+use Rattle.std.proofs.Common.{◌≡◌, ℕ, ◌<◌, arith, true, false, [], get_or, refl, sym, ap, ◌∙◌, subst}
 use Rattle.std.specs.Prelude.{if◌then◌else◌}
 use Rattle.ev_isa.specs.Word.{NatMap}
 use Rattle.ev_isa.specs.declared.mode.Mode.{Mode}
 use Rattle.ev_isa.specs.declared.mode.Mode.TheVariants.{Idt, Fred}
 use Rattle.ev_body.specs.declared.image.Image.{Image}
 use Rattle.ev_body.specs.WellFormed.{IsImage}
-use Rattle.ev_effect.specs.Task.{Task}
 use Rattle.ev_state.specs.Processor.{Processor}
 use Rattle.ev_mem.specs.Memory.{Memory}
-use Rattle.ev_abstract.specs.Context.{BodyContext}
 use Rattle.ev_abstract.specs.Machine.{Machine, processor, task}
 use Rattle.ev_abstract.specs.Machine as abstract
-use Rattle.ev_concrete.specs.ConcreteRun.{System, Activation}
-use Rattle.ev_concrete.specs.Opening.{opening_cpu, regions}
+use Rattle.ev_concrete.specs.ConcreteRun.{System}
+use Rattle.ev_concrete.specs.Opening.{regions}
 use Rattle.ev_proc.specs.ProcessorStep.{has_fred}
-use Rattle.ev_listing.specs.AddressMap.{pcpu, idt_base}
 use Rattle.ev_idt.specs.Tables.{HasTables}
 use Rattle.ev_tables.proofs.Stand.{stand}
-use Rattle.ev_symbolic.specs.Agrees.{untracked}
-use Rattle.ev_activation.specs.Seat.{Kind, SystemCall, FromTask, FromBody, NmiFromTask, NmiFromBody, Seat, kind_of}
-use Rattle.ev_refine.specs.Nmi.{Frame}
-use Rattle.ev_refine.specs.Active.{Active, rest_in}
-use Rattle.ev_refine.specs.Relation.{Stands, StandsOn, most_edges, keeps_cr2, chained, Chain, InTables}
+use Rattle.ev_refine.specs.Relation.{Stands, StandsOn, Chain, InTables}
 use Rattle.ev_user.specs.Tasks.{RunsTask}
 use Rattle.ev_refine.specs.Claims.{Tells}
 use Rattle.ev_refine.proofs.Facts.{Facts, HasFixed}
 use Rattle.ev_refine.proofs.ModeFacts.{is_fred}
 use Rattle.ev_refine.proofs.Depth.{stands_depth}
-use Rattle.ev_refine.proofs.Stays.{over_any}
+use Rattle.ev_refine.proofs.Chains.{Kept, chain_kept, chain_few}
 use Rattle.ev_refine.proofs.After.{as_chain}
-use Rattle.ev_refine.proofs.CallKinds.{is_over_task, stands_alone}
 
 module _ (mode : Mode) (image : Image) where
-  -- what no activation changes of the processor: whether FRED is on, and where the tables stand
-  pub record Kept (p : ℕ) (c : Processor) : Type 0 where
-    pub fred : has_fred c ≡ is_fred mode
-    pub idt : c.idt ≡ idt_base
-    pub tss : c.tss ≡ pcpu p + 0x404
-
-  mode_fred : (mode : Mode) → has_fred (opening_cpu mode image 0) ≡ is_fred mode
-  mode_fred Fred = refl
-  mode_fred Idt = refl
-
-  pub task_kept : (p r : ℕ) (t : Task) (c : Processor) → RunsTask mode image p r t c → Kept p c
-  task_kept p r t c h = record {
-    fred = ap has_fred h.is ∙ mode_fred mode;
-    idt = ap (λ (c : Processor). c.idt) h.is;
-    tss = ap (λ (c : Processor). c.tss) h.is;
-  }
-
-  pub chain_kept : (p left r : ℕ) (t : Task) (f : Frame) (sw : Bool) (bs : List BodyContext) (as' : List Activation) (c : Processor) (m : Memory)
-      → Chain mode image p left r t f sw bs as' c m → Kept p c
-  chain_kept p left r t f sw [] as' c m h = task_kept p r t c h.0
-  chain_kept p left r t f sw (b ∷ below) [] c m h = absurd h
-  chain_kept p left r t f sw (b ∷ below) (a ∷ as') c m h =
-      let k : Kept p h.0 = chain_kept p (most_edges mode image) r t f (chained mode image sw below) below as' h.0 m
-      (over_any mode image (λ v. Chain mode image p (most_edges mode image) r t f (chained mode image sw below) below as' v m)
-      (keeps_cr2 mode image (kind_of image b below)) h.0 h.4) in
-      let same : untracked c ≡ rest_in mode (kind_of image b below) h.6.stands.ss h.0 = h.6.stands.at.agrees.rest in
-      record { fred = ap has_fred same ∙ k.fred; idt = ap (λ (c : Processor). c.idt) same ∙ k.idt; tss = ap (λ (c : Processor). c.tss) same ∙ k.tss }
-
-  -- few contexts stand on each other
-  pub chain_few : (p left r : ℕ) (t : Task) (f : Frame) (sw : Bool) (bs : List BodyContext) (as' : List Activation) (c : Processor) (m : Memory)
-      → Chain mode image p left r t f sw bs as' c m → length bs ≤ 32
-  chain_few p left r t f sw [] as' c m h = omega arith
-  chain_few p left r t f sw (b ∷ below) [] c m h = absurd h
-  chain_few p left r t f sw (b ∷ below) (a ∷ as') c m h = by_kind (kind_of image b below) refl h.6
-    where
-      by_kind : (κ : Kind) {σ : Seat} {g : Bool} → kind_of image b below ≡ κ → Active mode image p left κ σ f g h.0 b c m → length (b ∷ below) ≤ 32
-      by_kind SystemCall q act = let l = ap length (stands_alone image b below (ap is_over_task q)) in omega arith
-      by_kind FromTask q act = let l = ap length (stands_alone image b below (ap is_over_task q)) in omega arith
-      by_kind FromBody q act = absurd act.means
-      by_kind NmiFromTask q act = absurd act.means
-      by_kind NmiFromBody q act = absurd act.means
-
   -- without FRED the tables of a delivery stand
-  tables : (mode' : Mode) → mode' ≡ mode → IsImage image → (p : ℕ) → p < image.processors → (c : Processor) (m : Memory) → Kept p c
+  tables : (mode' : Mode) → mode' ≡ mode → IsImage image → (p : ℕ) → p < image.processors → (c : Processor) (m : Memory) → Kept mode image p c
       → m.regions ≡ regions image → HasFixed mode' image m → has_fred c ≡ false → HasTables c m
   tables Fred e given p lt c m k hr hf h = absurd (let clash : true ≡ false = ap is_fred e ∙ sym k.fred ∙ h in cc)
   tables Idt e given p lt c m k hr hf h = stand image m c p given lt hr (λ a ha lo hi. hf a (InTables (omega arith) hi)) k.idt k.tss
@@ -107,13 +57,13 @@ module _ (mode : Mode) (image : Image) where
       let on = r.each p lt in
       let chain = as_chain mode image on.layer p on.own on.more on.returning ((processor m p).tasks on.returning) on.frame on.switching
       (processor m p).bodies (s.activations p) (s.cpus p) s.memory on.runs in
-      let kept : Kept p (s.cpus p) = chain_kept p on.own _ _ _ _ (processor m p).bodies _ (s.cpus p) s.memory chain in
+      let kept : Kept mode image p (s.cpus p) = chain_kept mode image p on.own _ _ _ _ (processor m p).bodies _ (s.cpus p) s.memory chain in
       let rest = at_rest p (left p) s (processor m p) on in
       record {
         entries = record { tables = tables mode refl given p lt (s.cpus p) s.memory kept r.regions_are r.fixed };
         in_code = facts.in_code s.memory r.regions_are (s.cpus p);
         depth = stands_depth mode image facts p (left p) s (processor m p) on;
-        few = chain_few p on.own _ _ _ _ (processor m p).bodies _ (s.cpus p) s.memory chain;
+        few = chain_few mode image p on.own _ _ _ _ (processor m p).bodies _ (s.cpus p) s.memory chain;
         running = on.running;
         waiting = on.waiting;
         regs = λ h. ap (λ c. c.regs) (rest h).task.is;

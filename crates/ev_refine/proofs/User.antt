@@ -41,7 +41,7 @@ use Rattle.ev_user.proofs.Words.{set_words}
 use Rattle.ev_refine.specs.Tasks.{CurrentIs}
 use Rattle.ev_refine.specs.Nmi.{Leads, inner_edges}
 use Rattle.ev_refine.specs.Active.{Active}
-use Rattle.ev_refine.specs.Relation.{IsContext, serves, Beneath, keeps_cr2, chained, switches_at, most_edges, Chain, Stands}
+use Rattle.ev_refine.specs.Relation.{IsContext, serves, Beneath, keeps_cr2, chained, switches_at, body_edges, Chain, Stands}
 use Rattle.ev_refine.specs.Claims.{Simulated}
 use Rattle.ev_refine.proofs.Facts.{Facts, word_of_canonical, word_of_flags}
 use Rattle.ev_refine.proofs.CallKinds.{is_over_task, plain_no_nmi, over_kind}
@@ -268,7 +268,7 @@ module _ (mode : Mode) (image : Image) (formed : IsImage image) (built : IsBuilt
       = subst (λ g. Active mode image p entry_edges κ (record { stack = n; used = 0 }) u.on.frame g w b d mem) (sym u.rest.still)
       (begun.active u.on.frame) in
       let tail = subst (λ k. Beneath mode image (keeps_cr2 mode image k)
-      (λ v. Chain mode image p (most_edges mode image) n back u.on.frame (chained mode image u.on.switching []) [] [] v mem) w
+      (λ v. Chain mode image p (body_edges mode image) n back u.on.frame (chained mode image u.on.switching []) [] [] v mem) w
       × Leads mode p k u.on.frame w mem.words
       × Active mode image p entry_edges k (seat_by mode k n (seat_of mode image n []) (room_of mode image [])) u.on.frame
       (switches_at mode image u.on.switching []) w b d mem) (sym kind)

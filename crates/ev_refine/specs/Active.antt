@@ -1,7 +1,7 @@
 -- Activations: at an instruction of a block, over the processor to which they will return; and what the variables of blocks are. Own.
 use Rattle.std.specs.Prelude.{◌≡◌, ◌⊎◌, ℕ, ◌+◌, ◌*◌, ◌≤◌, Bool, ◌==◌, if◌then◌else◌, [], ◌∷◌, length, get_or, slice_get, Option, Some, None}
 use Rattle.ev_isa.specs.Word.{NatMap, bit}
-use Rattle.ev_isa.specs.Flags.{Flags}
+use Rattle.ev_isa.specs.Flags.{Status, Flags}
 use Rattle.ev_isa.specs.declared.mode.Mode.{Mode}
 use Rattle.ev_isa.specs.declared.mode.Mode.TheVariants.{Idt, Fred}
 use Rattle.ev_body.specs.declared.item.Item.TheVariants.{Ret}
@@ -110,6 +110,7 @@ module _ (mode : Mode) (image : Image) where
     pub place : v 0 ≡ user_table + 8 * key
     pub found : first_body 0 image.bodies key User ≡ Some b.body
     pub begins : b.place ≡ 0
+    pub unknown : b.flags ≡ None
     pub saved : Saved v w
     pub locals : Locals v b
 
@@ -117,13 +118,20 @@ module _ (mode : Mode) (image : Image) where
   pub record AtStart (v : ℕ → ℕ) (w : Processor) (b : BodyContext) : Type 0 where
     pub code : v 0 ≡ body_code b.body
     pub begins : b.place ≡ 0
+    pub unknown : b.flags ≡ None
     pub saved : Saved v w
     pub locals : Locals v b
 
-  -- at an item: the registers are its locals
-  pub record InItem (v : ℕ → ℕ) (w : Processor) (b : BodyContext) : Type 0 where
+  -- the status flags are those of the context, where these are known
+  abbrev pub FlagsAre : Option Status → Flags → Type 0
+  FlagsAre None f = Unit {0}
+  FlagsAre (Some s) f = f.status ≡ s
+
+  -- at an item: the registers are its locals, and the flags its flags
+  pub record InItem (v : ℕ → ℕ) (f : Flags) (w : Processor) (b : BodyContext) : Type 0 where
     pub saved : Saved v w
     pub locals : Locals v b
+    pub flags : FlagsAre b.flags f
 
   -- in the exit, behind `ret`
   pub record Leaving (v : ℕ → ℕ) (w : Processor) (b : BodyContext) : Type 0 where
@@ -145,7 +153,7 @@ module _ (mode : Mode) (image : Image) where
   OverTask Fred (InFred (fred.Leaves FredToTask)) e w b = Leaving e.var w b
   OverTask Fred (InBody FredFrame AtTable) e w b = AtLoad e.var w b × HasPlace e b
   OverTask Fred (InBody FredFrame AtJump) e w b = AtStart e.var w b × HasPlace e b
-  OverTask Fred (InBody FredFrame AtItem) e w b = InItem e.var w b × HasPlace e b
+  OverTask Fred (InBody FredFrame AtItem) e w b = InItem e.var e.flags w b × HasPlace e b
   OverTask Idt (InIdt Sys) e w b = AtLoad (env_after e sys_values e.flags).var w b × HasPlace e b
   OverTask Idt (InIdt (Stub UserCode has v)) e w b = IsAtStub e (Stub UserCode has v)
       × AtLoad (env_after (env_after e (stub_values has v) e.flags) (common_values UserCode (v == 14)) e.flags).var w b × HasPlace e b
@@ -153,7 +161,7 @@ module _ (mode : Mode) (image : Image) where
   OverTask Idt (InIdt (idt.Leaves (IdtToTask by))) e w b = Leaving e.var w b × Matches by e.var
   OverTask Idt (InBody IdtFrame AtTable) e w b = AtLoad e.var w b × HasPlace e b
   OverTask Idt (InBody IdtFrame AtJump) e w b = AtStart e.var w b × HasPlace e b
-  OverTask Idt (InBody IdtFrame AtItem) e w b = InItem e.var w b × HasPlace e b
+  OverTask Idt (InBody IdtFrame AtItem) e w b = InItem e.var e.flags w b × HasPlace e b
   OverTask m spot e w b = ⊥
 
   -- activations over others' stand at no spot yet

@@ -1,8 +1,9 @@
 -- Words of memory that have a name: what others than one activation read or write. Each has an address, and some belong to a processor. Own.
-use Rattle.std.specs.Prelude.{◌≡◌, ◌≢◌, ◌⊎◌, ℕ, ◌+◌, ◌*◌, ◌-◌, ◌%◌, ◌<◌, ◌≤◌, List, [], ◌∷◌, Option, Some, None}
+use Rattle.std.specs.Prelude.{◌≡◌, ◌≢◌, ◌⊎◌, Bool, true, false, not, ◌&&◌, ℕ, ◌+◌, ◌*◌, ◌-◌, ◌%◌, ◌<◌, ◌≤◌, List, [], ◌∷◌, Option, Some, None}
 use Rattle.ev_isa.specs.Word.{NatMap}
 use Rattle.ev_mem.specs.Memory.{page_map}
 use Rattle.ev_listing.specs.AddressMap.{pcpu, slot_offset, record_address, cells_base, stack_top, stack_bytes}
+use Rattle.ev_abstract.specs.Context.{BodyContext}
 use Rattle.ev_activation.specs.Seat.{Seat, top_at}
 use Rattle.ev_user.specs.Sees.{IsPageWord, IsUserWord}
 
@@ -64,6 +65,52 @@ abbrev pub IsWritten : Named → Type 0
 IsWritten (UserWord a) = IsPageWord a
 IsWritten x = IsName x
 
+-- ---- which of the machines' components they are
+
+-- the words by which the kernel names tasks, and those of calls
+abbrev pub is_kernel_word : Named → Bool
+is_kernel_word (Top p) = true
+is_kernel_word (Current p) = true
+is_kernel_word (Mark p) = true
+is_kernel_word (Head p) = true
+is_kernel_word (TssTop p) = true
+is_kernel_word (RecordWord p k o) = true
+is_kernel_word x = false
+
+-- those that blocks of an activation know
+abbrev pub is_private : Named → Bool
+is_private (UserRsp p) = true
+is_private (Top p) = true
+is_private (Current p) = true
+is_private (Mark p) = true
+is_private (TssTop p) = true
+is_private x = false
+
+-- slots
+abbrev pub is_slot : Named → Bool
+is_slot (Slot p k) = true
+is_slot x = false
+
+-- shared cells
+abbrev pub is_cell : Named → Bool
+is_cell (CellAt k) = true
+is_cell x = false
+
+-- presence of pages
+abbrev pub is_page_bit : Named → Bool
+is_page_bit (PageBit i) = true
+is_page_bit x = false
+
+-- words of user code
+abbrev pub is_user_word : Named → Bool
+is_user_word (UserWord a) = true
+is_user_word x = false
+
+-- whether no name is such
+abbrev pub have_none : (Named → Bool) → List Named → Bool
+have_none f [] = true
+have_none f (x ∷ xs) = not (f x) && have_none f xs
+
 -- an address outside an interval
 abbrev pub Outside : (lo hi a : ℕ) → Type 0
 Outside lo hi a = (a < lo) ⊎ (hi ≤ a)
@@ -82,6 +129,11 @@ AreWritten (x ∷ xs) = IsWritten x × AreWritten xs
 abbrev pub NoneOf : ℕ → List Named → Type 0
 NoneOf q [] = Unit {0}
 NoneOf q (x ∷ xs) = (owner x ≢ Some q) × NoneOf q xs
+
+-- A task knows none of the words, and an activation no other than its own private ones: whether what stands on these contexts may write words of the names.
+abbrev pub UnknownTo : List BodyContext → List Named → Type 0
+UnknownTo [] names = Unit {0}
+UnknownTo (b ∷ below) names = have_none is_private names ≡ true
 
 -- What a step of p writes, whose activation has this seat: words of its stack below the top of its frame, and words of these names.
 abbrev pub Changes : ℕ → Seat → List Named → NatMap ℕ → NatMap ℕ → Type 0

@@ -66,6 +66,10 @@ module _ (mode : Mode) (image : Image) where
   abbrev pub most_edges : ℕ
   most_edges = 600
 
+  -- so many before one of an activation on which others stand: the edges of an inner NMI may come on top
+  abbrev pub body_edges : ℕ
+  body_edges = 500
+
   -- A return restores w, CR2 aside: under IDT the NMI code alone keeps CR2. What stands beneath an activation that doesn't stands with any.
   abbrev pub is_idt : Mode → Bool
   is_idt Idt = true
@@ -105,7 +109,7 @@ module _ (mode : Mode) (image : Image) where
   Chain p left r t f sw (b ∷ below) [] c m = ⊥
   Chain p left r t f sw (b ∷ below) (a ∷ as') c m =
       (w : Processor) × IsContext b × (a.inner ≡ false) × Interrupted below w as'
-      × Beneath (keeps_cr2 (kind_of image b below)) (λ v. Chain p most_edges r t f (chained sw below) below as' v m) w
+      × Beneath (keeps_cr2 (kind_of image b below)) (λ v. Chain p body_edges r t f (chained sw below) below as' v m) w
       × Leads mode p (kind_of image b below) f w m.words
       × Active mode image p left (kind_of image b below) (seat_of mode image r (b ∷ below)) f (switches_at sw below) w b c m
 
