@@ -27,10 +27,10 @@ abbrev pub regs_with : List ℕ → Write → List ℕ
 regs_with regs None = regs
 regs_with regs (Some x) = set regs x.0 x.1
 
--- and the context
-abbrev pub context_with : BodyContext → Write → BodyContext
-context_with b None = b
-context_with b (Some x) = with_local b x.0 x.1
+-- and the locals
+abbrev pub locals_with : List ℕ → Write → List ℕ
+locals_with locals None = locals
+locals_with locals (Some x) = set locals (x.0 - 6) x.1
 
 pub regs_long : (regs : List ℕ) (x : Write) → length regs ≡ 16 → length (regs_with regs x) ≡ 16
 regs_long regs None h = h
@@ -56,10 +56,10 @@ module _ (mode : Mode) (image : Image) (e : Env) (c : Processor) (m : Memory) (o
       (at 12 ∙ l 6) (at 13 ∙ l 7) r lo hi
 
   -- the locals behind it are the registers behind it
-  pub locals_with : (x : Write) → IsLocal x → Locals mode image (with_registers (regs_with c.regs x) e.var) (context_with b x)
+  pub locals_behind : (x : Write) → IsLocal x → Locals mode image (with_registers (regs_with c.regs x) e.var) (record b { locals = locals_with b.locals x })
   unfolding eval
-  locals_with None h = locals ∙ ap eight (sym s.regs)
-  locals_with (Some x) h =
+  locals_behind None h = locals ∙ ap eight (sym s.regs)
+  locals_behind (Some x) h =
       ap (λ (ls : List ℕ). set ls (x.0 - 6) x.1) locals
       ∙ from_six (λ n. set (eight (map (eval e) (with_three mode rax rcx rdx))) (n - 6) x.1 ≡ eight (set (map (eval e) (with_three mode rax rcx rdx)) n x.1))
       refl refl refl refl refl refl refl refl x.0 h.0 h.1

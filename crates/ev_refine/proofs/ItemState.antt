@@ -7,6 +7,7 @@ use Rattle.ev_isa.specs.Flags.{Flags, flags_word}
 use Rattle.ev_isa.specs.declared.mode.Mode.{Mode}
 use Rattle.ev_isa.specs.declared.mode.Mode.TheVariants.{Idt, Fred}
 use Rattle.ev_body.specs.declared.image.Image.{Image}
+use Rattle.ev_listing.specs.AddressMap.{pcpu}
 use Rattle.ev_state.specs.Processor.{Processor}
 use Rattle.ev_mem.specs.Memory.{Memory}
 use Rattle.ev_symbolic.specs.Value.{M, V, FVar, X}
@@ -173,3 +174,10 @@ lands mode e u c m offset rax rcx rdx g s same rest regs long rsp v var rip base
 
     map_three : (ℕ → ℕ) → ℕ → List ℕ
     map_three w r = w 0 ∷ w 1 ∷ w 2 ∷ w 3 ∷ r ∷ w 5 ∷ w 6 ∷ w 7 ∷ w 8 ∷ w 9 ∷ w 10 ∷ w 11 ∷ w 12 ∷ w 13 ∷ w 14 ∷ w 15 ∷ []
+
+-- the GS base is the processor's area
+pub gs_of : (mode : Mode) (p : ℕ) (κ : Kind) (σ : Seat) (ss : ℕ) (w : Processor) (extra v : ℕ → ℕ) (f : Flags)
+    → eval (here mode p κ σ ss w extra v f) (opening_of mode).gs ≡ (pcpu p + 0) % M
+unfolding eval
+gs_of Fred p κ σ ss w extra v f = refl
+gs_of Idt p κ σ ss w extra v f = refl

@@ -26,6 +26,9 @@ pub mod ItemAddresses
 pub mod ItemSaved
 pub mod Instructions
 pub mod KernelStep
+pub mod ItemWords
+pub mod ItemVisible
+pub mod ItemSteps
 pub mod KernelItems
 pub mod Kernel
 pub mod UserState

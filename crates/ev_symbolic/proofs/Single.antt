@@ -4,7 +4,7 @@ use Rattle.std.specs.Prelude.{◌==◌, if◌then◌else◌}
 use Rattle.ev_isa.specs.Word.{NatMap, put_at, sign_extend, displaced}
 use Rattle.ev_isa.specs.Flags.{Status, flags_of, alu, sum, difference, holds}
 use Rattle.ev_isa.specs.declared.instruction.Ins.{Ins}
-use Rattle.ev_isa.specs.declared.instruction.Ins.TheVariants.{MovImm, MovReg, Load, Store, StoreImm, GsLoad, GsStore, Xchg, Xadd, CmpXchg, Alu, AluImm, Jmp, Jcc, JmpReg, Push, PushImm}
+use Rattle.ev_isa.specs.declared.instruction.Ins.TheVariants.{MovImm, MovReg, Load, Store, StoreImm, GsLoad, GsStore, Xchg, Xadd, CmpXchg, Alu, AluImm, Nop, Jmp, Jcc, JmpReg, Push, PushImm}
 use Rattle.ev_event.specs.declared.event.Event.{Event}
 use Rattle.ev_event.specs.Event.{ss, gp}
 use Rattle.ev_effect.specs.Task.{Task, with_reg}
@@ -14,7 +14,7 @@ use Rattle.ev_mem.specs.Memory.{Memory, view}
 use Rattle.ev_exec.specs.Exec.{Executed, Done, completed, changed, exec}
 use Rattle.ev_proc.specs.ProcessorStep.{ran}
 use Rattle.ev_symbolic.specs.Agrees.{IsOpen}
-use Rattle.ev_symbolic.specs.Single.{IsAt, onward, in_status, Leads, Loads, Stores, LoadsAllowed, StoresAllowed, StoresNumber, LoadsFromGs, StoresToGs, pushed_at, Pushes, PushesNumber, Exchanges, Adds, Compares, Moves, MovesNumber, Computes, ComputesNumber, Jumps, JumpsTo, Branches, SinglesAreSteps}
+use Rattle.ev_symbolic.specs.Single.{IsAt, onward, in_status, Leads, Loads, Stores, LoadsAllowed, StoresAllowed, StoresNumber, LoadsFromGs, StoresToGs, pushed_at, Pushes, PushesNumber, Exchanges, Adds, Compares, Moves, MovesNumber, Computes, ComputesNumber, Rests, Jumps, JumpsTo, Branches, SinglesAreSteps}
 use Rattle.ev_symbolic.proofs.Words.{accessible}
 use Rattle.ev_symbolic.proofs.Effects.{task, loaded, jumped_if, branched, executes}
 
@@ -161,6 +161,10 @@ module _ (c : Processor) (m : Memory) (next : ℕ) where
   computes_number op d i h =
       finish_status (AluImm op d i) h (set c.regs d (alu op (register c d) (sign_extend i)).0) (alu op (register c d) (sign_extend i)).1 m.words refl
 
+  pub rests : Rests c m next
+  unfolding exec effect
+  rests h = finish Nop h c.regs next m.words refl
+
   -- ---- jumps
 
   pub jumps : Jumps c m next
@@ -198,6 +202,7 @@ singles c m next = record {
   moves_number = moves_number c m next;
   computes = computes c m next;
   computes_number = computes_number c m next;
+  rests = rests c m next;
   jumps = jumps c m next;
   jumps_to = jumps_to c m next;
   branches = branches c m next;

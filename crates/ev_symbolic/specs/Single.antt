@@ -6,7 +6,7 @@ use Rattle.ev_isa.specs.Spelling.{spelling}
 use Rattle.ev_isa.specs.declared.instruction.AluOp.{AluOp}
 use Rattle.ev_isa.specs.declared.instruction.Cond.{Cond}
 use Rattle.ev_isa.specs.declared.instruction.Ins.{Ins}
-use Rattle.ev_isa.specs.declared.instruction.Ins.TheVariants.{MovImm, MovReg, Load, Store, StoreImm, GsLoad, GsStore, Xchg, Xadd, CmpXchg, Alu, AluImm, Jmp, Jcc, JmpReg, Push, PushImm}
+use Rattle.ev_isa.specs.declared.instruction.Ins.TheVariants.{MovImm, MovReg, Load, Store, StoreImm, GsLoad, GsStore, Xchg, Xadd, CmpXchg, Alu, AluImm, Nop, Jmp, Jcc, JmpReg, Push, PushImm}
 use Rattle.ev_state.specs.Processor.{Processor, is_user, register, with_status}
 use Rattle.ev_effect.specs.Effect.{access_event, bad_address}
 use Rattle.ev_mem.specs.Memory.{Memory, view}
@@ -131,6 +131,10 @@ ComputesNumber c m next = (op : AluOp) (d : ℕ) (i : ℤ) → IsAt c (AluImm op
     → Leads c m (AluImm op d i) (in_status (onward c (set c.regs d (alu op (register c d) (sign_extend i)).0) next)
     (alu op (register c d) (sign_extend i)).1) m.words
 
+-- an instruction that does nothing
+abbrev pub Rests : Processor → Memory → ℕ → Type 0
+Rests c m next = IsAt c Nop next → Leads c m Nop (onward c c.regs next) m.words
+
 -- ---- jumps, to canonical addresses; a conditional one by the flags that stand
 
 -- a jump over a distance
@@ -164,6 +168,7 @@ pub record Singles (c : Processor) (m : Memory) (next : ℕ) : Type 0 where
   pub moves_number : MovesNumber c m next
   pub computes : Computes c m next
   pub computes_number : ComputesNumber c m next
+  pub rests : Rests c m next
   pub jumps : Jumps c m next
   pub jumps_to : JumpsTo c m next
   pub branches : Branches c m next

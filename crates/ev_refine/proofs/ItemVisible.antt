@@ -1,0 +1,219 @@
+-- A visible item: the processor makes its instruction, the abstract machine the item, and the activation stands at the next item, over what it stood over.
+-- An item says which local, which word with a name and which flags it leaves, and where it leads.
+use Rattle.std.proofs.Common.{◌≡◌, ◌⊎◌, inl, inr, ⊎_elim, ℕ, suc, ◌+◌, ◌-◌, ◌^◌, ◌<◌, ◌≤◌, Bool, true, false, not, ◌&&◌, List, [], ◌∷◌, get_or, length, Option, Some, None, refl, sym, ap, ◌∙◌, subst, arith}
+use Rattle.std.specs.Prelude.{slice_get, nat_le, nat_lt, if◌then◌else◌}
+use Rattle.std.proofs.lemmas.Option.{slice_get-get_or}
+use Rattle.ev_isa.specs.Word.{NatMap, put_at}
+use Rattle.ev_isa.specs.Flags.{Status, Flags, flags_word, flags_of}
+use Rattle.ev_isa.specs.Spelling.{spelling}
+use Rattle.ev_isa.specs.declared.instruction.Ins.{Ins}
+use Rattle.ev_isa.specs.declared.mode.Mode.{Mode}
+use Rattle.ev_effect.specs.Task.{Task}
+use Rattle.ev_body.specs.declared.item.Item.TheVariants.{Ret}
+use Rattle.ev_body.specs.declared.body.Body.{Body}
+use Rattle.ev_body.specs.declared.image.Image.{Image}
+use Rattle.ev_body.specs.Bodies.{body_items}
+use Rattle.ev_body.specs.WellFormed.{IsImage}
+use Rattle.ev_listing.specs.AddressMap.{nmi_entry, repeat_entry}
+use Rattle.ev_listing.specs.Expansion.{item_address}
+use Rattle.ev_state.specs.Processor.{Processor, is_user, with_status}
+use Rattle.ev_state.proofs.FlagLaws.{kept, flags_of-flags_word}
+use Rattle.ev_apic.specs.declared.apic.Apic.{Apic}
+use Rattle.ev_mem.specs.Memory.{Memory}
+use Rattle.ev_proc.specs.ProcessorStep.{executed, ran}
+use Rattle.ev_proc.specs.declared.stepped.Stepped.{Stepped}
+use Rattle.ev_abstract.specs.Context.{BodyContext, CallId}
+use Rattle.ev_abstract.specs.declared.entry.Entry.{Entry}
+use Rattle.ev_abstract.specs.Machine.{Machine, processor, with_processor}
+use Rattle.ev_abstract.specs.Machine as abstract
+use Rattle.ev_abstract.specs.Run.{item_at, turn}
+use Rattle.ev_law.specs.Legal.{Legal, IsLegalOn, AreLegal, knows}
+use Rattle.ev_concrete.specs.ConcreteRun.{System, is_return, activations_by}
+use Rattle.ev_concrete.specs.Depth.{bodies_on, is_in_repeat, is_jump}
+use Rattle.ev_concrete.specs.Shown.{shown_always}
+use Rattle.ev_built.specs.Built.{IsBuilt}
+use Rattle.ev_symbolic.specs.Value.{M, V}
+use Rattle.ev_symbolic.specs.Names.{item_tag}
+use Rattle.ev_symbolic.specs.Agrees.{Env, Cell, Code, Known, Open, Fits, with_words}
+use Rattle.ev_symbolic.specs.Single.{IsAt, onward, in_status, Leads}
+use Rattle.ev_symbolic.proofs.Blocks.{begins}
+use Rattle.ev_blocks.specs.Items.{AtItem}
+use Rattle.ev_blocks.specs.Blocks.{block, edges}
+use Rattle.ev_blocks.specs.Blocks as blocks
+use Rattle.ev_activation.specs.Seat.{Kind, Seat}
+use Rattle.ev_table.specs.Table.{code_table}
+use Rattle.ev_refine.specs.Named.{Named, UnknownTo, Changes}
+use Rattle.ev_refine.specs.Active.{item_place, address_of_item, here, IsKernelSs, FlagsAre, InItem, Means, Active}
+use Rattle.ev_refine.specs.Relation.{IsContext, switches_at, Chain, StandsOn, Stands}
+use Rattle.ev_refine.specs.Claims.{Simulated}
+use Rattle.ev_refine.proofs.Facts.{Facts}
+use Rattle.ev_refine.proofs.Legality.{turn_legal}
+use Rattle.ev_refine.proofs.Depth.{goes_on_inside}
+use Rattle.ev_refine.proofs.Fits.{fits_at}
+use Rattle.ev_refine.proofs.Bodies.{body, at_the_item, item_edges_few}
+use Rattle.ev_refine.proofs.Standing.{ran_stays}
+use Rattle.ev_refine.proofs.After.{AreNames}
+use Rattle.ev_refine.proofs.CallKinds.{plain_knows}
+use Rattle.ev_refine.proofs.ItemState.{with_registers, opening_of, known_of, ItemState, any_registers, saved_again, gone, lands}
+use Rattle.ev_refine.proofs.ItemLocals.{Write, IsLocal, regs_with, locals_with, regs_long, keeps_rsp, locals_behind}
+use Rattle.ev_refine.proofs.KernelStep as step
+
+-- ---- the processor behind an instruction, by the flags that it had
+
+-- where the flags stay
+pub goes_onward : (c : Processor) (m : Memory) (i : Ins) (g : Flags) (regs : List ℕ) (rip : ℕ) (words : NatMap ℕ) → c.flags ≡ flags_word g
+    → Leads c m i (onward c regs rip) words → Leads c m i (gone c regs g rip) words
+goes_onward c m i g regs rip words h l = subst (λ f. Leads c m i (record (onward c regs rip) { flags = f }) words) h l
+
+-- where it leaves these
+pub goes_with : (c : Processor) (m : Memory) (i : Ins) (g : Flags) (regs : List ℕ) (rip : ℕ) (words : NatMap ℕ) (s : Status) → c.flags ≡ flags_word g
+    → Leads c m i (in_status (onward c regs rip) s) words → Leads c m i (gone c regs (record g { status = s }) rip) words
+goes_with c m i g regs rip words s h l =
+    subst (λ f. Leads c m i (record (onward c regs rip) { flags = flags_word (record f { status = s }) }) words)
+    (ap flags_of h ∙ flags_of-flags_word g) l
+
+-- a legal context is at an item
+legal_context : (image : Image) (known : CallId → Bool) (b : BodyContext) (below : List BodyContext) (mode : Mode) → AreLegal image known (b ∷ below)
+    → IsContext mode image b
+legal_context image known b below mode h =
+    let l : IsLegalOn image known b below = h.0 in
+    record {
+      item = get_or (body_items l.body) b.place Ret;
+      is = ap (λ o. item_at o b.place) l.is_body ∙ slice_get-get_or (body_items l.body) b.place Ret l.at.place;
+    }
+
+module _ (mode : Mode) (image : Image) (built : IsBuilt image) (good : IsImage image) (facts : Facts mode image)
+    (left : NatMap ℕ) (s : System) (m : Machine) (h : Stands mode image left s m) (p : ℕ) (hp : p < image.processors)
+    (o : step.Top mode image built good facts left s m h p hp) (body' : Body) (is : slice_get image.bodies o.b.body ≡ Some body') where
+  abbrev code : Code
+  code = code_table mode image
+
+  abbrev c : Processor
+  c = s.cpus p
+
+  abbrev x : abstract.Processor
+  x = processor m p
+
+  abbrev on : StandsOn mode image p (left p) s x
+  on = step.on mode image built good facts left s m h p hp
+
+  abbrev pub env : ℕ → (extra v : ℕ → ℕ) → Flags → Env
+  env ss extra v f = here mode p o.κ o.σ ss o.w extra v f
+
+  abbrev Stood : ℕ → BodyContext → Processor → Memory → Type 0
+  Stood now b cpu mem = Active mode image p now o.κ o.σ on.frame (switches_at mode image on.switching o.below) o.w b cpu mem
+
+  -- the address of an item of the body
+  abbrev pub at : ℕ → ℕ
+  at i = item_address mode o.b.body body' i
+
+  -- the context behind an item: with this local, at this item, with these flags
+  abbrev pub behind : Write → ℕ → Option Status → BodyContext
+  behind write place status = record o.b { locals = locals_with o.b.locals write; place = place; flags = status }
+
+  -- The activation is at the visible instruction of an item, so many bytes behind the item's beginning.
+  pub record AtVisible (ss : ℕ) (extra v : ℕ → ℕ) (f : Flags) : Type 0 where
+    pub act : Stood on.own o.b c s.memory
+    pub ss_is : IsKernelSs ss
+    pub means : InItem mode image v f o.w o.b
+    pub place : extra 20 ≡ item_place mode image o.b.body o.b.place
+    pub long : length c.regs ≡ 16
+    pub kernel : is_user c ≡ false
+    pub offset : ℕ
+    pub rax : V
+    pub rcx : V
+    pub rdx : V
+    pub flags : Flags
+    pub state : ItemState mode (env ss extra v f) c s.memory offset rax rcx rdx flags
+    -- what an item means for this kind of activation
+    pub stands : (extra' v' : ℕ → ℕ) (f' : Flags) (b' : BodyContext) (words : NatMap ℕ) → InItem mode image v' f' o.w b'
+        → extra' 20 ≡ item_place mode image b'.body b'.place → Means mode image o.κ (body mode AtItem) (env ss extra' v' f') o.w b' words
+
+  -- What an item does there.
+  pub record Does (ss : ℕ) (extra v : ℕ → ℕ) (f : Flags) (a : AtVisible ss extra v f) : Type 0 where
+    pub cell : Cell
+    pub found : code c.rip ≡ Some cell
+    pub marked : cell.mark ≡ true
+    pub no_return : is_return (Some cell.ins) ≡ false
+    pub write : Write
+    pub local : IsLocal write
+    pub place : ℕ
+    pub flags : Flags
+    pub status : Option Status
+    pub flags_are : FlagsAre mode image status flags
+    pub words : NatMap ℕ
+    pub runs : Leads c s.memory cell.ins (gone c (regs_with c.regs write) flags (at place)) words
+    pub names : List Named
+    pub allowed : AreNames p names
+    pub unknown : UnknownTo o.below names
+    pub changes : Changes p o.σ names s.memory.words words
+    pub keeps : Known (env ss extra v f) (known_of mode) words (opening_of mode).words
+    pub machine : Machine
+    pub entries : List Entry
+    pub turns : turn image m p ≡ (machine, entries)
+    pub slots : NatMap ℕ
+    pub makes : step.Makes mode image built good facts left s m h p hp o machine words x.tasks slots (behind write place status ∷ o.below)
+    pub shows : shown_always p (bodies_on s p) c s.memory.words (Some cell.ins) ≡ entries
+
+  pub visible : (ss : ℕ) (extra v : ℕ → ℕ) (f : Flags) (a : AtVisible ss extra v f) → Does ss extra v f a → Simulated mode image left s m p
+  visible ss extra v f a d =
+      let b' : BodyContext = behind d.write d.place d.status in
+      let regs : List ℕ = regs_with c.regs d.write in
+      let cpu : Processor = gone c regs d.flags (at d.place) in
+      let mem : Memory = with_words s.memory d.words in
+      let way = at_the_item mode in
+      let few = item_edges_few mode in
+      let next_small = (facts.item_small o.b.body d.place body' is).1 in
+      let further : ℕ → ℕ = λ n. item_place mode image o.b.body d.place in
+      let next_is : item_place mode image o.b.body d.place ≡ at d.place = ap (address_of_item mode o.b.body d.place) is in
+      let v' : ℕ → ℕ = with_registers regs v in
+      let u : Env = env ss further v' d.flags in
+      let legal : Legal image d.machine = turn_legal image good built.accepted m p hp h.legal (d.machine, d.entries) d.turns in
+      let ctx : IsContext mode image b' = legal_context image (knows image d.machine) b' o.below mode
+      (subst (λ (y : abstract.Processor). AreLegal image (knows image d.machine) y.bodies) d.makes.own (legal.each p).bodies) in
+      let agrees = lands mode (env ss extra v f) u c s.memory a.offset a.rax a.rcx a.rdx a.flags a.state
+      (any_registers mode p o.κ o.σ ss o.w extra further v f d.flags regs) refl regs (regs_long c.regs d.write a.long) (keeps_rsp c.regs d.write d.local)
+      v refl (at d.place) next_is next_small d.words d.keeps
+      (step.windows mode image built good facts left s m h p hp o body' is (body mode AtItem) way.over ss further v' d.flags) in
+      let spread = facts.item_range o.b.body d.place body' is in
+      let fit : Fits code u (block mode (body mode AtItem)) =
+      fits_at mode image p o.σ (step.in_seat mode image built good facts left s m h p hp o) hp good.count.1 o.κ ss o.w further v' d.flags facts
+      (body mode AtItem) way.over (step.fred_is mode image built good facts left s m h p hp o)
+      (subst (λ y. (0xffffffff82000000 ≤ y) × (y + 0x100 ≤ M)) (sym next_is) spread) tt (way.told u) in
+      let item : InItem mode image v' d.flags o.w b' = record {
+        saved = saved_again mode image regs v o.w a.means.saved;
+        locals = locals_behind mode image (env ss extra v f) c s.memory a.offset a.rax a.rcx a.rdx a.flags a.state o.b a.means.locals d.write d.local;
+        flags = d.flags_are;
+      } in
+      let act' : Stood (edges mode (body mode AtItem) 0) b' cpu mem = record {
+        stands = record {
+          spot = body mode AtItem;
+          k = 0;
+          extra = further;
+          var = v';
+          flags = d.flags;
+          ss = ss;
+          ss_is = a.ss_is;
+          within = omega arith;
+          enough = omega arith;
+          at = begins code (block mode (body mode AtItem)) u cpu mem fit agrees;
+          long = regs_long c.regs d.write a.long;
+        };
+        switches = way.off ∙ sym (step.still mode image built good facts left s m h p hp o a.act);
+        knows = plain_knows mode o.κ on.frame (step.plain_kind mode image built good facts left s m h p hp o) (blocks.holds (body mode AtItem));
+        means = a.stands further v' d.flags b' d.words item refl;
+      } in
+      let still_there : activations_by s p (s.activations p) cpu Stepped.Ran ≡ o.last ∷ o.others
+      = ran_stays s p cpu d.cell.ins (step.fetches mode image built good facts left s m h p hp c.rip d.cell d.found).1 d.no_return ∙ o.acts in
+      let quiet = step.are_quiet mode image built good facts left s m h p hp o in
+      step.visible mode image built good facts left s m h p hp o d.cell d.found d.marked a.kernel cpu d.words d.runs
+      (step.blocked mode image built good facts left s m h p hp) d.names d.allowed d.changes d.machine d.entries d.turns x.tasks d.slots (b' ∷ o.below) d.makes
+      (record { interrupts = quiet.0.interrupts; service = quiet.0.service; calls = quiet.0.calls }, quiet.1)
+      (goes_on_inside (is_return (Some d.cell.ins)) (not (is_user c)) (not (nat_le nmi_entry c.rip && nat_lt c.rip repeat_entry)) (is_jump (Some d.cell.ins))
+      (is_in_repeat c.rip) (length x.bodies) d.no_return (step.outside mode image built good facts left s m h p hp o a.act) ∙ ap length o.bodies)
+      (edges mode (body mode AtItem) 0) (omega arith)
+      (subst (λ as'. Chain mode image p (edges mode (body mode AtItem) 0) on.returning (x.tasks on.returning) on.frame on.switching (b' ∷ o.below) as' cpu mem)
+      (sym still_there)
+      (step.with_last mode image built good facts left s m h p hp o b' o.kind ctx (edges mode (body mode AtItem) 0) cpu d.words d.names d.allowed d.unknown
+      d.changes act'))
+      d.shows
