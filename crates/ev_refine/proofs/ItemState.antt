@@ -104,14 +104,22 @@ pub record SaysBeside (mode : Mode) (e u : Env) : Type 0 where
   pub selector : eval e (opening_of mode).selector ≡ eval u (opening_of mode).selector
   pub rsp0 : eval e (opening_of mode).rsp0 ≡ eval u (opening_of mode).rsp0
   pub rsp : eval e (top_less (body_bytes (layout_of mode))) ≡ eval u (top_less (body_bytes (layout_of mode)))
-  pub words : (n : NatMap ℕ) → Known e (known_of mode) n (opening_of mode).words → Known u (known_of mode) n (opening_of mode).words
 
--- whatever the registers, the item and the flags are
-pub any_registers : (mode : Mode) (p : ℕ) (κ : Kind) (σ : Seat) (ss : ℕ) (w : Processor) (extra extra' v : ℕ → ℕ) (f f' : Flags) (regs : List ℕ)
-    → SaysBeside mode (here mode p κ σ ss w extra v f) (here mode p κ σ ss w extra' (with_registers regs v) f')
+-- whatever the registers, the item, the flags and what it stands over are, where these variables stay
+pub any_registers : (mode : Mode) (p : ℕ) (κ : Kind) (σ : Seat) (ss : ℕ) (w w' : Processor) (extra extra' v v' : ℕ → ℕ) (f f' : Flags) (regs : List ℕ)
+    → v 60 ≡ v' 60 → v 61 ≡ v' 61 → v 63 ≡ v' 63
+    → SaysBeside mode (here mode p κ σ ss w extra v f) (here mode p κ σ ss w' extra' (with_registers regs v') f')
 unfolding eval
-any_registers Fred p κ σ ss w extra extra' v f f' regs = record { gs = refl; kernel_gs = refl; selector = refl; rsp0 = refl; rsp = refl; words = λ n h. h }
-any_registers Idt p κ σ ss w extra extra' v f f' regs = record { gs = refl; kernel_gs = refl; selector = refl; rsp0 = refl; rsp = refl; words = λ n h. h }
+any_registers Fred p κ σ ss w w' extra extra' v v' f f' regs g k l = record { gs = refl; kernel_gs = g; selector = k; rsp0 = l; rsp = refl }
+any_registers Idt p κ σ ss w w' extra extra' v v' f f' regs g k l = record { gs = refl; kernel_gs = g; selector = k; rsp0 = l; rsp = refl }
+
+-- what an item's block knows doesn't depend on registers, the item and the flags
+pub any_known : (mode : Mode) (p : ℕ) (κ : Kind) (σ : Seat) (ss : ℕ) (w : Processor) (extra extra' v : ℕ → ℕ) (f f' : Flags) (regs : List ℕ) (n : NatMap ℕ)
+    → Known (here mode p κ σ ss w extra v f) (known_of mode) n (opening_of mode).words
+    → Known (here mode p κ σ ss w extra' (with_registers regs v) f') (known_of mode) n (opening_of mode).words
+unfolding eval
+any_known Fred p κ σ ss w extra extra' v f f' regs n h = h
+any_known Idt p κ σ ss w extra extra' v f f' regs n h = h
 
 pub saved_again : (mode : Mode) (image : Image) (regs : List ℕ) (v : ℕ → ℕ) (w : Processor) → Saved mode image v w
     → Saved mode image (with_registers regs v) w
@@ -141,7 +149,7 @@ pub lands : (mode : Mode) (e u : Env) (c : Processor) (m : Memory) (offset : ℕ
     → ItemState mode e c m offset rax rcx rdx g → SaysBeside mode e u → u.rest ≡ e.rest
     → (regs : List ℕ) → length regs ≡ 16 → get_or regs 4 0 ≡ get_or c.regs 4 0 → (v : ℕ → ℕ) → u.var ≡ with_registers regs v
     → (rip : ℕ) → u.base item_tag ≡ rip → rip + 16 < 2 ^ 64 → (words : NatMap ℕ)
-    → Known e (known_of mode) words (opening_of mode).words → Open u (known_of mode) m.regions
+    → Known u (known_of mode) words (opening_of mode).words → Open u (known_of mode) m.regions
     → Agrees u (block mode (body mode AtItem)).ground (opening_of mode) (gone c regs u.flags rip) (with_words m words)
 unfolding eval eval_flags
 lands mode e u c m offset rax rcx rdx g s same rest regs long rsp v var rip base small words known windows =
@@ -161,7 +169,7 @@ lands mode e u c m offset rax rcx rdx g s same rest regs long rsp v var rip base
       levels = s.levels ∙ ap (λ x. x ∷ e.rest.msrs.rsp) same.rsp0 ∙ ap (λ (r : Processor). eval u (opening_of mode).rsp0 ∷ r.msrs.rsp) (sym rest);
       blocked = sym o.2;
       rest = s.rest ∙ sym rest;
-      words = same.words words known;
+      words = known;
       known_open = windows;
       shared_open = subst (λ W. Open u W m.regions) (sym (windows_fit mode (body mode AtItem)).0.shared) (nothing_open u m);
     }

@@ -144,6 +144,11 @@ module _ (mode : Mode) (image : Image) (built : IsBuilt image) (good : IsImage i
   keeps_of None g = a.state.words
   keeps_of (Some z) g = words.keeps_known mode image built good facts left s m h p hp o ss extra v f z.0 z.1 g.name a.state.words
 
+  over_of : (z : WordWrite) → IsFreeWord p z
+      → visible.StandsOver mode image built good facts left s m h p hp o body' is ss v (words_with s.memory.words z) o.w v x.tasks
+  over_of z g = visible.stays_over mode image built good facts left s m h p hp o body' is ss extra v f a (words_with s.memory.words z) (names_with z)
+      (allowed_of z g) (unknown_of z g) (changes_of z) (keeps_of z g)
+
   -- ---- an item that leads to the next one
 
   does : (item : Item) → item_at (Some body') b.place ≡ Some item → (ins : Ins) → visible_of item ≡ Some ins → a.offset ≡ bytes_of (before item)
@@ -173,7 +178,10 @@ module _ (mode : Mode) (image : Image) (built : IsBuilt image) (good : IsImage i
         allowed = allowed_of z free;
         unknown = unknown_of z free;
         changes = changes_of z;
-        keeps = keeps_of z free;
+        w = o.w;
+        var = v;
+        tasks = x.tasks;
+        over = over_of z free;
         machine = with_context m1 p (behind write (suc b.place) status);
         entries = es;
         turns = turns item hi ∙ meaning;
@@ -347,7 +355,10 @@ module _ (mode : Mode) (image : Image) (built : IsBuilt image) (good : IsImage i
           allowed = (none_spares p).allowed;
           unknown = step.unknown_none o.below;
           changes = λ y off d. refl;
-          keeps = a.state.words;
+          w = o.w;
+          var = v;
+          tasks = x.tasks;
+          over = over_of None tt;
           machine = with_context m p (behind None t b.flags);
           entries = [];
           turns = turns item hi ∙ meaning;

@@ -20,7 +20,7 @@ use Rattle.ev_state.specs.Processor.{Processor, is_user, with_status}
 use Rattle.ev_state.proofs.FlagLaws.{kept, flags_of-flags_word}
 use Rattle.ev_apic.specs.declared.apic.Apic.{Apic}
 use Rattle.ev_mem.specs.Memory.{Memory}
-use Rattle.ev_proc.specs.ProcessorStep.{executed, ran}
+use Rattle.ev_proc.specs.ProcessorStep.{has_fred, executed, ran}
 use Rattle.ev_proc.specs.declared.stepped.Stepped.{Stepped}
 use Rattle.ev_abstract.specs.Context.{BodyContext, CallId}
 use Rattle.ev_abstract.specs.declared.entry.Entry.{Entry}
@@ -40,21 +40,22 @@ use Rattle.ev_symbolic.proofs.Blocks.{begins}
 use Rattle.ev_blocks.specs.Items.{AtItem}
 use Rattle.ev_blocks.specs.Blocks.{block, edges}
 use Rattle.ev_blocks.specs.Blocks as blocks
-use Rattle.ev_activation.specs.Seat.{Kind, Seat}
+use Rattle.ev_activation.specs.Seat.{Kind, Seat, kind_of}
 use Rattle.ev_table.specs.Table.{code_table}
 use Rattle.ev_refine.specs.Named.{Named, UnknownTo, Changes}
-use Rattle.ev_refine.specs.Active.{item_place, address_of_item, here, IsKernelSs, FlagsAre, InItem, Means, Active}
+use Rattle.ev_refine.specs.Active.{item_place, address_of_item, here, rest_in, IsKernelSs, Saved, Locals, FlagsAre, InItem, Means, Active}
 use Rattle.ev_refine.specs.Relation.{IsContext, switches_at, Chain, StandsOn, Stands}
 use Rattle.ev_refine.specs.Claims.{Simulated}
 use Rattle.ev_refine.proofs.Facts.{Facts}
 use Rattle.ev_refine.proofs.Legality.{turn_legal}
 use Rattle.ev_refine.proofs.Depth.{goes_on_inside}
-use Rattle.ev_refine.proofs.Fits.{fits_at}
+use Rattle.ev_refine.proofs.ModeFacts.{is_fred}
+use Rattle.ev_refine.proofs.Fits.{IsSeat, fits_at, opens_at}
 use Rattle.ev_refine.proofs.Bodies.{body, at_the_item, item_edges_few}
 use Rattle.ev_refine.proofs.Standing.{ran_stays}
 use Rattle.ev_refine.proofs.After.{AreNames}
 use Rattle.ev_refine.proofs.CallKinds.{plain_knows}
-use Rattle.ev_refine.proofs.ItemState.{with_registers, opening_of, known_of, ItemState, any_registers, saved_again, gone, lands}
+use Rattle.ev_refine.proofs.ItemState.{with_registers, opening_of, known_of, ItemState, any_registers, any_known, saved_again, gone, lands}
 use Rattle.ev_refine.proofs.ItemLocals.{Write, IsLocal, regs_with, locals_with, regs_long, keeps_rsp, locals_behind}
 use Rattle.ev_refine.proofs.KernelStep as step
 
@@ -126,8 +127,38 @@ module _ (mode : Mode) (image : Image) (built : IsBuilt image) (good : IsImage i
     pub flags : Flags
     pub state : ItemState mode (env ss extra v f) c s.memory offset rax rcx rdx flags
     -- what an item means for this kind of activation
-    pub stands : (extra' v' : ℕ → ℕ) (f' : Flags) (b' : BodyContext) (words : NatMap ℕ) → InItem mode image v' f' o.w b'
-        → extra' 20 ≡ item_place mode image b'.body b'.place → Means mode image o.κ (body mode AtItem) (env ss extra' v' f') o.w b' words
+    pub stands : (w : Processor) (extra' v' : ℕ → ℕ) (f' : Flags) (b' : BodyContext) (words : NatMap ℕ) → InItem mode image v' f' w b'
+        → extra' 20 ≡ item_place mode image b'.body b'.place
+        → Means mode image o.κ (body mode AtItem) (here mode p o.κ o.σ ss w extra' v' f') w b' words
+
+  -- What the activation stands over behind a step that leaves these words: the same, or what a write of the saved area makes of it.
+  pub record StandsOver (ss : ℕ) (v : ℕ → ℕ) (words : NatMap ℕ) (w : Processor) (var : ℕ → ℕ) (tasks : NatMap Task) : Type 0 where
+    pub other_gs : v 60 ≡ var 60
+    pub chosen : v 61 ≡ var 61
+    pub level : v 63 ≡ var 63
+    pub rest : rest_in mode o.κ ss w ≡ rest_in mode o.κ ss o.w
+    pub fred : has_fred w ≡ is_fred mode
+    pub saved : Saved mode image var w
+    pub known : (regs : List ℕ) (extra' : ℕ → ℕ) (f' : Flags)
+        → Known (here mode p o.κ o.σ ss w extra' (with_registers regs var) f') (known_of mode) words (opening_of mode).words
+    pub chains : (b : BodyContext) → kind_of image b o.below ≡ o.κ → IsContext mode image b → (now : ℕ) (cpu : Processor)
+        → Active mode image p now o.κ o.σ on.frame (switches_at mode image on.switching o.below) w b cpu (with_words s.memory words)
+        → Chain mode image p now on.returning (tasks on.returning) on.frame on.switching (b ∷ o.below) (o.last ∷ o.others) cpu (with_words s.memory words)
+
+  -- where the block's words stay
+  pub stays_over : (ss : ℕ) (extra v : ℕ → ℕ) (f : Flags) (a : AtVisible ss extra v f) (words : NatMap ℕ) (names : List Named) → AreNames p names
+      → UnknownTo o.below names → Changes p o.σ names s.memory.words words
+      → Known (env ss extra v f) (known_of mode) words (opening_of mode).words → StandsOver ss v words o.w v x.tasks
+  stays_over ss extra v f a words names allowed unknown changes known = record {
+    other_gs = refl;
+    chosen = refl;
+    level = refl;
+    rest = refl;
+    fred = step.fred_is mode image built good facts left s m h p hp o;
+    saved = a.means.saved;
+    known = λ regs extra' f'. any_known mode p o.κ o.σ ss o.w extra extra' v f f' regs words known;
+    chains = λ b kind ctx now cpu act. step.with_last mode image built good facts left s m h p hp o b kind ctx now cpu words names allowed unknown changes act;
+  }
 
   -- What an item does there.
   pub record Does (ss : ℕ) (extra v : ℕ → ℕ) (f : Flags) (a : AtVisible ss extra v f) : Type 0 where
@@ -147,12 +178,15 @@ module _ (mode : Mode) (image : Image) (built : IsBuilt image) (good : IsImage i
     pub allowed : AreNames p names
     pub unknown : UnknownTo o.below names
     pub changes : Changes p o.σ names s.memory.words words
-    pub keeps : Known (env ss extra v f) (known_of mode) words (opening_of mode).words
+    pub w : Processor
+    pub var : ℕ → ℕ
+    pub tasks : NatMap Task
+    pub over : StandsOver ss v words w var tasks
     pub machine : Machine
     pub entries : List Entry
     pub turns : turn image m p ≡ (machine, entries)
     pub slots : NatMap ℕ
-    pub makes : step.Makes mode image built good facts left s m h p hp o machine words x.tasks slots (behind write place status ∷ o.below)
+    pub makes : step.Makes mode image built good facts left s m h p hp o machine words tasks slots (behind write place status ∷ o.below)
     pub shows : shown_always p (bodies_on s p) c s.memory.words (Some cell.ins) ≡ entries
 
   pub visible : (ss : ℕ) (extra v : ℕ → ℕ) (f : Flags) (a : AtVisible ss extra v f) → Does ss extra v f a → Simulated mode image left s m p
@@ -166,26 +200,28 @@ module _ (mode : Mode) (image : Image) (built : IsBuilt image) (good : IsImage i
       let next_small = (facts.item_small o.b.body d.place body' is).1 in
       let further : ℕ → ℕ = λ n. item_place mode image o.b.body d.place in
       let next_is : item_place mode image o.b.body d.place ≡ at d.place = ap (address_of_item mode o.b.body d.place) is in
-      let v' : ℕ → ℕ = with_registers regs v in
-      let u : Env = env ss further v' d.flags in
+      let v' : ℕ → ℕ = with_registers regs d.var in
+      let w : Processor = d.w in
+      let u : Env = here mode p o.κ o.σ ss w further v' d.flags in
+      let seat : IsSeat o.σ = step.in_seat mode image built good facts left s m h p hp o in
       let legal : Legal image d.machine = turn_legal image good built.accepted m p hp h.legal (d.machine, d.entries) d.turns in
       let ctx : IsContext mode image b' = legal_context image (knows image d.machine) b' o.below mode
       (subst (λ (y : abstract.Processor). AreLegal image (knows image d.machine) y.bodies) d.makes.own (legal.each p).bodies) in
       let agrees = lands mode (env ss extra v f) u c s.memory a.offset a.rax a.rcx a.rdx a.flags a.state
-      (any_registers mode p o.κ o.σ ss o.w extra further v f d.flags regs) refl regs (regs_long c.regs d.write a.long) (keeps_rsp c.regs d.write d.local)
-      v refl (at d.place) next_is next_small d.words d.keeps
-      (step.windows mode image built good facts left s m h p hp o body' is (body mode AtItem) way.over ss further v' d.flags) in
+      (any_registers mode p o.κ o.σ ss o.w w extra further v d.var f d.flags regs d.over.other_gs d.over.chosen d.over.level) d.over.rest regs
+      (regs_long c.regs d.write a.long) (keeps_rsp c.regs d.write d.local) d.var refl (at d.place) next_is next_small d.words
+      (d.over.known regs further d.flags)
+      (opens_at mode image p o.σ seat hp good.count.1 o.κ ss w further v' d.flags (body mode AtItem) way.over s.memory h.regions_are) in
       let spread = facts.item_range o.b.body d.place body' is in
       let fit : Fits code u (block mode (body mode AtItem)) =
-      fits_at mode image p o.σ (step.in_seat mode image built good facts left s m h p hp o) hp good.count.1 o.κ ss o.w further v' d.flags facts
-      (body mode AtItem) way.over (step.fred_is mode image built good facts left s m h p hp o)
+      fits_at mode image p o.σ seat hp good.count.1 o.κ ss w further v' d.flags facts (body mode AtItem) way.over d.over.fred
       (subst (λ y. (0xffffffff82000000 ≤ y) × (y + 0x100 ≤ M)) (sym next_is) spread) tt (way.told u) in
-      let item : InItem mode image v' d.flags o.w b' = record {
-        saved = saved_again mode image regs v o.w a.means.saved;
+      let item : InItem mode image v' d.flags w b' = record {
+        saved = saved_again mode image regs d.var w d.over.saved;
         locals = locals_behind mode image (env ss extra v f) c s.memory a.offset a.rax a.rcx a.rdx a.flags a.state o.b a.means.locals d.write d.local;
         flags = d.flags_are;
       } in
-      let act' : Stood (edges mode (body mode AtItem) 0) b' cpu mem = record {
+      let act' : Active mode image p (edges mode (body mode AtItem) 0) o.κ o.σ on.frame (switches_at mode image on.switching o.below) w b' cpu mem = record {
         stands = record {
           spot = body mode AtItem;
           k = 0;
@@ -201,19 +237,18 @@ module _ (mode : Mode) (image : Image) (built : IsBuilt image) (good : IsImage i
         };
         switches = way.off ∙ sym (step.still mode image built good facts left s m h p hp o a.act);
         knows = plain_knows mode o.κ on.frame (step.plain_kind mode image built good facts left s m h p hp o) (blocks.holds (body mode AtItem));
-        means = a.stands further v' d.flags b' d.words item refl;
+        means = a.stands w further v' d.flags b' d.words item refl;
       } in
       let still_there : activations_by s p (s.activations p) cpu Stepped.Ran ≡ o.last ∷ o.others
       = ran_stays s p cpu d.cell.ins (step.fetches mode image built good facts left s m h p hp c.rip d.cell d.found).1 d.no_return ∙ o.acts in
       let quiet = step.are_quiet mode image built good facts left s m h p hp o in
       step.visible mode image built good facts left s m h p hp o d.cell d.found d.marked a.kernel cpu d.words d.runs
-      (step.blocked mode image built good facts left s m h p hp) d.names d.allowed d.changes d.machine d.entries d.turns x.tasks d.slots (b' ∷ o.below) d.makes
+      (step.blocked mode image built good facts left s m h p hp) d.names d.allowed d.changes d.machine d.entries d.turns d.tasks d.slots (b' ∷ o.below)
+      d.makes
       (record { interrupts = quiet.0.interrupts; service = quiet.0.service; calls = quiet.0.calls }, quiet.1)
       (goes_on_inside (is_return (Some d.cell.ins)) (not (is_user c)) (not (nat_le nmi_entry c.rip && nat_lt c.rip repeat_entry)) (is_jump (Some d.cell.ins))
       (is_in_repeat c.rip) (length x.bodies) d.no_return (step.outside mode image built good facts left s m h p hp o a.act) ∙ ap length o.bodies)
       (edges mode (body mode AtItem) 0) (omega arith)
-      (subst (λ as'. Chain mode image p (edges mode (body mode AtItem) 0) on.returning (x.tasks on.returning) on.frame on.switching (b' ∷ o.below) as' cpu mem)
-      (sym still_there)
-      (step.with_last mode image built good facts left s m h p hp o b' o.kind ctx (edges mode (body mode AtItem) 0) cpu d.words d.names d.allowed d.unknown
-      d.changes act'))
+      (subst (λ as'. Chain mode image p (edges mode (body mode AtItem) 0) on.returning (d.tasks on.returning) on.frame on.switching (b' ∷ o.below) as' cpu
+      mem) (sym still_there) (d.over.chains b' o.kind ctx (edges mode (body mode AtItem) 0) cpu act'))
       d.shows
