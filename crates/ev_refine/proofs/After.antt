@@ -35,7 +35,10 @@ use Rattle.ev_refine.specs.Relation.{Chain, Runs, serves, StandsOn, RecordIs, Li
 use Rattle.ev_refine.proofs.Maps.{at_same}
 use Rattle.ev_refine.proofs.Words.{area_word, fixed_stays, stack_stays, stacks_stay, area_stays, saved_stays}
 use Rattle.ev_symbolic.proofs.Values.{and_left, and_right}
-use Rattle.ev_refine.proofs.Chains.{chain_plain, chain_few}
+use Rattle.ev_refine.proofs.Chains.{chain_plain}
+use Rattle.ev_refine.proofs.Legality.{legal_few}
+use Rattle.ev_body.specs.WellFormed.{IsImage}
+use Rattle.ev_abstract.specs.Accepted.{IsAccepted}
 use Rattle.ev_refine.proofs.Standing.{Moves}
 use Rattle.ev_refine.proofs.Stays.{chain_stays, others_spared}
 
@@ -365,10 +368,10 @@ module _ (mode : Mode) (image : Image) where
   -- ---- another processor
 
   pub other_stays : (p q left : ℕ) (s s' : System) (x : abstract.Processor) (σ : Seat) (cpu : Processor) (as' : List Activation) (words : NatMap ℕ)
-      → p < 32 → q < image.processors → image.processors ≤ 8 → length (tasks_of image q) ≤ 4 → (q ≡ p → ⊥) → (q == p) ≡ false
+      → p < 32 → q < image.processors → image.processors ≤ 8 → length x.bodies ≤ 32 → length (tasks_of image q) ≤ 4 → (q ≡ p → ⊥) → (q == p) ≡ false
       → Moves p s s' cpu as' words → σ.stack < 7 → (names : List Named) → AreNames p names
       → Changes p σ names s.memory.words words → StandsOn mode image q left s x → StandsOn mode image q left s' x
-  other_stays p q left s s' x σ cpu as' words hp lq eight four d e mv hs names good_names changes on =
+  other_stays p q left s s' x σ cpu as' words hp lq eight deep four d e mv hs names good_names changes on =
       let written = good_names.written in let spared = good_names.kernel in record {
         few = on.few;
         own = on.own;
@@ -404,8 +407,7 @@ module _ (mode : Mode) (image : Image) where
             eight
             (others_spared mode image p q on.returning σ names s.memory.words words x.bodies hp hs hq d written (good_names.own q d) changes
             (chain_plain mode image q on.own on.returning (x.tasks on.returning) on.frame on.switching x.bodies (s.activations q) (s.cpus q) s.memory chain)
-            returning_small
-            (chain_few mode image q on.own on.returning (x.tasks on.returning) on.frame on.switching x.bodies (s.activations q) (s.cpus q) s.memory chain))
+            returning_small deep)
             chain));
       }
     where
@@ -483,14 +485,15 @@ module _ (mode : Mode) (image : Image) where
   -- ---- the whole
 
   pub stands_become : (left : NatMap ℕ) (s s' : System) (m m' : Machine) (p now : ℕ) (x : abstract.Processor) (σ : Seat) (cpu : Processor)
-      (as' : List Activation) (words : NatMap ℕ) → image.processors ≤ 8 → ((q : ℕ) → q < image.processors → length (tasks_of image q) ≤ 4)
+      (as' : List Activation) (words : NatMap ℕ) → IsImage image → IsAccepted image
+      → ((q : ℕ) → q < image.processors → length (tasks_of image q) ≤ 4)
       → Stands mode image left s m → p < image.processors → Moves p s s' cpu as' words → σ.stack < 7 → (names : List Named) → AreNames p names
       → Changes p σ names s.memory.words words → Becomes p m m' x words → Legal image m' → IsInDomain x → StandsOn mode image p now s' x
       → Stands mode image (put_at left p now) s' m'
-  stands_become left s s' m m' p now x σ cpu as' words eight four h lt mv hs names good_names changes a legal domain on = record {
+  stands_become left s s' m m' p now x σ cpu as' words good accepted four h lt mv hs names good_names changes a legal domain on = record {
     regions_are = mv.regions ∙ h.regions_are;
     fixed = λ b f. ap (λ w. w b) mv.words_are ∙ fixed_stays p σ names s.memory.words words hp hs good_names.written changes b f ∙ h.fixed b f;
-    shares = shares_become p s s' m m' x σ cpu as' words hp eight mv hs names good_names changes a h.shares;
+    shares = shares_become p s s' m m' x σ cpu as' words hp good.count.1 mv hs names good_names changes a h.shares;
     legal = legal;
     domain = λ q lq. ⊎_elim (λ e. subst (λ r. IsInDomain (processor m' r)) (sym e.1) (subst IsInDomain (sym a.own) domain))
         (λ e. subst IsInDomain (sym (a.others q e.0)) (h.domain q lq)) (eqb_tells q p);
@@ -499,12 +502,13 @@ module _ (mode : Mode) (image : Image) where
         (subst (λ n. StandsOn mode image p n s' (processor m' p)) (sym (at_same left p p now refl)) (subst (StandsOn mode image p now s') (sym a.own) on)))
         (λ e. subst (λ n. StandsOn mode image q n s' (processor m' q)) (sym (ap (λ b. elim b [ true ↦ now | false ↦ left q ]) e.0))
         (subst (StandsOn mode image q (left q) s') (sym (a.others q e.0))
-        (other_stays p q (left q) s s' (processor m q) σ cpu as' words hp lq eight (four q lq) e.1 e.0 mv hs names good_names changes (h.each q lq))))
+        (other_stays p q (left q) s s' (processor m q) σ cpu as' words hp lq good.count.1 (legal_few image good accepted m q h.legal) (four q lq) e.1 e.0 mv hs
+        names good_names changes (h.each q lq))))
         (eqb_tells q p);
   }
     where
       hp : p < 32
-      hp = omega arith
+      hp = let n = good.count.1 in omega arith
 
   -- cells and pages are as they were
   pub record Alike (p : ℕ) (m m' : Machine) (x : abstract.Processor) : Type 0 where
@@ -518,13 +522,14 @@ module _ (mode : Mode) (image : Image) where
     pub queue : x.queue ≡ (processor m p).queue
 
   pub stands_after : (left : NatMap ℕ) (s s' : System) (m m' : Machine) (p now : ℕ) (x : abstract.Processor) (σ : Seat) (cpu : Processor)
-      (as' : List Activation) (words : NatMap ℕ) → image.processors ≤ 8 → ((q : ℕ) → q < image.processors → length (tasks_of image q) ≤ 4)
+      (as' : List Activation) (words : NatMap ℕ) → IsImage image → IsAccepted image
+      → ((q : ℕ) → q < image.processors → length (tasks_of image q) ≤ 4)
       → Stands mode image left s m → p < image.processors → Moves p s s' cpu as' words → σ.stack < 7 → (names : List Named) → AreSparing p names
       → Changes p σ names s.memory.words words → ((b : ℕ) → IsUserWord b → words b ≡ m'.words b) → HoldsWords m'.words → Alike p m m' x
       → Legal image m' → IsInDomain x → StandsOn mode image p now s' x
       → Stands mode image (put_at left p now) s' m'
-  stands_after left s s' m m' p now x σ cpu as' words eight four h lt mv hs names sparing changes user held a legal domain on =
-      stands_become left s s' m m' p now x σ cpu as' words eight four h lt mv hs names sparing.allowed changes
+  stands_after left s s' m m' p now x σ cpu as' words good accepted four h lt mv hs names sparing changes user held a legal domain on =
+      stands_become left s s' m m' p now x σ cpu as' words good accepted four h lt mv hs names sparing.allowed changes
       (record {
         own = a.own;
         others = a.others;
@@ -541,4 +546,4 @@ module _ (mode : Mode) (image : Image) where
       }) legal domain on
     where
       hp : p < 32
-      hp = omega arith
+      hp = let n = good.count.1 in omega arith

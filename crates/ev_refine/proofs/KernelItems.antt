@@ -46,21 +46,21 @@ use Rattle.ev_blocks.specs.Blocks.{Spot, InFred, InIdt, InBody, block, edges}
 use Rattle.ev_blocks.specs.Blocks as blocks
 use Rattle.ev_grounds.proofs.Grounds.{windows_fit}
 use Rattle.ev_user.specs.Words.{AreWords}
-use Rattle.ev_activation.specs.Seat.{Kind, Seat}
+use Rattle.ev_activation.specs.Seat.{Kind, SystemCall, FromTask, FromBody, NmiFromTask, NmiFromBody, Seat}
 use Rattle.ev_table.specs.Table.{code_table, other_exit, RetCell}
 use Rattle.ev_refine.specs.Named.{Named, Port, Outside, UnknownTo, Changes}
 use Rattle.ev_refine.specs.Domain.{IsInDomain}
-use Rattle.ev_refine.specs.Active.{item_place, address_of_item, here, IsKernelSs, InItem, Active}
+use Rattle.ev_refine.specs.Active.{item_place, address_of_item, here, IsKernelSs, Saved, SavedOf, InItem, Active}
 use Rattle.ev_refine.specs.Relation.{IsContext, Chain, switches_at, StandsOn, Stands}
 use Rattle.ev_refine.specs.Claims.{Simulated}
 use Rattle.ev_concrete.specs.Shown.{shown_always}
 use Rattle.ev_refine.proofs.Facts.{Facts, word_of_flags, word_of_canonical}
 use Rattle.ev_refine.proofs.ModeFacts.{is_fred}
 use Rattle.ev_refine.proofs.Fits.{IsSeat, where_at, InSome, IsThere, fits_at, known_in, port_open}
-use Rattle.ev_refine.proofs.Bodies.{layout_of, body, at_the_item, item_edges_few, exit_canonical, means_item, OpensItem, item_opening, gs_at, SaysSame, any_item, on_stack_alone, nothing_open, OpensExit, exits}
+use Rattle.ev_refine.proofs.Bodies.{layout_of, body, at_the_item, item_edges_few, exit_canonical, means_at, saved_again, OpensItem, item_opening, gs_at, SaysSame, any_item, on_stack_alone, nothing_open, OpensExit, exits, kernel_exits}
 use Rattle.ev_refine.proofs.Standing.{ran_stays}
 use Rattle.ev_refine.proofs.After.{AreSparing, own_word, none_spares}
-use Rattle.ev_refine.proofs.CallKinds.{is_over_task, is_plain_kind, means_by, plain_knows}
+use Rattle.ev_refine.proofs.CallKinds.{is_over_task, is_over_body, is_plain_kind, origin_of, plain_knows, saved_task, saved_body}
 use Rattle.ev_refine.proofs.Items.{Today, IsLog, IsRet, behind_log, local_is}
 use Rattle.ev_refine.proofs.KernelStep as step
 
@@ -163,12 +163,12 @@ module _ (mode : Mode) (image : Image) (built : IsBuilt image) (good : IsImage i
           let g = at_end code B 0 B.opening refl e c s.memory at in
           record { kernel = hu; flags = kept c.flags _ g.flags; ends = sym (facts.spaced c.rip _ hc) }
 
-      at_log : (act : Stood on.own b c s.memory) → is_over_task κ ≡ true → (ss : ℕ) → IsKernelSs ss → (extra v : ℕ → ℕ) (f : Flags)
-          → At code (block mode (body mode AtItem)) 0 (env ss extra v f) c s.memory → InItem mode image v f w b
+      at_log : (act : Stood on.own b c s.memory) (ss : ℕ) → IsKernelSs mode ss → (extra v : ℕ → ℕ) (f : Flags)
+          → At code (block mode (body mode AtItem)) 0 (env ss extra v f) c s.memory → InItem mode image (origin_of κ) (env ss extra v f) w b
           → extra 20 ≡ item_place mode image b.body b.place → length c.regs ≡ 16 → (q : ℕ) → item_at (Some body') b.place ≡ Some (Log q)
           → 6 ≤ q → q < 14 → Result
       unfolding is_return is_jump shown_always InSome
-      at_log act over ss ss_is extra v f at means place long q hi lo hq =
+      at_log act ss ss_is extra v f at means place long q hi lo hq =
           let e : Env = env ss extra v f in
           let spot : Spot = body mode AtItem in
           let B : Block = block mode spot in
@@ -233,9 +233,14 @@ module _ (mode : Mode) (image : Image) (built : IsBuilt image) (good : IsImage i
             };
             switches = way.off ∙ sym (step.still mode image built good facts left s m h p hp o act);
             knows = plain_knows mode κ on.frame plain_kind (blocks.holds spot);
-            means = means_by mode image κ over spot (env ss further v f) w (context.onward b) words
-                (means_item mode image (env ss further v f) w (context.onward b)
-                (record { saved = means.saved; locals = means.locals; flags = means.flags }) refl);
+            means = means_at mode image κ plain_kind AtItem (env ss further v f) w (context.onward b) words (
+              record {
+                saved = saved_again mode image (origin_of κ) (env ss extra v f) (env ss further v f) w (λ i l. refl) refl refl means.saved;
+                locals = means.locals;
+                flags = means.flags;
+              },
+              refl,
+            );
           } in
           let still_there : activations_by s p (s.activations p) (onward c c.regs next) Stepped.Ran ≡ o.last ∷ o.others
           = ran_stays s p (onward c c.regs next) cell.ins (fetches c.rip cell hc).1 refl ∙ o.acts in
@@ -282,28 +287,49 @@ module _ (mode : Mode) (image : Image) (built : IsBuilt image) (good : IsImage i
               on_its_stack (inl t) = let from = t.1.from in let narrow = small in let room = in_seat.room in let few = in_seat.stack in omega arith
               on_its_stack (inr t) = t
 
-      at_ret : (act : Stood on.own b c s.memory) → is_over_task κ ≡ true → (ss : ℕ) → IsKernelSs ss → (extra v : ℕ → ℕ) (f : Flags)
-          → At code (block mode (body mode AtItem)) 0 (env ss extra v f) c s.memory → InItem mode image v f w b
+      -- the exit: to the task, or to the body that was interrupted
+      exit_from : (act : Stood on.own b c s.memory) (ss : ℕ) (extra v : ℕ → ℕ) (f : Flags)
+          → Agrees (env ss extra v f) (block mode (body mode AtItem)).ground (block mode (body mode AtItem)).opening c s.memory
+          → SavedOf mode image (origin_of κ) (env ss extra v f) w → OpensExit mode p κ σ ss w extra v f c (onward c c.regs (other_exit mode)) s.memory
+      exit_from act ss extra v f a saved = by_kind (is_over_task κ) refl (is_over_body κ) refl
+        where
+          by_kind : (t : Bool) → is_over_task κ ≡ t → (u : Bool) → is_over_body κ ≡ u
+              → OpensExit mode p κ σ ss w extra v f c (onward c c.regs (other_exit mode)) s.memory
+          by_kind true over u q =
+              let one : step.Alone mode image built good facts left s m h p hp o
+              = step.alone mode image built good facts left s m h p hp o over (step.still mode image built good facts left s m h p hp o act) in
+              let z : Saved mode image v w = saved_task mode image κ over (env ss extra v f) w saved in
+              exits image p small κ over σ ss w (ap (λ (y : Processor). y.cs) one.task.is) extra v f c s.memory
+              (on.mark one.still ∙ ap (λ r. if r then 1 else 0) domain.resched) mode z
+              (subst (λ n. n < 2 ^ 64) (sym z.rip)
+              (word_of_canonical w.rip (ap (λ (y : Processor). is_canonical y.rip) one.task.is ∙ one.task.task.canonical)))
+              (subst (λ n. n < 2 ^ 64) (sym (z.flags ∙ ap (λ (y : Processor). y.flags) one.task.is)) (word_of_flags t.flags))
+              (subst (λ (y : Processor). AreWords y.regs) (sym one.task.is) one.task.task.words) a
+          by_kind false q true over =
+              kernel_exits p κ over σ ss w extra v f c s.memory mode (saved_body mode image κ over (env ss extra v f) w saved).cs a
+          by_kind false q false r = let clash : false ≡ true = sym (neither κ q r) ∙ plain_kind in absurd (cc)
+            where
+              neither : (k : Kind) → is_over_task k ≡ false → is_over_body k ≡ false → is_plain_kind k ≡ false
+              neither SystemCall q r = q
+              neither FromTask q r = q
+              neither FromBody q r = r
+              neither NmiFromTask q r = refl
+              neither NmiFromBody q r = refl
+
+      at_ret : (act : Stood on.own b c s.memory) (ss : ℕ) → IsKernelSs mode ss → (extra v : ℕ → ℕ) (f : Flags)
+          → At code (block mode (body mode AtItem)) 0 (env ss extra v f) c s.memory → InItem mode image (origin_of κ) (env ss extra v f) w b
           → extra 20 ≡ item_place mode image b.body b.place → length c.regs ≡ 16 → edges mode (body mode AtItem) 0 ≤ on.own
           → item_at (Some body') b.place ≡ Some Ret → Result
       unfolding is_return
-      at_ret act over ss ss_is extra v f at means place long enough hi =
-          let one : step.Alone mode image built good facts left s m h p hp o
-          = step.alone mode image built good facts left s m h p hp o over (step.still mode image built good facts left s m h p hp o act) in
+      at_ret act ss ss_is extra v f at means place long enough hi =
           let e : Env = env ss extra v f in
           let B : Block = block mode (body mode AtItem) in
           let a : Agrees e B.ground B.opening c s.memory = at_end code B 0 B.opening refl e c s.memory at in
           let hu : is_user c ≡ false = ap is_user a.rest in
           let rc : RetCell (code_table mode image) (item_address mode b.body body' b.place) (other_exit mode) = facts.ret_cell b.body b.place body' is hi in
           let hc : code c.rip ≡ Some rc.cell = ap code (at_item ss extra v f a place) ∙ rc.is in
-          let off : s.memory.words (pcpu p + 0x20) ≡ 0 = on.mark one.still ∙ ap (λ r. if r then 1 else 0) domain.resched in
-          let cs : w.cs ≡ 0x33 = ap (λ (y : Processor). y.cs) one.task.is in
           let cpu : Processor = onward c c.regs (other_exit mode) in
-          let x : OpensExit mode p κ σ ss w extra v f c cpu s.memory = exits image p small κ σ ss w cs extra v f c s.memory off mode means.saved
-          (subst (λ n. n < 2 ^ 64) (sym means.saved.rip)
-          (word_of_canonical w.rip (ap (λ (y : Processor). is_canonical y.rip) one.task.is ∙ one.task.task.canonical)))
-          (subst (λ n. n < 2 ^ 64) (sym (means.saved.flags ∙ ap (λ (y : Processor). y.flags) one.task.is)) (word_of_flags t.flags))
-          (subst (λ (y : Processor). AreWords y.regs) (sym one.task.is) one.task.task.words) a in
+          let x : OpensExit mode p κ σ ss w extra v f c cpu s.memory = exit_from act ss extra v f a means.saved in
           let at_ret_cell : IsAt c (Jmp rc.distance) rc.cell.next = record {
             kernel = hu;
             flags = kept c.flags _ a.flags;
@@ -334,15 +360,14 @@ module _ (mode : Mode) (image : Image) (built : IsBuilt image) (good : IsImage i
             };
             switches = x.off ∙ sym (step.still mode image built good facts left s m h p hp o act);
             knows = plain_knows mode κ on.frame plain_kind (blocks.holds x.spot);
-            means = means_by mode image κ over x.spot e w b s.memory.words
-                (x.means image b (record { saved = means.saved; ret = ap (λ o. item_at o b.place) is ∙ hi }));
+            means = x.means image b s.memory.words (record { saved = means.saved; ret = ap (λ o. item_at o b.place) is ∙ hi });
           })
 
-      pub by_item : (act : Stood on.own b c s.memory) → is_over_task κ ≡ true → (ss : ℕ) → IsKernelSs ss → (extra v : ℕ → ℕ) (f : Flags)
-          → At code (block mode (body mode AtItem)) 0 (env ss extra v f) c s.memory → InItem mode image v f w b
+      pub by_item : (act : Stood on.own b c s.memory) (ss : ℕ) → IsKernelSs mode ss → (extra v : ℕ → ℕ) (f : Flags)
+          → At code (block mode (body mode AtItem)) 0 (env ss extra v f) c s.memory → InItem mode image (origin_of κ) (env ss extra v f) w b
           → extra 20 ≡ item_place mode image b.body b.place → length c.regs ≡ 16 → edges mode (body mode AtItem) 0 ≤ on.own
           → (i : Item) → Today i → item_at (Some body') b.place ≡ Some i → Result
-      by_item act over ss ss_is extra v f at means place long enough i (IsLog q e lo hq) hi =
-          at_log act over ss ss_is extra v f at means place long q (hi ∙ ap (λ j. Some j) e) lo hq
-      by_item act over ss ss_is extra v f at means place long enough i (IsRet e) hi =
-          at_ret act over ss ss_is extra v f at means place long enough (hi ∙ ap (λ j. Some j) e)
+      by_item act ss ss_is extra v f at means place long enough i (IsLog q e lo hq) hi =
+          at_log act ss ss_is extra v f at means place long q (hi ∙ ap (λ j. Some j) e) lo hq
+      by_item act ss ss_is extra v f at means place long enough i (IsRet e) hi =
+          at_ret act ss ss_is extra v f at means place long enough (hi ∙ ap (λ j. Some j) e)

@@ -55,17 +55,17 @@ use Rattle.ev_concrete.specs.Shown.{shown_always}
 use Rattle.ev_refine.proofs.Facts.{Facts}
 use Rattle.ev_refine.proofs.Maps.{at_same, at_other}
 use Rattle.ev_refine.proofs.ModeFacts.{is_fred}
-use Rattle.ev_refine.proofs.Spots.{over_task, IsAtEntry, keeps_rsp, names_if, names_at, means_over, never_switches, runs_to_end}
+use Rattle.ev_refine.proofs.Spots.{is_spot, IsAtEntry, keeps_rsp, names_if, names_at, means_over, body_writes, never_switches, runs_to_end}
 use Rattle.ev_refine.proofs.Fits.{IsSeat, InBodies, fits_at, opens_at, kernel_changes}
 use Rattle.ev_refine.proofs.Bodies.{Goes}
 use Rattle.ev_refine.proofs.Instructions.{stays_inside}
 use Rattle.ev_refine.proofs.Standing.{instruction_first, hidden, seen, after_ran, Runs, ran_step, ran_writes, ran_safe, ran_shown, ran_stays, Moves, step_moves}
 use Rattle.ev_refine.proofs.Stays.{means_again, leads_again, AreSpared, chain_stays, seat_fits, below_spared}
-use Rattle.ev_refine.proofs.Chains.{chain_kept, chain_few, chain_plain}
+use Rattle.ev_refine.proofs.Chains.{Kept, chain_kept, chain_plain, chain_open}
 use Rattle.ev_refine.proofs.After.{AreNames, AreSparing, own_word, none_spares, slot_same, cell_same, page_same, user_same, few_inner, latch_parts, as_chain, returns_to, own_becomes, own_after, stands_become, stands_after}
 use Rattle.ev_refine.proofs.CallKinds.{is_over_task, is_plain_kind, over_any, beneath_as, stands_alone, ArePlain, none_nmi, seat_under, plain_seat, plain_knows}
 use Rattle.ev_refine.proofs.Domains.{four_tasks, one_task_each}
-use Rattle.ev_refine.proofs.Legality.{turn_legal}
+use Rattle.ev_refine.proofs.Legality.{turn_legal, legal_few}
 use Rattle.ev_refine.proofs.Depth.{active_outside, stands_depth, goes_on_inside, ran_counts}
 
 -- the names of a block's writes
@@ -145,7 +145,7 @@ module _ (mode : Mode) (image : Image) (built : IsBuilt image) (good : IsImage i
   none_is_nmi = none_nmi image x.bodies plain
 
   pub deep : length x.bodies ≤ 32
-  deep = chain_few mode image p on.own r t on.frame on.switching x.bodies (s.activations p) c s.memory chain
+  deep = legal_few image good built.accepted m p h.legal
 
   pub blocked : c.nmi_blocked ≡ false
   blocked = (latch_parts on.layer on.frame _ (s.latches p) c.nmi_blocked x.nmi on.latch).1 ∙ none_is_nmi
@@ -242,8 +242,11 @@ module _ (mode : Mode) (image : Image) (built : IsBuilt image) (good : IsImage i
         (λ v. Chain mode image p (body_edges mode image) r t on.frame (chained mode image on.switching below) below o.others v s.memory)
         (keeps_cr2 mode image κ) w o.under
 
+    pub kept : Kept mode image p w
+    kept = chain_kept mode image p (body_edges mode image) r t on.frame (chained mode image on.switching below) below o.others w s.memory lower
+
     pub fred_is : has_fred w ≡ is_fred mode
-    fred_is = (chain_kept mode image p (body_edges mode image) r t on.frame (chained mode image on.switching below) below o.others w s.memory lower).fred
+    fred_is = kept.fred
 
     -- what stands over a task
     pub record Alone : Type 0 where
@@ -263,6 +266,25 @@ module _ (mode : Mode) (image : Image) (built : IsBuilt image) (good : IsImage i
           still = sym (ap (switches_at mode image on.switching) none) ∙ off;
           no_others = k.2;
         }
+
+    -- where it returns, with any CR2 and NMIs open
+    pub returns_to_below : (cr2 : ℕ) → switches_at mode image on.switching below ≡ false
+        → Chain mode image p (body_edges mode image) r t on.frame on.switching below o.others (record w { cr2 = cr2; nmi_blocked = false }) s.memory
+    returns_to_below cr2 off = chain_open mode image p (body_edges mode image) r t on.frame on.switching below o.others (record w { cr2 = cr2 }) s.memory
+        (subst (λ sw. Chain mode image p (body_edges mode image) r t on.frame sw below o.others (record w { cr2 = cr2 }) s.memory) (same below off)
+        (any_cr2 κ plain_kind _ o.under cr2))
+      where
+        same : (ds : List BodyContext) → switches_at mode image on.switching ds ≡ false → chained mode image on.switching ds ≡ on.switching
+        same [] off = sym off
+        same (d ∷ ds) off = refl
+
+        any_cr2 : (κ : Kind) → is_plain_kind κ ≡ true → (C : Processor → Type 0) → Beneath mode image (keeps_cr2 mode image κ) C w → (a : ℕ)
+            → C (record w { cr2 = a })
+        any_cr2 SystemCall q C h a = h a
+        any_cr2 FromTask q C h a = h a
+        any_cr2 FromBody q C h a = h a
+        any_cr2 NmiFromTask q C h a = let clash : false ≡ true = q in absurd (cc)
+        any_cr2 NmiFromBody q C h a = let clash : false ≡ true = q in absurd (cc)
 
     -- a step that writes its own stretch of the stack, and words that no block below knows
     pub below_stays : (names : List Named) → AreNames p names → UnknownTo below names → (words : NatMap ℕ) → Changes p σ names s.memory.words words
@@ -313,7 +335,7 @@ module _ (mode : Mode) (image : Image) (built : IsBuilt image) (good : IsImage i
         (moves cpu words) on_stack narrow names sparing changes (λ i d. refl) on.tasks
         (hb ∙ sym none_is_nmi) (λ class. refl) (let l = on.enough in let f = on.few in omega arith) goes_on in
         let all : Stands mode image (put_at left p (now + inner_edges (s.latches p))) (after_ran s p cpu words) m
-        = stands_after mode image left s (after_ran s p cpu words) m m p (now + inner_edges (s.latches p)) x σ cpu _ words good.count.1
+        = stands_after mode image left s (after_ran s p cpu words) m m p (now + inner_edges (s.latches p)) x σ cpu _ words good built.accepted
         (four_tasks image built) h hp (moves cpu words) narrow names sparing changes
         (λ a u. user_same p σ names small narrow s.memory.words words sparing.allowed.written changes no_user a u ∙ h.shares.user a u) h.shares.held
         (record { own = refl; others = λ q e. refl; present = refl; cells = refl; mail = refl; mail_nmi = refl; records = refl; queue = refl })
@@ -370,7 +392,7 @@ module _ (mode : Mode) (image : Image) (built : IsBuilt image) (good : IsImage i
         let inside : IsInDomain x' = record { pending = domain.pending; nmi = domain.nmi; resched = domain.resched; bodies = quiet } in
         let all : Stands mode image (put_at left p (now + inner_edges (s.latches p))) (after_ran s p cpu words) m'
         = stands_become mode image left s (after_ran s p cpu words) m m' p (now + inner_edges (s.latches p)) x' σ cpu _ words
-        good.count.1 (four_tasks image built) h hp (moves cpu words) narrow names allowed changes
+        good built.accepted (four_tasks image built) h hp (moves cpu words) narrow names allowed changes
         (record {
           own = y.own;
           others = y.others;
@@ -463,7 +485,7 @@ module _ (mode : Mode) (image : Image) (built : IsBuilt image) (good : IsImage i
 
     -- ---- inside a block
 
-    pub over_spot : (act : Stood on.own b c s.memory) → over_task mode act.stands.spot ≡ true
+    pub over_spot : (act : Stood on.own b c s.memory) → is_spot mode act.stands.spot ≡ true
     over_spot act = means_over mode image κ act.stands.spot _ w b s.memory.words act.means
 
     pub still : (act : Stood on.own b c s.memory) → switches_at mode image on.switching below ≡ false
@@ -481,7 +503,7 @@ module _ (mode : Mode) (image : Image) (built : IsBuilt image) (good : IsImage i
         by_kind κ q means [] k = tt
         by_kind SystemCall q means (d ∷ ds) k = let z = ap length (stands_alone image b (d ∷ ds) (ap is_over_task k)) in absurd (omega arith)
         by_kind FromTask q means (d ∷ ds) k = let z = ap length (stands_alone image b (d ∷ ds) (ap is_over_task k)) in absurd (omega arith)
-        by_kind FromBody q means (d ∷ ds) k = absurd means
+        by_kind FromBody q means (d ∷ ds) k = subst (λ y. UnknownTo (d ∷ ds) (names_if y p)) (sym (body_writes mode image spot e w b means)) refl
         by_kind NmiFromTask q means (d ∷ ds) k = absurd means
         by_kind NmiFromBody q means (d ∷ ds) k = absurd means
 
@@ -538,17 +560,17 @@ module _ (mode : Mode) (image : Image) (built : IsBuilt image) (good : IsImage i
       in_bodies extra h = subst (λ a. (0xffffffff82000000 ≤ a) × (a + 0x100 ≤ M)) (sym h) range
 
       -- a block without facts fits, and its windows are open
-      pub fits : (spot : Spot) → over_task mode spot ≡ true → (ss : ℕ) (extra v : ℕ → ℕ) (f : Flags) → extra 20 ≡ item_place mode image b.body b.place
+      pub fits : (spot : Spot) → is_spot mode spot ≡ true → (ss : ℕ) (extra v : ℕ → ℕ) (f : Flags) → extra 20 ≡ item_place mode image b.body b.place
           → IsAtEntry spot (env ss extra v f) → FactsHold (env ss extra v f) (block mode spot).ground.facts → Fits code (env ss extra v f) (block mode spot)
       fits spot over ss extra v f h at told =
           fits_at mode image p σ in_seat hp good.count.1 κ ss w extra v f facts spot over fred_is (in_bodies extra h) at told
 
-      pub windows : (spot : Spot) → over_task mode spot ≡ true → (ss : ℕ) (extra v : ℕ → ℕ) (f : Flags)
+      pub windows : (spot : Spot) → is_spot mode spot ≡ true → (ss : ℕ) (extra v : ℕ → ℕ) (f : Flags)
           → Open (env ss extra v f) (block mode spot).ground.known s.memory.regions
       windows spot over ss extra v f = opens_at mode image p σ in_seat hp good.count.1 κ ss w extra v f spot over s.memory h.regions_are
 
       -- an edge to the opening of a block
-      pub goes : (act : Stood on.own b c s.memory) (spot : Spot) (ss : ℕ) → IsKernelSs ss → (extra v : ℕ → ℕ) (f : Flags) → is_user c ≡ false
+      pub goes : (act : Stood on.own b c s.memory) (spot : Spot) (ss : ℕ) → IsKernelSs mode ss → (extra v : ℕ → ℕ) (f : Flags) → is_user c ≡ false
           → Goes code c s.memory (block mode spot) (env ss extra v f) → edges mode spot 0 < on.own → length c.regs ≡ 16 → blocks.switches spot ≡ false
           → Means mode image κ spot (env ss extra v f) w b s.memory.words → Result
       goes act spot ss ss_is extra v f hu g fewer long off means =

@@ -30,6 +30,7 @@ pub mod ItemWords
 pub mod ItemVisible
 pub mod ItemSteps
 pub mod KernelItems
+pub mod BodyTables
 pub mod Kernel
 pub mod UserState
 pub mod UserStep

@@ -26,7 +26,8 @@ use Rattle.ev_symbolic.specs.Value.{M, K}
 use Rattle.ev_symbolic.specs.Agrees.{Env, eval, untracked, Agrees, with_words}
 use Rattle.ev_symbolic.proofs.Blocks.{at_end}
 use Rattle.ev_symbolic.proofs.Placed.{next_place, placed_other}
-use Rattle.ev_blocks.specs.Shapes.{fred_frame}
+use Rattle.ev_symbolic.specs.Join.{env_after}
+use Rattle.ev_blocks.specs.Shapes.{UserCode, fred_frame}
 use Rattle.ev_blocks.specs.Fred.{FredWay, ByCall, ByInt3, ByIntN, ByOther, FromUser, fred_block, way_values}
 use Rattle.ev_blocks.specs.Blocks.{InFred, edges}
 use Rattle.ev_deliver.specs.FredDelivers.{way_of, fred_variables, no_flags, frame_at, fred_handler, fred_words, FredSite, FredBegins, FrameTells}
@@ -335,7 +336,8 @@ module _ (image : Image) (built : IsBuilt image) (p n : â„•) (t : Task) (cr2 : â
   unfolding eval
   saved_is = ap (fred_words at m.words) (next_place (top_at p (seat image p n t cr2 cause body)) (M - 64)) âˆ™ agrees.words.2.1
 
-  loads : AtLoad Fred image (behind image p n t cr2 body cause (way_of e)) (over image p n t cr2 cause body) (raise.context Fred image p n t cr2 cause body)
+  loads : AtLoad Fred image UserCode (env_after at (way_values (way_of e)) no_flags) (over image p n t cr2 cause body)
+      (raise.context Fred image p n t cr2 cause body)
   loads = record {
     key = cause_key cause;
     small = key_small cause;
@@ -374,7 +376,7 @@ module _ (image : Image) (built : IsBuilt image) (p n : â„•) (t : Task) (cr2 : â
         var = fred_variables c e;
         flags = no_flags;
         ss = 0x18;
-        ss_is = inr refl;
+        ss_is = refl;
         within = omega arith;
         enough = few_edges (way_of e);
         at = begun.at;

@@ -407,7 +407,9 @@ module _ (image : Image) (built : IsBuilt image) (p n : ℕ) (t : Task) (cr2 : �
   saved_by_error true k = ap words (next_place (top_at p (seat image p n t cr2 cause body)) (M - 0x30)) ∙ k.2.1
   saved_by_error false k = k.1
 
-  loads : AtLoad Idt image (behind image p n t cr2 body cause) (over image p n t cr2 cause body) (raise.context Idt image p n t cr2 cause body)
+  loads : AtLoad Idt image UserCode (env_after (env_after at (stub_values (has_error_code (raised_event cause).vector) (raised_event cause).vector)
+      (off_flags image p n t cr2 cause body)) (common_values UserCode ((raised_event cause).vector == 14)) (off_flags image p n t cr2 cause body))
+      (over image p n t cr2 cause body) (raise.context Idt image p n t cr2 cause body)
   loads = record {
     key = cause_key cause;
     small = key_small cause;

@@ -62,4 +62,4 @@ runs_are_safe mode image built h given script i b q lt p lt' k =
     let r = ends_follow mode image built h given script i b q lt in (all_settle mode image built h given r.left _ _ r.stands p lt').safe k
 
 pub tells : StandsTells
-tells mode image built h given left s m r p lt = telling.stands_tells mode image given (facts mode image given built) left s m r p lt
+tells mode image built h given left s m r p lt = telling.stands_tells mode image given built.accepted (facts mode image given built) left s m r p lt

@@ -120,7 +120,6 @@ module _ (mode : Mode) (image : Image) (formed : IsImage image) (built : IsBuilt
       let x : abstract.Processor = processor m p in
       let y : abstract.Processor = record (with_task x t) { bodies = bs } in
       let small : p < 32 = omega (arith, built.one_processor) in
-      let eight : image.processors ≤ 8 = formed.count.1 in
       let four = four_tasks image built p lt in
       let narrow : x.running < 7 = let l = u.on.running in omega arith in
       let there : StandsOn mode image p (own + inner_edges (s.latches p)) s' y
@@ -140,7 +139,7 @@ module _ (mode : Mode) (image : Image) (formed : IsImage image) (built : IsBuilt
         stands_after mode image left s s' m (with_processor (record m { words = memory }) p y) p (own + inner_edges (s.latches p)) y
             (record { stack = x.running; used = 0 }) cpu as'
             words
-            eight (four_tasks image built) h lt mv narrow names sparing changes user held
+            formed built.accepted (four_tasks image built) h lt mv narrow names sparing changes user held
             (record {
               own = at_same m.processors p p y refl;
               others = λ q e. at_other m.processors p q y e;

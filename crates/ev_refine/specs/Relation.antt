@@ -23,6 +23,7 @@ use Rattle.ev_abstract.specs.Run.{item_at}
 use Rattle.ev_law.specs.Legal.{Legal}
 use Rattle.ev_concrete.specs.Opening.{listings, code_of, opening_word, tasks_of, regions}
 use Rattle.ev_concrete.specs.ConcreteRun.{System, Activation}
+use Rattle.ev_concrete.specs.Depth.{is_in_repeat}
 use Rattle.ev_activation.specs.Seat.{Kind, NmiFromTask, NmiFromBody, kind_of, seat_of}
 use Rattle.ev_user.specs.Tasks.{IsTask, RunsTask}
 use Rattle.ev_refine.specs.Tasks.{IsSaved, CurrentIs}
@@ -101,11 +102,12 @@ module _ (mode : Mode) (image : Image) where
   chained switching [] = false
   chained switching (b ∷ below) = switching
 
-  -- an activation under another one was interrupted where the processor stands to which that one returns
+  -- An activation under another one was interrupted with the stack to which that one returns; behind INT 3 at the next instruction, so only whether that is in
+  -- REPEAT is told of RIP.
   abbrev pub Interrupted : List BodyContext → Processor → List Activation → Type 0
   Interrupted [] w as' = Unit {0}
   Interrupted (b ∷ below) w [] = ⊥
-  Interrupted (b ∷ below) w (a ∷ as') = (a.rsp ≡ rsp w) × (a.rip ≡ w.rip)
+  Interrupted (b ∷ below) w (a ∷ as') = (a.rsp ≡ rsp w) × (is_in_repeat a.rip ≡ is_in_repeat w.rip)
 
   -- Each context stands on the one before it, and the first on task r, which is t: the running one, or where its exit switches, the next one. Each has an
   -- activation of its own, which isn't an inner NMI's.

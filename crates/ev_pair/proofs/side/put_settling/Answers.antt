@@ -57,6 +57,13 @@ returns-in_err-put_shown_frames-clause-failed g c image script r =
     (next_later c.args.frames c.args.mode image script c.loop-p.p (c.loop-p.p + 1) (omega arith) lt)
     (subst (λ fs. TookPrefix old new (shown_frames c.args.frames c.args.mode (noted c.loop-p.p fs))) frames c.in_err-put_shown_frames.ensures.failed))
 
+pub returns-clause-so : goal.returns-clause-so
+returns-clause-so g c image script r =
+    let processors = r.at.shows.processors in
+    let all : c.loop-p.p ≡ image.processors = omega arith in
+    subst (λ k. IsStandingAs c.args.mode image (settled_first c.args.mode image script k).0 (run image script) c.loop-p.machine) all
+    (c.loop-p.invariant.so image script r)
+
 pub returns-clause-ok : goal.returns-clause-ok
 returns-clause-ok g c image script r =
     let processors = r.at.shows.processors in
