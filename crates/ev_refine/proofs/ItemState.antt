@@ -1,6 +1,6 @@
 -- What an activation says of the processor and memory at the visible instruction of an item, and from there at the next item, whatever registers, flags and
 -- words that instruction leaves.
-use Rattle.std.proofs.Common.{◌≡◌, ℕ, ◌+◌, ◌%◌, ◌^◌, ◌<◌, false, List, [], ◌∷◌, get_or, map, length, refl, sym, ap, ◌∙◌, subst, arith}
+use Rattle.std.proofs.Common.{◌≡◌, ◌≤◌, ℕ, ◌+◌, ◌%◌, ◌^◌, ◌<◌, false, List, [], ◌∷◌, get_or, map, length, refl, sym, ap, ◌∙◌, subst, arith, le-ltb}
 use Rattle.std.specs.Prelude.{nat_lt, if◌then◌else◌, None}
 use Rattle.ev_isa.specs.Word.{NatMap}
 use Rattle.ev_isa.specs.Flags.{Flags, flags_word}
@@ -20,7 +20,7 @@ use Rattle.ev_blocks.specs.Items.{AtItem}
 use Rattle.ev_blocks.specs.Blocks.{block}
 use Rattle.ev_grounds.proofs.Grounds.{windows_fit}
 use Rattle.ev_activation.specs.Seat.{Kind, Seat}
-use Rattle.ev_refine.specs.Active.{here, Saved}
+use Rattle.ev_refine.specs.Active.{here}
 use Rattle.ev_refine.proofs.Bodies.{layout_of, body, nothing_open}
 
 -- ---- registers
@@ -121,19 +121,9 @@ unfolding eval
 any_known Fred p κ σ ss w extra extra' v f f' regs n h = h
 any_known Idt p κ σ ss w extra extra' v f f' regs n h = h
 
-pub saved_again : (mode : Mode) (image : Image) (regs : List ℕ) (v : ℕ → ℕ) (w : Processor) → Saved mode image v w
-    → Saved mode image (with_registers regs v) w
-saved_again mode image regs v w s = record {
-  regs = s.regs;
-  rip = s.rip;
-  cs = s.cs;
-  flags = s.flags;
-  ss = s.ss;
-  sti = s.sti;
-  gs = s.gs;
-  chosen = s.chosen;
-  level = s.level;
-}
+-- beyond the registers the variables are as they were
+pub beyond_registers : (regs : List ℕ) (v : ℕ → ℕ) (i : ℕ) → 16 ≤ i → with_registers regs v i ≡ v i
+beyond_registers regs v i l = ap (λ b. if b then get_or regs i 0 else v i) (le-ltb i 16 l)
 
 -- the processor behind an instruction that leaves these registers and flags
 abbrev pub gone : Processor → List ℕ → Flags → ℕ → Processor

@@ -43,7 +43,7 @@ use Rattle.ev_blocks.specs.Blocks as blocks
 use Rattle.ev_activation.specs.Seat.{Kind, Seat, kind_of}
 use Rattle.ev_table.specs.Table.{code_table}
 use Rattle.ev_refine.specs.Named.{Named, UnknownTo, Changes}
-use Rattle.ev_refine.specs.Active.{item_place, address_of_item, here, rest_in, IsKernelSs, Saved, Locals, FlagsAre, InItem, Means, Active}
+use Rattle.ev_refine.specs.Active.{item_place, address_of_item, here, rest_in, IsKernelSs, SavedOf, FlagsAre, InItem, Active}
 use Rattle.ev_refine.specs.Relation.{IsContext, switches_at, Chain, StandsOn, Stands}
 use Rattle.ev_refine.specs.Claims.{Simulated}
 use Rattle.ev_refine.proofs.Facts.{Facts}
@@ -51,11 +51,11 @@ use Rattle.ev_refine.proofs.Legality.{turn_legal}
 use Rattle.ev_refine.proofs.Depth.{goes_on_inside}
 use Rattle.ev_refine.proofs.ModeFacts.{is_fred}
 use Rattle.ev_refine.proofs.Fits.{IsSeat, fits_at, opens_at}
-use Rattle.ev_refine.proofs.Bodies.{body, at_the_item, item_edges_few}
+use Rattle.ev_refine.proofs.Bodies.{body, at_the_item, item_edges_few, saved_again, means_at}
 use Rattle.ev_refine.proofs.Standing.{ran_stays}
 use Rattle.ev_refine.proofs.After.{AreNames}
-use Rattle.ev_refine.proofs.CallKinds.{plain_knows}
-use Rattle.ev_refine.proofs.ItemState.{with_registers, opening_of, known_of, ItemState, any_registers, any_known, saved_again, gone, lands}
+use Rattle.ev_refine.proofs.CallKinds.{origin_of, plain_knows}
+use Rattle.ev_refine.proofs.ItemState.{with_registers, opening_of, known_of, ItemState, any_registers, any_known, beyond_registers, gone, lands}
 use Rattle.ev_refine.proofs.ItemLocals.{Write, IsLocal, regs_with, locals_with, regs_long, keeps_rsp, locals_behind}
 use Rattle.ev_refine.proofs.KernelStep as step
 
@@ -115,8 +115,8 @@ module _ (mode : Mode) (image : Image) (built : IsBuilt image) (good : IsImage i
   -- The activation is at the visible instruction of an item, so many bytes behind the item's beginning.
   pub record AtVisible (ss : ℕ) (extra v : ℕ → ℕ) (f : Flags) : Type 0 where
     pub act : Stood on.own o.b c s.memory
-    pub ss_is : IsKernelSs ss
-    pub means : InItem mode image v f o.w o.b
+    pub ss_is : IsKernelSs mode ss
+    pub means : InItem mode image (origin_of o.κ) (env ss extra v f) o.w o.b
     pub place : extra 20 ≡ item_place mode image o.b.body o.b.place
     pub long : length c.regs ≡ 16
     pub kernel : is_user c ≡ false
@@ -126,10 +126,6 @@ module _ (mode : Mode) (image : Image) (built : IsBuilt image) (good : IsImage i
     pub rdx : V
     pub flags : Flags
     pub state : ItemState mode (env ss extra v f) c s.memory offset rax rcx rdx flags
-    -- what an item means for this kind of activation
-    pub stands : (w : Processor) (extra' v' : ℕ → ℕ) (f' : Flags) (b' : BodyContext) (words : NatMap ℕ) → InItem mode image v' f' w b'
-        → extra' 20 ≡ item_place mode image b'.body b'.place
-        → Means mode image o.κ (body mode AtItem) (here mode p o.κ o.σ ss w extra' v' f') w b' words
 
   -- What the activation stands over behind a step that leaves these words: the same, or what a write of the saved area makes of it.
   pub record StandsOver (ss : ℕ) (v : ℕ → ℕ) (words : NatMap ℕ) (w : Processor) (var : ℕ → ℕ) (tasks : NatMap Task) : Type 0 where
@@ -138,7 +134,8 @@ module _ (mode : Mode) (image : Image) (built : IsBuilt image) (good : IsImage i
     pub level : v 63 ≡ var 63
     pub rest : rest_in mode o.κ ss w ≡ rest_in mode o.κ ss o.w
     pub fred : has_fred w ≡ is_fred mode
-    pub saved : Saved mode image var w
+    pub saved : (regs : List ℕ) (extra' : ℕ → ℕ) (f' : Flags)
+        → SavedOf mode image (origin_of o.κ) (here mode p o.κ o.σ ss w extra' (with_registers regs var) f') w
     pub known : (regs : List ℕ) (extra' : ℕ → ℕ) (f' : Flags)
         → Known (here mode p o.κ o.σ ss w extra' (with_registers regs var) f') (known_of mode) words (opening_of mode).words
     pub chains : (b : BodyContext) → kind_of image b o.below ≡ o.κ → IsContext mode image b → (now : ℕ) (cpu : Processor)
@@ -155,7 +152,8 @@ module _ (mode : Mode) (image : Image) (built : IsBuilt image) (good : IsImage i
     level = refl;
     rest = refl;
     fred = step.fred_is mode image built good facts left s m h p hp o;
-    saved = a.means.saved;
+    saved = λ regs extra' f'. saved_again mode image (origin_of o.κ) (env ss extra v f) (env ss extra' (with_registers regs v) f') o.w
+        (beyond_registers regs v) refl refl a.means.saved;
     known = λ regs extra' f'. any_known mode p o.κ o.σ ss o.w extra extra' v f f' regs words known;
     chains = λ b kind ctx now cpu act. step.with_last mode image built good facts left s m h p hp o b kind ctx now cpu words names allowed unknown changes act;
   }
@@ -216,8 +214,9 @@ module _ (mode : Mode) (image : Image) (built : IsBuilt image) (good : IsImage i
       let fit : Fits code u (block mode (body mode AtItem)) =
       fits_at mode image p o.σ seat hp good.count.1 o.κ ss w further v' d.flags facts (body mode AtItem) way.over d.over.fred
       (subst (λ y. (0xffffffff82000000 ≤ y) × (y + 0x100 ≤ M)) (sym next_is) spread) tt (way.told u) in
-      let item : InItem mode image v' d.flags w b' = record {
-        saved = saved_again mode image regs d.var w d.over.saved;
+      let plain = step.plain_kind mode image built good facts left s m h p hp o in
+      let item : InItem mode image (origin_of o.κ) u w b' = record {
+        saved = d.over.saved regs further d.flags;
         locals = locals_behind mode image (env ss extra v f) c s.memory a.offset a.rax a.rcx a.rdx a.flags a.state o.b a.means.locals d.write d.local;
         flags = d.flags_are;
       } in
@@ -236,8 +235,8 @@ module _ (mode : Mode) (image : Image) (built : IsBuilt image) (good : IsImage i
           long = regs_long c.regs d.write a.long;
         };
         switches = way.off ∙ sym (step.still mode image built good facts left s m h p hp o a.act);
-        knows = plain_knows mode o.κ on.frame (step.plain_kind mode image built good facts left s m h p hp o) (blocks.holds (body mode AtItem));
-        means = a.stands w further v' d.flags b' d.words item refl;
+        knows = plain_knows mode o.κ on.frame plain (blocks.holds (body mode AtItem));
+        means = means_at mode image o.κ plain AtItem u w b' d.words (item, refl);
       } in
       let still_there : activations_by s p (s.activations p) cpu Stepped.Ran ≡ o.last ∷ o.others
       = ran_stays s p cpu d.cell.ins (step.fetches mode image built good facts left s m h p hp c.rip d.cell d.found).1 d.no_return ∙ o.acts in
