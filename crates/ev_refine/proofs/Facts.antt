@@ -1,13 +1,12 @@
 -- What the proofs of steps use of an image's code: what stands where, its marks, and that memory holds its bytes.
 use Rattle.std.proofs.Common.{◌≡◌, ℕ, ◌+◌, ◌-◌, ◌/◌, ◌<◌, ◌≤◌, ◌^◌, Bool, true, false, ◌||◌, length, Some, refl, arith}
-use Rattle.std.specs.Prelude.{pos, suc, ◌==◌, slice_get}
+use Rattle.std.specs.Prelude.{suc, ◌==◌, slice_get}
 use Rattle.std.proofs.lemmas.Bool.{eqb-true}
 use Rattle.ev_isa.specs.Word.{is_canonical, bit_if}
 use Rattle.ev_isa.specs.Flags.{Flags, flags_word}
-use Rattle.ev_isa.specs.declared.instruction.Ins.TheVariants.{GsStore}
 use Rattle.ev_isa.specs.declared.mode.Mode.{Mode}
 use Rattle.ev_body.specs.declared.item.Item.{Item}
-use Rattle.ev_body.specs.declared.item.Item.TheVariants.{Log, Ret}
+use Rattle.ev_body.specs.declared.item.Item.TheVariants.{Ret}
 use Rattle.ev_body.specs.declared.body.Body.{Body}
 use Rattle.ev_body.specs.declared.image.Image.{Image}
 use Rattle.ev_body.specs.Bodies.{body_items}
@@ -36,8 +35,6 @@ HasFixed mode image m = (a : ℕ) → IsFixed a → m.words a ≡ first_word mod
 pub record Facts (mode : Mode) (image : Image) : Type 0 where
   pub kernel : HasKernel mode (code_table mode image)
   pub spaced : Spaced (code_table mode image)
-  pub log_cell : (n i s : ℕ) (b : Body) → slice_get image.bodies n ≡ Some b → item_at (Some b) i ≡ Some (Log s)
-      → code_table mode image (item_address mode n b i) ≡ Some (record { ins = GsStore (pos 0x28) s; next = item_address mode n b (suc i); mark = true })
   pub items : (n i : ℕ) (b : Body) (item : Item) → slice_get image.bodies n ≡ Some b → item_at (Some b) i ≡ Some item
       → AllFound (code_table mode image) (item_cells mode image n b i item)
   pub follow : (n i : ℕ) (b : Body) (item : Item) → item_at (Some b) i ≡ Some item

@@ -6,7 +6,7 @@ use Rattle.ev_body.specs.declared.image.Image.{Image}
 use Rattle.ev_state.specs.Processor.{Processor, register}
 use Rattle.ev_mem.specs.Memory.{Memory}
 use Rattle.ev_isa.specs.Flags.{Flags}
-use Rattle.ev_abstract.specs.Context.{BodyContext, local, with_local}
+use Rattle.ev_abstract.specs.Context.{BodyContext, local}
 use Rattle.ev_symbolic.specs.Value.{V}
 use Rattle.ev_symbolic.specs.Agrees.{Env, eval}
 use Rattle.ev_refine.specs.Active.{Locals}

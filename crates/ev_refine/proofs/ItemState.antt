@@ -6,7 +6,6 @@ use Rattle.ev_isa.specs.Word.{NatMap}
 use Rattle.ev_isa.specs.Flags.{Flags, flags_word}
 use Rattle.ev_isa.specs.declared.mode.Mode.{Mode}
 use Rattle.ev_isa.specs.declared.mode.Mode.TheVariants.{Idt, Fred}
-use Rattle.ev_body.specs.declared.image.Image.{Image}
 use Rattle.ev_listing.specs.AddressMap.{pcpu}
 use Rattle.ev_state.specs.Processor.{Processor}
 use Rattle.ev_mem.specs.Memory.{Memory}
@@ -179,3 +178,13 @@ pub gs_of : (mode : Mode) (p : ℕ) (κ : Kind) (σ : Seat) (ss : ℕ) (w : Proc
 unfolding eval
 gs_of Fred p κ σ ss w extra v f = refl
 gs_of Idt p κ σ ss w extra v f = refl
+
+-- how an item opens
+pub item_comes : (mode : Mode) → Comes mode (opening_of mode) 0 (X 0) (X 1) (X 2)
+item_comes Fred = refl
+item_comes Idt = refl
+
+pub item_flags : (mode : Mode) (e : Env) → eval_flags e (opening_of mode).flags ≡ e.flags
+unfolding eval_flags
+item_flags Fred e = refl
+item_flags Idt e = refl

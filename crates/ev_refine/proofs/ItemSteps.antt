@@ -1,24 +1,23 @@
 -- What each visible item does: its instruction, on registers, words and flags, and the abstract machine's step.
-use Rattle.std.proofs.Common.{◌≡◌, inl, inr, ℕ, suc, ◌+◌, ◌-◌, ◌*◌, ◌%◌, ◌^◌, ◌<◌, ◌≤◌, Bool, true, false, not, ◌&&◌, List, [], ◌∷◌, set, get_or, length, Option, Some, None, refl, sym, ap, ◌∙◌, subst, arith}
-use Rattle.std.specs.Prelude.{ℤ, pos, slice_get, nat_lt, nat_le, if◌then◌else◌}
+use Rattle.std.proofs.Common.{◌≡◌, inl, ℕ, suc, ◌+◌, ◌%◌, ◌<◌, ◌≤◌, Bool, true, false, List, [], ◌∷◌, set, length, Option, Some, None, refl, sym, ap, ◌∙◌, subst, arith}
+use Rattle.std.specs.Prelude.{pos, slice_get, nat_le, if◌then◌else◌}
 use Rattle.std.proofs.lemmas.Bool.{ltb-true, leb-true, ne_eqb, not-false}
 use Rattle.ev_isa.specs.Word.{NatMap, put_at, displaced, is_canonical}
-use Rattle.ev_isa.specs.Flags.{Status, Flags, flags_of, flags_word, alu, holds}
+use Rattle.ev_isa.specs.Flags.{Status, Flags, flags_of, alu, holds}
 use Rattle.ev_isa.specs.declared.instruction.AluOp.{AluOp}
 use Rattle.ev_isa.specs.declared.instruction.Cond.{Cond}
 use Rattle.ev_isa.specs.declared.instruction.Ins.{Ins}
-use Rattle.ev_isa.specs.declared.instruction.Ins.TheVariants.{MovImm, MovReg, Load, Store, GsLoad, GsStore, Xchg, Xadd, Jmp}
+use Rattle.ev_isa.specs.declared.instruction.Ins.TheVariants.{MovImm, MovReg, GsLoad, GsStore, Jmp}
 use Rattle.ev_isa.specs.declared.mode.Mode.{Mode}
 use Rattle.ev_body.specs.declared.item.Item.{Item}
-use Rattle.ev_body.specs.declared.item.Item.TheVariants.{Set, Copy, Alu, Jcc, Goto, Nop, Log, Cpu, Slot, Put, Cell, SetCell, AddCell, SwapCell}
+use Rattle.ev_body.specs.declared.item.Item.TheVariants.{Set, Copy, Jcc, Goto, Nop, Log, Cpu, Put}
 use Rattle.ev_body.specs.declared.body.Body.{Body}
 use Rattle.ev_body.specs.declared.image.Image.{Image}
 use Rattle.ev_body.specs.Bodies.{body_items}
 use Rattle.ev_body.specs.WellFormed.{IsImage, is_local, is_word, has_operands}
-use Rattle.ev_listing.specs.AddressMap.{pcpu, port_offset, slot_offset, cells_base}
-use Rattle.ev_state.specs.Processor.{Processor, is_user, register}
+use Rattle.ev_listing.specs.AddressMap.{pcpu, slot_offset}
+use Rattle.ev_state.specs.Processor.{Processor, register}
 use Rattle.ev_state.proofs.FlagLaws.{kept, flags_of-flags_word}
-use Rattle.ev_mem.specs.Memory.{Memory}
 use Rattle.ev_abstract.specs.Context.{BodyContext, local, at_place, onward as onward_of}
 use Rattle.ev_abstract.specs.ItemMeaning.{item_step, with_context, with_slot, taken}
 use Rattle.ev_abstract.specs.Rules.{breaks_slots, jump_target}
@@ -33,7 +32,6 @@ use Rattle.ev_concrete.specs.Depth.{bodies_on}
 use Rattle.ev_concrete.specs.Shown.{shown_always, shown_again}
 use Rattle.ev_built.specs.Built.{IsBuilt}
 use Rattle.ev_symbolic.specs.Value.{M}
-use Rattle.ev_symbolic.specs.Names.{item_tag}
 use Rattle.ev_symbolic.specs.Agrees.{Env, Code, Known}
 use Rattle.ev_symbolic.specs.Single.{IsAt, onward, in_status, Leads, Singles}
 use Rattle.ev_symbolic.proofs.Single.{singles}
@@ -41,7 +39,7 @@ use Rattle.ev_symbolic.proofs.Values.{and_left, and_right}
 use Rattle.ev_table.specs.Table.{code_table}
 use Rattle.ev_refine.specs.Named.{Named, Port, CellAt, address_of, Changes}
 use Rattle.ev_refine.specs.Named as named
-use Rattle.ev_refine.specs.Active.{item_place, address_of_item, FlagsAre}
+use Rattle.ev_refine.specs.Active.{address_of_item, FlagsAre}
 use Rattle.ev_refine.specs.Relation.{InArea, Stands}
 use Rattle.ev_refine.proofs.Opens.{opening_area}
 use Rattle.ev_concrete.specs.Opening.{pcpu_word}

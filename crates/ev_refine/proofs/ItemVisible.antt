@@ -1,11 +1,10 @@
 -- A visible item: the processor makes its instruction, the abstract machine the item, and the activation stands at the next item, over what it stood over.
 -- An item says which local, which word with a name and which flags it leaves, and where it leads.
-use Rattle.std.proofs.Common.{◌≡◌, ◌⊎◌, inl, inr, ⊎_elim, ℕ, suc, ◌+◌, ◌-◌, ◌^◌, ◌<◌, ◌≤◌, Bool, true, false, not, ◌&&◌, List, [], ◌∷◌, get_or, length, Option, Some, None, refl, sym, ap, ◌∙◌, subst, arith}
-use Rattle.std.specs.Prelude.{slice_get, nat_le, nat_lt, if◌then◌else◌}
+use Rattle.std.proofs.Common.{◌≡◌, ℕ, ◌+◌, ◌<◌, ◌≤◌, Bool, true, false, not, ◌&&◌, List, ◌∷◌, get_or, length, Option, Some, refl, sym, ap, ◌∙◌, subst, arith}
+use Rattle.std.specs.Prelude.{slice_get, nat_le, nat_lt}
 use Rattle.std.proofs.lemmas.Option.{slice_get-get_or}
-use Rattle.ev_isa.specs.Word.{NatMap, put_at}
+use Rattle.ev_isa.specs.Word.{NatMap}
 use Rattle.ev_isa.specs.Flags.{Status, Flags, flags_word, flags_of}
-use Rattle.ev_isa.specs.Spelling.{spelling}
 use Rattle.ev_isa.specs.declared.instruction.Ins.{Ins}
 use Rattle.ev_isa.specs.declared.mode.Mode.{Mode}
 use Rattle.ev_effect.specs.Task.{Task}
@@ -16,11 +15,10 @@ use Rattle.ev_body.specs.Bodies.{body_items}
 use Rattle.ev_body.specs.WellFormed.{IsImage}
 use Rattle.ev_listing.specs.AddressMap.{nmi_entry, repeat_entry}
 use Rattle.ev_listing.specs.Expansion.{item_address}
-use Rattle.ev_state.specs.Processor.{Processor, is_user, with_status}
-use Rattle.ev_state.proofs.FlagLaws.{kept, flags_of-flags_word}
-use Rattle.ev_apic.specs.declared.apic.Apic.{Apic}
+use Rattle.ev_state.specs.Processor.{Processor, is_user}
+use Rattle.ev_state.proofs.FlagLaws.{flags_of-flags_word}
 use Rattle.ev_mem.specs.Memory.{Memory}
-use Rattle.ev_proc.specs.ProcessorStep.{has_fred, executed, ran}
+use Rattle.ev_proc.specs.ProcessorStep.{has_fred}
 use Rattle.ev_proc.specs.declared.stepped.Stepped.{Stepped}
 use Rattle.ev_abstract.specs.Context.{BodyContext, CallId}
 use Rattle.ev_abstract.specs.declared.entry.Entry.{Entry}
@@ -33,14 +31,13 @@ use Rattle.ev_concrete.specs.Depth.{bodies_on, is_in_repeat, is_jump}
 use Rattle.ev_concrete.specs.Shown.{shown_always}
 use Rattle.ev_built.specs.Built.{IsBuilt}
 use Rattle.ev_symbolic.specs.Value.{M, V}
-use Rattle.ev_symbolic.specs.Names.{item_tag}
-use Rattle.ev_symbolic.specs.Agrees.{Env, Cell, Code, Known, Open, Fits, with_words}
-use Rattle.ev_symbolic.specs.Single.{IsAt, onward, in_status, Leads}
+use Rattle.ev_symbolic.specs.Agrees.{Env, Cell, Code, Known, Fits, with_words}
+use Rattle.ev_symbolic.specs.Single.{onward, in_status, Leads}
 use Rattle.ev_symbolic.proofs.Blocks.{begins}
 use Rattle.ev_blocks.specs.Items.{AtItem}
 use Rattle.ev_blocks.specs.Blocks.{block, edges}
 use Rattle.ev_blocks.specs.Blocks as blocks
-use Rattle.ev_activation.specs.Seat.{Kind, Seat, kind_of}
+use Rattle.ev_activation.specs.Seat.{kind_of}
 use Rattle.ev_table.specs.Table.{code_table}
 use Rattle.ev_refine.specs.Named.{Named, UnknownTo, Changes}
 use Rattle.ev_refine.specs.Active.{item_place, address_of_item, here, rest_in, IsKernelSs, SavedOf, FlagsAre, InItem, Active}

@@ -1,45 +1,34 @@
 -- The word with a name that a visible item writes, if any: what its step changes, what stays known, and what it makes of the abstract machine.
-use Rattle.std.proofs.Common.{◌≡◌, ◌≢◌, ◌⊎◌, inl, inr, ⊎_elim, ℕ, suc, ◌+◌, ◌-◌, ◌*◌, ◌%◌, ◌/◌, ◌^◌, ◌<◌, ◌≤◌, Bool, true, false, not, ◌&&◌, List, [], ◌∷◌, length, Option, Some, None, refl, sym, ap, ◌∙◌, subst, arith}
-use Rattle.std.specs.Prelude.{◌==◌, if◌then◌else◌}
+use Rattle.std.proofs.Common.{◌≡◌, ◌≢◌, inl, inr, ⊎_elim, ℕ, ◌+◌, ◌*◌, ◌<◌, true, false, not, ◌&&◌, List, [], ◌∷◌, Some, refl, sym, ap, ◌∙◌, subst, arith}
 use Rattle.std.proofs.lemmas.Bool.Decides.{eqb_tells}
 use Rattle.ev_isa.specs.Word.{NatMap, put_at}
 use Rattle.ev_isa.specs.Flags.{Flags}
 use Rattle.ev_isa.specs.declared.mode.Mode.{Mode}
 use Rattle.ev_effect.specs.Task.{Task}
 use Rattle.ev_body.specs.declared.image.Image.{Image}
-use Rattle.ev_body.specs.declared.item.Item.{Item}
 use Rattle.ev_body.specs.WellFormed.{IsImage}
-use Rattle.ev_mem.specs.Memory.{page_map}
-use Rattle.ev_state.specs.Processor.{Processor}
-use Rattle.ev_listing.specs.AddressMap.{pcpu, slot_offset, cells_base, stack_top, stack_bytes}
+use Rattle.ev_listing.specs.AddressMap.{pcpu, slot_offset, cells_base}
 use Rattle.ev_abstract.specs.Context.{BodyContext}
-use Rattle.ev_abstract.specs.ItemMeaning.{Step, item_step, replace_last, with_context, with_slot, with_cell}
-use Rattle.ev_abstract.specs.declared.entry.Entry.{Entry}
+use Rattle.ev_abstract.specs.ItemMeaning.{replace_last, with_context, with_slot, with_cell}
 use Rattle.ev_abstract.specs.Machine.{Machine, processor, with_processor}
 use Rattle.ev_abstract.specs.Machine as abstract
-use Rattle.ev_abstract.specs.Run.{item_at, turn}
 use Rattle.ev_concrete.specs.ConcreteRun.{System}
 use Rattle.ev_built.specs.Built.{IsBuilt}
 use Rattle.ev_symbolic.specs.State.{Loc, in_win}
-use Rattle.ev_symbolic.specs.Agrees.{Env, addr, Known}
+use Rattle.ev_symbolic.specs.Agrees.{addr, Known}
 use Rattle.ev_symbolic.proofs.Blocks.{kept}
 use Rattle.ev_symbolic.proofs.Words.{put_same, put_other}
 use Rattle.ev_distances.specs.Form.{OnStack}
 use Rattle.ev_blocks.specs.Shapes.{body_bytes}
 use Rattle.ev_blocks.specs.Items.{AtItem}
-use Rattle.ev_activation.specs.Seat.{Kind, Seat, top_at}
-use Rattle.ev_user.specs.Words.{HoldsWords}
-use Rattle.ev_user.specs.Sees.{IsUserWord}
-use Rattle.ev_user.proofs.Words.{put_words}
-use Rattle.ev_refine.specs.Named.{Named, UserRsp, Top, Current, Mark, Port, Head, TssTop, Slot, RecordWord, CellAt, PageBit, UserWord, address_of, owner, IsName, IsWritten, is_kernel_word, is_private, is_slot, is_cell, is_page_bit, is_user_word, have_none, Outside, NotNamed, UnknownTo, Changes}
+use Rattle.ev_refine.specs.Named.{Named, UserRsp, Top, Current, Mark, Port, Head, TssTop, Slot, RecordWord, CellAt, PageBit, UserWord, address_of, owner, IsName, IsWritten, is_kernel_word, is_private, is_slot, is_cell, is_page_bit, is_user_word, have_none, Outside, UnknownTo, Changes}
 use Rattle.ev_refine.specs.Active.{here}
 use Rattle.ev_refine.specs.Relation.{StandsOn, Stands}
 use Rattle.ev_refine.proofs.Facts.{Facts}
 use Rattle.ev_refine.proofs.Maps.{at_same, at_other}
 use Rattle.ev_refine.proofs.Fits.{IsSeat, where_at, InSome, IsThere, known_in}
 use Rattle.ev_refine.proofs.Bodies.{layout_of, body, at_the_item, on_stack_alone}
-use Rattle.ev_refine.proofs.Words.{named_off_stack}
-use Rattle.ev_refine.proofs.After.{AreNames, own_word, none_spares}
+use Rattle.ev_refine.proofs.After.{AreNames, own_word}
 use Rattle.ev_refine.proofs.ItemState.{opening_of, known_of}
 use Rattle.ev_refine.proofs.KernelStep as step
 
