@@ -23,6 +23,7 @@ use Rattle.ev_proc.specs.Conditions.{IsInCode}
 use Rattle.ev_symbolic.specs.Agrees.{Cell, Spaced}
 use Rattle.ev_symbolic.specs.Listed.{AllFound}
 use Rattle.ev_symbolic.specs.Machine.{Fetches}
+pub use Rattle.ev_user.proofs.KeepsNumbers.{word_of_canonical}
 use Rattle.ev_paths.specs.Lines.{HasKernel}
 use Rattle.ev_table.specs.Table.{code_table, other_exit, RetCell, places_of, item_lines, item_cells}
 use Rattle.ev_fetch.specs.Claims.{HoldsText}
@@ -71,17 +72,3 @@ word_of_flags f =
     let o = bit_small 11 f.status.overflow in
     let a = bit_small 18 f.alignment in
     omega arith
-
--- canonical addresses
-pub word_of_canonical : (a : ℕ) → is_canonical a ≡ true → a < 2 ^ 64
-word_of_canonical a h = pick (a / 2 ^ 47 == 0) refl h
-  where
-    pick : (t : Bool) → (a / 2 ^ 47 == 0) ≡ t → (t || (a / 2 ^ 47 == 2 ^ 17 - 1)) ≡ true → a < 2 ^ 64
-    pick true q k = let e : a / 2 ^ 47 ≡ 0 = eqb-true (a / 2 ^ 47) 0 q in low a e
-      where
-        low : (a : ℕ) → a / 140737488355328 ≡ 0 → a < 2 ^ 64
-        low a e = omega arith
-    pick false q k = let e : a / 2 ^ 47 ≡ 2 ^ 17 - 1 = eqb-true (a / 2 ^ 47) (2 ^ 17 - 1) k in high a e
-      where
-        high : (a : ℕ) → a / 140737488355328 ≡ 131071 → a < 2 ^ 64
-        high a e = omega arith

@@ -28,6 +28,7 @@ use Rattle.ev_symbolic.proofs.Values.{and_left, and_right}
 use Rattle.ev_refine.specs.Domain.{IsInDomain}
 use Rattle.ev_refine.specs.Relation.{Shares, Stands, StandsOn, first_word}
 use Rattle.ev_law.proofs.Runs.{opening_is_legal}
+use Rattle.ev_user.proofs.KeepsNumbers.{opening_holds_numbers}
 use Rattle.ev_refine.proofs.Domains.{one_task_each}
 use Rattle.ev_user.proofs.Follows.{low_canonical}
 
@@ -350,6 +351,7 @@ module _ (mode : Mode) (image : Image) (built : IsBuilt image) (given : IsImage 
     fixed = λ a f. refl;
     shares = shares;
     legal = opening_is_legal image;
+    numbers = opening_holds_numbers image given;
     domain = λ p lt. subst (λ q. IsInDomain (processor (opening image) q)) (only p lt) domain;
     each = λ p lt. subst (λ q. StandsOn mode image q 0 (opening_system mode image) (processor (opening image) q)) (only p lt) first_processor;
   }
