@@ -2,7 +2,7 @@
 use Rattle.std.proofs.Common.{◌≡◌, ◌⊎◌, inl, inr, ⊎_elim, ℕ, ◌+◌, ◌*◌, ◌%◌, ◌<◌, ◌≤◌, Bool, true, false, not, List, [], ◌∷◌, length, map, get_or, Option, Some, None, refl, sym, ap, ◌∙◌, subst, arith}
 use Rattle.std.specs.Prelude.{if◌then◌else◌, ◌==◌, ◌&&◌, ◌/◌, reverse}
 use Rattle.std.specs.List.{list_any}
-use Rattle.std.proofs.lemmas.Bool.Decides.{eqb_tells, leb_tells}
+use Rattle.std.proofs.lemmas.Bool.Decides.{eqb_tells}
 use Rattle.std.proofs.lemmas.Nat.{mod_below}
 use Rattle.ev_isa.specs.Word.{NatMap, NatSet, put_at, numbers_from}
 use Rattle.ev_isa.specs.declared.mode.Mode.{Mode}
@@ -28,12 +28,13 @@ use Rattle.ev_user.specs.Tasks.{IsTask}
 use Rattle.ev_refine.specs.Tasks.{IsSaved, TssIs, CurrentIs}
 use Rattle.ev_refine.specs.Nmi.{Frame, Held, Layer, Plain, LatchIs, inner_edges}
 use Rattle.ev_user.specs.Words.{HoldsWords}
+use Rattle.ev_user.specs.Numbers.{HoldsNumbers}
 use Rattle.ev_user.specs.Sees.{IsUserWord, IsWrite}
 use Rattle.ev_refine.specs.Named.{Named, UserRsp, Top, Current, Mark, Port, Head, TssTop, Slot, RecordWord, CellAt, PageBit, UserWord, address_of, is_kernel_word, is_slot, is_cell, is_page_bit, is_user_word, have_none, IsWritten, Outside, NotNamed, AreWritten, NoneOf, Changes}
 use Rattle.ev_refine.specs.Domain.{IsInDomain}
 use Rattle.ev_refine.specs.Relation.{Chain, Runs, serves, StandsOn, RecordIs, Linked, Shares, Stands, most_edges}
 use Rattle.ev_refine.proofs.Maps.{at_same}
-use Rattle.ev_refine.proofs.Words.{fixed_stays, stack_stays, stacks_stay, area_stays, saved_stays}
+use Rattle.ev_refine.proofs.Words.{area_word, fixed_stays, stack_stays, stacks_stay, area_stays, saved_stays}
 use Rattle.ev_symbolic.proofs.Values.{and_left, and_right}
 use Rattle.ev_refine.proofs.Chains.{chain_plain}
 use Rattle.ev_refine.proofs.Legality.{legal_few}
@@ -47,26 +48,6 @@ abbrev pub kernel_names : ℕ → List Named
 kernel_names p = UserRsp p ∷ Port p ∷ []
 
 -- ---- words of areas that it doesn't
-
-in_order : (p q : ℕ) → (p < q) ⊎ ((p ≡ q) ⊎ (q < p))
-in_order p q = ⊎_elim (λ x. ⊎_elim (λ y. inr (inl y.1)) (λ y. inl (strict y.1 x.1)) (eqb_tells p q))
-    (λ x. inr (inr (let y = x.1 in omega arith))) (leb_tells p q)
-  where
-    strict : (p ≡ q → ⊥) → p ≤ q → p < q
-    strict n l = ⊎_elim (λ x. absurd (n (let z = x.1 in omega arith))) (λ x. let z = x.1 in omega arith) (leb_tells q p)
-
--- the word at an offset of an area, and an address at another one
-area_word : (p q o o' : ℕ) → o + 8 ≤ 0x10000 → o' < 0x10000 → (o' < o) ⊎ (o + 8 ≤ o') → Outside (pcpu p + o) (pcpu p + o + 8) (pcpu q + o')
-area_word p q o o' h k d = go (in_order p q)
-  where
-    here : p ≡ q → (o' < o) ⊎ (o + 8 ≤ o') → Outside (pcpu p + o) (pcpu p + o + 8) (pcpu q + o')
-    here e (inl l) = inl (omega arith)
-    here e (inr l) = inr (omega arith)
-
-    go : (p < q) ⊎ ((p ≡ q) ⊎ (q < p)) → Outside (pcpu p + o) (pcpu p + o + 8) (pcpu q + o')
-    go (inl l) = inr (omega arith)
-    go (inr (inl e)) = here e d
-    go (inr (inr l)) = inl (omega arith)
 
 -- the offset of a word of an area by which the kernel names tasks, or of calls
 abbrev pub IsKernelOffset : ℕ → Type 0
@@ -508,13 +489,14 @@ module _ (mode : Mode) (image : Image) where
       (as' : List Activation) (words : NatMap ℕ) → IsImage image → IsAccepted image
       → ((q : ℕ) → q < image.processors → length (tasks_of image q) ≤ 4)
       → Stands mode image left s m → p < image.processors → Moves p s s' cpu as' words → σ.stack < 7 → (names : List Named) → AreNames p names
-      → Changes p σ names s.memory.words words → Becomes p m m' x words → Legal image m' → IsInDomain x → StandsOn mode image p now s' x
+      → Changes p σ names s.memory.words words → Becomes p m m' x words → Legal image m' → HoldsNumbers m' → IsInDomain x → StandsOn mode image p now s' x
       → Stands mode image (put_at left p now) s' m'
-  stands_become left s s' m m' p now x σ cpu as' words good accepted four h lt mv hs names good_names changes a legal domain on = record {
+  stands_become left s s' m m' p now x σ cpu as' words good accepted four h lt mv hs names good_names changes a legal numbers domain on = record {
     regions_are = mv.regions ∙ h.regions_are;
     fixed = λ b f. ap (λ w. w b) mv.words_are ∙ fixed_stays p σ names s.memory.words words hp hs good_names.written changes b f ∙ h.fixed b f;
     shares = shares_become p s s' m m' x σ cpu as' words hp good.count.1 mv hs names good_names changes a h.shares;
     legal = legal;
+    numbers = numbers;
     domain = λ q lq. ⊎_elim (λ e. subst (λ r. IsInDomain (processor m' r)) (sym e.1) (subst IsInDomain (sym a.own) domain))
         (λ e. subst IsInDomain (sym (a.others q e.0)) (h.domain q lq)) (eqb_tells q p);
     each = λ q lq. ⊎_elim
@@ -546,9 +528,9 @@ module _ (mode : Mode) (image : Image) where
       → ((q : ℕ) → q < image.processors → length (tasks_of image q) ≤ 4)
       → Stands mode image left s m → p < image.processors → Moves p s s' cpu as' words → σ.stack < 7 → (names : List Named) → AreSparing p names
       → Changes p σ names s.memory.words words → ((b : ℕ) → IsUserWord b → words b ≡ m'.words b) → HoldsWords m'.words → Alike p m m' x
-      → Legal image m' → IsInDomain x → StandsOn mode image p now s' x
+      → Legal image m' → HoldsNumbers m' → IsInDomain x → StandsOn mode image p now s' x
       → Stands mode image (put_at left p now) s' m'
-  stands_after left s s' m m' p now x σ cpu as' words good accepted four h lt mv hs names sparing changes user held a legal domain on =
+  stands_after left s s' m m' p now x σ cpu as' words good accepted four h lt mv hs names sparing changes user held a legal numbers domain on =
       stands_become left s s' m m' p now x σ cpu as' words good accepted four h lt mv hs names sparing.allowed changes
       (record {
         own = a.own;
@@ -563,7 +545,7 @@ module _ (mode : Mode) (image : Image) where
             ∙ sym (ap (λ w. if w i then 1 else 0) a.present);
         cells = λ k l. cell_same p σ names hp hs s.memory.words words sparing.allowed.written changes sparing.cells k l ∙ h.shares.cells k l
             ∙ sym (ap (λ w. w k) a.cells);
-      }) legal domain on
+      }) legal numbers domain on
     where
       hp : p < 32
       hp = let n = good.count.1 in omega arith

@@ -30,15 +30,16 @@ use Rattle.ev_symbolic.proofs.Values.{and_left, and_right}
 use Rattle.ev_refine.specs.Domain.{IsInDomain}
 use Rattle.ev_refine.specs.Relation.{Shares, Stands, StandsOn, first_word}
 use Rattle.ev_law.proofs.Runs.{opening_is_legal}
+use Rattle.ev_user.proofs.KeepsNumbers.{opening_holds_numbers}
 use Rattle.ev_refine.proofs.Domains.{HasTasks, has_tasks}
 use Rattle.ev_user.proofs.Follows.{low_canonical}
 
 -- ---- words of a processor's area, by their offsets o
 
-area_word : (es : Placed) (mode : Mode) (image : Image) (p o : ℕ) → image.processors ≤ 8 → p < image.processors → o < 0x10000 → o % 8 ≡ 0
+pub opening_area : (es : Placed) (mode : Mode) (image : Image) (p o : ℕ) → p < image.processors → image.processors ≤ 8 → o < 0x10000 → o % 8 ≡ 0
     → opening_word es mode image (pcpu p + o) ≡ pcpu_word p o
 unfolding opening_word word_there
-area_word es mode image p o few hp lt al =
+opening_area es mode image p o hp few lt al =
     let a : ℕ = pcpu p + o in
     let aligned : is_aligned a ≡ true = eq-eqb (a % 8) 0 (omega arith) in
     let upper : nat_lt a (2 ^ 63) ≡ false = le-ltb a (2 ^ 63) (omega arith) in
@@ -338,7 +339,7 @@ module _ (mode : Mode) (image : Image) (given : IsImage image) where
     task_good i l = record { long = (task_given i l).long; words = (task_given i l).words; canonical = start_canonical i l; interrupts = refl }
 
     word : (o : ℕ) → o < 0x10000 → o % 8 ≡ 0 → first_word mode image (pcpu p + o) ≡ pcpu_word p o
-    word o lt al = area_word _ mode image p o few hp lt al
+    word o lt al = opening_area _ mode image p o hp few lt al
 
     tss_first : (mode' : Mode) → TssIs mode' p 0 (first_word mode image)
     unfolding pcpu_word
@@ -433,6 +434,7 @@ module _ (mode : Mode) (image : Image) (given : IsImage image) where
     fixed = λ a f. refl;
     shares = shares;
     legal = opening_is_legal image;
+    numbers = opening_holds_numbers image given;
     domain = λ p lt. domain p;
     each = opening_processor;
   }
