@@ -2,7 +2,7 @@
 use Rattle.std.proofs.Common.{◌≡◌, ◌⊎◌, inl, inr, ⊎_elim, ℕ, ◌+◌, ◌*◌, ◌%◌, ◌<◌, ◌≤◌, Bool, true, false, not, List, [], ◌∷◌, length, map, get_or, Option, Some, None, refl, sym, ap, ◌∙◌, subst, arith}
 use Rattle.std.specs.Prelude.{if◌then◌else◌, ◌==◌, ◌&&◌, ◌/◌, reverse}
 use Rattle.std.specs.List.{list_any}
-use Rattle.std.proofs.lemmas.Bool.Decides.{eqb_tells, leb_tells}
+use Rattle.std.proofs.lemmas.Bool.Decides.{eqb_tells}
 use Rattle.std.proofs.lemmas.Nat.{mod_below}
 use Rattle.ev_isa.specs.Word.{NatMap, NatSet, put_at, numbers_from}
 use Rattle.ev_isa.specs.declared.mode.Mode.{Mode}
@@ -33,7 +33,7 @@ use Rattle.ev_refine.specs.Named.{Named, UserRsp, Top, Current, Mark, Port, Head
 use Rattle.ev_refine.specs.Domain.{IsInDomain}
 use Rattle.ev_refine.specs.Relation.{Chain, Runs, serves, StandsOn, RecordIs, Linked, Shares, Stands, most_edges}
 use Rattle.ev_refine.proofs.Maps.{at_same}
-use Rattle.ev_refine.proofs.Words.{fixed_stays, stack_stays, stacks_stay, area_stays, saved_stays}
+use Rattle.ev_refine.proofs.Words.{area_word, fixed_stays, stack_stays, stacks_stay, area_stays, saved_stays}
 use Rattle.ev_symbolic.proofs.Values.{and_left, and_right}
 use Rattle.ev_refine.proofs.Chains.{chain_plain}
 use Rattle.ev_refine.proofs.Legality.{legal_few}
@@ -47,26 +47,6 @@ abbrev pub kernel_names : ℕ → List Named
 kernel_names p = UserRsp p ∷ Port p ∷ []
 
 -- ---- words of areas that it doesn't
-
-in_order : (p q : ℕ) → (p < q) ⊎ ((p ≡ q) ⊎ (q < p))
-in_order p q = ⊎_elim (λ x. ⊎_elim (λ y. inr (inl y.1)) (λ y. inl (strict y.1 x.1)) (eqb_tells p q))
-    (λ x. inr (inr (let y = x.1 in omega arith))) (leb_tells p q)
-  where
-    strict : (p ≡ q → ⊥) → p ≤ q → p < q
-    strict n l = ⊎_elim (λ x. absurd (n (let z = x.1 in omega arith))) (λ x. let z = x.1 in omega arith) (leb_tells q p)
-
--- the word at an offset of an area, and an address at another one
-area_word : (p q o o' : ℕ) → o + 8 ≤ 0x10000 → o' < 0x10000 → (o' < o) ⊎ (o + 8 ≤ o') → Outside (pcpu p + o) (pcpu p + o + 8) (pcpu q + o')
-area_word p q o o' h k d = go (in_order p q)
-  where
-    here : p ≡ q → (o' < o) ⊎ (o + 8 ≤ o') → Outside (pcpu p + o) (pcpu p + o + 8) (pcpu q + o')
-    here e (inl l) = inl (omega arith)
-    here e (inr l) = inr (omega arith)
-
-    go : (p < q) ⊎ ((p ≡ q) ⊎ (q < p)) → Outside (pcpu p + o) (pcpu p + o + 8) (pcpu q + o')
-    go (inl l) = inr (omega arith)
-    go (inr (inl e)) = here e d
-    go (inr (inr l)) = inl (omega arith)
 
 -- the offset of a word of an area by which the kernel names tasks, or of calls
 abbrev pub IsKernelOffset : ℕ → Type 0

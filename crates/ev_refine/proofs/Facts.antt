@@ -1,27 +1,30 @@
 -- What the proofs of steps use of an image's code: what stands where, its marks, and that memory holds its bytes.
-use Rattle.std.proofs.Common.{◌≡◌, ℕ, ◌+◌, ◌-◌, ◌/◌, ◌<◌, ◌≤◌, ◌^◌, Bool, true, false, ◌||◌, Some, refl, arith}
-use Rattle.std.specs.Prelude.{pos, suc, ◌==◌, slice_get}
+use Rattle.std.proofs.Common.{◌≡◌, ℕ, ◌+◌, ◌-◌, ◌/◌, ◌<◌, ◌≤◌, ◌^◌, Bool, true, false, ◌||◌, length, Some, refl, arith}
+use Rattle.std.specs.Prelude.{suc, ◌==◌, slice_get}
 use Rattle.std.proofs.lemmas.Bool.{eqb-true}
 use Rattle.ev_isa.specs.Word.{is_canonical, bit_if}
 use Rattle.ev_isa.specs.Flags.{Flags, flags_word}
-use Rattle.ev_isa.specs.declared.instruction.Ins.TheVariants.{GsStore}
 use Rattle.ev_isa.specs.declared.mode.Mode.{Mode}
-use Rattle.ev_body.specs.declared.item.Item.TheVariants.{Log, Ret}
+use Rattle.ev_body.specs.declared.item.Item.{Item}
+use Rattle.ev_body.specs.declared.item.Item.TheVariants.{Ret}
 use Rattle.ev_body.specs.declared.body.Body.{Body}
 use Rattle.ev_body.specs.declared.image.Image.{Image}
+use Rattle.ev_body.specs.Bodies.{body_items}
 use Rattle.ev_mem.specs.Memory.{Memory}
 use Rattle.ev_state.specs.Processor.{Processor}
 use Rattle.ev_listing.specs.AddressMap.{body_code}
-use Rattle.ev_listing.specs.Expansion.{item_address}
-use Rattle.ev_listing.specs.Marks.{Never, Always}
+use Rattle.ev_asm.specs.Assembly.{place, total_size}
+use Rattle.ev_listing.specs.Expansion.{item_label, item_address}
+use Rattle.ev_listing.specs.Marks.{Never, Always, stmts_of}
 use Rattle.ev_abstract.specs.Run.{item_at}
 use Rattle.ev_concrete.specs.Opening.{regions}
 use Rattle.ev_concrete.specs.ConcreteRun.{marks_of, mark_at}
 use Rattle.ev_proc.specs.Conditions.{IsInCode}
 use Rattle.ev_symbolic.specs.Agrees.{Cell, Spaced}
+use Rattle.ev_symbolic.specs.Listed.{AllFound}
 use Rattle.ev_symbolic.specs.Machine.{Fetches}
 use Rattle.ev_paths.specs.Lines.{HasKernel}
-use Rattle.ev_table.specs.Table.{code_table, other_exit, RetCell}
+use Rattle.ev_table.specs.Table.{code_table, other_exit, RetCell, places_of, item_lines, item_cells}
 use Rattle.ev_fetch.specs.Claims.{HoldsText}
 use Rattle.ev_refine.specs.Relation.{first_word, IsFixed}
 
@@ -32,8 +35,12 @@ HasFixed mode image m = (a : ℕ) → IsFixed a → m.words a ≡ first_word mod
 pub record Facts (mode : Mode) (image : Image) : Type 0 where
   pub kernel : HasKernel mode (code_table mode image)
   pub spaced : Spaced (code_table mode image)
-  pub log_cell : (n i s : ℕ) (b : Body) → slice_get image.bodies n ≡ Some b → item_at (Some b) i ≡ Some (Log s)
-      → code_table mode image (item_address mode n b i) ≡ Some (record { ins = GsStore (pos 0x28) s; next = item_address mode n b (suc i); mark = true })
+  pub items : (n i : ℕ) (b : Body) (item : Item) → slice_get image.bodies n ≡ Some b → item_at (Some b) i ≡ Some item
+      → AllFound (code_table mode image) (item_cells mode image n b i item)
+  pub follow : (n i : ℕ) (b : Body) (item : Item) → item_at (Some b) i ≡ Some item
+      → item_address mode n b (suc i) ≡ item_address mode n b i + total_size (stmts_of (item_lines mode image n b i item))
+  pub labels : (n i : ℕ) (b : Body) → slice_get image.bodies n ≡ Some b → i < length (body_items b)
+      → place (places_of mode image) (item_label n i) ≡ item_address mode n b i
   pub ret_cell : (n i : ℕ) (b : Body) → slice_get image.bodies n ≡ Some b → item_at (Some b) i ≡ Some Ret
       → RetCell (code_table mode image) (item_address mode n b i) (other_exit mode)
   pub first_item : (n : ℕ) (b : Body) → item_address mode n b 0 ≡ body_code n

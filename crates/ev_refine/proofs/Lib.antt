@@ -18,8 +18,17 @@ pub mod Depth
 pub mod Bodies
 pub mod Return
 pub mod Items
+pub mod ItemCells
+pub mod ItemCode
+pub mod ItemState
+pub mod ItemLocals
+pub mod ItemAddresses
+pub mod ItemSaved
 pub mod Instructions
 pub mod KernelStep
+pub mod ItemWords
+pub mod ItemVisible
+pub mod ItemSteps
 pub mod KernelItems
 pub mod BodyTables
 pub mod Kernel

@@ -31,20 +31,20 @@ use Rattle.ev_law.proofs.Runs.{opening_is_legal}
 use Rattle.ev_refine.proofs.Domains.{one_task_each}
 use Rattle.ev_user.proofs.Follows.{low_canonical}
 
--- ---- words of the first processor's area, which has offsets o
+-- ---- words of a processor's area, which has offsets o
 
-area_word : (es : Placed) (mode : Mode) (image : Image) (o : ℕ) → image.processors ≡ 1 → o < 0x10000 → o % 8 ≡ 0
-    → opening_word es mode image (pcpu 0 + o) ≡ pcpu_word 0 o
+pub opening_area : (es : Placed) (mode : Mode) (image : Image) (p o : ℕ) → p < image.processors → image.processors ≤ 8 → o < 0x10000 → o % 8 ≡ 0
+    → opening_word es mode image (pcpu p + o) ≡ pcpu_word p o
 unfolding opening_word word_there
-area_word es mode image o one lt al =
-    let a : ℕ = pcpu 0 + o in
+opening_area es mode image p o here few lt al =
+    let a : ℕ = pcpu p + o in
     let aligned : is_aligned a ≡ true = eq-eqb (a % 8) 0 (omega arith) in
     let upper : nat_lt a (2 ^ 63) ≡ false = le-ltb a (2 ^ 63) (omega arith) in
     let code : nat_le fred_page a ≡ false = lt-leb fred_page a (omega arith) in
     let stacks : nat_le (stack_top 0 0 - 0x4000) a ≡ false = lt-leb (stack_top 0 0 - 0x4000) a (omega arith) in
     let from : nat_le (pcpu 0) a ≡ true = le-leb (pcpu 0) a (omega arith) in
     let to : nat_lt a (pcpu 0 + 0x10000 * image.processors) ≡ true = lt-ltb a (pcpu 0 + 0x10000 * image.processors) (omega arith) in
-    let number : (a - pcpu 0) / 0x10000 ≡ 0 = omega arith in
+    let number : (a - pcpu 0) / 0x10000 ≡ p = omega arith in
     let offset : a % 0x10000 ≡ o = omega arith in
     rw (aligned, upper, code, stacks, from, to) (λ i. pcpu_word (number i) (offset i))
 
@@ -257,7 +257,7 @@ module _ (mode : Mode) (image : Image) (built : IsBuilt image) (given : IsImage 
   }
 
   word : (o : ℕ) → o < 0x10000 → o % 8 ≡ 0 → first_word mode image (pcpu 0 + o) ≡ pcpu_word 0 o
-  word o lt al = area_word _ mode image o one lt al
+  word o lt al = opening_area _ mode image 0 o (omega arith) (omega arith) lt al
 
   tss_first : (mode' : Mode) → TssIs mode' 0 0 (first_word mode image)
   unfolding pcpu_word

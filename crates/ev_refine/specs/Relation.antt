@@ -2,7 +2,7 @@
 -- The abstract machine's contexts are matched from the last down: an activation stands over the processor that its return restores. What several activations
 -- or
 -- processors read or write stands beside, word by word.
-use Rattle.std.specs.Prelude.{◌≡◌, ◌≢◌, ℕ, suc, ◌+◌, ◌*◌, ◌-◌, ◌/◌, ◌%◌, ◌<◌, ◌≤◌, Bool, true, false, ◌&&◌, ◌==◌, if◌then◌else◌, List, [], ◌∷◌, length, map, reverse, get_or, slice_get, Option, Some, None}
+use Rattle.std.specs.Prelude.{◌≡◌, ◌≢◌, ◌⊎◌, ℕ, suc, ◌+◌, ◌*◌, ◌-◌, ◌/◌, ◌%◌, ◌<◌, ◌≤◌, Bool, true, false, ◌&&◌, ◌==◌, if◌then◌else◌, List, [], ◌∷◌, length, map, reverse, get_or, slice_get, Option, Some, None}
 use Rattle.std.specs.List.{list_any}
 use Rattle.ev_isa.specs.Word.{NatMap, numbers_from}
 use Rattle.ev_isa.specs.Pages.{text_base}
@@ -37,12 +37,17 @@ use Rattle.ev_refine.specs.Domain.{IsInDomain}
 abbrev pub first_word : Mode → Image → NatMap ℕ
 first_word mode image a = opening_word (code_of (listings mode image)) mode image a
 
--- words that nothing writes: user code, the tables, the tasks' words, and the kernel's code
+-- offsets of words of a processor's area that nothing writes: the processor's number, and the address of its first call record
+abbrev pub IsUnwritten : ℕ → Type 0
+IsUnwritten o = (o ≡ 0) ⊎ (o ≡ 0x38)
+
+-- words that nothing writes: user code, the tables, the tasks' words, the kernel's code, and some of each area
 pub data IsFixed (a : ℕ) : Type 0 where
   InText : text_base ≤ a → a < text_base + 0x10000 → IsFixed a
   InTables : user_table ≤ a → a < idt_base + 0x1000 → IsFixed a
   InTasks : task_words 0 0 ≤ a → a < task_words 0 0 + 0x100 * 32 → IsFixed a
   InCode : fred_page ≤ a → IsFixed a
+  InArea : (p o : ℕ) → p < 32 → IsUnwritten o → a ≡ pcpu p + o → IsFixed a
 
 -- the words of a call record: its number, and whether it is in use, with what is called
 abbrev pub RecordIs : NatMap ℕ → ℕ → CallRecord → CallState → Type 0
