@@ -6,7 +6,7 @@ use Rattle.ev_isa.specs.declared.mode.Mode.TheVariants.{Idt, Fred}
 use Rattle.ev_body.specs.declared.key.Key.{Key}
 use Rattle.ev_body.specs.declared.key.Key.TheVariants.{Nmi, Irq}
 use Rattle.ev_body.specs.declared.item.Item.{Item}
-use Rattle.ev_body.specs.declared.item.Item.TheVariants.{Log, Ret}
+use Rattle.ev_body.specs.declared.item.Item.TheVariants.{Set, Copy, Alu, Jcc, Goto, Nop, Log, Cpu, Slot, Put, Ret}
 use Rattle.ev_body.specs.declared.body.Body.{Body}
 use Rattle.ev_body.specs.declared.image.TaskSpec.{TaskSpec}
 use Rattle.ev_body.specs.declared.image.Image.{Image}
@@ -15,9 +15,18 @@ use Rattle.ev_abstract.specs.Accepted.{IsAccepted}
 use Rattle.ev_abstract.specs.declared.script_line.Line.{Line}
 use Rattle.ev_abstract.specs.declared.script_line.Line.TheVariants.{Turn}
 
--- `log` and `ret`
+-- items of registers, jumps, `log`, slots, and `ret`
 unfoldable pub is_built_item : Item → Bool
+is_built_item (Set d n) = true
+is_built_item (Copy d s) = true
+is_built_item (Alu op d s) = true
+is_built_item (Jcc cond n) = true
+is_built_item (Goto n) = true
+is_built_item Nop = true
 is_built_item (Log s) = true
+is_built_item (Cpu d) = true
+is_built_item (Slot d k) = true
+is_built_item (Put k s) = true
 is_built_item Ret = true
 is_built_item _ = false
 

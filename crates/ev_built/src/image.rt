@@ -23,7 +23,20 @@ fn has_one_task(tasks: &[Many<TaskSpec>]) -> bool
 fn is_built_item(item: &Item) -> bool
     ensures { result ≡ is_built_item item.now }
 {
-    matches!(item, Item::Log(_) | Item::Ret)
+    matches!(
+        item,
+        Item::Set(..)
+            | Item::Copy(..)
+            | Item::Alu(..)
+            | Item::Jcc(..)
+            | Item::Goto(_)
+            | Item::Nop
+            | Item::Log(_)
+            | Item::Cpu(_)
+            | Item::Slot(..)
+            | Item::Put(..)
+            | Item::Ret
+    )
 }
 
 /// Whether each item logs or returns.

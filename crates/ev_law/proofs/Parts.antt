@@ -158,6 +158,23 @@ module _ (bytes : ℕ) where
           let hi : t < n + length part.items + length (items_of rest) = l.1 in
           let z = total part.items (items_of rest) in (omega (arith, lo), omega (arith, hi, z))
 
+  -- the operands of an item of a part
+  pub parts_operands : (n : ℕ) (parts : List Part) (j : ℕ) (item : Item) → are_parts bytes n parts ≡ true → slice_get (items_of parts) j ≡ Some item
+      → (low : ℕ) × (high : ℕ) × (has_operands bytes low high item ≡ true)
+  parts_operands n [] j item h e = absurd (cc)
+  parts_operands n (part ∷ rest) j item h e =
+      let p = part_ends n part rest h in
+      step (get_split part.items (items_of rest) j item e) p.1 (λ k q. parts_operands (n + length part.items) rest k item p.2 q)
+    where
+      step : ((j < length part.items) × (slice_get part.items j ≡ Some item))
+          ⊎ ((k : ℕ) × (j ≡ length part.items + k) × (slice_get (items_of rest) k ≡ Some item))
+          → list_all (has_operands bytes n (n + length part.items)) part.items ≡ true
+          → ((k : ℕ) → slice_get (items_of rest) k ≡ Some item → (low : ℕ) × (high : ℕ) × (has_operands bytes low high item ≡ true))
+          → (low : ℕ) × (high : ℕ) × (has_operands bytes low high item ≡ true)
+      step (inl a) ops next =
+          (n, n + length part.items, all_at (has_operands bytes n (n + length part.items)) part.items j item ops a.1)
+      step (inr a) ops next = next a.0 a.2
+
   -- whether a function is among the parts
   pub parts_start : (n : ℕ) (parts : List Part) (func : ℕ) → are_parts bytes n parts ≡ true
       → list_any (λ (part : Part). part.func == func) parts ≡ true

@@ -14,12 +14,12 @@ use Rattle.ev_body.specs.declared.image.Image.{Image}
 use Rattle.ev_body.specs.Bodies.{body_items, key_number, covers, function_start}
 use Rattle.ev_body.specs.WellFormed.{IsImage, is_body, is_key, are_parts, has_operands, is_sendable, is_word, has_no_parts, ends_with, is_ret, is_finish, is_apart, are_apart}
 use Rattle.ev_abstract.specs.CrossCall.{take_place}
-use Rattle.ev_abstract.specs.Rules.{first_item_from, refusal_at, first_refused, first_some, rules, missing_body, slot_rule, register_rule, flag_rule, if_rule, eoi_rule, fault_rule, nmi_rule, call_rule, breaks_slots, breaks_flags, breaks_if, breaks_eoi, breaks_calls, failing_eoi, failing_call, or_first, jump_target, in_function, item_before, leaves_flags, is_take, is_call_handler, is_function}
+use Rattle.ev_abstract.specs.Rules.{first_item_from, refusal_at, first_refused, first_some, rules, missing_body, slot_rule, register_rule, flag_rule, if_rule, eoi_rule, fault_rule, nmi_rule, call_rule, breaks_slots, breaks_registers, breaks_flags, breaks_if, breaks_eoi, breaks_calls, failing_eoi, failing_call, or_first, jump_target, in_function, item_before, leaves_flags, is_take, is_call_handler, is_function}
 use Rattle.ev_abstract.specs.declared.refusal.Refusal.{Refusal}
-use Rattle.ev_abstract.specs.declared.refusal.Refusal.TheVariants.{SlotRule, FlagRule, IfRule, EoiRule, CallRule}
+use Rattle.ev_abstract.specs.declared.refusal.Refusal.TheVariants.{SlotRule, RegisterRule, FlagRule, IfRule, EoiRule, CallRule}
 use Rattle.ev_law.specs.Legal.{has_function, declares}
 use Rattle.ev_law.proofs.Lists.{all_at}
-use Rattle.ev_law.proofs.Parts.{items_of, get_split, total, goes_in, starts_in, no_finish_in, leads_in, part_ends, parts_go_on, parts_lead, parts_start, before, start_leaves, take_first, take_found}
+use Rattle.ev_law.proofs.Parts.{items_of, get_split, total, goes_in, starts_in, no_finish_in, leads_in, part_ends, parts_go_on, parts_lead, parts_operands, parts_start, before, start_leaves, take_first, take_found}
 
 -- a body of an accepted image
 pub record IsRuled (image : Image) (b : Body) : Type 0 where
@@ -43,6 +43,9 @@ pub record IsRuled (image : Image) (b : Body) : Type 0 where
   pub sends : (i to : ℕ) (key : Key) → slice_get (body_items b) i ≡ Some (Send to key) → is_sendable key ≡ true
   pub calls : (i site to func s : ℕ) → slice_get (body_items b) i ≡ Some (Call site to func s) → declares image func ≡ true
   pub slots : (i : ℕ) (item : Item) → slice_get (body_items b) i ≡ Some item → breaks_slots image.processors item ≡ false
+  pub registers : (i : ℕ) (item : Item) → slice_get (body_items b) i ≡ Some item → breaks_registers b item ≡ false
+  pub operands : (i : ℕ) (item : Item) → slice_get (body_items b) i ≡ Some item
+      → (low : ℕ) × (high : ℕ) × (has_operands (length image.text) low high item ≡ true)
   pub key : is_key b.key ≡ true
 
 -- ---- a rule that refuses nothing
@@ -190,6 +193,16 @@ module _ (image : Image) (bytes n : ℕ) (b : Body) (ends : ends_with is_ret b.i
           let hi : t < length b.items + length (items_of b.parts) = l.1 in
           let q : i ≡ length b.items + a.0 = a.1 in let z = total b.items (items_of b.parts) in let here : length b.items ≤ i = omega (arith, q) in
           (omega (arith, hi, z), inside b t lo ∙ sym (inside b i here))
+
+  operands_at : (i : ℕ) (item : Item) → slice_get (body_items b) i ≡ Some item
+      → (low : ℕ) × (high : ℕ) × (has_operands bytes low high item ≡ true)
+  operands_at i item k = step (split i item k)
+    where
+      step : ((i < length b.items) × (slice_get b.items i ≡ Some item))
+          ⊎ ((k : ℕ) × (i ≡ length b.items + k) × (slice_get (items_of b.parts) k ≡ Some item))
+          → (low : ℕ) × (high : ℕ) × (has_operands bytes low high item ≡ true)
+      step (inl a) = (0, length b.items, all_at (has_operands bytes 0 (length b.items)) b.items i item ops a.1)
+      step (inr a) = parts_operands bytes (length b.items) b.parts a.0 item parts a.2
 
   sends_at : (i to : ℕ) (key : Key) → slice_get (body_items b) i ≡ Some (Send to key) → is_sendable key ≡ true
   sends_at i to key k = step (split i (Send to key) k)
@@ -354,5 +367,7 @@ module _ (image : Image) (is : IsImage image) (kept : rules image ≡ None) wher
         calls = λ i site to func s k. declared func
             (call_rule_at image n b i site to func s (no_item_of (breaks_calls image n b) i (Call site to func s) (body_items b) call.1 k));
         slots = at_item SlotRule (λ b i item. breaks_slots image.processors item) image.bodies n b all_rules.1.0 e;
+        registers = at_item RegisterRule (λ b i item. breaks_registers b item) image.bodies n b all_rules.1.1.0 e;
+        operands = λ i item k. operands_at image bytes n b h2.1 h3.1 h5.1 i item k;
         key = h1.0;
       }

@@ -65,7 +65,7 @@ chain_at image script p is accepted s =
 pub chains_are_legal : ChainsAreLegal
 chains_are_legal image script p is accepted s l = chain_at image script p is accepted s
 
-short : (image : Image) (bound : ℕ) (ns : List ℕ) → IsAcceptedWith image bound → (ns ≡ []) ⊎ IsChain image ns → length ns ≤ bound
+pub short : (image : Image) (bound : ℕ) (ns : List ℕ) → IsAcceptedWith image bound → (ns ≡ []) ⊎ IsChain image ns → length ns ≤ bound
 short image bound ns accepted (inl e) = let k : length ns ≡ 0 = ap length e in omega arith
 short image bound ns accepted (inr chain) = accepted.is_bound.greatest ns chain
 

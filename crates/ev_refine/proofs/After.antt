@@ -2,7 +2,7 @@
 use Rattle.std.proofs.Common.{◌≡◌, ◌⊎◌, inl, inr, ⊎_elim, ℕ, ◌+◌, ◌*◌, ◌%◌, ◌<◌, ◌≤◌, Bool, true, false, not, List, [], ◌∷◌, length, map, get_or, Option, Some, None, refl, sym, ap, ◌∙◌, subst, arith}
 use Rattle.std.specs.Prelude.{if◌then◌else◌, ◌==◌, ◌&&◌, ◌/◌, reverse}
 use Rattle.std.specs.List.{list_any}
-use Rattle.std.proofs.lemmas.Bool.Decides.{eqb_tells, leb_tells}
+use Rattle.std.proofs.lemmas.Bool.Decides.{eqb_tells}
 use Rattle.std.proofs.lemmas.Nat.{mod_below}
 use Rattle.ev_isa.specs.Word.{NatMap, NatSet, put_at, numbers_from}
 use Rattle.ev_isa.specs.declared.mode.Mode.{Mode}
@@ -28,14 +28,18 @@ use Rattle.ev_user.specs.Tasks.{IsTask}
 use Rattle.ev_refine.specs.Tasks.{IsSaved, TssIs, CurrentIs}
 use Rattle.ev_refine.specs.Nmi.{Frame, Held, Layer, Plain, LatchIs, inner_edges}
 use Rattle.ev_user.specs.Words.{HoldsWords}
+use Rattle.ev_user.specs.Numbers.{HoldsNumbers}
 use Rattle.ev_user.specs.Sees.{IsUserWord, IsWrite}
 use Rattle.ev_refine.specs.Named.{Named, UserRsp, Top, Current, Mark, Port, Head, TssTop, Slot, RecordWord, CellAt, PageBit, UserWord, address_of, is_kernel_word, is_slot, is_cell, is_page_bit, is_user_word, have_none, IsWritten, Outside, NotNamed, AreWritten, NoneOf, Changes}
 use Rattle.ev_refine.specs.Domain.{IsInDomain}
 use Rattle.ev_refine.specs.Relation.{Chain, Runs, serves, StandsOn, RecordIs, Linked, Shares, Stands, most_edges}
 use Rattle.ev_refine.proofs.Maps.{at_same}
-use Rattle.ev_refine.proofs.Words.{fixed_stays, stack_stays, stacks_stay, area_stays, saved_stays}
+use Rattle.ev_refine.proofs.Words.{area_word, fixed_stays, stack_stays, stacks_stay, area_stays, saved_stays}
 use Rattle.ev_symbolic.proofs.Values.{and_left, and_right}
-use Rattle.ev_refine.proofs.Chains.{chain_plain, chain_few}
+use Rattle.ev_refine.proofs.Chains.{chain_plain}
+use Rattle.ev_refine.proofs.Legality.{legal_few}
+use Rattle.ev_body.specs.WellFormed.{IsImage}
+use Rattle.ev_abstract.specs.Accepted.{IsAccepted}
 use Rattle.ev_refine.proofs.Standing.{Moves}
 use Rattle.ev_refine.proofs.Stays.{chain_stays, others_spared}
 
@@ -44,26 +48,6 @@ abbrev pub kernel_names : ℕ → List Named
 kernel_names p = UserRsp p ∷ Port p ∷ []
 
 -- ---- words of areas that it doesn't
-
-in_order : (p q : ℕ) → (p < q) ⊎ ((p ≡ q) ⊎ (q < p))
-in_order p q = ⊎_elim (λ x. ⊎_elim (λ y. inr (inl y.1)) (λ y. inl (strict y.1 x.1)) (eqb_tells p q))
-    (λ x. inr (inr (let y = x.1 in omega arith))) (leb_tells p q)
-  where
-    strict : (p ≡ q → ⊥) → p ≤ q → p < q
-    strict n l = ⊎_elim (λ x. absurd (n (let z = x.1 in omega arith))) (λ x. let z = x.1 in omega arith) (leb_tells q p)
-
--- the word at an offset of an area, and an address at another one
-area_word : (p q o o' : ℕ) → o + 8 ≤ 0x10000 → o' < 0x10000 → (o' < o) ⊎ (o + 8 ≤ o') → Outside (pcpu p + o) (pcpu p + o + 8) (pcpu q + o')
-area_word p q o o' h k d = go (in_order p q)
-  where
-    here : p ≡ q → (o' < o) ⊎ (o + 8 ≤ o') → Outside (pcpu p + o) (pcpu p + o + 8) (pcpu q + o')
-    here e (inl l) = inl (omega arith)
-    here e (inr l) = inr (omega arith)
-
-    go : (p < q) ⊎ ((p ≡ q) ⊎ (q < p)) → Outside (pcpu p + o) (pcpu p + o + 8) (pcpu q + o')
-    go (inl l) = inr (omega arith)
-    go (inr (inl e)) = here e d
-    go (inr (inr l)) = inl (omega arith)
 
 -- the offset of a word of an area by which the kernel names tasks, or of calls
 abbrev pub IsKernelOffset : ℕ → Type 0
@@ -385,10 +369,10 @@ module _ (mode : Mode) (image : Image) where
   -- ---- another processor
 
   pub other_stays : (p q left : ℕ) (s s' : System) (x : abstract.Processor) (σ : Seat) (cpu : Processor) (as' : List Activation) (words : NatMap ℕ)
-      → p < 32 → q < image.processors → image.processors ≤ 8 → length (tasks_of image q) ≤ 4 → (q ≡ p → ⊥) → (q == p) ≡ false
+      → p < 32 → q < image.processors → image.processors ≤ 8 → length x.bodies ≤ 32 → length (tasks_of image q) ≤ 4 → (q ≡ p → ⊥) → (q == p) ≡ false
       → Moves p s s' cpu as' words → σ.stack < 7 → (names : List Named) → AreNames p names
       → Changes p σ names s.memory.words words → StandsOn mode image q left s x → StandsOn mode image q left s' x
-  other_stays p q left s s' x σ cpu as' words hp lq eight four d e mv hs names good_names changes on =
+  other_stays p q left s s' x σ cpu as' words hp lq eight deep four d e mv hs names good_names changes on =
       let written = good_names.written in let spared = good_names.kernel in record {
         few = on.few;
         own = on.own;
@@ -424,8 +408,7 @@ module _ (mode : Mode) (image : Image) where
             eight
             (others_spared mode image p q on.returning σ names s.memory.words words x.bodies hp hs hq d written (good_names.own q d) changes
             (chain_plain mode image q on.own on.returning (x.tasks on.returning) on.frame on.switching x.bodies (s.activations q) (s.cpus q) s.memory chain)
-            returning_small
-            (chain_few mode image q on.own on.returning (x.tasks on.returning) on.frame on.switching x.bodies (s.activations q) (s.cpus q) s.memory chain))
+            returning_small deep)
             chain));
       }
     where
@@ -503,15 +486,17 @@ module _ (mode : Mode) (image : Image) where
   -- ---- the whole
 
   pub stands_become : (left : NatMap ℕ) (s s' : System) (m m' : Machine) (p now : ℕ) (x : abstract.Processor) (σ : Seat) (cpu : Processor)
-      (as' : List Activation) (words : NatMap ℕ) → image.processors ≤ 8 → ((q : ℕ) → q < image.processors → length (tasks_of image q) ≤ 4)
+      (as' : List Activation) (words : NatMap ℕ) → IsImage image → IsAccepted image
+      → ((q : ℕ) → q < image.processors → length (tasks_of image q) ≤ 4)
       → Stands mode image left s m → p < image.processors → Moves p s s' cpu as' words → σ.stack < 7 → (names : List Named) → AreNames p names
-      → Changes p σ names s.memory.words words → Becomes p m m' x words → Legal image m' → IsInDomain x → StandsOn mode image p now s' x
+      → Changes p σ names s.memory.words words → Becomes p m m' x words → Legal image m' → HoldsNumbers m' → IsInDomain x → StandsOn mode image p now s' x
       → Stands mode image (put_at left p now) s' m'
-  stands_become left s s' m m' p now x σ cpu as' words eight four h lt mv hs names good_names changes a legal domain on = record {
+  stands_become left s s' m m' p now x σ cpu as' words good accepted four h lt mv hs names good_names changes a legal numbers domain on = record {
     regions_are = mv.regions ∙ h.regions_are;
     fixed = λ b f. ap (λ w. w b) mv.words_are ∙ fixed_stays p σ names s.memory.words words hp hs good_names.written changes b f ∙ h.fixed b f;
-    shares = shares_become p s s' m m' x σ cpu as' words hp eight mv hs names good_names changes a h.shares;
+    shares = shares_become p s s' m m' x σ cpu as' words hp good.count.1 mv hs names good_names changes a h.shares;
     legal = legal;
+    numbers = numbers;
     domain = λ q lq. ⊎_elim (λ e. subst (λ r. IsInDomain (processor m' r)) (sym e.1) (subst IsInDomain (sym a.own) domain))
         (λ e. subst IsInDomain (sym (a.others q e.0)) (h.domain q lq)) (eqb_tells q p);
     each = λ q lq. ⊎_elim
@@ -519,12 +504,13 @@ module _ (mode : Mode) (image : Image) where
         (subst (λ n. StandsOn mode image p n s' (processor m' p)) (sym (at_same left p p now refl)) (subst (StandsOn mode image p now s') (sym a.own) on)))
         (λ e. subst (λ n. StandsOn mode image q n s' (processor m' q)) (sym (ap (λ b. elim b [ true ↦ now | false ↦ left q ]) e.0))
         (subst (StandsOn mode image q (left q) s') (sym (a.others q e.0))
-        (other_stays p q (left q) s s' (processor m q) σ cpu as' words hp lq eight (four q lq) e.1 e.0 mv hs names good_names changes (h.each q lq))))
+        (other_stays p q (left q) s s' (processor m q) σ cpu as' words hp lq good.count.1 (legal_few image good accepted m q h.legal) (four q lq) e.1 e.0 mv hs
+        names good_names changes (h.each q lq))))
         (eqb_tells q p);
   }
     where
       hp : p < 32
-      hp = omega arith
+      hp = let n = good.count.1 in omega arith
 
   -- cells and pages are as they were
   pub record Alike (p : ℕ) (m m' : Machine) (x : abstract.Processor) : Type 0 where
@@ -538,13 +524,14 @@ module _ (mode : Mode) (image : Image) where
     pub queue : x.queue ≡ (processor m p).queue
 
   pub stands_after : (left : NatMap ℕ) (s s' : System) (m m' : Machine) (p now : ℕ) (x : abstract.Processor) (σ : Seat) (cpu : Processor)
-      (as' : List Activation) (words : NatMap ℕ) → image.processors ≤ 8 → ((q : ℕ) → q < image.processors → length (tasks_of image q) ≤ 4)
+      (as' : List Activation) (words : NatMap ℕ) → IsImage image → IsAccepted image
+      → ((q : ℕ) → q < image.processors → length (tasks_of image q) ≤ 4)
       → Stands mode image left s m → p < image.processors → Moves p s s' cpu as' words → σ.stack < 7 → (names : List Named) → AreSparing p names
       → Changes p σ names s.memory.words words → ((b : ℕ) → IsUserWord b → words b ≡ m'.words b) → HoldsWords m'.words → Alike p m m' x
-      → Legal image m' → IsInDomain x → StandsOn mode image p now s' x
+      → Legal image m' → HoldsNumbers m' → IsInDomain x → StandsOn mode image p now s' x
       → Stands mode image (put_at left p now) s' m'
-  stands_after left s s' m m' p now x σ cpu as' words eight four h lt mv hs names sparing changes user held a legal domain on =
-      stands_become left s s' m m' p now x σ cpu as' words eight four h lt mv hs names sparing.allowed changes
+  stands_after left s s' m m' p now x σ cpu as' words good accepted four h lt mv hs names sparing changes user held a legal numbers domain on =
+      stands_become left s s' m m' p now x σ cpu as' words good accepted four h lt mv hs names sparing.allowed changes
       (record {
         own = a.own;
         others = a.others;
@@ -558,7 +545,7 @@ module _ (mode : Mode) (image : Image) where
             ∙ sym (ap (λ w. if w i then 1 else 0) a.present);
         cells = λ k l. cell_same p σ names hp hs s.memory.words words sparing.allowed.written changes sparing.cells k l ∙ h.shares.cells k l
             ∙ sym (ap (λ w. w k) a.cells);
-      }) legal domain on
+      }) legal numbers domain on
     where
       hp : p < 32
-      hp = omega arith
+      hp = let n = good.count.1 in omega arith

@@ -1,20 +1,20 @@
 -- The way from the table of bodies to a body's first item, in either mode.
-use Rattle.std.proofs.Common.{◌≡◌, ◌≢◌, ℕ, ◌+◌, ◌-◌, ◌%◌, ◌^◌, ◌<◌, ◌≤◌, Bool, true, false, ◌&&◌, List, [], ◌∷◌, ◌++◌, get_or, map, Some, refl, sym, ap, ◌∙◌, subst, arith}
-use Rattle.std.specs.Prelude.{pos, ◌==◌, if◌then◌else◌}
+use Rattle.std.proofs.Common.{◌≡◌, ◌≢◌, ℕ, ◌+◌, ◌-◌, ◌/◌, ◌%◌, ◌^◌, ◌<◌, ◌≤◌, Bool, true, false, ◌&&◌, List, [], ◌∷◌, ◌++◌, get_or, map, Some, refl, sym, ap, ◌∙◌, subst, arith}
+use Rattle.std.specs.Prelude.{pos, ◌==◌}
 use Rattle.std.proofs.lemmas.Bool.{eqb-true, eq-eqb}
-use Rattle.ev_isa.specs.Word.{NatMap, displaced, is_canonical}
+use Rattle.ev_isa.specs.Word.{NatMap, displaced, is_canonical, bit}
 use Rattle.ev_isa.specs.Flags.{Flags}
 use Rattle.ev_isa.specs.declared.instruction.Ins.{Ins}
 use Rattle.ev_isa.specs.declared.instruction.Ins.TheVariants.{Load, JmpReg}
 use Rattle.ev_isa.specs.declared.mode.Mode.{Mode}
 use Rattle.ev_isa.specs.declared.mode.Mode.TheVariants.{Idt, Fred}
-use Rattle.ev_state.specs.Processor.{Processor, register}
+use Rattle.ev_state.specs.Processor.{Processor, register, rsp, selector}
 use Rattle.ev_body.specs.declared.image.Image.{Image}
 use Rattle.ev_mem.specs.Memory.{Memory}
 use Rattle.ev_listing.specs.AddressMap.{pcpu, exit_entry}
 use Rattle.ev_abstract.specs.Context.{BodyContext}
 use Rattle.ev_symbolic.specs.Value.{M, V, FVar, K, P}
-use Rattle.ev_symbolic.specs.State.{SS, Win, Word, Block, in_win, absolute}
+use Rattle.ev_symbolic.specs.State.{SS, Win, Word, Block, in_win, absolute, top_tag}
 use Rattle.ev_symbolic.specs.Openings.{word, gs_word, at_base, all_regs, gs_tag}
 use Rattle.ev_symbolic.specs.Names.{saved, frame_rip, frame_flags, says_ring}
 use Rattle.ev_symbolic.specs.Agrees.{Env, Cell, Code, edge_cell, eval, eval_flags, addr, Known, IsTold, FactsHold, IsOpen, Open, Fits, Agrees, At}
@@ -22,21 +22,22 @@ use Rattle.ev_concrete.specs.ConcreteRun.{is_return}
 use Rattle.ev_symbolic.proofs.Blocks.{unsome, at_end}
 use Rattle.ev_symbolic.proofs.Values.{and_left, and_right}
 use Rattle.ev_distances.specs.Form.{OnStack, InArea, wins_of}
-use Rattle.ev_blocks.specs.Shapes.{Layout, FredFrame, IdtFrame, body_bytes, body_words}
-use Rattle.ev_blocks.specs.Fred.{FredToTask, fexit}
+use Rattle.ev_blocks.specs.Shapes.{Origin, UserCode, KernelCode, Layout, FredFrame, IdtFrame, body_bytes, body_words}
+use Rattle.ev_blocks.specs.Fred.{FredToKernel, FredToTask, fexit}
 use Rattle.ev_blocks.specs.Fred as fred
-use Rattle.ev_blocks.specs.Idt.{IdtReturn, BySysret, ByOtherRip, ByOtherFlags, IdtToTask}
+use Rattle.ev_blocks.specs.Idt.{IdtReturn, BySysret, ByOtherRip, ByOtherFlags, IdtToKernel, IdtToTask}
 use Rattle.ev_blocks.specs.Idt as idt
 use Rattle.ev_blocks.specs.Items.{BodySpot, AtTable, AtJump, AtItem, table_load, body_jump, body_block}
 use Rattle.ev_blocks.specs.Blocks.{Spot, InFred, InIdt, InBody, block, forms, edges}
 use Rattle.ev_blocks.specs.Blocks as blocks
 use Rattle.ev_blocks.proofs.Falls.{edges_fall}
 use Rattle.ev_grounds.proofs.Facts.{facts_tell}
-use Rattle.ev_activation.specs.Seat.{Kind, Seat}
+use Rattle.ev_activation.specs.Seat.{Kind, SystemCall, FromTask, FromBody, NmiFromTask, NmiFromBody, Seat}
 use Rattle.ev_user.specs.Words.{AreWords}
 use Rattle.ev_table.specs.Table.{other_exit}
-use Rattle.ev_refine.specs.Active.{here, Saved, Matches, AtStart, InItem, Leaving, HasPlace, OverTask}
-use Rattle.ev_refine.proofs.Spots.{over_task, IsAtEntry}
+use Rattle.ev_refine.specs.Active.{here, Saved, SavedOf, Matches, AtLoad, InSpot, Leaving, Means}
+use Rattle.ev_refine.proofs.Spots.{is_spot, IsAtEntry}
+use Rattle.ev_refine.proofs.CallKinds.{is_over_task, is_over_body, is_plain_kind, origin_of, leaves_task, leaves_body}
 use Rattle.ev_paths.specs.Lines.{HasKernel}
 use Rattle.ev_paths.proofs.Cells.{fred_cells, idt_cells}
 use Rattle.ev_deliver.specs.GoesOn.{GoesOn, with_rax, with_item}
@@ -101,22 +102,23 @@ jumps Idt code e c m k at h l f g =
 -- ---- the blocks on that way have no facts, and tell of no switch and no NMI's frame
 
 pub record OnTheWay (mode : Mode) (s : BodySpot) : Type 0 where
-  pub over : over_task mode (body mode s) ≡ true
+  pub over : is_spot mode (body mode s) ≡ true
   pub off : blocks.switches (body mode s) ≡ false
   pub free : blocks.holds (body mode s) ≡ false
   pub told : (e : Env) → FactsHold e (block mode (body mode s)).ground.facts
+  pub steps : (block mode (body mode s)).steps ≡ 0
 
 pub at_the_table : (mode : Mode) → OnTheWay mode AtTable
-at_the_table Fred = record { over = refl; off = refl; free = refl; told = λ e. tt }
-at_the_table Idt = record { over = refl; off = refl; free = refl; told = λ e. tt }
+at_the_table Fred = record { over = refl; off = refl; free = refl; told = λ e. tt; steps = refl }
+at_the_table Idt = record { over = refl; off = refl; free = refl; told = λ e. tt; steps = refl }
 
 pub at_the_jump : (mode : Mode) → OnTheWay mode AtJump
-at_the_jump Fred = record { over = refl; off = refl; free = refl; told = λ e. tt }
-at_the_jump Idt = record { over = refl; off = refl; free = refl; told = λ e. tt }
+at_the_jump Fred = record { over = refl; off = refl; free = refl; told = λ e. tt; steps = refl }
+at_the_jump Idt = record { over = refl; off = refl; free = refl; told = λ e. tt; steps = refl }
 
 pub at_the_item : (mode : Mode) → OnTheWay mode AtItem
-at_the_item Fred = record { over = refl; off = refl; free = refl; told = λ e. tt }
-at_the_item Idt = record { over = refl; off = refl; free = refl; told = λ e. tt }
+at_the_item Fred = record { over = refl; off = refl; free = refl; told = λ e. tt; steps = refl }
+at_the_item Idt = record { over = refl; off = refl; free = refl; told = λ e. tt; steps = refl }
 
 -- fewer edges are left from each to the next
 pub table_falls : (mode : Mode) → edges mode (body mode AtJump) 0 < edges mode (body mode AtTable) 0
@@ -139,30 +141,74 @@ exit_canonical Idt = refl
 
 -- ---- what they mean
 
--- RAX is no word of the task's
-pub saved_beside : (mode : Mode) (image : Image) (v : ℕ → ℕ) (t : ℕ) (w : Processor) → Saved mode image v w
-    → Saved mode image (λ i. if i == 0 then t else v i) w
-saved_beside mode image v t w s = record {
-  regs = s.regs;
-  rip = s.rip;
-  cs = s.cs;
-  flags = s.flags;
-  ss = s.ss;
-  sti = s.sti;
-  gs = s.gs;
-  chosen = s.chosen;
-  level = s.level;
+-- what gives back w is told by none of the sixteen registers, and by no flags
+pub saved_again : (mode : Mode) (image : Image) (o : Origin) (e u : Env) (w : Processor) → ((i : ℕ) → 16 ≤ i → u.var i ≡ e.var i)
+    → u.base gs_tag ≡ e.base gs_tag → u.base top_tag ≡ e.base top_tag → u.rest ≡ e.rest → SavedOf mode image o e w → SavedOf mode image o u w
+saved_again mode image UserCode e u w same base top rest s =
+    let at = λ (n : ℕ) (l : 16 ≤ n). sym (same n l) in
+    record {
+      regs = s.regs ∙ (λ i. at 30 (omega arith) i ∷ at 31 (omega arith) i ∷ at 32 (omega arith) i ∷ at 33 (omega arith) i ∷ at 20 (omega arith) i
+          ∷ at 35 (omega arith) i ∷ at 36 (omega arith) i ∷ at 37 (omega arith) i ∷ at 38 (omega arith) i ∷ at 39 (omega arith) i ∷ at 40 (omega arith) i
+          ∷ at 41 (omega arith) i ∷ at 42 (omega arith) i ∷ at 43 (omega arith) i ∷ at 44 (omega arith) i ∷ at 45 (omega arith) i ∷ []);
+      rip = same 17 (omega arith) ∙ s.rip;
+      cs = ap selector (same 18 (omega arith)) ∙ s.cs;
+      flags = same 19 (omega arith) ∙ s.flags;
+      ss = ap selector (same 21 (omega arith)) ∙ s.ss;
+      sti = ap (bit 16) (same 21 (omega arith)) ∙ s.sti;
+      gs = same 60 (omega arith) ∙ s.gs;
+      chosen = same 61 (omega arith) ∙ s.chosen;
+      level = same 63 (omega arith) ∙ s.level;
+    }
+saved_again mode image KernelCode e u w same base top rest s =
+    let at = λ (n : ℕ) (l : 16 ≤ n). sym (same n l) in
+    record {
+      regs = s.regs ∙ (λ i. at 30 (omega arith) i ∷ at 31 (omega arith) i ∷ at 32 (omega arith) i ∷ at 33 (omega arith) i ∷ at 20 (omega arith) i
+          ∷ at 35 (omega arith) i ∷ at 36 (omega arith) i ∷ at 37 (omega arith) i ∷ at 38 (omega arith) i ∷ at 39 (omega arith) i ∷ at 40 (omega arith) i
+          ∷ at 41 (omega arith) i ∷ at 42 (omega arith) i ∷ at 43 (omega arith) i ∷ at 44 (omega arith) i ∷ at 45 (omega arith) i ∷ []);
+      rip = same 17 (omega arith) ∙ s.rip;
+      canonical = s.canonical;
+      cs = ap selector (same 18 (omega arith)) ∙ s.cs;
+      ring = s.ring;
+      stack_level = ap (λ n. n / 2 ^ 16 % 4) (same 18 (omega arith)) ∙ s.stack_level;
+      flags = same 19 (omega arith) ∙ s.flags;
+      whole = s.whole;
+      ss = ap selector (same 21 (omega arith)) ∙ s.ss;
+      same_ss = ap (λ (y : Processor). y.ss) rest ∙ s.same_ss;
+      sti = ap (bit 16) (same 21 (omega arith)) ∙ s.sti;
+      unblocked = s.unblocked;
+      base = s.base ∙ sym base;
+      gs = same 60 (omega arith) ∙ s.gs;
+      chosen = same 61 (omega arith) ∙ s.chosen;
+      level = same 63 (omega arith) ∙ s.level;
+      levels = s.levels;
+      above = subst (λ n. n ≤ rsp w) (sym top) s.above;
+    }
+
+-- so at the load of the body's address with other flags
+pub load_again : (mode : Mode) (image : Image) (o : Origin) (e : Env) (g : Flags) (w : Processor) (b : BodyContext) → AtLoad mode image o e w b
+    → AtLoad mode image o (record e { flags = g }) w b
+load_again mode image o e g w b l = record {
+  key = l.key;
+  small = l.small;
+  place = l.place;
+  found = l.found;
+  begins = l.begins;
+  unknown = l.unknown;
+  saved = saved_again mode image o e (record e { flags = g }) w (λ i h. refl) refl refl refl l.saved;
+  locals = l.locals;
 }
 
-pub means_start : (mode : Mode) (image : Image) (e : Env) (w : Processor) (b : BodyContext) → AtStart mode image e.var w b → HasPlace mode image e b
-    → OverTask mode image mode (body mode AtJump) e w b
-means_start Fred image e w b h p = (h, p)
-means_start Idt image e w b h p = (h, p)
-
-pub means_item : (mode : Mode) (image : Image) (e : Env) (w : Processor) (b : BodyContext) → InItem mode image e.var e.flags w b → HasPlace mode image e b
-    → OverTask mode image mode (body mode AtItem) e w b
-means_item Fred image e w b h p = (h, p)
-means_item Idt image e w b h p = (h, p)
+-- at the spots of bodies an activation means the same over a task and over a body
+pub means_at : (mode : Mode) (image : Image) (κ : Kind) → is_plain_kind κ ≡ true → (s : BodySpot) (e : Env) (w : Processor) (b : BodyContext) (m : NatMap ℕ)
+    → InSpot mode image (origin_of κ) s e w b → Means mode image κ (body mode s) e w b m
+means_at Fred image SystemCall a s e w b m h = h
+means_at Fred image FromTask a s e w b m h = h
+means_at Fred image FromBody a s e w b m h = h
+means_at Idt image SystemCall a s e w b m h = h
+means_at Idt image FromTask a s e w b m h = h
+means_at Idt image FromBody a s e w b m h = h
+means_at mode image NmiFromTask a s e w b m h = let clash : false ≡ true = a in absurd (cc)
+means_at mode image NmiFromBody a s e w b m h = let clash : false ≡ true = a in absurd (cc)
 
 -- an item opens at its address, with registers of its own
 pub record OpensItem (o : SS) : Type 0 where
@@ -250,17 +296,17 @@ module _ (mode : Mode) (p : ℕ) (κ : Kind) (σ : Seat) (ss : ℕ) (w : Process
   abbrev e : Env
   e = here mode p κ σ ss w extra v f
 
-  -- the exit to the task that an activation takes
+  -- the exit that an activation takes
   pub record OpensExit (c d : Processor) (m : Memory) : Type 0 where
     pub spot : Spot
-    pub over : over_task mode spot ≡ true
+    pub over : is_spot mode spot ≡ true
     pub off : blocks.switches spot ≡ false
     pub free : blocks.holds spot ≡ false
     pub entry : IsAtEntry spot e
     pub told : FactsHold e (block mode spot).ground.facts
     pub fewer : edges mode spot 0 < edges mode (body mode AtItem) 0
     pub agrees : Open e (block mode spot).ground.known m.regions → Agrees e (block mode spot).ground (block mode spot).opening d m
-    pub means : (image : Image) (b : BodyContext) → Leaving mode image v w b → OverTask mode image mode spot e w b
+    pub means : (image : Image) (b : BodyContext) (m : NatMap ℕ) → Leaving mode image (origin_of κ) e w b → Means mode image κ spot e w b m
 
 -- the mark is off
 mark_at : (p : ℕ) → p < 32 → (words : NatMap ℕ) → words (pcpu p + 0x20) ≡ 0 → words ((pcpu p + 0x20) % M) ≡ 0
@@ -272,8 +318,8 @@ nothing_open e m l h = let clash : false ≡ true = h in absurd (cc)
 pub unlike : (a b : ℕ) → (a == b) ≡ false → a ≢ b
 unlike a b h q = let clash : true ≡ false = sym (eq-eqb a b q) ∙ h in cc
 
-module _ (image : Image) (p : ℕ) (hp : p < 32) (κ : Kind) (σ : Seat) (ss : ℕ) (w : Processor) (ring : w.cs ≡ 0x33) (extra v : ℕ → ℕ) (f : Flags)
-    (c : Processor) (m : Memory) (off : m.words (pcpu p + 0x20) ≡ 0) where
+module _ (image : Image) (p : ℕ) (hp : p < 32) (κ : Kind) (of_task : is_over_task κ ≡ true) (σ : Seat) (ss : ℕ) (w : Processor) (ring : w.cs ≡ 0x33)
+    (extra v : ℕ → ℕ) (f : Flags) (c : Processor) (m : Memory) (off : m.words (pcpu p + 0x20) ≡ 0) where
   abbrev at_exit : ℕ → Processor
   at_exit a = record c { rip = a; sti_blocked = false }
 
@@ -305,7 +351,7 @@ module _ (image : Image) (p : ℕ) (hp : p < 32) (κ : Kind) (σ : Seat) (ss : �
       known_open = o;
       shared_open = nothing_open (e Fred p κ σ ss w extra v f) m;
     };
-    means = λ image b l. l;
+    means = λ image b m l. leaves_task Fred image κ of_task (InFred (fred.Leaves FredToTask)) (e Fred p κ σ ss w extra v f) w b m (λ k. k) l;
   }
 
   -- by how RCX and R11 compare with RIP and RFLAGS
@@ -339,7 +385,7 @@ module _ (image : Image) (p : ℕ) (hp : p < 32) (κ : Kind) (σ : Seat) (ss : �
       known_open = o;
       shared_open = nothing_open (e Idt p κ σ ss w extra v f) m;
     };
-    means = λ image b l. (l, same);
+    means = λ image b m l. leaves_task Idt image κ of_task (InIdt (idt.Leaves (IdtToTask by))) (e Idt p κ σ ss w extra v f) w b m (λ k. (k, same)) l;
   }
 
   by_registers : Saved Idt image v w → v 17 < 2 ^ 64 → v 19 < 2 ^ 64 → AreWords w.regs
@@ -386,3 +432,65 @@ module _ (image : Image) (p : ℕ) (hp : p < 32) (κ : Kind) (σ : Seat) (ss : �
       → OpensExit mode p κ σ ss w extra v f c (at_exit (other_exit mode)) m
   exits Fred s rip flags words a = fred_exit s a
   exits Idt s rip flags words a = by_registers s rip flags words a
+
+-- ---- the exit to a body reads no mark
+
+module _ (p : ℕ) (κ : Kind) (of_body : is_over_body κ ≡ true) (σ : Seat) (ss : ℕ) (w : Processor) (extra v : ℕ → ℕ) (f : Flags) (c : Processor)
+    (m : Memory) where
+  abbrev gone : ℕ → Processor
+  gone a = record c { rip = a; sti_blocked = false }
+
+  pub kernel_exits : (mode : Mode) → selector (v 18) ≡ 0x10
+      → Agrees (e mode p κ σ ss w extra v f) (block mode (body mode AtItem)).ground (block mode (body mode AtItem)).opening c m
+      → OpensExit mode p κ σ ss w extra v f c (gone (other_exit mode)) m
+  unfolding eval eval_flags
+  kernel_exits Fred cs a = record {
+    spot = InFred (fred.Leaves FredToKernel);
+    over = refl;
+    off = refl;
+    free = refl;
+    entry = tt;
+    told = ((facts_tell (e Fred p κ σ ss w extra v f)).kernel cs, tt);
+    fewer = (edges_fall Fred).fred_exit FredFrame FredToKernel;
+    agrees = λ o. record {
+      regs = a.regs;
+      rip = refl;
+      flags = a.flags;
+      gs = a.gs;
+      kernel_gs = a.kernel_gs;
+      selector = a.selector;
+      cr2 = tt;
+      levels = a.levels;
+      blocked = refl;
+      rest = a.rest;
+      words = a.words;
+      known_open = o;
+      shared_open = nothing_open (e Fred p κ σ ss w extra v f) m;
+    };
+    means = λ image b m l. leaves_body Fred image κ of_body (InFred (fred.Leaves FredToKernel)) (e Fred p κ σ ss w extra v f) w b m (λ k. k) l;
+  }
+  kernel_exits Idt cs a = record {
+    spot = InIdt (idt.Leaves IdtToKernel);
+    over = refl;
+    off = refl;
+    free = refl;
+    entry = tt;
+    told = ((facts_tell (e Idt p κ σ ss w extra v f)).kernel cs, tt);
+    fewer = (edges_fall Idt).idt_exit IdtFrame IdtToKernel;
+    agrees = λ o. record {
+      regs = a.regs;
+      rip = refl;
+      flags = a.flags;
+      gs = a.gs;
+      kernel_gs = a.kernel_gs;
+      selector = a.selector;
+      cr2 = tt;
+      levels = a.levels;
+      blocked = refl;
+      rest = a.rest;
+      words = a.words;
+      known_open = o;
+      shared_open = nothing_open (e Idt p κ σ ss w extra v f) m;
+    };
+    means = λ image b m l. leaves_body Idt image κ of_body (InIdt (idt.Leaves IdtToKernel)) (e Idt p κ σ ss w extra v f) w b m (λ k. k) l;
+  }

@@ -16,10 +16,11 @@ use Rattle.ev_effect.specs.Task.{Task}
 use Rattle.ev_state.specs.Processor.{Processor}
 use Rattle.ev_mem.specs.Memory.{Memory}
 use Rattle.ev_symbolic.specs.Agrees.{Env}
+use Rattle.ev_blocks.specs.Shapes.{Origin, UserCode, KernelCode}
 use Rattle.ev_blocks.specs.Blocks.{Spot}
 use Rattle.ev_user.specs.Tasks.{RunsTask}
 use Rattle.ev_refine.specs.Nmi.{Frame, Knows, Leads}
-use Rattle.ev_refine.specs.Active.{OverTask, Means, Active, level_in}
+use Rattle.ev_refine.specs.Active.{OverTask, OverBody, Saved, SavedBody, SavedOf, Leaving, Means, Active, level_in}
 use Rattle.ev_refine.specs.Relation.{Beneath, keeps_cr2, body_edges, chained, switches_at, Chain}
 use Rattle.ev_refine.proofs.Domains.{with_cr2}
 
@@ -28,6 +29,11 @@ abbrev pub is_over_task : Kind → Bool
 is_over_task SystemCall = true
 is_over_task FromTask = true
 is_over_task κ = false
+
+-- that of an activation over a body
+abbrev pub is_over_body : Kind → Bool
+is_over_body FromBody = true
+is_over_body κ = false
 
 -- all but those of NMIs
 abbrev pub is_plain_kind : Kind → Bool
@@ -41,6 +47,19 @@ plain_over FromTask h = refl
 plain_over FromBody h = let clash : false ≡ true = h in absurd (cc)
 plain_over NmiFromTask h = let clash : false ≡ true = h in absurd (cc)
 plain_over NmiFromBody h = let clash : false ≡ true = h in absurd (cc)
+
+-- what the event of an activation interrupted
+abbrev pub origin_of : Kind → Origin
+origin_of SystemCall = UserCode
+origin_of FromTask = UserCode
+origin_of NmiFromTask = UserCode
+origin_of FromBody = KernelCode
+origin_of NmiFromBody = KernelCode
+
+-- its CS
+abbrev pub cs_of : Origin → ℕ
+cs_of UserCode = 0x33
+cs_of KernelCode = 0x10
 
 -- what stands beneath an activation stands with the CR2 that it has
 pub over_any : (mode : Mode) (image : Image) (C : Processor → Type 0) (b : Bool) (w : Processor) → Beneath mode image b C w → C w
@@ -149,7 +168,7 @@ pub means_of : (mode : Mode) (image : Image) (κ : Kind) → is_over_task κ ≡
     → Means mode image κ spot e w b m → OverTask mode image mode spot e w b
 means_of mode image SystemCall a spot e w b m h = h
 means_of mode image FromTask a spot e w b m h = h
-means_of mode image FromBody a spot e w b m h = absurd h
+means_of mode image FromBody a spot e w b m h = let clash : false ≡ true = a in absurd (cc)
 means_of mode image NmiFromTask a spot e w b m h = absurd h
 means_of mode image NmiFromBody a spot e w b m h = absurd h
 
@@ -193,3 +212,81 @@ over_kind mode image p left r t f sw w b c m FromTask a task still act = (λ n. 
 over_kind mode image p left r t f sw w b c m FromBody a task still act = let clash : false ≡ true = a in absurd (cc)
 over_kind mode image p left r t f sw w b c m NmiFromTask a task still act = let clash : false ≡ true = a in absurd (cc)
 over_kind mode image p left r t f sw w b c m NmiFromBody a task still act = let clash : false ≡ true = a in absurd (cc)
+
+-- ---- what gives back the processor to which it returns, and what the exit means
+
+pub saved_task : (mode : Mode) (image : Image) (κ : Kind) → is_over_task κ ≡ true → (e : Env) (w : Processor) → SavedOf mode image (origin_of κ) e w
+    → Saved mode image e.var w
+saved_task mode image SystemCall a e w s = s
+saved_task mode image FromTask a e w s = s
+saved_task mode image FromBody a e w s = let clash : false ≡ true = a in absurd (cc)
+saved_task mode image NmiFromTask a e w s = let clash : false ≡ true = a in absurd (cc)
+saved_task mode image NmiFromBody a e w s = let clash : false ≡ true = a in absurd (cc)
+
+pub saved_body : (mode : Mode) (image : Image) (κ : Kind) → is_over_body κ ≡ true → (e : Env) (w : Processor) → SavedOf mode image (origin_of κ) e w
+    → SavedBody mode image e w
+saved_body mode image FromBody a e w s = s
+saved_body mode image SystemCall a e w s = let clash : false ≡ true = a in absurd (cc)
+saved_body mode image FromTask a e w s = let clash : false ≡ true = a in absurd (cc)
+saved_body mode image NmiFromTask a e w s = let clash : false ≡ true = a in absurd (cc)
+saved_body mode image NmiFromBody a e w s = let clash : false ≡ true = a in absurd (cc)
+
+pub leaves_task : (mode : Mode) (image : Image) (κ : Kind) → is_over_task κ ≡ true → (spot : Spot) (e : Env) (w : Processor) (b : BodyContext) (m : NatMap ℕ)
+    → (Leaving mode image UserCode e w b → OverTask mode image mode spot e w b) → Leaving mode image (origin_of κ) e w b → Means mode image κ spot e w b m
+leaves_task mode image SystemCall a spot e w b m k l = k l
+leaves_task mode image FromTask a spot e w b m k l = k l
+leaves_task mode image FromBody a spot e w b m k l = let clash : false ≡ true = a in absurd (cc)
+leaves_task mode image NmiFromTask a spot e w b m k l = let clash : false ≡ true = a in absurd (cc)
+leaves_task mode image NmiFromBody a spot e w b m k l = let clash : false ≡ true = a in absurd (cc)
+
+pub leaves_body : (mode : Mode) (image : Image) (κ : Kind) → is_over_body κ ≡ true → (spot : Spot) (e : Env) (w : Processor) (b : BodyContext) (m : NatMap ℕ)
+    → (Leaving mode image KernelCode e w b → OverBody mode image mode spot e w b) → Leaving mode image (origin_of κ) e w b → Means mode image κ spot e w b m
+leaves_body mode image FromBody a spot e w b m k l = k l
+leaves_body mode image SystemCall a spot e w b m k l = let clash : false ≡ true = a in absurd (cc)
+leaves_body mode image FromTask a spot e w b m k l = let clash : false ≡ true = a in absurd (cc)
+leaves_body mode image NmiFromTask a spot e w b m k l = let clash : false ≡ true = a in absurd (cc)
+leaves_body mode image NmiFromBody a spot e w b m k l = let clash : false ≡ true = a in absurd (cc)
+
+-- what an activation over a task and one over a body mean, by what its event interrupted
+abbrev pub OverOf : Mode → Image → Origin → Mode → Spot → Env → Processor → BodyContext → Type 0
+OverOf mode image UserCode m spot e w b = OverTask mode image m spot e w b
+OverOf mode image KernelCode m spot e w b = OverBody mode image m spot e w b
+
+pub means_as : (mode : Mode) (image : Image) (κ : Kind) → is_plain_kind κ ≡ true → (spot : Spot) (e : Env) (w : Processor) (b : BodyContext) (m : NatMap ℕ)
+    → OverOf mode image (origin_of κ) mode spot e w b → Means mode image κ spot e w b m
+means_as mode image SystemCall a spot e w b m h = h
+means_as mode image FromTask a spot e w b m h = h
+means_as mode image FromBody a spot e w b m h = h
+means_as mode image NmiFromTask a spot e w b m h = let clash : false ≡ true = a in absurd (cc)
+means_as mode image NmiFromBody a spot e w b m h = let clash : false ≡ true = a in absurd (cc)
+
+pub over_as : (mode : Mode) (image : Image) (κ : Kind) (spot : Spot) (e : Env) (w : Processor) (b : BodyContext) (m : NatMap ℕ)
+    → Means mode image κ spot e w b m → OverOf mode image (origin_of κ) mode spot e w b
+over_as mode image SystemCall spot e w b m h = h
+over_as mode image FromTask spot e w b m h = h
+over_as mode image FromBody spot e w b m h = h
+over_as mode image NmiFromTask spot e w b m h = absurd h
+over_as mode image NmiFromBody spot e w b m h = absurd h
+
+-- those of one origin
+pub of_task : (κ : Kind) → is_plain_kind κ ≡ true → origin_of κ ≡ UserCode → is_over_task κ ≡ true
+of_task SystemCall a q = refl
+of_task FromTask a q = refl
+of_task FromBody a q = let clash : KernelCode ≡ UserCode = q in absurd (cc)
+of_task NmiFromTask a q = a
+of_task NmiFromBody a q = a
+
+pub of_body : (κ : Kind) → is_plain_kind κ ≡ true → origin_of κ ≡ KernelCode → is_over_body κ ≡ true
+of_body SystemCall a q = let clash : UserCode ≡ KernelCode = q in absurd (cc)
+of_body FromTask a q = let clash : UserCode ≡ KernelCode = q in absurd (cc)
+of_body FromBody a q = refl
+of_body NmiFromTask a q = a
+of_body NmiFromBody a q = a
+
+-- the stack level of one that is no NMI's is that of what it interrupted
+pub plain_level : (mode : Mode) (κ : Kind) (w : Processor) → is_plain_kind κ ≡ true → level_in mode κ w ≡ w.level
+plain_level mode SystemCall w a = refl
+plain_level mode FromTask w a = refl
+plain_level mode FromBody w a = refl
+plain_level mode NmiFromTask w a = refl
+plain_level mode NmiFromBody w a = let clash : false ≡ true = a in absurd (cc)

@@ -1,5 +1,5 @@
 -- What a chain of contexts says: of the processor to which its last one returns, of how many they are, and of their kinds.
-use Rattle.std.proofs.Common.{◌≡◌, ℕ, ◌+◌, ◌≤◌, arith, Bool, List, [], ◌∷◌, length, refl, ap, ◌∙◌}
+use Rattle.std.proofs.Common.{◌≡◌, ℕ, ◌+◌, Bool, true, false, List, [], ◌∷◌, drop, length, refl, ap, ◌∙◌}
 use Rattle.ev_isa.specs.declared.mode.Mode.{Mode}
 use Rattle.ev_isa.specs.declared.mode.Mode.TheVariants.{Idt, Fred}
 use Rattle.ev_body.specs.declared.image.Image.{Image}
@@ -11,21 +11,29 @@ use Rattle.ev_concrete.specs.ConcreteRun.{Activation}
 use Rattle.ev_concrete.specs.Opening.{opening_cpu}
 use Rattle.ev_proc.specs.ProcessorStep.{has_fred}
 use Rattle.ev_listing.specs.AddressMap.{pcpu, idt_base}
-use Rattle.ev_symbolic.specs.Agrees.{untracked}
-use Rattle.ev_activation.specs.Seat.{Kind, SystemCall, FromTask, FromBody, NmiFromTask, NmiFromBody, Seat, kind_of}
+use Rattle.ev_symbolic.specs.State.{Block}
+use Rattle.ev_symbolic.specs.Agrees.{Env, untracked, At}
+use Rattle.ev_blocks.specs.Blocks.{block}
+use Rattle.ev_table.specs.Table.{code_table}
+use Rattle.ev_activation.specs.Seat.{Kind, kind_of}
 use Rattle.ev_refine.specs.Nmi.{Frame}
-use Rattle.ev_refine.specs.Active.{Active, rest_in}
+use Rattle.ev_refine.specs.Active.{rest_in}
 use Rattle.ev_refine.specs.Relation.{body_edges, keeps_cr2, chained, Chain}
 use Rattle.ev_user.specs.Tasks.{RunsTask}
 use Rattle.ev_refine.proofs.ModeFacts.{is_fred}
-use Rattle.ev_refine.proofs.CallKinds.{is_over_task, stands_alone, over_any, means_plain, ArePlain}
+use Rattle.ev_refine.proofs.CallKinds.{is_plain_kind, over_any, means_plain, ArePlain, plain_level}
 
 module _ (mode : Mode) (image : Image) where
-  -- what no activation changes of the processor: whether FRED is on, and where the tables stand
+  -- What no activation that is no NMI's changes of the processor: whether FRED is on, where the tables stand, the stack level, and the registers that say how
+  -- events are delivered.
   pub record Kept (p : ℕ) (c : Processor) : Type 0 where
     pub fred : has_fred c ≡ is_fred mode
     pub idt : c.idt ≡ idt_base
     pub tss : c.tss ≡ pcpu p + 0x404
+    pub level : c.level ≡ 0
+    pub config : c.msrs.config ≡ 0xffffffff81000040
+    pub levels : c.msrs.stklvls ≡ 0x30020
+    pub stacks : length (drop 1 c.msrs.rsp) ≡ 3
 
   mode_fred : (mode : Mode) → has_fred (opening_cpu mode image 0) ≡ is_fred mode
   mode_fred Fred = refl
@@ -36,6 +44,10 @@ module _ (mode : Mode) (image : Image) where
     fred = ap has_fred h.is ∙ mode_fred mode;
     idt = ap (λ (c : Processor). c.idt) h.is;
     tss = ap (λ (c : Processor). c.tss) h.is;
+    level = ap (λ (c : Processor). c.level) h.is;
+    config = ap (λ (c : Processor). c.msrs.config) h.is;
+    levels = ap (λ (c : Processor). c.msrs.stklvls) h.is;
+    stacks = ap (λ (c : Processor). length (drop 1 c.msrs.rsp)) h.is;
   }
 
   pub chain_kept : (p left r : ℕ) (t : Task) (f : Frame) (sw : Bool) (bs : List BodyContext) (as' : List Activation) (c : Processor) (m : Memory)
@@ -46,22 +58,19 @@ module _ (mode : Mode) (image : Image) where
       let k : Kept p h.0 = chain_kept p (body_edges mode image) r t f (chained mode image sw below) below as' h.0 m
       (over_any mode image (λ v. Chain mode image p (body_edges mode image) r t f (chained mode image sw below) below as' v m)
       (keeps_cr2 mode image (kind_of image b below)) h.0 h.4) in
-      let same : untracked c ≡ rest_in mode (kind_of image b below) h.6.stands.ss h.0 = h.6.stands.at.agrees.rest in
-      record { fred = ap has_fred same ∙ k.fred; idt = ap (λ (c : Processor). c.idt) same ∙ k.idt; tss = ap (λ (c : Processor). c.tss) same ∙ k.tss }
-
-  -- few contexts stand on each other
-  pub chain_few : (p left r : ℕ) (t : Task) (f : Frame) (sw : Bool) (bs : List BodyContext) (as' : List Activation) (c : Processor) (m : Memory)
-      → Chain mode image p left r t f sw bs as' c m → length bs ≤ 32
-  chain_few p left r t f sw [] as' c m h = omega arith
-  chain_few p left r t f sw (b ∷ below) [] c m h = absurd h
-  chain_few p left r t f sw (b ∷ below) (a ∷ as') c m h = by_kind (kind_of image b below) refl h.6
+      kept_by p (kind_of image b below) (means_plain mode image (kind_of image b below) h.6.stands.spot _ h.0 b m.words h.6.means) h.6.stands.ss h.0 c
+      h.6.stands.at.agrees.rest k
     where
-      by_kind : (κ : Kind) {σ : Seat} {g : Bool} → kind_of image b below ≡ κ → Active mode image p left κ σ f g h.0 b c m → length (b ∷ below) ≤ 32
-      by_kind SystemCall q act = let l = ap length (stands_alone image b below (ap is_over_task q)) in omega arith
-      by_kind FromTask q act = let l = ap length (stands_alone image b below (ap is_over_task q)) in omega arith
-      by_kind FromBody q act = absurd act.means
-      by_kind NmiFromTask q act = absurd act.means
-      by_kind NmiFromBody q act = absurd act.means
+      kept_by : (p : ℕ) (κ : Kind) → is_plain_kind κ ≡ true → (ss : ℕ) (w c : Processor) → untracked c ≡ rest_in mode κ ss w → Kept p w → Kept p c
+      kept_by p κ plain ss w c same k = record {
+        fred = ap has_fred same ∙ k.fred;
+        idt = ap (λ (c : Processor). c.idt) same ∙ k.idt;
+        tss = ap (λ (c : Processor). c.tss) same ∙ k.tss;
+        level = ap (λ (c : Processor). c.level) same ∙ plain_level mode κ w plain ∙ k.level;
+        config = ap (λ (c : Processor). c.msrs.config) same ∙ k.config;
+        levels = ap (λ (c : Processor). c.msrs.stklvls) same ∙ k.levels;
+        stacks = ap (λ (c : Processor). length c.msrs.rsp) same ∙ k.stacks;
+      }
 
   -- none is an NMI's
   pub chain_plain : (p left r : ℕ) (t : Task) (f : Frame) (sw : Bool) (bs : List BodyContext) (as' : List Activation) (c : Processor) (m : Memory)
@@ -73,4 +82,61 @@ module _ (mode : Mode) (image : Image) where
     chain_plain p (body_edges mode image) r t f (chained mode image sw below) below as' h.0 m
         (over_any mode image (λ v. Chain mode image p (body_edges mode image) r t f (chained mode image sw below) below as' v m)
         (keeps_cr2 mode image (kind_of image b below)) h.0 h.4),
+  )
+
+  -- ---- a chain says nothing of the blocking of NMIs, which the relation does
+
+  pub at_open : (b : Block) (k : ℕ) (e : Env) (c : Processor) (m : Memory) → At (code_table mode image) b k e c m
+      → At (code_table mode image) b k e (record c { nmi_blocked = false }) m
+  at_open b k e c m a = record {
+    fits = a.fits;
+    state = a.state;
+    is = a.is;
+    agrees = record {
+      regs = a.agrees.regs;
+      rip = a.agrees.rip;
+      flags = a.agrees.flags;
+      gs = a.agrees.gs;
+      kernel_gs = a.agrees.kernel_gs;
+      selector = a.agrees.selector;
+      cr2 = a.agrees.cr2;
+      levels = a.agrees.levels;
+      blocked = a.agrees.blocked;
+      rest = a.agrees.rest;
+      words = a.agrees.words;
+      known_open = a.agrees.known_open;
+      shared_open = a.agrees.shared_open;
+    };
+  }
+
+  pub chain_open : (p left r : ℕ) (t : Task) (f : Frame) (sw : Bool) (bs : List BodyContext) (as' : List Activation) (c : Processor) (m : Memory)
+      → Chain mode image p left r t f sw bs as' c m → Chain mode image p left r t f sw bs as' (record c { nmi_blocked = false }) m
+  chain_open p left r t f sw [] as' c m h =
+      (record { is = ap (λ (y : Processor). record y { nmi_blocked = false }) h.0.is; task = h.0.task }, h.1, h.2)
+  chain_open p left r t f sw (b ∷ below) [] c m h = h
+  chain_open p left r t f sw (b ∷ below) (a ∷ as') c m h = (
+    h.0,
+    h.1,
+    h.2,
+    h.3,
+    h.4,
+    h.5,
+    record {
+      stands = record {
+        spot = h.6.stands.spot;
+        k = h.6.stands.k;
+        extra = h.6.stands.extra;
+        var = h.6.stands.var;
+        flags = h.6.stands.flags;
+        ss = h.6.stands.ss;
+        ss_is = h.6.stands.ss_is;
+        within = h.6.stands.within;
+        enough = h.6.stands.enough;
+        at = at_open (block mode h.6.stands.spot) h.6.stands.k _ c m h.6.stands.at;
+        long = h.6.stands.long;
+      };
+      switches = h.6.switches;
+      knows = h.6.knows;
+      means = h.6.means;
+    },
   )

@@ -11,7 +11,7 @@ use Rattle.ev_body.specs.WellFormed.{IsImage, has_no_parts, is_user_side}
 use Rattle.ev_body.specs.Bodies.{key_number, body_items}
 use Rattle.ev_body.specs.declared.key.Key.{Key}
 use Rattle.ev_body.specs.declared.key.Key.TheVariants.{Sys, Db, Nmi, Bp, Ud, Ss, Gp, Pf, Ac, Irq}
-use Rattle.ev_body.specs.declared.item.Item.TheVariants.{Log, Ret}
+use Rattle.ev_body.specs.declared.item.Item.TheVariants.{Call, Ret}
 use Rattle.ev_isa.specs.declared.mode.Mode.{Mode}
 use Rattle.ev_built.specs.Built.{IsBuilt, is_built_item, is_built_body, is_built_key}
 use Rattle.ev_abstract.specs.Run.{item_at}
@@ -24,6 +24,7 @@ use Rattle.ev_table.specs.Table.{code_table, other_exit, exit_address, RetCell, 
 use Rattle.ev_table.proofs.Kernel as kernel
 use Rattle.ev_paths.specs.Lines.{HasKernel}
 use Rattle.ev_table.proofs.Whole as whole
+use Rattle.ev_table.proofs.LabelPlaces.{labels_placed}
 use Rattle.ev_fetch.proofs.Kernel.{kernel_fetches}
 use Rattle.ev_fetch.proofs.InCode.{stays_in_code}
 use Rattle.ev_fetch.proofs.Ruled.{accepted_are_spelled}
@@ -57,9 +58,8 @@ body_parts b h = let r = and_right (is_user_side b.side) _ h in (and_left (has_n
 -- images of today have no `call`
 no_call : (item : Item) → is_built_item item ≡ true → not (is_call item) ≡ true
 unfolding is_built_item is_call
-no_call (Log s) h = refl
-no_call Ret h = refl
-no_call _ h = absurd (cc)
+no_call (Call site to func s) h = absurd (cc)
+no_call _ h = refl
 
 no_calls : (items : List Item) → list_all is_built_item items ≡ true → list_all (λ item. not (is_call item)) items ≡ true
 no_calls [] h = refl
@@ -113,12 +113,15 @@ module _ (mode : Mode) (image : Image) (given : IsImage image) (built : IsBuilt 
     kernel = kernel_found;
     item_range = item_range;
     spaced = spaced_in (all_places (listings mode image)) (listings mode image);
-    log_cell = λ n i s b h k. whole.log_stands mode image given n i s b h k;
+    items = λ n i b item h k. whole.item_stands mode image given n i b item h k;
+    follow = λ n i b item k. whole.next_address mode image n i b item k;
+    labels = labels_placed mode image given;
     ret_cell = ret;
     first_item = λ n b. whole.first_item mode n b;
     item_small = λ n i b h. whole.canonical_items mode image given n i b h;
     unmarked = λ a x h m. whole.unmarked_edge mode image given a x h m;
     marked = λ a x h m. whole.marked_seen mode image given (never_call image.bodies built.bodies) a x h m;
+    plain = λ a. whole.marks_plain mode image given (never_call image.bodies built.bodies) a;
     fetches = λ m e f. kernel_fetches mode image m given spells e (holds_code mode image m.words (λ a l. f a (InCode l)));
     holds = λ m f. holds_text mode image m.words (λ a l k. f a (InText l k));
     in_code = λ m e c. stays_in_code image m c given e;

@@ -29,19 +29,19 @@ use Rattle.ev_symbolic.specs.Names.{stub_tag}
 use Rattle.ev_symbolic.proofs.Values.{and_left, and_right}
 use Rattle.ev_symbolic.proofs.Blocks.{unsome, every_ok}
 use Rattle.ev_activation.specs.Seat.{Kind, SystemCall, FromTask, FromBody, NmiFromTask, NmiFromBody, Seat}
-use Rattle.ev_blocks.specs.Shapes.{UserCode, FredFrame, IdtFrame}
-use Rattle.ev_blocks.specs.Fred.{FromUser, FredToTask, fred_block}
+use Rattle.ev_blocks.specs.Shapes.{Origin, UserCode, KernelCode, FredFrame, IdtFrame}
+use Rattle.ev_blocks.specs.Fred.{FromUser, FromKernel, FredToKernel, FredToTask, fred_block}
 use Rattle.ev_blocks.specs.Fred as fred
-use Rattle.ev_blocks.specs.Idt.{Stub, Sys, Common, IdtToTask, idt_block}
+use Rattle.ev_blocks.specs.Idt.{Stub, Sys, Common, IdtToKernel, IdtToTask, idt_block}
 use Rattle.ev_blocks.specs.Idt as idt
 use Rattle.ev_blocks.specs.Items.{AtTable, AtJump, AtItem, body_block}
 use Rattle.ev_blocks.specs.Blocks.{Spot, InFred, InIdt, InBody, block}
 use Rattle.ev_table.specs.Table.{code_table}
 use Rattle.ev_refine.specs.Nmi.{Frame}
-use Rattle.ev_refine.specs.Active.{address_of_item, item_place, OverTask, Active}
+use Rattle.ev_refine.specs.Active.{address_of_item, item_place, OverTask, OverBody, Active}
 use Rattle.ev_refine.specs.Relation.{IsContext, body_edges, chained, Interrupted, Chain, StandsOn}
 use Rattle.ev_refine.proofs.Facts.{Facts}
-use Rattle.ev_refine.proofs.Spots.{is_elsewhere, entry_elsewhere, fred_exit_elsewhere, sys_elsewhere, common_elsewhere, idt_exit_elsewhere, is_in_stub, stub_inside}
+use Rattle.ev_refine.proofs.Spots.{is_elsewhere, entry_elsewhere, kernel_entry_elsewhere, kernel_exit_elsewhere, fred_exit_elsewhere, sys_elsewhere, common_elsewhere, idt_exit_elsewhere, idt_kernel_exit_elsewhere, is_in_stub, stub_inside}
 use Rattle.ev_refine.proofs.Standing.{after_ran, Runs, ran_step}
 use Rattle.ev_refine.proofs.CallKinds.{over_any}
 use Rattle.ev_refine.proofs.After.{as_chain}
@@ -99,10 +99,10 @@ module _ (mode : Mode) (image : Image) (facts : Facts mode image) where
       behind_repeat c.rip (omega arith)
 
   -- the entries of vectors stand before it
-  at_stub_outside : (has : Bool) (v k : ℕ) (e : Env) (c : Processor) (m : Memory) → At (code_table mode image) (idt_block (Stub UserCode has v)) k e c m
-      → v < 256 → e.base stub_tag ≡ vector_stub v → k ≤ (idt_block (Stub UserCode has v)).steps → is_in_repeat c.rip ≡ false
-  at_stub_outside has v k e c m at small base l =
-      let inside = every_ok is_in_stub (idt_block (Stub UserCode has v)) (stub_inside has v) k l at.state at.is in
+  at_stub_outside : (o : Origin) (has : Bool) (v k : ℕ) (e : Env) (c : Processor) (m : Memory) → At (code_table mode image) (idt_block (Stub o has v)) k e c m
+      → v < 256 → e.base stub_tag ≡ vector_stub v → k ≤ (idt_block (Stub o has v)).steps → is_in_repeat c.rip ≡ false
+  at_stub_outside o has v k e c m at small base l =
+      let inside = every_ok is_in_stub (idt_block (Stub o has v)) (stub_inside o has v) k l at.state at.is in
       let n : ℕ = at.state.rip.off in
       let tag : at.state.rip.tag ≡ stub_tag = eqb-true at.state.rip.tag stub_tag (and_left _ _ inside) in
       let near : n < 0x10 = ltb-true n 0x10 (and_right (at.state.rip.tag == stub_tag) _ inside) in
@@ -120,9 +120,9 @@ module _ (mode : Mode) (image : Image) (facts : Facts mode image) where
   over_task_outside Fred (InBody FredFrame AtItem) k e w c mem b ctx z l at h =
       at_item_outside (body_block true FredFrame AtItem) k e c mem b ctx at l refl h.1
   over_task_outside Idt (InIdt Sys) k e w c mem b ctx z l at h = at_elsewhere (idt_block Sys) k e c mem at z l sys_elsewhere
-  over_task_outside Idt (InIdt (Stub UserCode has v)) k e w c mem b ctx z l at h = at_stub_outside has v k e c mem at h.0.0 h.0.2 l
+  over_task_outside Idt (InIdt (Stub UserCode has v)) k e w c mem b ctx z l at h = at_stub_outside UserCode has v k e c mem at h.0.0 h.0.2 l
   over_task_outside Idt (InIdt (Common UserCode pf)) k e w c mem b ctx z l at h =
-      at_elsewhere (idt_block (Common UserCode pf)) k e c mem at z l (common_elsewhere pf)
+      at_elsewhere (idt_block (Common UserCode pf)) k e c mem at z l (common_elsewhere UserCode pf)
   over_task_outside Idt (InIdt (idt.Leaves (IdtToTask by))) k e w c mem b ctx z l at h =
       at_elsewhere (idt_block (idt.Leaves (IdtToTask by))) k e c mem at z l (idt_exit_elsewhere by)
   over_task_outside Idt (InBody IdtFrame AtTable) k e w c mem b ctx z l at h = at_elsewhere (body_block false IdtFrame AtTable) k e c mem at z l refl
@@ -131,13 +131,35 @@ module _ (mode : Mode) (image : Image) (facts : Facts mode image) where
       at_item_outside (body_block false IdtFrame AtItem) k e c mem b ctx at l refl h.1
   over_task_outside m _ k e w c mem b ctx z l at h = absurd h
 
+  over_body_outside : (m : Mode) (spot : Spot) (k : ℕ) (e : Env) (w c : Processor) (mem : Memory) (b : BodyContext) → IsContext mode image b
+      → e.base 1000 ≡ 0 → k ≤ (block m spot).steps → At (code_table mode image) (block m spot) k e c mem → OverBody mode image m spot e w b
+      → is_in_repeat c.rip ≡ false
+  over_body_outside Fred (InFred FromKernel) k e w c mem b ctx z l at h = at_elsewhere (fred_block FromKernel) k e c mem at z l kernel_entry_elsewhere
+  over_body_outside Fred (InFred (fred.Leaves FredToKernel)) k e w c mem b ctx z l at h =
+      at_elsewhere (fred_block (fred.Leaves FredToKernel)) k e c mem at z l kernel_exit_elsewhere
+  over_body_outside Fred (InBody FredFrame AtTable) k e w c mem b ctx z l at h = at_elsewhere (body_block true FredFrame AtTable) k e c mem at z l refl
+  over_body_outside Fred (InBody FredFrame AtJump) k e w c mem b ctx z l at h = at_elsewhere (body_block true FredFrame AtJump) k e c mem at z l refl
+  over_body_outside Fred (InBody FredFrame AtItem) k e w c mem b ctx z l at h =
+      at_item_outside (body_block true FredFrame AtItem) k e c mem b ctx at l refl h.1
+  over_body_outside Idt (InIdt (Stub KernelCode has v)) k e w c mem b ctx z l at h = at_stub_outside KernelCode has v k e c mem at h.0.0 h.0.2 l
+  over_body_outside Idt (InIdt (Common KernelCode pf)) k e w c mem b ctx z l at h =
+      at_elsewhere (idt_block (Common KernelCode pf)) k e c mem at z l (common_elsewhere KernelCode pf)
+  over_body_outside Idt (InIdt (idt.Leaves IdtToKernel)) k e w c mem b ctx z l at h =
+      at_elsewhere (idt_block (idt.Leaves IdtToKernel)) k e c mem at z l idt_kernel_exit_elsewhere
+  over_body_outside Idt (InBody IdtFrame AtTable) k e w c mem b ctx z l at h = at_elsewhere (body_block false IdtFrame AtTable) k e c mem at z l refl
+  over_body_outside Idt (InBody IdtFrame AtJump) k e w c mem b ctx z l at h = at_elsewhere (body_block false IdtFrame AtJump) k e c mem at z l refl
+  over_body_outside Idt (InBody IdtFrame AtItem) k e w c mem b ctx z l at h =
+      at_item_outside (body_block false IdtFrame AtItem) k e c mem b ctx at l refl h.1
+  over_body_outside m _ k e w c mem b ctx z l at h = absurd h
+
   pub active_outside : (p left : ℕ) (κ : Kind) (σ : Seat) (f : Frame) (sw : Bool) (w : Processor) (b : BodyContext) (c : Processor) (m : Memory)
       → IsContext mode image b → Active mode image p left κ σ f sw w b c m → is_in_repeat c.rip ≡ false
   active_outside p left SystemCall σ f sw w b c m ctx a = over_task_outside mode a.stands.spot a.stands.k _ w c m b ctx refl a.stands.within a.stands.at
       a.means
   active_outside p left FromTask σ f sw w b c m ctx a = over_task_outside mode a.stands.spot a.stands.k _ w c m b ctx refl a.stands.within a.stands.at
       a.means
-  active_outside p left FromBody σ f sw w b c m ctx a = absurd a.means
+  active_outside p left FromBody σ f sw w b c m ctx a = over_body_outside mode a.stands.spot a.stands.k _ w c m b ctx refl a.stands.within a.stands.at
+      a.means
   active_outside p left NmiFromTask σ f sw w b c m ctx a = absurd a.means
   active_outside p left NmiFromBody σ f sw w b c m ctx a = absurd a.means
 
@@ -163,7 +185,7 @@ module _ (mode : Mode) (image : Image) (facts : Facts mode image) where
       below_same [] w as' i k = ap (λ xs. length (filter has_body xs)) k.2 ∙ sym (ap (λ xs. length (filter has_body (interrupted w xs))) k.2)
       below_same (d ∷ ds) w [] i k = absurd i
       below_same (d ∷ ds) w (y ∷ ys) i k =
-          ap (λ z. length (if not y.inner && not (is_in_repeat z) then y ∷ filter has_body ys else filter has_body ys)) i.1
+          ap (λ z. length (if not y.inner && not z then y ∷ filter has_body ys else filter has_body ys)) i.1
           ∙ either (not y.inner && not (is_in_repeat w.rip))
         where
           either : (z : Bool) → length (if z then y ∷ filter has_body ys else filter has_body ys)

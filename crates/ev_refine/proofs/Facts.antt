@@ -1,27 +1,31 @@
 -- What the proofs of steps use of an image's code: what stands where, its marks, and that memory holds its bytes.
-use Rattle.std.proofs.Common.{◌≡◌, ℕ, ◌+◌, ◌-◌, ◌/◌, ◌<◌, ◌≤◌, ◌^◌, Bool, true, false, ◌||◌, Some, refl, arith}
-use Rattle.std.specs.Prelude.{pos, suc, ◌==◌, slice_get}
-use Rattle.std.proofs.lemmas.Bool.{eqb-true}
+use Rattle.std.proofs.Common.{◌≡◌, ℕ, ◌+◌, ◌<◌, ◌≤◌, ◌^◌, Bool, true, false, length, Some, arith}
+use Rattle.std.specs.Prelude.{suc, slice_get}
 use Rattle.ev_isa.specs.Word.{is_canonical, bit_if}
 use Rattle.ev_isa.specs.Flags.{Flags, flags_word}
-use Rattle.ev_isa.specs.declared.instruction.Ins.TheVariants.{GsStore}
 use Rattle.ev_isa.specs.declared.mode.Mode.{Mode}
-use Rattle.ev_body.specs.declared.item.Item.TheVariants.{Log, Ret}
+use Rattle.ev_body.specs.declared.item.Item.{Item}
+use Rattle.ev_body.specs.declared.item.Item.TheVariants.{Ret}
 use Rattle.ev_body.specs.declared.body.Body.{Body}
 use Rattle.ev_body.specs.declared.image.Image.{Image}
+use Rattle.ev_body.specs.Bodies.{body_items}
 use Rattle.ev_mem.specs.Memory.{Memory}
 use Rattle.ev_state.specs.Processor.{Processor}
 use Rattle.ev_listing.specs.AddressMap.{body_code}
-use Rattle.ev_listing.specs.Expansion.{item_address}
-use Rattle.ev_listing.specs.Marks.{Never, Always}
+use Rattle.ev_asm.specs.Assembly.{place, total_size}
+use Rattle.ev_listing.specs.Expansion.{item_label, item_address}
+use Rattle.ev_listing.specs.Marks.{Never, Always, stmts_of}
 use Rattle.ev_abstract.specs.Run.{item_at}
 use Rattle.ev_concrete.specs.Opening.{regions}
 use Rattle.ev_concrete.specs.ConcreteRun.{marks_of, mark_at}
 use Rattle.ev_proc.specs.Conditions.{IsInCode}
 use Rattle.ev_symbolic.specs.Agrees.{Cell, Spaced}
+use Rattle.ev_symbolic.specs.Listed.{AllFound}
 use Rattle.ev_symbolic.specs.Machine.{Fetches}
+pub use Rattle.ev_user.proofs.KeepsNumbers.{word_of_canonical}
 use Rattle.ev_paths.specs.Lines.{HasKernel}
-use Rattle.ev_table.specs.Table.{code_table, other_exit, RetCell}
+use Rattle.ev_table.specs.Table.{code_table, other_exit, RetCell, places_of, item_lines, item_cells}
+use Rattle.ev_table.proofs.Expanded.{is_plain}
 use Rattle.ev_fetch.specs.Claims.{HoldsText}
 use Rattle.ev_refine.specs.Relation.{first_word, IsFixed}
 
@@ -32,8 +36,12 @@ HasFixed mode image m = (a : ℕ) → IsFixed a → m.words a ≡ first_word mod
 pub record Facts (mode : Mode) (image : Image) : Type 0 where
   pub kernel : HasKernel mode (code_table mode image)
   pub spaced : Spaced (code_table mode image)
-  pub log_cell : (n i s : ℕ) (b : Body) → slice_get image.bodies n ≡ Some b → item_at (Some b) i ≡ Some (Log s)
-      → code_table mode image (item_address mode n b i) ≡ Some (record { ins = GsStore (pos 0x28) s; next = item_address mode n b (suc i); mark = true })
+  pub items : (n i : ℕ) (b : Body) (item : Item) → slice_get image.bodies n ≡ Some b → item_at (Some b) i ≡ Some item
+      → AllFound (code_table mode image) (item_cells mode image n b i item)
+  pub follow : (n i : ℕ) (b : Body) (item : Item) → item_at (Some b) i ≡ Some item
+      → item_address mode n b (suc i) ≡ item_address mode n b i + total_size (stmts_of (item_lines mode image n b i item))
+  pub labels : (n i : ℕ) (b : Body) → slice_get image.bodies n ≡ Some b → i < length (body_items b)
+      → place (places_of mode image) (item_label n i) ≡ item_address mode n b i
   pub ret_cell : (n i : ℕ) (b : Body) → slice_get image.bodies n ≡ Some b → item_at (Some b) i ≡ Some Ret
       → RetCell (code_table mode image) (item_address mode n b i) (other_exit mode)
   pub first_item : (n : ℕ) (b : Body) → item_address mode n b 0 ≡ body_code n
@@ -43,6 +51,7 @@ pub record Facts (mode : Mode) (image : Image) : Type 0 where
       × (item_address mode n b i + 0x100 ≤ 2 ^ 64)
   pub unmarked : (a : ℕ) (x : Cell) → code_table mode image a ≡ Some x → x.mark ≡ false → mark_at (marks_of mode image) a ≡ Never
   pub marked : (a : ℕ) (x : Cell) → code_table mode image a ≡ Some x → x.mark ≡ true → mark_at (marks_of mode image) a ≡ Always
+  pub plain : (a : ℕ) → is_plain (mark_at (marks_of mode image) a) ≡ true
   pub fetches : (m : Memory) → m.regions ≡ regions image → HasFixed mode image m → Fetches (code_table mode image) m
   pub holds : (m : Memory) → HasFixed mode image m → HoldsText image.text m.words
   pub in_code : (m : Memory) → m.regions ≡ regions image → (c : Processor) → IsInCode c m
@@ -64,17 +73,3 @@ word_of_flags f =
     let o = bit_small 11 f.status.overflow in
     let a = bit_small 18 f.alignment in
     omega arith
-
--- canonical addresses
-pub word_of_canonical : (a : ℕ) → is_canonical a ≡ true → a < 2 ^ 64
-word_of_canonical a h = pick (a / 2 ^ 47 == 0) refl h
-  where
-    pick : (t : Bool) → (a / 2 ^ 47 == 0) ≡ t → (t || (a / 2 ^ 47 == 2 ^ 17 - 1)) ≡ true → a < 2 ^ 64
-    pick true q k = let e : a / 2 ^ 47 ≡ 0 = eqb-true (a / 2 ^ 47) 0 q in low a e
-      where
-        low : (a : ℕ) → a / 140737488355328 ≡ 0 → a < 2 ^ 64
-        low a e = omega arith
-    pick false q k = let e : a / 2 ^ 47 ≡ 2 ^ 17 - 1 = eqb-true (a / 2 ^ 47) (2 ^ 17 - 1) k in high a e
-      where
-        high : (a : ℕ) → a / 140737488355328 ≡ 131071 → a < 2 ^ 64
-        high a e = omega arith

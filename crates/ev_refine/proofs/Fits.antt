@@ -31,7 +31,7 @@ use Rattle.ev_concrete.specs.LiveWords.{area_bytes}
 use Rattle.ev_refine.specs.Named.{Outside, NotNamed, Changes}
 use Rattle.ev_refine.proofs.Facts.{Facts}
 use Rattle.ev_refine.proofs.ModeFacts.{is_fred}
-use Rattle.ev_refine.proofs.Spots.{over_task, keeps_rsp, names_if, names_at, is_plain, are_plain, is_written, are_written, area_small, has_windows, HasGround, has_ground, IsAtEntry, lines_stand}
+use Rattle.ev_refine.proofs.Spots.{is_spot, keeps_rsp, names_if, names_at, is_plain, are_plain, is_written, are_written, area_small, has_windows, HasGround, has_ground, IsAtEntry, lines_stand}
 
 -- in a seat, of which the frame and the saved area lie on the stack
 pub record IsSeat (σ : Seat) : Type 0 where
@@ -136,10 +136,10 @@ module _ (mode : Mode) (image : Image) (p : ℕ) (σ : Seat) (hs : IsSeat σ) (h
       (record { processor = hp; few = few; stack = hs.stack; task = omega arith; next = omega arith; site = omega arith; aligned = hs.aligned })
       (let e : top_at p σ + σ.used ≡ stack_top p σ.stack = omega arith in e) refl hs.room fs forms plain
 
-  known_fits : (spot : Spot) → over_task mode spot ≡ true → Fitting image.processors env (where_at p σ) (forms spot).known
+  known_fits : (spot : Spot) → is_spot mode spot ≡ true → Fitting image.processors env (where_at p σ) (forms spot).known
   known_fits spot h = fits_forms (forms spot).known (windows_fit mode spot).1.known (has_windows mode spot h).known
 
-  own_fits : (spot : Spot) → over_task mode spot ≡ true → Fitting image.processors env (where_at p σ) (forms spot).own
+  own_fits : (spot : Spot) → is_spot mode spot ≡ true → Fitting image.processors env (where_at p σ) (forms spot).own
   own_fits spot h = fits_forms (forms spot).own (windows_fit mode spot).1.own (has_windows mode spot h).own
 
   has_item : InBodies extra → (spot : Spot) → HasItem spot env
@@ -148,7 +148,7 @@ module _ (mode : Mode) (image : Image) (p : ℕ) (σ : Seat) (hs : IsSeat σ) (h
   has_item i (InIdt s) = tt
   has_item i (InNmi s) = tt
 
-  pub fits_at : Facts mode image → (spot : Spot) → over_task mode spot ≡ true → has_fred w ≡ is_fred mode → InBodies extra
+  pub fits_at : Facts mode image → (spot : Spot) → is_spot mode spot ≡ true → has_fred w ≡ is_fred mode → InBodies extra
       → IsAtEntry spot env → FactsHold env (block mode spot).ground.facts → Fits (code_table mode image) env (block mode spot)
   fits_at facts spot h hf i at told =
       let g : HasGround mode spot = has_ground mode spot h in
@@ -167,13 +167,13 @@ module _ (mode : Mode) (image : Image) (p : ℕ) (σ : Seat) (hs : IsSeat σ) (h
         stands = lines_stand mode (code_table mode image) env refl facts.kernel spot h at;
       }
 
-  pub opens_at : (spot : Spot) → over_task mode spot ≡ true → (m : Memory) → m.regions ≡ regions image → Open env (block mode spot).ground.known m.regions
+  pub opens_at : (spot : Spot) → is_spot mode spot ≡ true → (m : Memory) → m.regions ≡ regions image → Open env (block mode spot).ground.known m.regions
   opens_at spot h m hr = subst (Open env (block mode spot).ground.known) (sym hr)
       (subst (λ W. Open env W (regions image)) (sym (windows_fit mode spot).0.known)
       (forms_open image env (where_at p σ) (forms spot).known (known_fits spot h)))
 
   -- what an activation writes in a block: words of its stack below its top, and the word for RSP
-  pub kernel_changes : (spot : Spot) → over_task mode spot ≡ true → (m n : NatMap ℕ)
+  pub kernel_changes : (spot : Spot) → is_spot mode spot ≡ true → (m n : NatMap ℕ)
       → Within env (block mode spot).ground.own (block mode spot).ground.shared m n → Changes p σ (names_at p spot) m n
   kernel_changes spot h m n wrote a off d =
       wrote a (λ l i q. off_forms mode p σ hs (keeps_rsp spot) a off d (forms spot).own (has_windows mode spot h).own
@@ -187,7 +187,7 @@ module _ (mode : Mode) (image : Image) (p : ℕ) (σ : Seat) (hs : IsSeat σ) (h
           (ap (λ W. in_win W l) (sym (windows_fit mode spot).0.own) ∙ i))
 
   -- where known words lie: on a stack of the processor, or in its area
-  pub known_in : (spot : Spot) → over_task mode spot ≡ true → (l : Loc) → in_win (block mode spot).ground.known l ≡ true
+  pub known_in : (spot : Spot) → is_spot mode spot ≡ true → (l : Loc) → in_win (block mode spot).ground.known l ≡ true
       → InSome (IsThere env (where_at p σ) l) (forms spot).known
   known_in spot h l i = which_form env (where_at p σ) l (forms spot).known
       (located image.processors env (where_at p σ) (forms spot).known (known_fits spot h))

@@ -9,7 +9,7 @@ use Rattle.ev_isa.specs.declared.mode.Mode.{Mode}
 use Rattle.ev_effect.specs.Task.{Task}
 use Rattle.ev_event.specs.declared.boundary.Next.{Next}
 use Rattle.ev_body.specs.declared.item.Item.{Item}
-use Rattle.ev_body.specs.declared.item.Item.TheVariants.{Log, Ret}
+use Rattle.ev_body.specs.declared.item.Item.TheVariants.{Ret}
 use Rattle.ev_body.specs.declared.body.Body.{Body}
 use Rattle.ev_body.specs.declared.image.Image.{Image}
 use Rattle.ev_body.specs.WellFormed.{IsImage}
@@ -21,10 +21,9 @@ use Rattle.ev_mem.specs.Memory.{Memory, page_map}
 use Rattle.ev_proc.specs.ProcessorStep.{has_fred, next_of, executed, ran}
 use Rattle.ev_proc.specs.declared.stepped.Stepped.{Stepped}
 use Rattle.ev_abstract.specs.Boundary.{Choice, choice, maskable, open_to_interrupts, interrupt_or_next, deliverable, is_nmi_body}
-use Rattle.ev_abstract.specs.Context.{BodyContext, local}
-use Rattle.ev_abstract.specs.Context as context
+use Rattle.ev_abstract.specs.Context.{BodyContext}
 use Rattle.ev_abstract.specs.Delivery.{dropped, rescheduled}
-use Rattle.ev_abstract.specs.ItemMeaning.{Step, item_step, replace_last, below_last}
+use Rattle.ev_abstract.specs.ItemMeaning.{Step, item_step, below_last}
 use Rattle.ev_abstract.specs.declared.entry.Entry.{Entry}
 use Rattle.ev_abstract.specs.Machine.{Machine, processor, with_processor, task}
 use Rattle.ev_abstract.specs.Machine as abstract
@@ -55,18 +54,21 @@ use Rattle.ev_concrete.specs.Shown.{shown_always}
 use Rattle.ev_refine.proofs.Facts.{Facts}
 use Rattle.ev_refine.proofs.Maps.{at_same, at_other}
 use Rattle.ev_refine.proofs.ModeFacts.{is_fred}
-use Rattle.ev_refine.proofs.Spots.{over_task, IsAtEntry, keeps_rsp, names_if, names_at, means_over, never_switches, runs_to_end}
+use Rattle.ev_refine.proofs.Spots.{is_spot, IsAtEntry, keeps_rsp, names_if, names_at, means_over, body_writes, never_switches, runs_to_end}
 use Rattle.ev_refine.proofs.Fits.{IsSeat, InBodies, fits_at, opens_at, kernel_changes}
 use Rattle.ev_refine.proofs.Bodies.{Goes}
 use Rattle.ev_refine.proofs.Instructions.{stays_inside}
 use Rattle.ev_refine.proofs.Standing.{instruction_first, hidden, seen, after_ran, Runs, ran_step, ran_writes, ran_safe, ran_shown, ran_stays, Moves, step_moves}
 use Rattle.ev_refine.proofs.Stays.{means_again, leads_again, AreSpared, chain_stays, seat_fits, below_spared}
-use Rattle.ev_refine.proofs.Chains.{chain_kept, chain_few, chain_plain}
+use Rattle.ev_refine.proofs.Chains.{Kept, chain_kept, chain_plain, chain_open}
 use Rattle.ev_refine.proofs.After.{AreNames, AreSparing, own_word, none_spares, slot_same, cell_same, page_same, user_same, few_inner, latch_parts, as_chain, returns_to, own_becomes, own_after, stands_become, stands_after}
 use Rattle.ev_refine.proofs.CallKinds.{is_over_task, is_plain_kind, over_any, beneath_as, stands_alone, ArePlain, none_nmi, seat_under, plain_seat, plain_knows}
-use Rattle.ev_refine.proofs.Domains.{four_tasks, one_task_each}
-use Rattle.ev_refine.proofs.Legality.{turn_legal}
-use Rattle.ev_refine.proofs.Depth.{active_outside, stands_depth, goes_on_inside, ran_counts}
+use Rattle.ev_refine.proofs.Domains.{four_tasks}
+use Rattle.ev_law.proofs.Ruled.{body_ruled}
+use Rattle.ev_user.specs.Numbers.{AreOfWords, HoldsNumbers}
+use Rattle.ev_user.proofs.KeepsNumbers.{items_keep_numbers}
+use Rattle.ev_refine.proofs.Legality.{turn_legal, legal_few}
+use Rattle.ev_refine.proofs.Depth.{body_at, active_outside, stands_depth, goes_on_inside, ran_counts}
 
 -- the names of a block's writes
 rsp_spares : (p : ℕ) → p < 32 → (rsp : Bool) → AreSparing p (names_if rsp p)
@@ -129,8 +131,8 @@ module _ (mode : Mode) (image : Image) (built : IsBuilt image) (good : IsImage i
   abbrev pub t : Task
   t = x.tasks r
 
-  pub first_task : r ≡ 0
-  first_task = let n = returns_to mode image p (left p) s x on in let one = one_task_each image built p hp in omega arith
+  pub narrow_task : r < 4
+  narrow_task = let n = returns_to mode image p (left p) s x on in let four = four_tasks image good p hp in omega arith
 
   abbrev pub Chained : (now : ℕ) (t : Task) → List BodyContext → List Activation → Processor → Memory → Type 0
   Chained now t bs as' cpu mem = Chain mode image p now r t on.frame on.switching bs as' cpu mem
@@ -145,7 +147,7 @@ module _ (mode : Mode) (image : Image) (built : IsBuilt image) (good : IsImage i
   none_is_nmi = none_nmi image x.bodies plain
 
   pub deep : length x.bodies ≤ 32
-  deep = chain_few mode image p on.own r t on.frame on.switching x.bodies (s.activations p) c s.memory chain
+  deep = legal_few image good built.accepted m p h.legal
 
   pub blocked : c.nmi_blocked ≡ false
   blocked = (latch_parts on.layer on.frame _ (s.latches p) c.nmi_blocked x.nmi on.latch).1 ∙ none_is_nmi
@@ -227,7 +229,7 @@ module _ (mode : Mode) (image : Image) (built : IsBuilt image) (good : IsImage i
     under_is = sym seat_is ∙ plain_seat mode image r b below all_plain
 
     pub in_seat : IsSeat σ
-    in_seat = let z = first_task in subst IsSeat seat_is (seat_fits mode image r b below all_plain (omega arith) shallow)
+    in_seat = let z = narrow_task in subst IsSeat seat_is (seat_fits mode image r b below all_plain (omega arith) shallow)
 
     on_stack : σ.stack ≡ r
     on_stack = ap (λ (y : Seat). y.stack) under_is
@@ -242,8 +244,11 @@ module _ (mode : Mode) (image : Image) (built : IsBuilt image) (good : IsImage i
         (λ v. Chain mode image p (body_edges mode image) r t on.frame (chained mode image on.switching below) below o.others v s.memory)
         (keeps_cr2 mode image κ) w o.under
 
+    pub kept : Kept mode image p w
+    kept = chain_kept mode image p (body_edges mode image) r t on.frame (chained mode image on.switching below) below o.others w s.memory lower
+
     pub fred_is : has_fred w ≡ is_fred mode
-    fred_is = (chain_kept mode image p (body_edges mode image) r t on.frame (chained mode image on.switching below) below o.others w s.memory lower).fred
+    fred_is = kept.fred
 
     -- what stands over a task
     pub record Alone : Type 0 where
@@ -264,12 +269,31 @@ module _ (mode : Mode) (image : Image) (built : IsBuilt image) (good : IsImage i
           no_others = k.2;
         }
 
+    -- where it returns, with any CR2 and NMIs open
+    pub returns_to_below : (cr2 : ℕ) → switches_at mode image on.switching below ≡ false
+        → Chain mode image p (body_edges mode image) r t on.frame on.switching below o.others (record w { cr2 = cr2; nmi_blocked = false }) s.memory
+    returns_to_below cr2 off = chain_open mode image p (body_edges mode image) r t on.frame on.switching below o.others (record w { cr2 = cr2 }) s.memory
+        (subst (λ sw. Chain mode image p (body_edges mode image) r t on.frame sw below o.others (record w { cr2 = cr2 }) s.memory) (same below off)
+        (any_cr2 κ plain_kind _ o.under cr2))
+      where
+        same : (ds : List BodyContext) → switches_at mode image on.switching ds ≡ false → chained mode image on.switching ds ≡ on.switching
+        same [] off = sym off
+        same (d ∷ ds) off = refl
+
+        any_cr2 : (κ : Kind) → is_plain_kind κ ≡ true → (C : Processor → Type 0) → Beneath mode image (keeps_cr2 mode image κ) C w → (a : ℕ)
+            → C (record w { cr2 = a })
+        any_cr2 SystemCall q C h a = h a
+        any_cr2 FromTask q C h a = h a
+        any_cr2 FromBody q C h a = h a
+        any_cr2 NmiFromTask q C h a = let clash : false ≡ true = q in absurd (cc)
+        any_cr2 NmiFromBody q C h a = let clash : false ≡ true = q in absurd (cc)
+
     -- a step that writes its own stretch of the stack, and words that no block below knows
     pub below_stays : (names : List Named) → AreNames p names → UnknownTo below names → (words : NatMap ℕ) → Changes p σ names s.memory.words words
         → Beneath mode image (keeps_cr2 mode image κ)
         (λ v. Chain mode image p (body_edges mode image) r t on.frame (chained mode image on.switching below) below o.others v (with_words s.memory words)) w
     below_stays names allowed unknown words changes =
-        let z = first_task in
+        let z = narrow_task in
         let spared : AreSpared mode image p r below s.memory.words words
         = below_spared mode image p r names s.memory.words words b below small (omega arith) shallow allowed.written unknown
         (subst (λ y. Changes p y names s.memory.words words) (sym seat_is) changes) all_plain in
@@ -309,15 +333,15 @@ module _ (mode : Mode) (image : Image) (built : IsBuilt image) (good : IsImage i
         (subst (λ bs. Chained now t bs (o.last ∷ o.others) cpu (with_words s.memory words)) (sym o.bodies)
         (with_last b o.kind ctx now cpu words names sparing.allowed unknown changes act)) in
         let there : StandsOn mode image p (now + inner_edges (s.latches p)) (after_ran s p cpu words) x
-        = own_after mode image p (left p) s (after_ran s p cpu words) x σ cpu _ words x.tasks x.bodies now on small (four_tasks image built p hp)
+        = own_after mode image p (left p) s (after_ran s p cpu words) x σ cpu _ words x.tasks x.bodies now on small (four_tasks image good p hp)
         (moves cpu words) on_stack narrow names sparing changes (λ i d. refl) on.tasks
         (hb ∙ sym none_is_nmi) (λ class. refl) (let l = on.enough in let f = on.few in omega arith) goes_on in
         let all : Stands mode image (put_at left p (now + inner_edges (s.latches p))) (after_ran s p cpu words) m
-        = stands_after mode image left s (after_ran s p cpu words) m m p (now + inner_edges (s.latches p)) x σ cpu _ words good.count.1
-        (four_tasks image built) h hp (moves cpu words) narrow names sparing changes
+        = stands_after mode image left s (after_ran s p cpu words) m m p (now + inner_edges (s.latches p)) x σ cpu _ words good built.accepted
+        (four_tasks image good) h hp (moves cpu words) narrow names sparing changes
         (λ a u. user_same p σ names small narrow s.memory.words words sparing.allowed.written changes no_user a u ∙ h.shares.user a u) h.shares.held
         (record { own = refl; others = λ q e. refl; present = refl; cells = refl; mail = refl; mail_nmi = refl; records = refl; queue = refl })
-        h.legal domain there in
+        h.legal h.numbers domain there in
         let bound = on.enough in record {
           safe = ran_safe mode image s p cpu words run;
           counts = ran_counts image.processors s p cpu words cell.ins run (fetches c.rip cell hc).1 (length x.bodies) (length x.bodies) depth
@@ -333,6 +357,31 @@ module _ (mode : Mode) (image : Image) (built : IsBuilt image) (good : IsImage i
             writes = ran_writes image.processors s p cpu words run;
           });
         }
+
+    -- ---- what the abstract machine does
+
+    pub are_quiet : AreQuiet (b ∷ below)
+    are_quiet = subst AreQuiet o.bodies domain.bodies
+
+    pub quiet : IsQuiet b
+    quiet = are_quiet.0
+
+    pub turns : (i : Item) → item_at (slice_get image.bodies b.body) b.place ≡ Some i → turn image m p ≡ item_step image m p b i
+    unfolding turn choice
+    turns i hi =
+        ap (chosen_step image m p) (ap (λ n. if n && not (list_any (is_nmi_body image) x.bodies) then Choice.Nmi else maskable x) domain.nmi
+        ∙ ap (λ bs. if open_to_interrupts bs then interrupt_or_next (greatest_below 256 (deliverable x)) else Choice.Next) o.bodies
+        ∙ ap (λ z. if z then interrupt_or_next (greatest_below 256 (deliverable x)) else Choice.Next) quiet.interrupts)
+        ∙ ap (next_step image m p) o.bodies ∙ ap (item_or_nothing image m p b) hi
+
+    -- its numbers stay words
+    numbers_behind : (m' : Machine) (es : List Entry) → turn image m p ≡ (m', es) → HoldsNumbers m'
+    numbers_behind m' es ht =
+        let found = body_at (slice_get image.bodies b.body) b.place ctx.item ctx.is in
+        let ops = (body_ruled image good built.accepted.1.kept b.body found.0 found.1).operands b.place ctx.item found.2 in
+        subst (λ (z : Step). HoldsNumbers z.0) (sym (turns ctx.item ctx.is) ∙ ht)
+        (items_keep_numbers image m p b ctx.item (length image.text) ops.0 ops.1 ops.2 (omega arith) h.numbers h.shares.held
+        (on.tasks x.running on.running).words (subst AreOfWords o.bodies (h.numbers.each p).bodies).0)
 
     -- What a visible step makes of the abstract machine: these are processor p's tasks, slots and bodies behind it, of which the returning task may be another;
     -- other processors are as they were, and memory holds these slots, and the cells, pages and user words of the machine behind it.
@@ -363,14 +412,14 @@ module _ (mode : Mode) (image : Image) (built : IsBuilt image) (good : IsImage i
         let none : list_any (is_nmi_body image) bs ≡ false
         = none_nmi image bs (chain_plain mode image p now r (tasks r) on.frame on.switching bs _ cpu (with_words s.memory words) goes_on) in
         let there : StandsOn mode image p (now + inner_edges (s.latches p)) (after_ran s p cpu words) x'
-        = own_becomes mode image p (left p) s (after_ran s p cpu words) x σ cpu _ words tasks slots bs now on small (four_tasks image built p hp)
+        = own_becomes mode image p (left p) s (after_ran s p cpu words) x σ cpu _ words tasks slots bs now on small (four_tasks image good p hp)
         (moves cpu words) on_stack narrow names allowed changes y.slots_are y.same_tasks y.good_tasks (hb ∙ sym none)
         (λ class. unserved class bs quiet ∙ sym (unserved class x.bodies domain.bodies))
         (let f = few_inner mode image (s.latches p) in omega arith) goes_on in
         let inside : IsInDomain x' = record { pending = domain.pending; nmi = domain.nmi; resched = domain.resched; bodies = quiet } in
         let all : Stands mode image (put_at left p (now + inner_edges (s.latches p))) (after_ran s p cpu words) m'
         = stands_become mode image left s (after_ran s p cpu words) m m' p (now + inner_edges (s.latches p)) x' σ cpu _ words
-        good.count.1 (four_tasks image built) h hp (moves cpu words) narrow names allowed changes
+        good built.accepted (four_tasks image good) h hp (moves cpu words) narrow names allowed changes
         (record {
           own = y.own;
           others = y.others;
@@ -383,7 +432,7 @@ module _ (mode : Mode) (image : Image) (built : IsBuilt image) (good : IsImage i
           pages = y.pages;
           cells = y.cells;
         })
-        (turn_legal image good built.accepted m p hp h.legal (m', es) ht) inside there in
+        (turn_legal image good built.accepted m p hp h.legal (m', es) ht) (numbers_behind m' es ht) inside there in
         let turned : Stands mode image (put_at left p (now + inner_edges (s.latches p))) (after_ran s p cpu words) (turn image m p).0 =
         subst (λ q. Stands mode image (put_at left p (now + inner_edges (s.latches p))) (after_ran s p cpu words) q.0) (sym ht) all in record {
           safe = ran_safe mode image s p cpu words run;
@@ -430,26 +479,6 @@ module _ (mode : Mode) (image : Image) (built : IsBuilt image) (good : IsImage i
 
     -- ---- the abstract machine's step
 
-    pub are_quiet : AreQuiet (b ∷ below)
-    are_quiet = subst AreQuiet o.bodies domain.bodies
-
-    pub quiet : IsQuiet b
-    quiet = are_quiet.0
-
-    pub turns : (i : Item) → item_at (slice_get image.bodies b.body) b.place ≡ Some i → turn image m p ≡ item_step image m p b i
-    unfolding turn choice
-    turns i hi =
-        ap (chosen_step image m p) (ap (λ n. if n && not (list_any (is_nmi_body image) x.bodies) then Choice.Nmi else maskable x) domain.nmi
-        ∙ ap (λ bs. if open_to_interrupts bs then interrupt_or_next (greatest_below 256 (deliverable x)) else Choice.Next) o.bodies
-        ∙ ap (λ z. if z then interrupt_or_next (greatest_below 256 (deliverable x)) else Choice.Next) quiet.interrupts)
-        ∙ ap (next_step image m p) o.bodies ∙ ap (item_or_nothing image m p b) hi
-
-    pub log_turn : (q : ℕ) → item_at (slice_get image.bodies b.body) b.place ≡ Some (Log q)
-        → turn image m p ≡ (with_processor m p (record x { bodies = context.onward b ∷ below }), Entry.Log p (local b q) ∷ [])
-    unfolding item_step
-    log_turn q hi = turns (Log q) hi ∙ ap
-        (λ bs. (with_processor m p (record x { bodies = replace_last (context.onward b) bs }), Entry.Log p (local b q) ∷ [])) o.bodies
-
     -- the processor without its last context
     below_is : (ds : List BodyContext) → dropped image b x ds ≡ record x { bodies = ds }
     below_is [] = ap (λ z. if z && not (is_nmi_body image b) then rescheduled (record x { bodies = [] }) else record x { bodies = [] }) domain.resched
@@ -463,7 +492,7 @@ module _ (mode : Mode) (image : Image) (built : IsBuilt image) (good : IsImage i
 
     -- ---- inside a block
 
-    pub over_spot : (act : Stood on.own b c s.memory) → over_task mode act.stands.spot ≡ true
+    pub over_spot : (act : Stood on.own b c s.memory) → is_spot mode act.stands.spot ≡ true
     over_spot act = means_over mode image κ act.stands.spot _ w b s.memory.words act.means
 
     pub still : (act : Stood on.own b c s.memory) → switches_at mode image on.switching below ≡ false
@@ -481,7 +510,7 @@ module _ (mode : Mode) (image : Image) (built : IsBuilt image) (good : IsImage i
         by_kind κ q means [] k = tt
         by_kind SystemCall q means (d ∷ ds) k = let z = ap length (stands_alone image b (d ∷ ds) (ap is_over_task k)) in absurd (omega arith)
         by_kind FromTask q means (d ∷ ds) k = let z = ap length (stands_alone image b (d ∷ ds) (ap is_over_task k)) in absurd (omega arith)
-        by_kind FromBody q means (d ∷ ds) k = absurd means
+        by_kind FromBody q means (d ∷ ds) k = subst (λ y. UnknownTo (d ∷ ds) (names_if y p)) (sym (body_writes mode image spot e w b means)) refl
         by_kind NmiFromTask q means (d ∷ ds) k = absurd means
         by_kind NmiFromBody q means (d ∷ ds) k = absurd means
 
@@ -538,17 +567,17 @@ module _ (mode : Mode) (image : Image) (built : IsBuilt image) (good : IsImage i
       in_bodies extra h = subst (λ a. (0xffffffff82000000 ≤ a) × (a + 0x100 ≤ M)) (sym h) range
 
       -- a block without facts fits, and its windows are open
-      pub fits : (spot : Spot) → over_task mode spot ≡ true → (ss : ℕ) (extra v : ℕ → ℕ) (f : Flags) → extra 20 ≡ item_place mode image b.body b.place
+      pub fits : (spot : Spot) → is_spot mode spot ≡ true → (ss : ℕ) (extra v : ℕ → ℕ) (f : Flags) → extra 20 ≡ item_place mode image b.body b.place
           → IsAtEntry spot (env ss extra v f) → FactsHold (env ss extra v f) (block mode spot).ground.facts → Fits code (env ss extra v f) (block mode spot)
       fits spot over ss extra v f h at told =
           fits_at mode image p σ in_seat hp good.count.1 κ ss w extra v f facts spot over fred_is (in_bodies extra h) at told
 
-      pub windows : (spot : Spot) → over_task mode spot ≡ true → (ss : ℕ) (extra v : ℕ → ℕ) (f : Flags)
+      pub windows : (spot : Spot) → is_spot mode spot ≡ true → (ss : ℕ) (extra v : ℕ → ℕ) (f : Flags)
           → Open (env ss extra v f) (block mode spot).ground.known s.memory.regions
       windows spot over ss extra v f = opens_at mode image p σ in_seat hp good.count.1 κ ss w extra v f spot over s.memory h.regions_are
 
       -- an edge to the opening of a block
-      pub goes : (act : Stood on.own b c s.memory) (spot : Spot) (ss : ℕ) → IsKernelSs ss → (extra v : ℕ → ℕ) (f : Flags) → is_user c ≡ false
+      pub goes : (act : Stood on.own b c s.memory) (spot : Spot) (ss : ℕ) → IsKernelSs mode ss → (extra v : ℕ → ℕ) (f : Flags) → is_user c ≡ false
           → Goes code c s.memory (block mode spot) (env ss extra v f) → edges mode spot 0 < on.own → length c.regs ≡ 16 → blocks.switches spot ≡ false
           → Means mode image κ spot (env ss extra v f) w b s.memory.words → Result
       goes act spot ss ss_is extra v f hu g fewer long off means =

@@ -1,15 +1,17 @@
--- The abstract machine stays legal: its turns are lines of scripts.
-use Rattle.std.proofs.Common.{◌≡◌, ℕ, ◌<◌, List, subst}
+-- The abstract machine stays legal: its turns are lines of scripts. And no more bodies stand than an image may nest.
+use Rattle.std.proofs.Common.{◌≡◌, ℕ, suc, ◌<◌, ◌≤◌, List, [], ◌∷◌, length, refl, ap, subst, arith}
 use Rattle.std.proofs.lemmas.Bool.{lt-ltb}
 use Rattle.ev_body.specs.declared.image.Image.{Image}
 use Rattle.ev_body.specs.WellFormed.{IsImage}
 use Rattle.ev_abstract.specs.Accepted.{IsAccepted}
-use Rattle.ev_abstract.specs.Machine.{Machine}
+use Rattle.ev_abstract.specs.Context.{BodyContext}
+use Rattle.ev_abstract.specs.Machine.{Machine, processor}
 use Rattle.ev_abstract.specs.declared.entry.Entry.{Entry}
 use Rattle.ev_abstract.specs.Run.{turn, line_step}
 use Rattle.ev_abstract.specs.Script.{is_line}
 use Rattle.ev_abstract.specs.declared.script_line.Line.TheVariants.{Turn}
-use Rattle.ev_law.specs.Legal.{Legal}
+use Rattle.ev_law.specs.Legal.{Legal, numbers, knows}
+use Rattle.ev_law.proofs.Runs.{are_chain, short}
 use Rattle.ev_law.proofs.Lines.{lines_keep_legal}
 
 -- behind a turn, whose outcome is told
@@ -18,3 +20,16 @@ pub turn_legal : (image : Image) → IsImage image → IsAccepted image → (m :
 unfolding line_step is_line
 turn_legal image given accepted m p lt h z is =
     subst (λ (y : Machine × List Entry). Legal image y.0) is (lines_keep_legal image m (Turn p) given accepted (lt-ltb p image.processors lt) h)
+
+-- no more bodies stand than 32
+pub legal_few : (image : Image) → IsImage image → IsAccepted image → (m : Machine) (p : ℕ) → Legal image m → length (processor m p).bodies ≤ 32
+legal_few image given accepted m p h =
+    let l : length (numbers (processor m p).bodies) ≤ accepted.0
+    = short image accepted.0 (numbers (processor m p).bodies) accepted.1 (are_chain image (knows image m) (processor m p).bodies (h.each p).bodies) in
+    let n : accepted.0 ≤ image.nest = accepted.1.fits in
+    let c = given.count.3 in
+    let same = as_many (processor m p).bodies in omega (arith, l, n, c, same)
+  where
+    as_many : (cs : List BodyContext) → length (numbers cs) ≡ length cs
+    as_many [] = refl
+    as_many (c ∷ cs) = ap suc (as_many cs)

@@ -1,10 +1,10 @@
 -- The return of an activation to the task: ERETU, SYSRETQ and IRETQ give exactly the processor that the activation stands over.
-use Rattle.std.proofs.Common.{◌≡◌, ℕ, ◌+◌, ◌-◌, ◌%◌, ◌<◌, true, false, not, ◌&&◌, List, [], ◌∷◌, drop, map, length, Some, refl, sym, ap, ◌∙◌, subst, arith}
+use Rattle.std.proofs.Common.{◌≡◌, inl, inr, ℕ, ◌+◌, ◌-◌, ◌%◌, ◌<◌, true, false, not, ◌&&◌, List, [], ◌∷◌, drop, map, length, Some, refl, sym, ap, ◌∙◌, subst, arith}
 use Rattle.std.specs.Prelude.{◌==◌, nat_le, nat_lt, if◌then◌else◌}
 use Rattle.ev_isa.specs.Word.{NatMap, bit, is_canonical}
 use Rattle.ev_isa.specs.Flags.{Flags, modelled}
 use Rattle.ev_isa.specs.declared.instruction.Ins.{Ins}
-use Rattle.ev_isa.specs.declared.instruction.Ins.TheVariants.{Sysretq, Iretq, Eretu}
+use Rattle.ev_isa.specs.declared.instruction.Ins.TheVariants.{Sysretq, Iretq, Eretu, Erets}
 use Rattle.ev_isa.specs.declared.mode.Mode.{Mode}
 use Rattle.ev_isa.specs.declared.mode.Mode.TheVariants.{Idt, Fred}
 use Rattle.ev_body.specs.declared.image.Image.{Image}
@@ -13,6 +13,8 @@ use Rattle.ev_listing.specs.AddressMap.{pcpu, nmi_entry, repeat_entry, nlast_ent
 use Rattle.ev_state.specs.Processor.{Processor}
 use Rattle.ev_state.proofs.FlagLaws.{kept}
 use Rattle.ev_mem.specs.Memory.{Memory}
+use Rattle.ev_proc.specs.ProcessorStep.{has_fred}
+use Rattle.std.proofs.lemmas.Bool.{le-leb}
 use Rattle.ev_concrete.specs.ConcreteRun.{is_return}
 use Rattle.ev_concrete.specs.Shown.{shown_always}
 use Rattle.ev_idt.specs.IdtDelivery as idt_delivery
@@ -23,21 +25,21 @@ use Rattle.ev_symbolic.specs.Names.{frame_rip, frame_cs, frame_flags, frame_rsp,
 use Rattle.ev_symbolic.specs.Agrees.{Env, Code, untracked, eval, addr, Agrees, At}
 use Rattle.ev_symbolic.proofs.Blocks.{at_end, levels_split}
 use Rattle.ev_blocks.specs.Shapes.{registers_of, interrupted_words, IdtFrame}
-use Rattle.ev_blocks.specs.Fred.{FredToTask, fred_block, eretu_place}
+use Rattle.ev_blocks.specs.Fred.{FredToKernel, FredToTask, fred_block, eretu_place, erets_place}
 use Rattle.ev_blocks.specs.Fred as fred
-use Rattle.ev_blocks.specs.Idt.{IdtReturn, BySysret, ByOtherRip, ByOtherFlags, IdtToTask, idt_block, sysretq_place, iretq_place}
+use Rattle.ev_blocks.specs.Idt.{IdtReturn, BySysret, ByOtherRip, ByOtherFlags, IdtToKernel, IdtToTask, idt_block, sysretq_place, iretq_place}
 use Rattle.ev_blocks.specs.Idt as idt
 use Rattle.ev_paths.specs.Ends.{Returns}
 use Rattle.ev_paths.specs.Lines.{HasKernel}
 use Rattle.ev_paths.proofs.Cells.{fred_cells, idt_cells}
 use Rattle.ev_paths.proofs.FredEnds.{fred_returns}
 use Rattle.ev_paths.proofs.IdtEnds.{idt_returns}
-use Rattle.ev_return.specs.Returns.{LeadsBack, Restores, IretWords, EretuWords}
-use Rattle.ev_return.proofs.ByReturn.{iret_returns, sysret_returns, eretu_returns}
+use Rattle.ev_return.specs.Returns.{LeadsBack, Restores, IretWords, EretuWords, EretsWords}
+use Rattle.ev_return.proofs.ByReturn.{iret_returns, sysret_returns, eretu_returns, erets_returns}
 use Rattle.ev_activation.specs.Seat.{Kind, Seat}
 use Rattle.ev_user.specs.Tasks.{RunsTask}
 use Rattle.ev_refine.proofs.Bodies.{at_code}
-use Rattle.ev_refine.specs.Active.{Saved, Matches, here, level_in}
+use Rattle.ev_refine.specs.Active.{IsKernelSs, Saved, SavedBody, Matches, here, level_in}
 
 -- the processor c stands at a visible return that is no NMI's, and that leads back to w
 pub record Exits (code : Code) (c : Processor) (m : Memory) (w : Processor) : Type 0 where
@@ -208,3 +210,110 @@ module _ (image : Image) (p : ℕ) (hp : p < 32) (κ : Kind) (σ : Seat) (q : �
   idt_exits BySysret k r level saved_is same at = sysret_exits k r level saved_is same at
   idt_exits ByOtherRip k r level saved_is same at = iret_exits _ _ idt_returns.to_task_by_rip k r level saved_is at
   idt_exits ByOtherFlags k r level saved_is same at = iret_exits _ _ idt_returns.to_task_by_flags k r level saved_is at
+
+-- ---- to a body
+
+module _ (p : ℕ) (hp : p < 32) (κ : Kind) (σ : Seat) (w : Processor) (kss : ℕ) (extra v : ℕ → ℕ) (f : Flags) (mode : Mode) (image : Image)
+    (saved_is : SavedBody mode image (here mode p κ σ kss w extra v f) w) where
+  abbrev be : Env
+  be = here mode p κ σ kss w extra v f
+
+  body_regs : map (eval be) (registers_of saved frame_rsp) ≡ w.regs
+  unfolding eval
+  body_regs = sym saved_is.regs
+
+  body_restores : Restores be w (registers_of saved frame_rsp) frame_rip frame_flags (P gs_tag 0) other_gs gs_selector level_rsp
+  unfolding eval
+  body_restores = record {
+    regs_are = body_regs;
+    rip_is = saved_is.rip;
+    canonical = saved_is.canonical;
+    flags_are = ap modelled saved_is.flags ∙ saved_is.whole;
+    base_is = (let h : (pcpu p + 0) % M ≡ pcpu p = omega arith in h) ∙ sym saved_is.base;
+    other_is = saved_is.gs;
+    chosen_is = saved_is.chosen;
+    levels_are = ap (λ n. n ∷ drop 1 w.msrs.rsp) saved_is.level ∙ sym (levels_split w.msrs.rsp saved_is.levels);
+  }
+
+  -- the kernel's own ring, and the stack segment that stands
+  body_rest : level_in mode κ w ≡ w.level → record (be.rest) { cpl = w.cpl; cs = w.cs; ss = w.ss } ≡ untracked w
+  body_rest level = λ i. record (untracked w) { level = level i }
+
+  taken : IsKernelSs Idt w.ss → idt_delivery.is_return w.cs w.ss ≡ true
+  taken ss_is = ap (λ n. idt_delivery.is_return n w.ss) saved_is.ring.1 ∙ by_ss ss_is
+    where
+      by_ss : IsKernelSs Idt w.ss → idt_delivery.is_return 0x10 w.ss ≡ true
+      by_ss (inl h) = ap (idt_delivery.is_return 0x10) h
+      by_ss (inr h) = ap (idt_delivery.is_return 0x10) h
+
+  body_iret : level_in mode κ w ≡ w.level → IsKernelSs Idt w.ss → IretWords be w frame_cs frame_ss
+  unfolding eval
+  body_iret level ss_is = record {
+    cs_is = saved_is.cs ∙ sym saved_is.ring.1;
+    ss_is = saved_is.ss;
+    taken = taken ss_is;
+    ring = saved_is.ring.0 ∙ sym (ap (λ n. if n == 0x33 then 3 else 0) saved_is.ring.1);
+    unblocked = saved_is.unblocked;
+    rest = body_rest level;
+  }
+
+  body_erets : nat_le w.level (level_in mode κ w) ≡ true → EretsWords be w frame_cs frame_ss
+  unfolding eval
+  body_erets lower = record {
+    cs_is = saved_is.cs;
+    level_is = saved_is.stack_level;
+    lower = lower;
+    blocked = saved_is.sti ∙ sym saved_is.unblocked;
+    rest = (λ i. record (untracked w) { cpl = sym saved_is.ring.0 i; cs = sym saved_is.ring.1 i; ss = saved_is.same_ss i; level = w.level });
+  }
+
+module _ (p : ℕ) (hp : p < 32) (κ : Kind) (σ : Seat) (w : Processor) (kss : ℕ) (extra v : ℕ → ℕ) (f : Flags) (code : Code) (c : Processor) (m : Memory)
+    (open_to : c.nmi_blocked ≡ false) (image : Image) where
+  pub fred_exits_to_body : HasKernel Fred code → has_fred w ≡ true → level_in Fred κ w ≡ w.level
+      → SavedBody Fred image (here Fred p κ σ kss w extra v f) w
+      → At code (fred_block (fred.Leaves FredToKernel)) (fred_block (fred.Leaves FredToKernel)).steps (here Fred p κ σ kss w extra v f) c m → Exits code c m w
+  unfolding eval is_return shown_always
+  fred_exits_to_body k fred_on level saved_is at =
+      let e : Env = here Fred p κ σ kss w extra v f in
+      let b : Block = fred_block (fred.Leaves FredToKernel) in
+      let z = fred_returns.to_kernel in
+      let a : Agrees e b.ground _ c m = at_end code b b.steps _ z.runs e c m at in
+      let back = erets_returns e b.ground b _ erets_place c m w saved top_tag (M - 0x40) frame_rip frame_cs frame_flags frame_rsp frame_ss (P gs_tag 0)
+      other_gs gs_selector level_rsp z a refl fred_on
+      (body_restores p hp κ σ w kss extra v f Fred image saved_is)
+      (body_erets p hp κ σ w kss extra v f Fred image saved_is (ap (nat_le w.level) level ∙ le-leb w.level w.level (omega arith))) in
+      record {
+        ins = Erets;
+        next = erets_place + 4;
+        place = erets_place;
+        rip = a.rip ∙ ap (addr e) z.rip ∙ at_code e erets_place refl refl;
+        cell = (fred_cells code k).erets;
+        is = refl;
+        outside = refl;
+        unlike = refl;
+        silent = λ n depth d words. refl;
+        back = subst (λ b. LeadsBack c m Erets w (b && not (bit 18 (v 21)))) open_to back;
+      }
+
+  pub idt_exits_to_body : HasKernel Idt code → IsKernelSs Idt w.ss → level_in Idt κ w ≡ w.level → SavedBody Idt image (here Idt p κ σ kss w extra v f) w
+      → At code (idt_block (idt.Leaves IdtToKernel)) (idt_block (idt.Leaves IdtToKernel)).steps (here Idt p κ σ kss w extra v f) c m → Exits code c m w
+  unfolding eval is_return shown_always
+  idt_exits_to_body k ss_is level saved_is at =
+      let e : Env = here Idt p κ σ kss w extra v f in
+      let b : Block = idt_block (idt.Leaves IdtToKernel) in
+      let z = idt_returns.to_kernel in
+      let a : Agrees e b.ground _ c m = at_end code b b.steps _ z.runs e c m at in
+      record {
+        ins = Iretq;
+        next = iretq_place + 2;
+        place = iretq_place;
+        rip = a.rip ∙ ap (addr e) z.rip ∙ at_code e iretq_place refl refl;
+        cell = (idt_cells code k).iretq;
+        is = refl;
+        outside = refl;
+        unlike = refl;
+        silent = λ n depth d words. refl;
+        back = iret_returns e b.ground b _ iretq_place c m w saved top_tag (M - 0x28) frame_rip frame_cs frame_flags frame_rsp frame_ss (P gs_tag 0) other_gs
+            gs_selector level_rsp z a refl (body_restores p hp κ σ w kss extra v f Idt image saved_is)
+            (body_iret p hp κ σ w kss extra v f Idt image saved_is level ss_is);
+      }

@@ -1,4 +1,4 @@
--- The spots at which activations over a task stand: their windows, where their blocks end, and that none lies in REPEAT.
+-- The spots at which activations stand that are no NMI's: their windows, where their blocks end, and that none lies in REPEAT.
 use Rattle.std.proofs.Common.{◌≡◌, ℕ, ◌+◌, ◌≤◌, arith, Bool, true, false, not, ◌&&◌, List, [], ◌∷◌, Some, refl}
 use Rattle.std.specs.Prelude.{◌==◌, nat_lt, nat_le}
 use Rattle.ev_isa.specs.Spelling.{spelling, four_bytes}
@@ -17,10 +17,10 @@ use Rattle.ev_symbolic.specs.Names.{stub_tag}
 use Rattle.ev_symbolic.specs.Run.{brun, every}
 use Rattle.ev_symbolic.specs.Agrees.{Env, Code, Stands}
 use Rattle.ev_distances.specs.Form.{Form, OnStack, Stretch, InArea}
-use Rattle.ev_blocks.specs.Shapes.{UserCode, FredFrame, IdtFrame}
-use Rattle.ev_blocks.specs.Fred.{FredWay, ByCall, ByInt3, ByIntN, ByOther, FromUser, FredToTask, fred_block, fred_lines}
+use Rattle.ev_blocks.specs.Shapes.{Origin, UserCode, KernelCode, FredFrame, IdtFrame}
+use Rattle.ev_blocks.specs.Fred.{FredWay, ByCall, ByInt3, ByIntN, ByOther, FromUser, FromKernel, FredToKernel, FredToTask, fred_block, fred_lines}
 use Rattle.ev_blocks.specs.Fred as fred
-use Rattle.ev_blocks.specs.Idt.{IdtReturn, BySysret, ByOtherRip, ByOtherFlags, Stub, Sys, Common, IdtToTask, idt_block, idt_places, sys_lines, common_lines, exit_lines}
+use Rattle.ev_blocks.specs.Idt.{IdtReturn, BySysret, ByOtherRip, ByOtherFlags, Stub, Sys, Common, IdtToKernel, IdtToTask, idt_block, idt_places, sys_lines, common_lines, exit_lines}
 use Rattle.ev_blocks.specs.Idt as idt
 use Rattle.ev_blocks.specs.Items.{AtTable, AtJump, AtItem}
 use Rattle.ev_blocks.specs.Blocks.{Spot, InFred, InIdt, InBody, block, forms, edges}
@@ -33,56 +33,81 @@ use Rattle.ev_concrete.specs.LiveWords.{area_bytes}
 use Rattle.ev_refine.specs.Named.{Named, UserRsp}
 use Rattle.ev_refine.specs.Relation.{body_edges}
 use Rattle.ev_activation.specs.Seat.{plain_room, Kind, SystemCall, FromTask, FromBody, NmiFromTask, NmiFromBody}
-use Rattle.ev_refine.specs.Active.{OverTask, Means}
+use Rattle.ev_refine.specs.Active.{OverTask, OverBody, Means}
 use Rattle.ev_refine.proofs.ModeFacts.{is_fred}
 
 -- ---- which they are
 
-abbrev pub over_task : Mode → Spot → Bool
-over_task Fred (InFred (FromUser way)) = true
-over_task Fred (InFred (fred.Leaves FredToTask)) = true
-over_task Fred (InBody FredFrame AtTable) = true
-over_task Fred (InBody FredFrame AtJump) = true
-over_task Fred (InBody FredFrame AtItem) = true
-over_task Idt (InIdt Sys) = true
-over_task Idt (InIdt (Stub UserCode has v)) = true
-over_task Idt (InIdt (Common UserCode pf)) = true
-over_task Idt (InIdt (idt.Leaves (IdtToTask by))) = true
-over_task Idt (InBody IdtFrame AtTable) = true
-over_task Idt (InBody IdtFrame AtJump) = true
-over_task Idt (InBody IdtFrame AtItem) = true
-over_task mode spot = false
-
-is_over : (mode : Mode) (image : Image) (m : Mode) (spot : Spot) (e : Env) (w : Processor) (b : BodyContext) → OverTask mode image m spot e w b
-    → over_task m spot ≡ true
-is_over mode image Fred (InFred (FromUser way)) e w b h = refl
-is_over mode image Fred (InFred (fred.Leaves FredToTask)) e w b h = refl
-is_over mode image Fred (InBody FredFrame AtTable) e w b h = refl
-is_over mode image Fred (InBody FredFrame AtJump) e w b h = refl
-is_over mode image Fred (InBody FredFrame AtItem) e w b h = refl
-is_over mode image Idt (InIdt Sys) e w b h = refl
-is_over mode image Idt (InIdt (Stub UserCode has v)) e w b h = refl
-is_over mode image Idt (InIdt (Common UserCode pf)) e w b h = refl
-is_over mode image Idt (InIdt (idt.Leaves (IdtToTask by))) e w b h = refl
-is_over mode image Idt (InBody IdtFrame AtTable) e w b h = refl
-is_over mode image Idt (InBody IdtFrame AtJump) e w b h = refl
-is_over mode image Idt (InBody IdtFrame AtItem) e w b h = refl
-is_over mode image m _ e w b h = absurd h
-
-pub means_over : (mode : Mode) (image : Image) (κ : Kind) (spot : Spot) (e : Env) (w : Processor) (b : BodyContext) (m : NatMap ℕ)
-    → Means mode image κ spot e w b m → over_task mode spot ≡ true
-means_over mode image SystemCall spot e w b m h = is_over mode image mode spot e w b h
-means_over mode image FromTask spot e w b m h = is_over mode image mode spot e w b h
-means_over mode image FromBody spot e w b m h = absurd h
-means_over mode image NmiFromTask spot e w b m h = absurd h
-means_over mode image NmiFromBody spot e w b m h = absurd h
-
--- ---- their windows: on the activation's stack or in the processor's area; it writes its stack, and the word for RSP
+abbrev pub is_spot : Mode → Spot → Bool
+is_spot Fred (InFred (FromUser way)) = true
+is_spot Fred (InFred (fred.Leaves FredToTask)) = true
+is_spot Fred (InFred FromKernel) = true
+is_spot Fred (InFred (fred.Leaves FredToKernel)) = true
+is_spot Fred (InBody FredFrame AtTable) = true
+is_spot Fred (InBody FredFrame AtJump) = true
+is_spot Fred (InBody FredFrame AtItem) = true
+is_spot Idt (InIdt Sys) = true
+is_spot Idt (InIdt (Stub UserCode has v)) = true
+is_spot Idt (InIdt (Common UserCode pf)) = true
+is_spot Idt (InIdt (idt.Leaves (IdtToTask by))) = true
+is_spot Idt (InIdt (Stub KernelCode has v)) = true
+is_spot Idt (InIdt (Common KernelCode pf)) = true
+is_spot Idt (InIdt (idt.Leaves IdtToKernel)) = true
+is_spot Idt (InBody IdtFrame AtTable) = true
+is_spot Idt (InBody IdtFrame AtJump) = true
+is_spot Idt (InBody IdtFrame AtItem) = true
+is_spot mode spot = false
 
 -- SYSCALL's entry alone writes the word for RSP
 abbrev pub keeps_rsp : Spot → Bool
 keeps_rsp (InIdt Sys) = true
 keeps_rsp spot = false
+
+over_task : (mode : Mode) (image : Image) (m : Mode) (spot : Spot) (e : Env) (w : Processor) (b : BodyContext) → OverTask mode image m spot e w b
+    → is_spot m spot ≡ true
+over_task mode image Fred (InFred (FromUser way)) e w b h = refl
+over_task mode image Fred (InFred (fred.Leaves FredToTask)) e w b h = refl
+over_task mode image Fred (InBody FredFrame AtTable) e w b h = refl
+over_task mode image Fred (InBody FredFrame AtJump) e w b h = refl
+over_task mode image Fred (InBody FredFrame AtItem) e w b h = refl
+over_task mode image Idt (InIdt Sys) e w b h = refl
+over_task mode image Idt (InIdt (Stub UserCode has v)) e w b h = refl
+over_task mode image Idt (InIdt (Common UserCode pf)) e w b h = refl
+over_task mode image Idt (InIdt (idt.Leaves (IdtToTask by))) e w b h = refl
+over_task mode image Idt (InBody IdtFrame AtTable) e w b h = refl
+over_task mode image Idt (InBody IdtFrame AtJump) e w b h = refl
+over_task mode image Idt (InBody IdtFrame AtItem) e w b h = refl
+over_task mode image m _ e w b h = absurd h
+
+-- none of those over a body is SYSCALL's entry
+over_body : (mode : Mode) (image : Image) (m : Mode) (spot : Spot) (e : Env) (w : Processor) (b : BodyContext) → OverBody mode image m spot e w b
+    → (is_spot m spot ≡ true) × (keeps_rsp spot ≡ false)
+over_body mode image Fred (InFred FromKernel) e w b h = (refl, refl)
+over_body mode image Fred (InFred (fred.Leaves FredToKernel)) e w b h = (refl, refl)
+over_body mode image Fred (InBody FredFrame AtTable) e w b h = (refl, refl)
+over_body mode image Fred (InBody FredFrame AtJump) e w b h = (refl, refl)
+over_body mode image Fred (InBody FredFrame AtItem) e w b h = (refl, refl)
+over_body mode image Idt (InIdt (Stub KernelCode has v)) e w b h = (refl, refl)
+over_body mode image Idt (InIdt (Common KernelCode pf)) e w b h = (refl, refl)
+over_body mode image Idt (InIdt (idt.Leaves IdtToKernel)) e w b h = (refl, refl)
+over_body mode image Idt (InBody IdtFrame AtTable) e w b h = (refl, refl)
+over_body mode image Idt (InBody IdtFrame AtJump) e w b h = (refl, refl)
+over_body mode image Idt (InBody IdtFrame AtItem) e w b h = (refl, refl)
+over_body mode image m _ e w b h = absurd h
+
+pub means_over : (mode : Mode) (image : Image) (κ : Kind) (spot : Spot) (e : Env) (w : Processor) (b : BodyContext) (m : NatMap ℕ)
+    → Means mode image κ spot e w b m → is_spot mode spot ≡ true
+means_over mode image SystemCall spot e w b m h = over_task mode image mode spot e w b h
+means_over mode image FromTask spot e w b m h = over_task mode image mode spot e w b h
+means_over mode image FromBody spot e w b m h = (over_body mode image mode spot e w b h).0
+means_over mode image NmiFromTask spot e w b m h = absurd h
+means_over mode image NmiFromBody spot e w b m h = absurd h
+
+pub body_writes : (mode : Mode) (image : Image) (spot : Spot) (e : Env) (w : Processor) (b : BodyContext) → OverBody mode image mode spot e w b
+    → keeps_rsp spot ≡ false
+body_writes mode image spot e w b h = (over_body mode image mode spot e w b h).1
+
+-- ---- their windows: on the activation's stack or in the processor's area; it writes its stack, and the word for RSP
 
 abbrev pub names_if : Bool → ℕ → List Named
 names_if true p = UserRsp p ∷ []
@@ -121,9 +146,11 @@ pub record HasWindows (mode : Mode) (spot : Spot) : Type 0 where
   pub own : are_plain mode (forms spot).own ≡ true
   pub written : are_written (keeps_rsp spot) (forms spot).own ≡ true
 
-pub has_windows : (mode : Mode) (spot : Spot) → over_task mode spot ≡ true → HasWindows mode spot
+pub has_windows : (mode : Mode) (spot : Spot) → is_spot mode spot ≡ true → HasWindows mode spot
 has_windows Fred (InFred (FromUser way)) h = record { known = refl; own = refl; written = refl }
 has_windows Fred (InFred (fred.Leaves FredToTask)) h = record { known = refl; own = refl; written = refl }
+has_windows Fred (InFred FromKernel) h = record { known = refl; own = refl; written = refl }
+has_windows Fred (InFred (fred.Leaves FredToKernel)) h = record { known = refl; own = refl; written = refl }
 has_windows Fred (InBody FredFrame AtTable) h = record { known = refl; own = refl; written = refl }
 has_windows Fred (InBody FredFrame AtJump) h = record { known = refl; own = refl; written = refl }
 has_windows Fred (InBody FredFrame AtItem) h = record { known = refl; own = refl; written = refl }
@@ -131,18 +158,23 @@ has_windows Idt (InIdt Sys) h = record { known = refl; own = refl; written = ref
 has_windows Idt (InIdt (Stub UserCode has v)) h = record { known = refl; own = refl; written = refl }
 has_windows Idt (InIdt (Common UserCode pf)) h = record { known = refl; own = refl; written = refl }
 has_windows Idt (InIdt (idt.Leaves (IdtToTask by))) h = record { known = refl; own = refl; written = refl }
+has_windows Idt (InIdt (Stub KernelCode has v)) h = record { known = refl; own = refl; written = refl }
+has_windows Idt (InIdt (Common KernelCode pf)) h = record { known = refl; own = refl; written = refl }
+has_windows Idt (InIdt (idt.Leaves IdtToKernel)) h = record { known = refl; own = refl; written = refl }
 has_windows Idt (InBody IdtFrame AtTable) h = record { known = refl; own = refl; written = refl }
 has_windows Idt (InBody IdtFrame AtJump) h = record { known = refl; own = refl; written = refl }
 has_windows Idt (InBody IdtFrame AtItem) h = record { known = refl; own = refl; written = refl }
 has_windows mode _ h = let clash : false ≡ true = h in absurd (cc)
 
 -- few edges are left at each
-pub few_edges : (mode : Mode) (image : Image) (spot : Spot) → over_task mode spot ≡ true → (k : ℕ) → edges mode spot k ≤ body_edges mode image
+pub few_edges : (mode : Mode) (image : Image) (spot : Spot) → is_spot mode spot ≡ true → (k : ℕ) → edges mode spot k ≤ body_edges mode image
 few_edges Fred image (InFred (FromUser ByCall)) h k = omega arith
 few_edges Fred image (InFred (FromUser ByInt3)) h k = omega arith
 few_edges Fred image (InFred (FromUser ByIntN)) h k = omega arith
 few_edges Fred image (InFred (FromUser ByOther)) h k = omega arith
 few_edges Fred image (InFred (fred.Leaves FredToTask)) h k = omega arith
+few_edges Fred image (InFred FromKernel) h k = omega arith
+few_edges Fred image (InFred (fred.Leaves FredToKernel)) h k = omega arith
 few_edges Fred image (InBody FredFrame AtTable) h k = omega arith
 few_edges Fred image (InBody FredFrame AtJump) h k = omega arith
 few_edges Fred image (InBody FredFrame AtItem) h k = omega arith
@@ -154,6 +186,11 @@ few_edges Idt image (InIdt (Common UserCode false)) h k = omega arith
 few_edges Idt image (InIdt (idt.Leaves (IdtToTask BySysret))) h k = omega arith
 few_edges Idt image (InIdt (idt.Leaves (IdtToTask ByOtherRip))) h k = omega arith
 few_edges Idt image (InIdt (idt.Leaves (IdtToTask ByOtherFlags))) h k = omega arith
+few_edges Idt image (InIdt (Stub KernelCode true v)) h k = omega arith
+few_edges Idt image (InIdt (Stub KernelCode false v)) h k = omega arith
+few_edges Idt image (InIdt (Common KernelCode true)) h k = omega arith
+few_edges Idt image (InIdt (Common KernelCode false)) h k = omega arith
+few_edges Idt image (InIdt (idt.Leaves IdtToKernel)) h k = omega arith
 few_edges Idt image (InBody IdtFrame AtTable) h k = omega arith
 few_edges Idt image (InBody IdtFrame AtJump) h k = omega arith
 few_edges Idt image (InBody IdtFrame AtItem) h k = omega arith
@@ -161,9 +198,11 @@ few_edges mode image _ h k = let clash : false ≡ true = h in absurd (cc)
 
 -- ---- none switches to another task
 
-pub never_switches : (mode : Mode) (spot : Spot) → over_task mode spot ≡ true → blocks.switches spot ≡ false
+pub never_switches : (mode : Mode) (spot : Spot) → is_spot mode spot ≡ true → blocks.switches spot ≡ false
 never_switches Fred (InFred (FromUser way)) h = refl
 never_switches Fred (InFred (fred.Leaves FredToTask)) h = refl
+never_switches Fred (InFred FromKernel) h = refl
+never_switches Fred (InFred (fred.Leaves FredToKernel)) h = refl
 never_switches Fred (InBody FredFrame AtTable) h = refl
 never_switches Fred (InBody FredFrame AtJump) h = refl
 never_switches Fred (InBody FredFrame AtItem) h = refl
@@ -171,6 +210,9 @@ never_switches Idt (InIdt Sys) h = refl
 never_switches Idt (InIdt (Stub UserCode has v)) h = refl
 never_switches Idt (InIdt (Common UserCode pf)) h = refl
 never_switches Idt (InIdt (idt.Leaves (IdtToTask by))) h = refl
+never_switches Idt (InIdt (Stub KernelCode has v)) h = refl
+never_switches Idt (InIdt (Common KernelCode pf)) h = refl
+never_switches Idt (InIdt (idt.Leaves IdtToKernel)) h = refl
 never_switches Idt (InBody IdtFrame AtTable) h = refl
 never_switches Idt (InBody IdtFrame AtJump) h = refl
 never_switches Idt (InBody IdtFrame AtItem) h = refl
@@ -183,9 +225,11 @@ pub record HasGround (mode : Mode) (spot : Spot) : Type 0 where
   pub descriptors : (block mode spot).ground.descriptors ≡ []
   pub tops : (block mode spot).ground.tops ≡ []
 
-pub has_ground : (mode : Mode) (spot : Spot) → over_task mode spot ≡ true → HasGround mode spot
+pub has_ground : (mode : Mode) (spot : Spot) → is_spot mode spot ≡ true → HasGround mode spot
 has_ground Fred (InFred (FromUser way)) h = record { fred = refl; descriptors = refl; tops = refl }
 has_ground Fred (InFred (fred.Leaves FredToTask)) h = record { fred = refl; descriptors = refl; tops = refl }
+has_ground Fred (InFred FromKernel) h = record { fred = refl; descriptors = refl; tops = refl }
+has_ground Fred (InFred (fred.Leaves FredToKernel)) h = record { fred = refl; descriptors = refl; tops = refl }
 has_ground Fred (InBody FredFrame AtTable) h = record { fred = refl; descriptors = refl; tops = refl }
 has_ground Fred (InBody FredFrame AtJump) h = record { fred = refl; descriptors = refl; tops = refl }
 has_ground Fred (InBody FredFrame AtItem) h = record { fred = refl; descriptors = refl; tops = refl }
@@ -193,6 +237,9 @@ has_ground Idt (InIdt Sys) h = record { fred = refl; descriptors = refl; tops = 
 has_ground Idt (InIdt (Stub UserCode has v)) h = record { fred = refl; descriptors = refl; tops = refl }
 has_ground Idt (InIdt (Common UserCode pf)) h = record { fred = refl; descriptors = refl; tops = refl }
 has_ground Idt (InIdt (idt.Leaves (IdtToTask by))) h = record { fred = refl; descriptors = refl; tops = refl }
+has_ground Idt (InIdt (Stub KernelCode has v)) h = record { fred = refl; descriptors = refl; tops = refl }
+has_ground Idt (InIdt (Common KernelCode pf)) h = record { fred = refl; descriptors = refl; tops = refl }
+has_ground Idt (InIdt (idt.Leaves IdtToKernel)) h = record { fred = refl; descriptors = refl; tops = refl }
 has_ground Idt (InBody IdtFrame AtTable) h = record { fred = refl; descriptors = refl; tops = refl }
 has_ground Idt (InBody IdtFrame AtJump) h = record { fred = refl; descriptors = refl; tops = refl }
 has_ground Idt (InBody IdtFrame AtItem) h = record { fred = refl; descriptors = refl; tops = refl }
@@ -203,7 +250,7 @@ abbrev pub IsAtEntry : Spot → Env → Type 0
 IsAtEntry (InIdt s) e = IsAtStub e s
 IsAtEntry s e = Unit {0}
 
-pub lines_stand : (mode : Mode) (code : Code) (e : Env) → e.base 1000 ≡ 0 → HasKernel mode code → (spot : Spot) → over_task mode spot ≡ true
+pub lines_stand : (mode : Mode) (code : Code) (e : Env) → e.base 1000 ≡ 0 → HasKernel mode code → (spot : Spot) → is_spot mode spot ≡ true
     → IsAtEntry spot e → Stands code e (block mode spot).lines
 lines_stand Fred code e z k (InFred s) h at = fred_stand code e z k s
 lines_stand Fred code e z k (InBody FredFrame AtTable) h at = tt
@@ -222,9 +269,11 @@ exit_end BySysret = (_, idt_returns.to_task.runs)
 exit_end ByOtherRip = (_, idt_returns.to_task_by_rip.runs)
 exit_end ByOtherFlags = (_, idt_returns.to_task_by_flags.runs)
 
-pub runs_to_end : (mode : Mode) (spot : Spot) → over_task mode spot ≡ true → (z : SS) × (brun (block mode spot) (block mode spot).steps ≡ Some z)
+pub runs_to_end : (mode : Mode) (spot : Spot) → is_spot mode spot ≡ true → (z : SS) × (brun (block mode spot) (block mode spot).steps ≡ Some z)
 runs_to_end Fred (InFred (FromUser way)) h = (_, (fred_enters.0 way).runs)
 runs_to_end Fred (InFred (fred.Leaves FredToTask)) h = (_, fred_returns.to_task.runs)
+runs_to_end Fred (InFred FromKernel) h = (_, fred_enters.1.runs)
+runs_to_end Fred (InFred (fred.Leaves FredToKernel)) h = (_, fred_returns.to_kernel.runs)
 runs_to_end Fred (InBody FredFrame AtTable) h = (_, refl)
 runs_to_end Fred (InBody FredFrame AtJump) h = (_, refl)
 runs_to_end Fred (InBody FredFrame AtItem) h = (_, refl)
@@ -232,6 +281,9 @@ runs_to_end Idt (InIdt Sys) h = (_, idt_enters.call.runs)
 runs_to_end Idt (InIdt (Stub UserCode has v)) h = (_, (idt_enters.stub UserCode has v (v == 14) refl).runs)
 runs_to_end Idt (InIdt (Common UserCode pf)) h = (_, (idt_enters.common UserCode pf).runs)
 runs_to_end Idt (InIdt (idt.Leaves (IdtToTask by))) h = exit_end by
+runs_to_end Idt (InIdt (Stub KernelCode has v)) h = (_, (idt_enters.stub KernelCode has v (v == 14) refl).runs)
+runs_to_end Idt (InIdt (Common KernelCode pf)) h = (_, (idt_enters.common KernelCode pf).runs)
+runs_to_end Idt (InIdt (idt.Leaves IdtToKernel)) h = (_, idt_returns.to_kernel.runs)
 runs_to_end Idt (InBody IdtFrame AtTable) h = (_, refl)
 runs_to_end Idt (InBody IdtFrame AtJump) h = (_, refl)
 runs_to_end Idt (InBody IdtFrame AtItem) h = (_, refl)
@@ -250,6 +302,14 @@ entry_elsewhere ByInt3 = refl
 entry_elsewhere ByIntN = refl
 entry_elsewhere ByOther = refl
 
+pub kernel_entry_elsewhere : every is_elsewhere (fred_block FromKernel) ≡ true
+unfolding fred_lines fred_listings spelling four_bytes size places distance
+kernel_entry_elsewhere = refl
+
+pub kernel_exit_elsewhere : every is_elsewhere (fred_block (fred.Leaves FredToKernel)) ≡ true
+unfolding fred_lines fred_listings spelling four_bytes size places distance
+kernel_exit_elsewhere = refl
+
 pub fred_exit_elsewhere : every is_elsewhere (fred_block (fred.Leaves FredToTask)) ≡ true
 unfolding fred_lines fred_listings spelling four_bytes size places distance
 fred_exit_elsewhere = refl
@@ -264,16 +324,24 @@ idt_exit_elsewhere BySysret = refl
 idt_exit_elsewhere ByOtherRip = refl
 idt_exit_elsewhere ByOtherFlags = refl
 
-pub common_elsewhere : (pf : Bool) → every is_elsewhere (idt_block (Common UserCode pf)) ≡ true
+pub idt_kernel_exit_elsewhere : every is_elsewhere (idt_block (idt.Leaves IdtToKernel)) ≡ true
+unfolding exit_lines idt_places spelling four_bytes size places distance
+idt_kernel_exit_elsewhere = refl
+
+pub common_elsewhere : (o : Origin) (pf : Bool) → every is_elsewhere (idt_block (Common o pf)) ≡ true
 unfolding common_lines idt_places spelling four_bytes size places distance
-common_elsewhere true = refl
-common_elsewhere false = refl
+common_elsewhere UserCode true = refl
+common_elsewhere UserCode false = refl
+common_elsewhere KernelCode true = refl
+common_elsewhere KernelCode false = refl
 
 -- those of a vector's entry lie in its sixteen bytes
 abbrev pub is_in_stub : SS → Bool
 is_in_stub s = (s.rip.tag == stub_tag) && nat_lt s.rip.off 0x10
 
-pub stub_inside : (has : Bool) (v : ℕ) → every is_in_stub (idt_block (Stub UserCode has v)) ≡ true
+pub stub_inside : (o : Origin) (has : Bool) (v : ℕ) → every is_in_stub (idt_block (Stub o has v)) ≡ true
 unfolding spelling four_bytes
-stub_inside true v = refl
-stub_inside false v = refl
+stub_inside UserCode true v = refl
+stub_inside UserCode false v = refl
+stub_inside KernelCode true v = refl
+stub_inside KernelCode false v = refl

@@ -28,7 +28,7 @@ use Rattle.ev_refine.specs.Nmi.{Frame, Held, IfIdt, FrameIs, Leads}
 use Rattle.ev_refine.specs.Named.{Named, UserRsp, Top, Current, Mark, Port, Head, TssTop, Slot, RecordWord, CellAt, PageBit, UserWord, address_of, is_private, have_none, IsWritten, AreWritten, NoneOf, Outside, NotNamed, UnknownTo, Changes}
 use Rattle.ev_refine.specs.Active.{here, Means, Active}
 use Rattle.ev_refine.specs.Relation.{body_edges, keeps_cr2, chained, switches_at, Chain}
-use Rattle.ev_refine.proofs.Spots.{over_task, means_over, is_plain, are_plain, area_small, has_windows}
+use Rattle.ev_refine.proofs.Spots.{is_spot, means_over, is_plain, are_plain, area_small, has_windows}
 use Rattle.ev_refine.proofs.Fits.{IsSeat, where_at, InSome, known_in}
 use Rattle.ev_refine.proofs.Words.{area_stays, stacks_stay, stack_unnamed}
 use Rattle.ev_refine.proofs.CallKinds.{beneath_as, ArePlain, seat_under, plain_seat}
@@ -90,7 +90,7 @@ module _ (mode : Mode) (image : Image) where
 
   -- an activation in a seat
   at_stays : (q : ℕ) (κ : Kind) (σ : Seat) (ss : ℕ) (w : Processor) (extra v : ℕ → ℕ) (f : Flags) (spot : Spot) (k : ℕ) (c : Processor) (m : Memory)
-      (words : NatMap ℕ) → q < image.processors → image.processors ≤ 8 → IsSeat σ → over_task mode spot ≡ true → Spares mode q σ m.words words
+      (words : NatMap ℕ) → q < image.processors → image.processors ≤ 8 → IsSeat σ → is_spot mode spot ≡ true → Spares mode q σ m.words words
       → At (code_table mode image) (block mode spot) k (here mode q κ σ ss w extra v f) c m
       → At (code_table mode image) (block mode spot) k (here mode q κ σ ss w extra v f) c (with_words m words)
   at_stays q κ σ ss w extra v f spot k c m words hq few hs over spares a =

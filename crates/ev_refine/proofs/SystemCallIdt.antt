@@ -11,9 +11,10 @@ use Rattle.ev_mem.specs.Memory.{Memory}
 use Rattle.ev_apic.specs.declared.apic.Apic.{Apic}
 use Rattle.ev_idt.specs.IdtDelivery.{syscall_idt}
 use Rattle.ev_listing.specs.AddressMap.{stack_top}
-use Rattle.ev_symbolic.specs.Value.{K}
 use Rattle.ev_symbolic.specs.Agrees.{Env, eval, At}
 use Rattle.ev_blocks.specs.Idt.{Sys, idt_block, sys_values}
+use Rattle.ev_symbolic.specs.Join.{env_after}
+use Rattle.ev_blocks.specs.Shapes.{UserCode}
 use Rattle.ev_blocks.specs.Blocks.{InIdt}
 use Rattle.ev_deliver.specs.IdtDelivers.{call_variables, CallSite}
 use Rattle.ev_deliver.proofs.FredDelivers.{listed_is}
@@ -92,7 +93,7 @@ module _ (image : Image) (p n : ℕ) (t : Task) (cr2 body : ℕ) where
     r11_is : get_or entered 11 0 ≡ flags_word t.flags
     r11_is = ap (λ xs. get_or (set (set xs 1 next) 11 (flags_word t.flags)) 11 0) (listed_is t.regs ready.long)
 
-    loads : AtLoad Idt image (λ i. eval env (get_or sys_values i (K 0))) over (raise.context Idt image p n t cr2 Call body)
+    loads : AtLoad Idt image UserCode (env_after env sys_values env.flags) over (raise.context Idt image p n t cr2 Call body)
     unfolding eval
     loads = record {
       key = 0x100;
@@ -145,5 +146,5 @@ module _ (image : Image) (p n : ℕ) (t : Task) (cr2 body : ℕ) where
       changes = λ a off d. refl;
       told = refl;
       saved = rcx_is;
-      safe = λ s only k z. refl;
+      safe = λ s only k z is. refl;
     }

@@ -21,7 +21,9 @@ use Rattle.ev_refine.specs.Claims.{Tells}
 use Rattle.ev_refine.proofs.Facts.{Facts, HasFixed}
 use Rattle.ev_refine.proofs.ModeFacts.{is_fred}
 use Rattle.ev_refine.proofs.Depth.{stands_depth}
-use Rattle.ev_refine.proofs.Chains.{Kept, chain_kept, chain_few}
+use Rattle.ev_refine.proofs.Chains.{Kept, chain_kept}
+use Rattle.ev_refine.proofs.Legality.{legal_few}
+use Rattle.ev_abstract.specs.Accepted.{IsAccepted}
 use Rattle.ev_refine.proofs.After.{as_chain}
 
 module _ (mode : Mode) (image : Image) where
@@ -51,9 +53,9 @@ module _ (mode : Mode) (image : Image) where
         returning = same;
       }
 
-  pub stands_tells : IsImage image → Facts mode image → (left : NatMap ℕ) (s : System) (m : Machine) → Stands mode image left s m → (p : ℕ)
+  pub stands_tells : IsImage image → IsAccepted image → Facts mode image → (left : NatMap ℕ) (s : System) (m : Machine) → Stands mode image left s m → (p : ℕ)
       → p < image.processors → Tells mode image s m p
-  stands_tells given facts left s m r p lt =
+  stands_tells given accepted facts left s m r p lt =
       let on = r.each p lt in
       let chain = as_chain mode image on.layer p on.own on.more on.returning ((processor m p).tasks on.returning) on.frame on.switching
       (processor m p).bodies (s.activations p) (s.cpus p) s.memory on.runs in
@@ -63,7 +65,7 @@ module _ (mode : Mode) (image : Image) where
         entries = record { tables = tables mode refl given p lt (s.cpus p) s.memory kept r.regions_are r.fixed };
         in_code = facts.in_code s.memory r.regions_are (s.cpus p);
         depth = stands_depth mode image facts p (left p) s (processor m p) on;
-        few = chain_few mode image p on.own _ _ _ _ (processor m p).bodies _ (s.cpus p) s.memory chain;
+        few = legal_few image given accepted m p r.legal;
         running = on.running;
         waiting = on.waiting;
         regs = λ h. ap (λ c. c.regs) (rest h).task.is;

@@ -9,9 +9,13 @@ use Rattle.ev_effect.specs.Frame.{addresses}
 use Rattle.ev_effect.specs.Task.{Task}
 use Rattle.ev_listing.specs.AddressMap.{pcpu, stack_top, stack_bytes}
 use Rattle.ev_activation.specs.Seat.{Seat, top_at}
-use Rattle.ev_refine.specs.Relation.{IsFixed, InText, InTables, InTasks, InCode}
+use Rattle.ev_refine.specs.Relation.{IsUnwritten, IsFixed, InText, InTables, InTasks, InCode, InArea}
 use Rattle.ev_refine.specs.Tasks.{IsSaved}
 use Rattle.ev_refine.specs.Named.{Named, UserRsp, Top, Current, Mark, Port, Head, TssTop, Slot, RecordWord, CellAt, PageBit, UserWord, address_of, owner, IsName, IsWritten, Outside, NotNamed, AreWritten, NoneOf, Changes}
+
+-- the words of areas that nothing writes lie at the areas' beginnings
+unwritten_low : (o : ℕ) → IsUnwritten o → o < 0x40
+unwritten_low o u = ⊎_elim (λ e. omega arith) (λ e. omega arith) u
 
 -- ---- no name lies on a stack
 
@@ -42,6 +46,7 @@ module _ (p : ℕ) (σ : Seat) (hp : p < 32) (hs : σ.stack < 7) where
   fixed_off_stack a (InTables h k) = inl (omega arith)
   fixed_off_stack a (InTasks h k) = inl (omega arith)
   fixed_off_stack a (InCode h) = inr (omega arith)
+  fixed_off_stack a (InArea q o hq u e) = let l = unwritten_low o u in inl (omega arith)
 
 -- ---- where names lie: in the areas, in the page map and the cells, or in the data pages
 
@@ -64,24 +69,73 @@ ranged (CellAt k) h = InMaps (omega arith) (omega arith)
 ranged (PageBit i) h = InMaps (omega arith) (omega arith)
 ranged (UserWord a) h = let b = h.1 in InPages h.0 (omega arith)
 
+-- ---- words of areas
+
+three_orders : (p q : ℕ) → (p < q) ⊎ ((p ≡ q) ⊎ (q < p))
+three_orders p q = ⊎_elim (λ x. ⊎_elim (λ y. inr (inl y.1)) (λ y. inl (strict y.1 x.1)) (eqb_tells p q))
+    (λ x. inr (inr (let y = x.1 in omega arith))) (leb_tells p q)
+  where
+    strict : (p ≡ q → ⊥) → p ≤ q → p < q
+    strict n l = ⊎_elim (λ x. absurd (n (let z = x.1 in omega arith))) (λ x. let z = x.1 in omega arith) (leb_tells q p)
+
+-- the word at an offset of an area, and an address at another one
+pub area_word : (p q o o' : ℕ) → o + 8 ≤ 0x10000 → o' < 0x10000 → (o' < o) ⊎ (o + 8 ≤ o') → Outside (pcpu p + o) (pcpu p + o + 8) (pcpu q + o')
+area_word p q o o' h k d = go (three_orders p q)
+  where
+    here : p ≡ q → (o' < o) ⊎ (o + 8 ≤ o') → Outside (pcpu p + o) (pcpu p + o + 8) (pcpu q + o')
+    here e (inl l) = inl (omega arith)
+    here e (inr l) = inr (omega arith)
+
+    go : (p < q) ⊎ ((p ≡ q) ⊎ (q < p)) → Outside (pcpu p + o) (pcpu p + o + 8) (pcpu q + o')
+    go (inl l) = inr (omega arith)
+    go (inr (inl e)) = here e d
+    go (inr (inr l)) = inl (omega arith)
+
+low_area : (o : ℕ) → IsUnwritten o → o < 0x10000
+low_area o u = let l = unwritten_low o u in omega arith
+
+-- a word of an area that nothing writes is none of a name's
+unwritten_outside : (x : Named) → IsWritten x → (q o : ℕ) → q < 32 → IsUnwritten o → Outside (address_of x) (address_of x + 8) (pcpu q + o)
+unwritten_outside (UserRsp p) w q o hq u = area_word p q 8 o (omega arith) (low_area o u) (⊎_elim (λ e. inl (omega arith)) (λ e. inr (omega arith)) u)
+unwritten_outside (Top p) w q o hq u = area_word p q 0x10 o (omega arith) (low_area o u) (⊎_elim (λ e. inl (omega arith)) (λ e. inr (omega arith)) u)
+unwritten_outside (Current p) w q o hq u =
+    area_word p q 0x18 o (omega arith) (low_area o u) (⊎_elim (λ e. inl (omega arith)) (λ e. inr (omega arith)) u)
+unwritten_outside (Mark p) w q o hq u = area_word p q 0x20 o (omega arith) (low_area o u) (⊎_elim (λ e. inl (omega arith)) (λ e. inr (omega arith)) u)
+unwritten_outside (Port p) w q o hq u = area_word p q 0x28 o (omega arith) (low_area o u) (⊎_elim (λ e. inl (omega arith)) (λ e. inr (omega arith)) u)
+unwritten_outside (Head p) w q o hq u = area_word p q 0x30 o (omega arith) (low_area o u) (⊎_elim (λ e. inl (omega arith)) (λ e. inr (omega arith)) u)
+unwritten_outside (TssTop p) w q o hq u = area_word p q 0x408 o (omega arith) (low_area o u) (let l = unwritten_low o u in inl (omega arith))
+unwritten_outside (Slot p k) w q o hq u =
+    let b = w.1 in let l = unwritten_low o u in area_word p q (0x200 + 8 * k) o (omega arith) (low_area o u) (inl (omega arith))
+unwritten_outside (RecordWord p k n) w q o hq u =
+    let b = w.1 in let d = w.2 in let l = unwritten_low o u in
+    subst (λ y. Outside y (y + 8) (pcpu q + o)) (let e : pcpu p + (0x800 + 0x40 * k + n) ≡ pcpu p + 0x800 + 0x40 * k + n = omega arith in e)
+    (area_word p q (0x800 + 0x40 * k + n) o (omega arith) (low_area o u) (inl (omega arith)))
+unwritten_outside (CellAt k) w q o hq u = let l = unwritten_low o u in inl (omega arith)
+unwritten_outside (PageBit i) w q o hq u = let l = unwritten_low o u in inl (omega arith)
+unwritten_outside (UserWord b) w q o hq u = let c = w.1 in inr (omega arith)
+
 -- what nothing writes has no name that is written
-fixed_outside : (x a : ℕ) → Ranged x → IsFixed a → Outside x (x + 8) a
-fixed_outside x a (InAreas b c) (InText h k) = inl (omega arith)
-fixed_outside x a (InAreas b c) (InTables h k) = inr (omega arith)
-fixed_outside x a (InAreas b c) (InTasks h k) = inr (omega arith)
-fixed_outside x a (InAreas b c) (InCode h) = inr (omega arith)
-fixed_outside x a (InMaps b c) (InText h k) = inl (omega arith)
-fixed_outside x a (InMaps b c) (InTables h k) = inl (omega arith)
-fixed_outside x a (InMaps b c) (InTasks h k) = inr (omega arith)
-fixed_outside x a (InMaps b c) (InCode h) = inr (omega arith)
-fixed_outside x a (InPages b c) (InText h k) = inl (omega arith)
-fixed_outside x a (InPages b c) (InTables h k) = inr (omega arith)
-fixed_outside x a (InPages b c) (InTasks h k) = inr (omega arith)
-fixed_outside x a (InPages b c) (InCode h) = inr (omega arith)
+fixed_outside : (x : Named) → IsWritten x → (a : ℕ) → IsFixed a → Outside (address_of x) (address_of x + 8) a
+fixed_outside x w a f = below (ranged x w) f
+  where
+    below : Ranged (address_of x) → IsFixed a → Outside (address_of x) (address_of x + 8) a
+    below (InAreas b c) (InText h k) = inl (omega arith)
+    below (InAreas b c) (InTables h k) = inr (omega arith)
+    below (InAreas b c) (InTasks h k) = inr (omega arith)
+    below (InAreas b c) (InCode h) = inr (omega arith)
+    below (InMaps b c) (InText h k) = inl (omega arith)
+    below (InMaps b c) (InTables h k) = inl (omega arith)
+    below (InMaps b c) (InTasks h k) = inr (omega arith)
+    below (InMaps b c) (InCode h) = inr (omega arith)
+    below (InPages b c) (InText h k) = inl (omega arith)
+    below (InPages b c) (InTables h k) = inr (omega arith)
+    below (InPages b c) (InTasks h k) = inr (omega arith)
+    below (InPages b c) (InCode h) = inr (omega arith)
+    below r (InArea q o hq u e) = subst (Outside (address_of x) (address_of x + 8)) (sym e) (unwritten_outside x w q o hq u)
 
 fixed_unnamed : (names : List Named) → AreWritten names → (a : ℕ) → IsFixed a → NotNamed names a
 fixed_unnamed [] w a f = tt
-fixed_unnamed (x ∷ xs) w a f = (fixed_outside (address_of x) a (ranged x w.0) f, fixed_unnamed xs w.1 a f)
+fixed_unnamed (x ∷ xs) w a f = (fixed_outside x w.0 a f, fixed_unnamed xs w.1 a f)
 
 -- words of stacks have no name
 stack_outside : (x a : ℕ) → Ranged x → 0xffffc90000000000 ≤ a → Outside x (x + 8) a

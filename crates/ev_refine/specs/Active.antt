@@ -1,34 +1,37 @@
 -- Activations: at an instruction of a block, over the processor to which they will return; and what the variables of blocks are. Own.
-use Rattle.std.specs.Prelude.{◌≡◌, ◌⊎◌, ℕ, ◌+◌, ◌*◌, ◌≤◌, Bool, ◌==◌, if◌then◌else◌, [], ◌∷◌, length, get_or, slice_get, Option, Some, None}
-use Rattle.ev_isa.specs.Word.{NatMap, bit}
-use Rattle.ev_isa.specs.Flags.{Status, Flags}
+use Rattle.std.specs.Prelude.{◌≡◌, ◌⊎◌, ℕ, ◌+◌, ◌*◌, ◌/◌, ◌%◌, ◌^◌, ◌≤◌, Bool, true, false, ◌==◌, if◌then◌else◌, [], ◌∷◌, length, get_or, slice_get, Option, Some, None}
+use Rattle.ev_isa.specs.Word.{NatMap, bit, is_canonical}
+use Rattle.ev_isa.specs.Flags.{Status, Flags, modelled}
 use Rattle.ev_isa.specs.declared.mode.Mode.{Mode}
 use Rattle.ev_isa.specs.declared.mode.Mode.TheVariants.{Idt, Fred}
 use Rattle.ev_body.specs.declared.item.Item.TheVariants.{Ret}
-use Rattle.ev_body.specs.declared.key.Side.TheVariants.{User}
+use Rattle.ev_body.specs.declared.key.Side.{Side}
+use Rattle.ev_body.specs.declared.key.Side.TheVariants.{User, Kernel}
 use Rattle.ev_body.specs.declared.body.Body.{Body}
 use Rattle.ev_body.specs.declared.image.Image.{Image}
 use Rattle.ev_body.specs.Bodies.{first_body}
-use Rattle.ev_state.specs.Processor.{Processor, selector}
+use Rattle.ev_state.specs.Processor.{Processor, rsp, selector}
+use Rattle.ev_symbolic.specs.State.{top_tag}
 use Rattle.ev_mem.specs.Memory.{Memory}
-use Rattle.ev_listing.specs.AddressMap.{pcpu, user_table, body_code}
+use Rattle.ev_listing.specs.AddressMap.{pcpu, body_code}
 use Rattle.ev_listing.specs.Expansion.{item_address}
 use Rattle.ev_abstract.specs.Context.{BodyContext}
 use Rattle.ev_abstract.specs.Run.{item_at}
 use Rattle.ev_symbolic.specs.Agrees.{Env, untracked, At}
 use Rattle.ev_symbolic.specs.Join.{env_after}
 use Rattle.ev_symbolic.specs.Names.{item_tag}
+use Rattle.ev_symbolic.specs.Openings.{gs_tag}
 use Rattle.ev_table.specs.Table.{code_table}
-use Rattle.ev_blocks.specs.Shapes.{UserCode, FredFrame, IdtFrame}
-use Rattle.ev_blocks.specs.Fred.{FromUser, FredToTask, way_values}
+use Rattle.ev_blocks.specs.Shapes.{Origin, UserCode, KernelCode, FredFrame, IdtFrame}
+use Rattle.ev_blocks.specs.Fred.{FromUser, FromKernel, FredToKernel, FredToTask, way_values, kernel_values}
 use Rattle.ev_blocks.specs.Fred as fred
-use Rattle.ev_blocks.specs.Idt.{IdtReturn, BySysret, Stub, Sys, Common, IdtToTask, stub_values, common_values, sys_values}
+use Rattle.ev_blocks.specs.Idt.{IdtReturn, BySysret, Stub, Sys, Common, IdtToKernel, IdtToTask, table_of, stub_values, common_values, sys_values}
 use Rattle.ev_blocks.specs.Idt as idt
-use Rattle.ev_blocks.specs.Items.{AtTable, AtJump, AtItem}
+use Rattle.ev_blocks.specs.Items.{BodySpot, AtTable, AtJump, AtItem}
 use Rattle.ev_blocks.specs.Blocks.{Spot, InFred, InIdt, InBody, block, edges}
 use Rattle.ev_blocks.specs.Blocks as blocks
 use Rattle.ev_paths.specs.Lines.{IsAtStub}
-use Rattle.ev_activation.specs.Seat.{Kind, SystemCall, FromTask, NmiFromBody, Seat, top_at}
+use Rattle.ev_activation.specs.Seat.{Kind, SystemCall, FromTask, FromBody, NmiFromBody, Seat, top_at}
 use Rattle.ev_refine.specs.Nmi.{Frame, Knows}
 
 -- ---- bases, and what no block tells
@@ -47,9 +50,10 @@ abbrev pub level_in : Mode → Kind → Processor → ℕ
 level_in mode NmiFromBody w = nmi_level mode w
 level_in mode κ w = w.level
 
--- SS of the kernel: that of SYSCALL and of the NMI code, or none
-abbrev pub IsKernelSs : ℕ → Type 0
-IsKernelSs n = (n ≡ 0) ⊎ (n ≡ 0x18)
+-- SS of the kernel: under IDT that of SYSCALL and of the NMI code, or none
+abbrev pub IsKernelSs : Mode → ℕ → Type 0
+IsKernelSs Fred n = n ≡ 0x18
+IsKernelSs Idt n = (n ≡ 0) ⊎ (n ≡ 0x18)
 
 -- what no symbolic state tells of the processor, from the delivery to the return
 abbrev pub rest_in : Mode → Kind → ℕ → Processor → Processor
@@ -79,15 +83,15 @@ module _ (mode : Mode) (image : Image) where
     pub var : ℕ → ℕ
     pub flags : Flags
     pub ss : ℕ
-    pub ss_is : IsKernelSs ss
+    pub ss_is : IsKernelSs mode ss
     pub within : k ≤ (block mode spot).steps
     pub enough : edges mode spot k ≤ left
     pub at : At (code_table mode image) (block mode spot) k (here mode p κ σ ss w extra var flags) c m
     pub long : length c.regs ≡ 16
 
-  -- ---- what a block's variables are, where w is the task's processor to which the activation returns, and b its body's context
+  -- ---- what a block's variables are, where w is the processor to which the activation returns, and b its body's context
 
-  -- The saved area, the frame, the other GS base, the selector and RSP of level 0 give back w.
+  -- Of a task: the saved area, the frame, the other GS base, the selector and RSP of level 0 give back w.
   pub record Saved (v : ℕ → ℕ) (w : Processor) : Type 0 where
     pub regs : w.regs ≡ v 30 ∷ v 31 ∷ v 32 ∷ v 33 ∷ v 20 ∷ v 35 ∷ v 36 ∷ v 37 ∷ v 38 ∷ v 39 ∷ v 40 ∷ v 41 ∷ v 42 ∷ v 43 ∷ v 44 ∷ v 45 ∷ []
     pub rip : v 17 ≡ w.rip
@@ -99,28 +103,61 @@ module _ (mode : Mode) (image : Image) where
     pub chosen : v 61 ≡ w.gs
     pub level : v 63 ≡ get_or w.msrs.rsp 0 0
 
+  -- Of a body, which is at an item: GS is the kernel's and isn't exchanged, SS stays, and the frame lies below RSP. What a return asks of w is said of it
+  -- here.
+  pub record SavedBody (e : Env) (w : Processor) : Type 0 where
+    pub regs : w.regs ≡ e.var 30 ∷ e.var 31 ∷ e.var 32 ∷ e.var 33 ∷ e.var 20 ∷ e.var 35 ∷ e.var 36 ∷ e.var 37 ∷ e.var 38 ∷ e.var 39 ∷ e.var 40
+        ∷ e.var 41 ∷ e.var 42 ∷ e.var 43 ∷ e.var 44 ∷ e.var 45 ∷ []
+    pub rip : e.var 17 ≡ w.rip
+    pub canonical : is_canonical w.rip ≡ true
+    pub cs : selector (e.var 18) ≡ 0x10
+    pub ring : (w.cpl ≡ 0) × (w.cs ≡ 0x10)
+    pub stack_level : e.var 18 / 2 ^ 16 % 4 ≡ w.level
+    pub flags : e.var 19 ≡ w.flags
+    pub whole : modelled w.flags ≡ w.flags
+    pub ss : selector (e.var 21) ≡ w.ss
+    pub same_ss : e.rest.ss ≡ w.ss
+    pub sti : bit 16 (e.var 21) ≡ false
+    pub unblocked : w.sti_blocked ≡ false
+    pub base : w.msrs.gs_base ≡ e.base gs_tag
+    pub gs : e.var 60 ≡ w.msrs.kernel_gs_base
+    pub chosen : e.var 61 ≡ w.gs
+    pub level : e.var 63 ≡ get_or w.msrs.rsp 0 0
+    pub levels : length w.msrs.rsp ≡ 4
+    pub above : e.base top_tag ≤ rsp w
+
+  -- by what the activation's event interrupted
+  abbrev pub SavedOf : Origin → Env → Processor → Type 0
+  SavedOf UserCode e w = Saved e.var w
+  SavedOf KernelCode e w = SavedBody e w
+
+  -- which side its body is of
+  abbrev pub side_by : Origin → Side
+  side_by UserCode = User
+  side_by KernelCode = Kernel
+
   -- the locals are registers 6 to 13
   abbrev pub Locals : (ℕ → ℕ) → BodyContext → Type 0
   Locals v b = b.locals ≡ v 6 ∷ v 7 ∷ v 8 ∷ v 9 ∷ v 10 ∷ v 11 ∷ v 12 ∷ v 13 ∷ []
 
-  -- at the load of the body's address: RAX is the place of the key's word in the table of user events
-  pub record AtLoad (v : ℕ → ℕ) (w : Processor) (b : BodyContext) : Type 0 where
+  -- at the load of the body's address: RAX is the place of the key's word in the table of bodies
+  pub record AtLoad (o : Origin) (e : Env) (w : Processor) (b : BodyContext) : Type 0 where
     pub key : ℕ
     pub small : key ≤ 0x100
-    pub place : v 0 ≡ user_table + 8 * key
-    pub found : first_body 0 image.bodies key User ≡ Some b.body
+    pub place : e.var 0 ≡ table_of o + 8 * key
+    pub found : first_body 0 image.bodies key (side_by o) ≡ Some b.body
     pub begins : b.place ≡ 0
     pub unknown : b.flags ≡ None
-    pub saved : Saved v w
-    pub locals : Locals v b
+    pub saved : SavedOf o e w
+    pub locals : Locals e.var b
 
   -- at the jump to the body: RAX is its address
-  pub record AtStart (v : ℕ → ℕ) (w : Processor) (b : BodyContext) : Type 0 where
-    pub code : v 0 ≡ body_code b.body
+  pub record AtStart (o : Origin) (e : Env) (w : Processor) (b : BodyContext) : Type 0 where
+    pub code : e.var 0 ≡ body_code b.body
     pub begins : b.place ≡ 0
     pub unknown : b.flags ≡ None
-    pub saved : Saved v w
-    pub locals : Locals v b
+    pub saved : SavedOf o e w
+    pub locals : Locals e.var b
 
   -- the status flags are those of the context, where these are known
   abbrev pub FlagsAre : Option Status → Flags → Type 0
@@ -128,14 +165,14 @@ module _ (mode : Mode) (image : Image) where
   FlagsAre (Some s) f = f.status ≡ s
 
   -- at an item: the registers are its locals, and the flags its flags
-  pub record InItem (v : ℕ → ℕ) (f : Flags) (w : Processor) (b : BodyContext) : Type 0 where
-    pub saved : Saved v w
-    pub locals : Locals v b
-    pub flags : FlagsAre b.flags f
+  pub record InItem (o : Origin) (e : Env) (w : Processor) (b : BodyContext) : Type 0 where
+    pub saved : SavedOf o e w
+    pub locals : Locals e.var b
+    pub flags : FlagsAre b.flags e.flags
 
   -- in the exit, behind `ret`
-  pub record Leaving (v : ℕ → ℕ) (w : Processor) (b : BodyContext) : Type 0 where
-    pub saved : Saved v w
+  pub record Leaving (o : Origin) (e : Env) (w : Processor) (b : BodyContext) : Type 0 where
+    pub saved : SavedOf o e w
     pub ret : item_at (slice_get image.bodies b.body) b.place ≡ Some Ret
 
   -- where the exit finds RIP in RCX and RFLAGS in R11, as SYSRETQ takes them
@@ -147,27 +184,43 @@ module _ (mode : Mode) (image : Image) where
   abbrev pub HasPlace : Env → BodyContext → Type 0
   HasPlace e b = e.base item_tag ≡ item_place mode image b.body b.place
 
+  -- at the spots of bodies
+  abbrev pub InSpot : Origin → BodySpot → Env → Processor → BodyContext → Type 0
+  InSpot o AtTable e w b = AtLoad o e w b × HasPlace e b
+  InSpot o AtJump e w b = AtStart o e w b × HasPlace e b
+  InSpot o AtItem e w b = InItem o e w b × HasPlace e b
+  InSpot o s e w b = ⊥
+
   -- of an activation over a task, by its spot; in an entry the variables are told by those of the block behind it
   abbrev pub OverTask : Mode → Spot → Env → Processor → BodyContext → Type 0
-  OverTask Fred (InFred (FromUser way)) e w b = AtLoad (env_after e (way_values way) e.flags).var w b × HasPlace e b
-  OverTask Fred (InFred (fred.Leaves FredToTask)) e w b = Leaving e.var w b
-  OverTask Fred (InBody FredFrame AtTable) e w b = AtLoad e.var w b × HasPlace e b
-  OverTask Fred (InBody FredFrame AtJump) e w b = AtStart e.var w b × HasPlace e b
-  OverTask Fred (InBody FredFrame AtItem) e w b = InItem e.var e.flags w b × HasPlace e b
-  OverTask Idt (InIdt Sys) e w b = AtLoad (env_after e sys_values e.flags).var w b × HasPlace e b
+  OverTask Fred (InFred (FromUser way)) e w b = AtLoad UserCode (env_after e (way_values way) e.flags) w b × HasPlace e b
+  OverTask Fred (InFred (fred.Leaves FredToTask)) e w b = Leaving UserCode e w b
+  OverTask Fred (InBody FredFrame s) e w b = InSpot UserCode s e w b
+  OverTask Idt (InIdt Sys) e w b = AtLoad UserCode (env_after e sys_values e.flags) w b × HasPlace e b
   OverTask Idt (InIdt (Stub UserCode has v)) e w b = IsAtStub e (Stub UserCode has v)
-      × AtLoad (env_after (env_after e (stub_values has v) e.flags) (common_values UserCode (v == 14)) e.flags).var w b × HasPlace e b
-  OverTask Idt (InIdt (Common UserCode pf)) e w b = AtLoad (env_after e (common_values UserCode pf) e.flags).var w b × HasPlace e b
-  OverTask Idt (InIdt (idt.Leaves (IdtToTask by))) e w b = Leaving e.var w b × Matches by e.var
-  OverTask Idt (InBody IdtFrame AtTable) e w b = AtLoad e.var w b × HasPlace e b
-  OverTask Idt (InBody IdtFrame AtJump) e w b = AtStart e.var w b × HasPlace e b
-  OverTask Idt (InBody IdtFrame AtItem) e w b = InItem e.var e.flags w b × HasPlace e b
+      × AtLoad UserCode (env_after (env_after e (stub_values has v) e.flags) (common_values UserCode (v == 14)) e.flags) w b × HasPlace e b
+  OverTask Idt (InIdt (Common UserCode pf)) e w b = AtLoad UserCode (env_after e (common_values UserCode pf) e.flags) w b × HasPlace e b
+  OverTask Idt (InIdt (idt.Leaves (IdtToTask by))) e w b = Leaving UserCode e w b × Matches by e.var
+  OverTask Idt (InBody IdtFrame s) e w b = InSpot UserCode s e w b
   OverTask m spot e w b = ⊥
 
-  -- activations over others' stand at no spot yet
+  -- and of one over a body
+  abbrev pub OverBody : Mode → Spot → Env → Processor → BodyContext → Type 0
+  OverBody Fred (InFred FromKernel) e w b = AtLoad KernelCode (env_after e kernel_values e.flags) w b × HasPlace e b
+  OverBody Fred (InFred (fred.Leaves FredToKernel)) e w b = Leaving KernelCode e w b
+  OverBody Fred (InBody FredFrame s) e w b = InSpot KernelCode s e w b
+  OverBody Idt (InIdt (Stub KernelCode has v)) e w b = IsAtStub e (Stub KernelCode has v)
+      × AtLoad KernelCode (env_after (env_after e (stub_values has v) e.flags) (common_values KernelCode (v == 14)) e.flags) w b × HasPlace e b
+  OverBody Idt (InIdt (Common KernelCode pf)) e w b = AtLoad KernelCode (env_after e (common_values KernelCode pf) e.flags) w b × HasPlace e b
+  OverBody Idt (InIdt (idt.Leaves IdtToKernel)) e w b = Leaving KernelCode e w b
+  OverBody Idt (InBody IdtFrame s) e w b = InSpot KernelCode s e w b
+  OverBody m spot e w b = ⊥
+
+  -- those of NMIs stand at no spot yet
   abbrev pub Means : Kind → Spot → Env → Processor → BodyContext → NatMap ℕ → Type 0
   Means SystemCall spot e w b words = OverTask mode spot e w b
   Means FromTask spot e w b words = OverTask mode spot e w b
+  Means FromBody spot e w b words = OverBody mode spot e w b
   Means κ spot e w b words = ⊥
 
   -- ---- the activation of a context

@@ -2,7 +2,7 @@
 -- The abstract machine's contexts are matched from the last down: an activation stands over the processor that its return restores. What several activations
 -- or
 -- processors read or write stands beside, word by word.
-use Rattle.std.specs.Prelude.{◌≡◌, ◌≢◌, ℕ, suc, ◌+◌, ◌*◌, ◌-◌, ◌/◌, ◌%◌, ◌<◌, ◌≤◌, Bool, true, false, ◌&&◌, ◌==◌, if◌then◌else◌, List, [], ◌∷◌, length, map, reverse, get_or, slice_get, Option, Some, None}
+use Rattle.std.specs.Prelude.{◌≡◌, ◌≢◌, ◌⊎◌, ℕ, suc, ◌+◌, ◌*◌, ◌-◌, ◌/◌, ◌%◌, ◌<◌, ◌≤◌, Bool, true, false, ◌&&◌, ◌==◌, if◌then◌else◌, List, [], ◌∷◌, length, map, reverse, get_or, slice_get, Option, Some, None}
 use Rattle.std.specs.List.{list_any}
 use Rattle.ev_isa.specs.Word.{NatMap, numbers_from}
 use Rattle.ev_isa.specs.Pages.{text_base}
@@ -23,12 +23,14 @@ use Rattle.ev_abstract.specs.Run.{item_at}
 use Rattle.ev_law.specs.Legal.{Legal}
 use Rattle.ev_concrete.specs.Opening.{listings, code_of, opening_word, tasks_of, regions}
 use Rattle.ev_concrete.specs.ConcreteRun.{System, Activation}
+use Rattle.ev_concrete.specs.Depth.{is_in_repeat}
 use Rattle.ev_activation.specs.Seat.{Kind, NmiFromTask, NmiFromBody, kind_of, seat_of}
 use Rattle.ev_user.specs.Tasks.{IsTask, RunsTask}
 use Rattle.ev_refine.specs.Tasks.{IsSaved, CurrentIs}
 use Rattle.ev_refine.specs.Nmi.{Frame, Leads, Layer, Plain, LatchIs, inner_edges}
 use Rattle.ev_user.specs.Sees.{IsUserWord}
 use Rattle.ev_user.specs.Words.{HoldsWords}
+use Rattle.ev_user.specs.Numbers.{HoldsNumbers}
 use Rattle.ev_refine.specs.Active.{Active}
 use Rattle.ev_refine.specs.Domain.{IsInDomain}
 
@@ -36,12 +38,17 @@ use Rattle.ev_refine.specs.Domain.{IsInDomain}
 abbrev pub first_word : Mode → Image → NatMap ℕ
 first_word mode image a = opening_word (code_of (listings mode image)) mode image a
 
--- words that nothing writes: user code, the tables, the tasks' words, and the kernel's code
+-- offsets of words of a processor's area that nothing writes: the processor's number, and the address of its first call record
+abbrev pub IsUnwritten : ℕ → Type 0
+IsUnwritten o = (o ≡ 0) ⊎ (o ≡ 0x38)
+
+-- words that nothing writes: user code, the tables, the tasks' words, the kernel's code, and some of each area
 pub data IsFixed (a : ℕ) : Type 0 where
   InText : text_base ≤ a → a < text_base + 0x10000 → IsFixed a
   InTables : user_table ≤ a → a < idt_base + 0x1000 → IsFixed a
   InTasks : task_words 0 0 ≤ a → a < task_words 0 0 + 0x100 * 32 → IsFixed a
   InCode : fred_page ≤ a → IsFixed a
+  InArea : (p o : ℕ) → p < 32 → IsUnwritten o → a ≡ pcpu p + o → IsFixed a
 
 -- the words of a call record: its number, and whether it is in use, with what is called
 abbrev pub RecordIs : NatMap ℕ → ℕ → CallRecord → CallState → Type 0
@@ -96,11 +103,12 @@ module _ (mode : Mode) (image : Image) where
   chained switching [] = false
   chained switching (b ∷ below) = switching
 
-  -- an activation under another one was interrupted where the processor stands to which that one returns
+  -- An activation under another one was interrupted with the stack to which that one returns; behind INT 3 at the next instruction, so only whether that is in
+  -- REPEAT is told of RIP.
   abbrev pub Interrupted : List BodyContext → Processor → List Activation → Type 0
   Interrupted [] w as' = Unit {0}
   Interrupted (b ∷ below) w [] = ⊥
-  Interrupted (b ∷ below) w (a ∷ as') = (a.rsp ≡ rsp w) × (a.rip ≡ w.rip)
+  Interrupted (b ∷ below) w (a ∷ as') = (a.rsp ≡ rsp w) × (is_in_repeat a.rip ≡ is_in_repeat w.rip)
 
   -- Each context stands on the one before it, and the first on task r, which is t: the running one, or where its exit switches, the next one. Each has an
   -- activation of its own, which isn't an inner NMI's.
@@ -172,5 +180,6 @@ module _ (mode : Mode) (image : Image) where
     pub fixed : (a : ℕ) → IsFixed a → s.memory.words a ≡ first_word mode image a
     pub shares : Shares s m
     pub legal : Legal image m
+    pub numbers : HoldsNumbers m
     pub domain : (p : ℕ) → p < image.processors → IsInDomain (processor m p)
     pub each : (p : ℕ) → p < image.processors → StandsOn p (left p) s (processor m p)

@@ -208,7 +208,7 @@ levels_split (x ∷ xs) h = refl
 
 -- ---- the law of others: what leaves the private windows alone, an NMI or another processor, leaves each activation where it stands
 
-kept : (e : Env) (W : List Win) (m n : NatMap ℕ) → Foreign e W m n → (ws : List Word) → Known e W m ws → Known e W n ws
+pub kept : (e : Env) (W : List Win) (m n : NatMap ℕ) → Foreign e W m n → (ws : List Word) → Known e W m ws → Known e W n ws
 kept e W m n h [] k = tt
 kept e W m n h (w ∷ ws) k = (k.0, h w.at k.0 ∙ k.1, kept e W m n h ws k.2)
 

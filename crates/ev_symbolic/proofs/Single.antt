@@ -1,10 +1,10 @@
 -- Single instructions of the kernel at words to which it has access.
-use Rattle.std.proofs.Common.{◌≡◌, ℕ, Bool, true, false, List, set, Option, Ok, refl, sym, ap, ◌∙◌}
+use Rattle.std.proofs.Common.{◌≡◌, ℕ, Bool, true, false, List, set, Option, None, Ok, refl, sym, ap, ◌∙◌}
 use Rattle.std.specs.Prelude.{◌==◌, if◌then◌else◌}
 use Rattle.ev_isa.specs.Word.{NatMap, put_at, sign_extend, displaced}
 use Rattle.ev_isa.specs.Flags.{Status, flags_of, alu, sum, difference, holds}
 use Rattle.ev_isa.specs.declared.instruction.Ins.{Ins}
-use Rattle.ev_isa.specs.declared.instruction.Ins.TheVariants.{MovImm, MovReg, Load, Store, StoreImm, GsLoad, GsStore, Xchg, Xadd, CmpXchg, Alu, AluImm, Jmp, Jcc, JmpReg, Push, PushImm}
+use Rattle.ev_isa.specs.declared.instruction.Ins.TheVariants.{MovImm, MovReg, Load, Store, StoreImm, GsLoad, GsStore, Xchg, Xadd, CmpXchg, Alu, AluImm, Nop, Jmp, Jcc, JmpReg, Push, PushImm}
 use Rattle.ev_event.specs.declared.event.Event.{Event}
 use Rattle.ev_event.specs.Event.{ss, gp}
 use Rattle.ev_effect.specs.Task.{Task, with_reg}
@@ -14,7 +14,7 @@ use Rattle.ev_mem.specs.Memory.{Memory, view}
 use Rattle.ev_exec.specs.Exec.{Executed, Done, completed, changed, exec}
 use Rattle.ev_proc.specs.ProcessorStep.{ran}
 use Rattle.ev_symbolic.specs.Agrees.{IsOpen}
-use Rattle.ev_symbolic.specs.Single.{IsAt, onward, in_status, Leads, Loads, Stores, StoresNumber, LoadsFromGs, StoresToGs, pushed_at, Pushes, PushesNumber, Exchanges, Adds, Compares, Moves, MovesNumber, Computes, ComputesNumber, Jumps, JumpsTo, Branches, SinglesAreSteps}
+use Rattle.ev_symbolic.specs.Single.{IsAt, onward, in_status, Leads, Loads, Stores, LoadsAllowed, StoresAllowed, StoresNumber, LoadsFromGs, StoresToGs, pushed_at, Pushes, PushesNumber, Exchanges, Adds, Compares, Moves, MovesNumber, Computes, ComputesNumber, Rests, Jumps, JumpsTo, Branches, SinglesAreSteps}
 use Rattle.ev_symbolic.proofs.Words.{accessible}
 use Rattle.ev_symbolic.proofs.Effects.{task, loaded, jumped_if, branched, executes}
 
@@ -37,68 +37,87 @@ module _ (c : Processor) (m : Memory) (next : ℕ) where
       executes c m i next (Done (with_effect (completed c) (in_flags (record (task c next) { regs = regs }) s)) words) h.kernel h.ends hx a nmi
 
   -- a word that is read, and one that is written
-  read : (d x a : ℕ) (bad : Event) → is_user c ≡ false → x ≡ a → IsOpen m.regions a
+  read : (d x a : ℕ) (bad : Event) → x ≡ a → access_event (view m (is_user c)) false bad a ≡ None
       → loaded c next m.words c.regs d x (access_event (view m (is_user c)) false bad x)
       ≡ Done (with_effect (completed c) (record (task c next) { regs = set c.regs d (m.words a) })) m.words
-  read d x a bad hu q o =
+  read d x a bad q o =
       ap (λ y. loaded c next m.words c.regs d y (access_event (view m (is_user c)) false bad y)) q
-      ∙ ap (loaded c next m.words c.regs d a) (accessible m (is_user c) hu false bad a o)
+      ∙ ap (loaded c next m.words c.regs d a) o
 
-  wrote : (t : ℕ → Task) (v : ℕ → ℕ) (x a : ℕ) (bad : Event) → is_user c ≡ false → x ≡ a → IsOpen m.regions a
+  wrote : (t : ℕ → Task) (v : ℕ → ℕ) (x a : ℕ) (bad : Event) → x ≡ a → access_event (view m (is_user c)) true bad a ≡ None
       → written c (t x) m.words x (v x) (access_event (view m (is_user c)) true bad x) ≡ Done (with_effect (completed c) (t a)) (put_at m.words a (v a))
-  wrote t v x a bad hu q o =
+  wrote t v x a bad q o =
       ap (λ y. written c (t y) m.words y (v y) (access_event (view m (is_user c)) true bad y)) q
-      ∙ ap (written c (t a) m.words a (v a)) (accessible m (is_user c) hu true bad a o)
+      ∙ ap (written c (t a) m.words a (v a)) o
+
+  -- the kernel has access to an open word
+  open_to : (write : Bool) (bad : Event) (a : ℕ) → is_user c ≡ false → IsOpen m.regions a → access_event (view m (is_user c)) write bad a ≡ None
+  open_to write bad a hu o = accessible m (is_user c) hu write bad a o
+
+  -- and to one that it may read or write
+  allowed : (write : Bool) (bad : Event) (a : ℕ) → is_user c ≡ false → access_event (view m false) write bad a ≡ None
+      → access_event (view m (is_user c)) write bad a ≡ None
+  allowed write bad a hu o = ap (λ b. access_event (view m b) write bad a) hu ∙ o
 
   -- ---- loads and stores
 
   pub loads : Loads c m next
   unfolding exec effect
-  loads d b n a h q o = finish (Load d b n) h (set c.regs d (m.words a)) next m.words (read d (displaced (register c b) n) a (bad_address b) h.kernel q o)
+  loads d b n a h q o = finish (Load d b n) h (set c.regs d (m.words a)) next m.words (read d (displaced (register c b) n) a (bad_address b) q (open_to false (bad_address b) a h.kernel o))
 
   pub stores : Stores c m next
   unfolding exec effect
   stores b n s a h q o = finish (Store b n s) h c.regs next (put_at m.words a (register c s))
-      (wrote (λ y. task c next) (λ y. register c s) (displaced (register c b) n) a (bad_address b) h.kernel q o)
+      (wrote (λ y. task c next) (λ y. register c s) (displaced (register c b) n) a (bad_address b) q (open_to true (bad_address b) a h.kernel o))
+
+  pub loads_allowed : LoadsAllowed c m next
+  unfolding exec effect
+  loads_allowed d b n a h q o = finish (Load d b n) h (set c.regs d (m.words a)) next m.words
+      (read d (displaced (register c b) n) a (bad_address b) q (allowed false (bad_address b) a h.kernel o))
+
+  pub stores_allowed : StoresAllowed c m next
+  unfolding exec effect
+  stores_allowed b n s a h q o = finish (Store b n s) h c.regs next (put_at m.words a (register c s))
+      (wrote (λ y. task c next) (λ y. register c s) (displaced (register c b) n) a (bad_address b) q (allowed true (bad_address b) a h.kernel o))
 
   pub stores_number : StoresNumber c m next
   unfolding exec effect
   stores_number b n i a h q o = finish (StoreImm b n i) h c.regs next (put_at m.words a (sign_extend i))
-      (wrote (λ y. task c next) (λ y. sign_extend i) (displaced (register c b) n) a (bad_address b) h.kernel q o)
+      (wrote (λ y. task c next) (λ y. sign_extend i) (displaced (register c b) n) a (bad_address b) q (open_to true (bad_address b) a h.kernel o))
 
   pub loads_from_gs : LoadsFromGs c m next
   unfolding exec effect
   loads_from_gs d n a h q o =
-      finish (GsLoad d n) h (set c.regs d (m.words a)) next m.words (read d (displaced c.msrs.gs_base n) a (gp 0) h.kernel q o)
+      finish (GsLoad d n) h (set c.regs d (m.words a)) next m.words (read d (displaced c.msrs.gs_base n) a (gp 0) q (open_to false (gp 0) a h.kernel o))
 
   pub stores_to_gs : StoresToGs c m next
   unfolding exec effect
   stores_to_gs n s a h q o = finish (GsStore n s) h c.regs next (put_at m.words a (register c s))
-      (wrote (λ y. task c next) (λ y. register c s) (displaced c.msrs.gs_base n) a (gp 0) h.kernel q o)
+      (wrote (λ y. task c next) (λ y. register c s) (displaced c.msrs.gs_base n) a (gp 0) q (open_to true (gp 0) a h.kernel o))
 
   pub pushes : Pushes c m next
   unfolding exec effect
   pushes s h o = finish (Push s) h (set c.regs 4 (pushed_at c)) next (put_at m.words (pushed_at c) (register c s))
-      (wrote (λ y. with_reg (task c next) 4 y) (λ y. register c s) (pushed_at c) (pushed_at c) (ss 0) h.kernel refl o)
+      (wrote (λ y. with_reg (task c next) 4 y) (λ y. register c s) (pushed_at c) (pushed_at c) (ss 0) refl (open_to true (ss 0) (pushed_at c) h.kernel o))
 
   pub pushes_number : PushesNumber c m next
   unfolding exec effect
   pushes_number i h o = finish (PushImm i) h (set c.regs 4 (pushed_at c)) next (put_at m.words (pushed_at c) (sign_extend i))
-      (wrote (λ y. with_reg (task c next) 4 y) (λ y. sign_extend i) (pushed_at c) (pushed_at c) (ss 0) h.kernel refl o)
+      (wrote (λ y. with_reg (task c next) 4 y) (λ y. sign_extend i) (pushed_at c) (pushed_at c) (ss 0) refl (open_to true (ss 0) (pushed_at c) h.kernel o))
 
   -- ---- exchanges
 
   pub exchanges : Exchanges c m next
   unfolding exec effect
   exchanges b n s a h q o = finish (Xchg b n s) h (set c.regs s (m.words a)) next (put_at m.words a (register c s))
-      (wrote (λ y. with_reg (task c next) s (m.words y)) (λ y. register c s) (displaced (register c b) n) a (bad_address b) h.kernel q o)
+      (wrote (λ y. with_reg (task c next) s (m.words y)) (λ y. register c s) (displaced (register c b) n) a (bad_address b) q (open_to true (bad_address b) a h.kernel o))
 
   pub adds : Adds c m next
   unfolding exec effect
   adds b n s a h q o =
       finish_status (Xadd b n s) h (set c.regs s (m.words a)) (sum (m.words a) (register c s)).1 (put_at m.words a (sum (m.words a) (register c s)).0)
       (wrote (λ y. in_flags (with_reg (task c next) s (m.words y)) (sum (m.words y) (register c s)).1) (λ y. (sum (m.words y) (register c s)).0)
-      (displaced (register c b) n) a (bad_address b) h.kernel q o)
+      (displaced (register c b) n) a (bad_address b) q (open_to true (bad_address b) a h.kernel o))
 
   -- what `cmpxchg` leaves, by whether RAX is the word
   abbrev compared_as : Bool → ℕ → ℕ → Task × ℕ
@@ -110,7 +129,7 @@ module _ (c : Processor) (m : Memory) (next : ℕ) where
   compares b n s a h q o =
       finish_status (CmpXchg b n s) h _ (difference (register c 0) (m.words a)).1 _
       (wrote (λ y. (compared_as (register c 0 == m.words y) (m.words y) s).0) (λ y. (compared_as (register c 0 == m.words y) (m.words y) s).1)
-      (displaced (register c b) n) a (bad_address b) h.kernel q o
+      (displaced (register c b) n) a (bad_address b) q (open_to true (bad_address b) a h.kernel o)
       ∙ by_test (register c 0 == m.words a))
     where
       by_test : (t : Bool)
@@ -142,6 +161,10 @@ module _ (c : Processor) (m : Memory) (next : ℕ) where
   computes_number op d i h =
       finish_status (AluImm op d i) h (set c.regs d (alu op (register c d) (sign_extend i)).0) (alu op (register c d) (sign_extend i)).1 m.words refl
 
+  pub rests : Rests c m next
+  unfolding exec effect
+  rests h = finish Nop h c.regs next m.words refl
+
   -- ---- jumps
 
   pub jumps : Jumps c m next
@@ -165,6 +188,8 @@ pub singles : SinglesAreSteps
 singles c m next = record {
   loads = loads c m next;
   stores = stores c m next;
+  loads_allowed = loads_allowed c m next;
+  stores_allowed = stores_allowed c m next;
   stores_number = stores_number c m next;
   loads_from_gs = loads_from_gs c m next;
   stores_to_gs = stores_to_gs c m next;
@@ -177,6 +202,7 @@ singles c m next = record {
   moves_number = moves_number c m next;
   computes = computes c m next;
   computes_number = computes_number c m next;
+  rests = rests c m next;
   jumps = jumps c m next;
   jumps_to = jumps_to c m next;
   branches = branches c m next;

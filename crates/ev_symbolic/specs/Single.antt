@@ -1,14 +1,15 @@
 -- Single instructions of the kernel at words to which it has access, over any registers and numbers: what is done by hand between blocks. Own.
-use Rattle.std.specs.Prelude.{◌≡◌, ℤ, ℕ, ◌+◌, ◌-◌, ◌^◌, Bool, true, false, ◌==◌, if◌then◌else◌, List, set, length, Some}
+use Rattle.std.specs.Prelude.{◌≡◌, ℤ, ℕ, ◌+◌, ◌-◌, ◌^◌, Bool, true, false, ◌==◌, if◌then◌else◌, List, set, length, Some, None}
 use Rattle.ev_isa.specs.Word.{NatMap, put_at, wrap, sign_extend, displaced, is_canonical}
 use Rattle.ev_isa.specs.Flags.{Status, flags_of, modelled, alu, sum, difference, holds}
 use Rattle.ev_isa.specs.Spelling.{spelling}
 use Rattle.ev_isa.specs.declared.instruction.AluOp.{AluOp}
 use Rattle.ev_isa.specs.declared.instruction.Cond.{Cond}
 use Rattle.ev_isa.specs.declared.instruction.Ins.{Ins}
-use Rattle.ev_isa.specs.declared.instruction.Ins.TheVariants.{MovImm, MovReg, Load, Store, StoreImm, GsLoad, GsStore, Xchg, Xadd, CmpXchg, Alu, AluImm, Jmp, Jcc, JmpReg, Push, PushImm}
+use Rattle.ev_isa.specs.declared.instruction.Ins.TheVariants.{MovImm, MovReg, Load, Store, StoreImm, GsLoad, GsStore, Xchg, Xadd, CmpXchg, Alu, AluImm, Nop, Jmp, Jcc, JmpReg, Push, PushImm}
 use Rattle.ev_state.specs.Processor.{Processor, is_user, register, with_status}
-use Rattle.ev_mem.specs.Memory.{Memory}
+use Rattle.ev_effect.specs.Effect.{access_event, bad_address}
+use Rattle.ev_mem.specs.Memory.{Memory, view}
 use Rattle.ev_apic.specs.declared.apic.Apic.{Apic}
 use Rattle.ev_proc.specs.ProcessorStep.{executed, ran}
 use Rattle.ev_symbolic.specs.Agrees.{IsOpen}
@@ -42,6 +43,15 @@ Loads c m next = (d b : ℕ) (n : ℤ) (a : ℕ) → IsAt c (Load d b n) next �
 abbrev pub Stores : Processor → Memory → ℕ → Type 0
 Stores c m next = (b : ℕ) (n : ℤ) (s a : ℕ) → IsAt c (Store b n s) next → displaced (register c b) n ≡ a → IsOpen m.regions a
     → Leads c m (Store b n s) (onward c c.regs next) (put_at m.words a (register c s))
+
+-- the same where memory lets the kernel read or write the word, whosever it is
+abbrev pub LoadsAllowed : Processor → Memory → ℕ → Type 0
+LoadsAllowed c m next = (d b : ℕ) (n : ℤ) (a : ℕ) → IsAt c (Load d b n) next → displaced (register c b) n ≡ a
+    → access_event (view m false) false (bad_address b) a ≡ None → Leads c m (Load d b n) (onward c (set c.regs d (m.words a)) next) m.words
+
+abbrev pub StoresAllowed : Processor → Memory → ℕ → Type 0
+StoresAllowed c m next = (b : ℕ) (n : ℤ) (s a : ℕ) → IsAt c (Store b n s) next → displaced (register c b) n ≡ a
+    → access_event (view m false) true (bad_address b) a ≡ None → Leads c m (Store b n s) (onward c c.regs next) (put_at m.words a (register c s))
 
 -- a store of a number
 abbrev pub StoresNumber : Processor → Memory → ℕ → Type 0
@@ -121,6 +131,10 @@ ComputesNumber c m next = (op : AluOp) (d : ℕ) (i : ℤ) → IsAt c (AluImm op
     → Leads c m (AluImm op d i) (in_status (onward c (set c.regs d (alu op (register c d) (sign_extend i)).0) next)
     (alu op (register c d) (sign_extend i)).1) m.words
 
+-- an instruction that does nothing
+abbrev pub Rests : Processor → Memory → ℕ → Type 0
+Rests c m next = IsAt c Nop next → Leads c m Nop (onward c c.regs next) m.words
+
 -- ---- jumps, to canonical addresses; a conditional one by the flags that stand
 
 -- a jump over a distance
@@ -140,6 +154,8 @@ Branches c m next = (k : Cond) (n : ℤ) → IsAt c (Jcc k n) next → is_canoni
 pub record Singles (c : Processor) (m : Memory) (next : ℕ) : Type 0 where
   pub loads : Loads c m next
   pub stores : Stores c m next
+  pub loads_allowed : LoadsAllowed c m next
+  pub stores_allowed : StoresAllowed c m next
   pub stores_number : StoresNumber c m next
   pub loads_from_gs : LoadsFromGs c m next
   pub stores_to_gs : StoresToGs c m next
@@ -152,6 +168,7 @@ pub record Singles (c : Processor) (m : Memory) (next : ℕ) : Type 0 where
   pub moves_number : MovesNumber c m next
   pub computes : Computes c m next
   pub computes_number : ComputesNumber c m next
+  pub rests : Rests c m next
   pub jumps : Jumps c m next
   pub jumps_to : JumpsTo c m next
   pub branches : Branches c m next

@@ -1,8 +1,8 @@
 -- The whole table of an image: the cells of bodies, then the kernel's, at distinct addresses.
-use Rattle.std.proofs.Common.{◌≡◌, ℕ, zero, suc, pos, negsuc, ◌+◌, ◌-◌, ◌*◌, ◌/◌, ◌%◌, ◌^◌, ◌<◌, ◌≤◌, Bool, true, false, ◌&&◌, List, [], ◌∷◌, ◌++◌, length, take, Some, refl, sym, ap, ◌∙◌, subst, arith, eq-eqb}
-use Rattle.std.specs.Prelude.{◌==◌, ◌||◌, not, slice_get, if◌then◌else◌}
+use Rattle.std.proofs.Common.{◌≡◌, ℕ, zero, suc, pos, negsuc, ◌+◌, ◌-◌, ◌/◌, ◌%◌, ◌^◌, ◌<◌, ◌≤◌, Bool, true, false, ◌&&◌, List, [], ◌∷◌, ◌++◌, length, take, Some, refl, sym, ap, ◌∙◌, subst, arith, eq-eqb}
+use Rattle.std.specs.Prelude.{◌==◌, ◌||◌, not, nat_le, slice_get, if◌then◌else◌}
 use Rattle.std.specs.List.{list_all}
-use Rattle.std.proofs.lemmas.Bool.{lt-leb}
+use Rattle.std.proofs.lemmas.Bool.{leb-true, leb-false}
 use Rattle.std.proofs.lemmas.List.{length-take}
 use Rattle.std.proofs.lemmas.Option.{slice_get_within}
 use Rattle.ev_isa.specs.Spelling.{spelling, four_bytes}
@@ -21,17 +21,17 @@ use Rattle.ev_body.specs.WellFormed.{IsImage, is_body}
 use Rattle.ev_asm.specs.Assembly.{Name, Places, place, size, total_size, distance}
 use Rattle.ev_listing.specs.AddressMap.{body_code}
 use Rattle.ev_listing.specs.Expansion.{exit_of, item_address, expansion, expansions, function_address, body_stmts}
-use Rattle.ev_listing.specs.Marks.{Mark, Never, Always, IfNonzero, IfEqual, Listing, stmts_of, all_places, all_marks}
+use Rattle.ev_listing.specs.Marks.{Mark, Never, Always, IfNonzero, IfEqual, Listing, stmts_of, all_places}
 use Rattle.ev_concrete.specs.Opening.{kernel_listings, listings, body_listings}
-use Rattle.ev_concrete.specs.ConcreteRun.{Marks, marks_of, mark_at}
-use Rattle.ev_symbolic.specs.Agrees.{Cell, Code}
-use Rattle.ev_symbolic.specs.Listed.{Cells, is_seen, cell_at, cells_from, cells_in, AllFound}
+use Rattle.ev_concrete.specs.ConcreteRun.{marks_of, mark_at}
+use Rattle.ev_symbolic.specs.Agrees.{Cell}
+use Rattle.ev_symbolic.specs.Listed.{is_seen, cells_from, cells_in, AllFound}
 use Rattle.ev_symbolic.proofs.Listed.{all_found}
 use Rattle.ev_symbolic.proofs.Values.{and_left, and_right}
 use Rattle.ev_fetch.proofs.Regions.{Each}
 use Rattle.ev_fetch.proofs.Placed.{Disjoint}
 use Rattle.ev_fetch.proofs.Sizes.{items_size, few_items, listings_disjoint}
-use Rattle.ev_table.specs.Table.{code_table, other_exit, exit_address, RetCell, places_of, item_lines, item_cells, MarkedAt, AreMarked, is_call}
+use Rattle.ev_table.specs.Table.{code_table, other_exit, exit_address, RetCell, places_of, item_lines, item_cells, AreMarked, is_call}
 use Rattle.ev_table.proofs.Cells.{found_first, found_rest}
 use Rattle.ev_table.proofs.Distinct.{listings_distinct}
 use Rattle.ev_table.proofs.Expanded.{is_of_body, is_plain, same_sizes}
@@ -41,14 +41,14 @@ use Rattle.ev_table.proofs.Kernel.{kernel_cells, kernel_inner, kernel_unmarked, 
 use Rattle.ev_table.proofs.Bodies.{labels, unmarked, plain, body_found, body_marked}
 use Rattle.ev_table.proofs.Marked.{all_unmarked, all_plain, EachMarked, each_marked, seen_at, plain_at}
 
--- a jump back leads to the target of its distance
-back : (target next : ℕ) → target < next → next < 2 ^ 64 → displaced next (negsuc (next - target - 1)) ≡ target
-back target next h k = let e : (next + (2 ^ 64 - suc (next - target - 1))) % 2 ^ 64 ≡ target = omega arith in e
-
-leads_back : (target next : ℕ) → target < next → next < 2 ^ 64 → displaced next (distance target next) ≡ target
+-- a jump leads to the target of its distance
+pub leads_to : (target next : ℕ) → target < 2 ^ 64 → next < 2 ^ 64 → displaced next (distance target next) ≡ target
 unfolding distance
-leads_back target next h k = ap (λ b. displaced next (if b then pos (target - next) else negsuc (next - target - 1))) (lt-leb next target h)
-    ∙ back target next h k
+leads_to target next h k = pick (nat_le next target) refl
+  where
+    pick : (b : Bool) → nat_le next target ≡ b → displaced next (if b then pos (target - next) else negsuc (next - target - 1)) ≡ target
+    pick true q = let l = leb-true next target q in let e : (next + (target - next)) % 2 ^ 64 ≡ target = omega arith in e
+    pick false q = let l = leb-false next target q in let e : (next + (2 ^ 64 - suc (next - target - 1))) % 2 ^ 64 ≡ target = omega arith in e
 
 canonical : (a : ℕ) → 0xffff800000000000 ≤ a → a < 2 ^ 64 → is_canonical a ≡ true
 canonical a h k = ap (λ b. (a / 2 ^ 47 == 0) || b) (eq-eqb (a / 2 ^ 47) (2 ^ 17 - 1) (let e : a / 140737488355328 ≡ 131071 = omega arith in e))
@@ -195,7 +195,7 @@ module _ (mode : Mode) (image : Image) where
       where
         leads_from : (a exit : ℕ) → (0xffffffff82000000 ≤ a) × (a ≤ 0xffffffff82800000) → exit < 0xffffffff82000000
             → displaced (a + 5) (distance exit (a + 5)) ≡ exit
-        leads_from a exit r h = let r0 = r.0 in let r1 = r.1 in leads_back exit (a + 5) (omega arith) (omega arith)
+        leads_from a exit r h = let r0 = r.0 in let r1 = r.1 in leads_to exit (a + 5) (omega arith) (omega arith)
 
     -- ---- marks
 
@@ -230,12 +230,16 @@ module _ (mode : Mode) (image : Image) where
         never Never h = refl
         never _ h = absurd (cc)
 
+    -- no mark depends on memory
+    pub marks_plain : list_all (λ (b : Body). list_all (λ item. not (is_call item)) (body_items b)) image.bodies ≡ true → (a : ℕ)
+        → is_plain (mark_at (marks_of mode image) a) ≡ true
+    unfolding listings
+    marks_plain none a =
+        plain_at (listings mode image) a (plain_append bodies (kernel_listings mode) (plain mode image 0 image.bodies none) (kernel_plain mode))
+
     pub marked_seen : list_all (λ (b : Body). list_all (λ item. not (is_call item)) (body_items b)) image.bodies ≡ true → (a : ℕ) (x : Cell)
         → code_table mode image a ≡ Some x → x.mark ≡ true → mark_at (marks_of mode image) a ≡ Always
-    unfolding listings
-    marked_seen none a x q m =
-        always (mark_at (marks_of mode image) a) (cell_seen a x q ∙ m)
-        (plain_at (listings mode image) a (plain_append bodies (kernel_listings mode) (plain mode image 0 image.bodies none) (kernel_plain mode)))
+    marked_seen none a x q m = always (mark_at (marks_of mode image) a) (cell_seen a x q ∙ m) (marks_plain none a)
       where
         always : (m : Mark) → is_seen m ≡ true → is_plain m ≡ true → m ≡ Always
         always Never h k = absurd (cc)

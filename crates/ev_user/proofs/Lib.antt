@@ -8,3 +8,4 @@ pub mod Deliver
 pub mod Examples
 pub mod Opened
 pub mod Words
+pub mod KeepsNumbers

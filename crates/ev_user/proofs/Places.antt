@@ -15,7 +15,7 @@ use Rattle.ev_symbolic.proofs.Values.{and_left, and_right}
 use Rattle.ev_concrete.specs.Opening.{region, regions}
 use Rattle.ev_fetch.proofs.Regions.{Each, numbered, IsHigh, area_regions, areas_high, text_place}
 use Rattle.ev_user.specs.Sees.{Sees}
-use Rattle.ev_user.specs.Claims.{PagesFaultAlike}
+use Rattle.ev_user.specs.Claims.{PagesFaultAlike, KernelFaultsAlike}
 
 -- ---- a region and an address
 
@@ -241,3 +241,28 @@ pages_fault_alike image u m is s write fetch a =
     pick (Same e) = ap (fault_at (present_in m) (access write fetch)) e
         ∙ same_rule (present_in m) u.present (access write fetch) (place_of a) (λ i k. is_present image u m s i (small_page a i k))
     pick (Above e k) = no_access (present_in m) u.present write fetch (place_in (regions image) a) e ∙ ap (fault_at u.present (access write fetch)) (sym k)
+
+-- an address of the lower half isn't in the upper one
+not_upper : (a : ℕ) → a < 2 ^ 63 → place_of a ≡ Upper → ⊥
+unfolding place_of
+not_upper a l h =
+    pick (nat_le text_base a && nat_lt a (text_base + 0x10000)) (nat_le page_base a && nat_lt a (page_base + 0x1000 * 256)) (nat_lt a (2 ^ 63)) refl h
+  where
+    pick : (x y z : Bool) → nat_lt a (2 ^ 63) ≡ z
+        → (if x then Text else (if y then Page ((a - page_base) / 0x1000) else (if z then Lower else Upper))) ≡ Upper → ⊥
+    pick true y z hz k = absurd (cc)
+    pick false true z hz k = absurd (cc)
+    pick false false true hz k = absurd (cc)
+    pick false false false hz k = let high = ltb-false a (2 ^ 63) hz in omega arith
+
+-- so the regions give it the place that it has
+lower_place : (image : Image) (a : ℕ) → a < 2 ^ 63 → Looks image a → place_in (regions image) a ≡ place_of a
+lower_place image a l (Same e) = e
+lower_place image a l (Above h e) = absurd (not_upper a l e)
+
+pub kernel_faults_alike : KernelFaultsAlike
+kernel_faults_alike image u m is s write a l =
+    ap (λ rs. fault_at (present_in m) (record { user = false; write = write; fetch = false }) (place_in rs a)) s.regions_are
+    ∙ ap (fault_at (present_in m) (record { user = false; write = write; fetch = false })) (lower_place image a l (looks image is a))
+    ∙ same_rule (present_in m) u.present (record { user = false; write = write; fetch = false }) (place_of a)
+    (λ i k. is_present image u m s i (small_page a i k))

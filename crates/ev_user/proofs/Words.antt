@@ -37,7 +37,7 @@ sign_small : (z : ℤ) → FitsSigned w32 z → sign_extend z < 2 ^ 64
 sign_small (pos n) f = let k : n < 2147483648 = f.sfits in let h : n < 18446744073709551616 = omega arith in h
 sign_small (negsuc n) f = let h : 18446744073709551616 - suc n < 18446744073709551616 = omega arith in h
 
-alu_small : (op : AluOp) (a b : ℕ) → a < 2 ^ 64 → b < 2 ^ 64 → (alu op a b).0 < 2 ^ 64
+pub alu_small : (op : AluOp) (a b : ℕ) → a < 2 ^ 64 → b < 2 ^ 64 → (alu op a b).0 < 2 ^ 64
 unfolding alu sum difference
 alu_small Add a b h k = let r : (a + b) % 18446744073709551616 < 2 ^ 64 = omega arith in r
 alu_small Or a b h k = or_lt 64 a b h k
@@ -70,7 +70,7 @@ set_words (x ∷ xs) zero v h k (suc r) = h (suc r)
 set_words (x ∷ xs) (suc d) v h k zero = h 0
 set_words (x ∷ xs) (suc d) v h k (suc r) = set_words xs d v (λ i. h (suc i)) k r
 
-put_words : (words : NatMap ℕ) (a v : ℕ) → HoldsWords words → v < 2 ^ 64 → HoldsWords (put_at words a v)
+pub put_words : (words : NatMap ℕ) (a v : ℕ) → HoldsWords words → v < 2 ^ 64 → HoldsWords (put_at words a v)
 put_words words a v h k x = pick (x == a)
   where
     pick : (b : Bool) → (elim b [ true ↦ v | false ↦ words x ]) < 2 ^ 64

@@ -36,6 +36,13 @@ PagesFaultAlike = (image : Image) (u : UserMemory) (m : Memory) → IsImage imag
     → page_fault m (record { user = true; write = write; fetch = fetch }) a
     ≡ fault_at u.present (record { user = true; write = write; fetch = fetch }) (place_of a)
 
+-- In the lower half so does each access of the kernel's code.
+abbrev pub KernelFaultsAlike : Type 0
+KernelFaultsAlike = (image : Image) (u : UserMemory) (m : Memory) → IsImage image → Sees image u m
+    → (write : Bool) (a : ℕ) → a < 2 ^ 63
+    → page_fault m (record { user = false; write = write; fetch = false }) a
+    ≡ fault_at u.present (record { user = false; write = write; fetch = false }) (place_of a)
+
 -- Where user code can fetch, memory reads as the text with zeros behind it.
 abbrev pub ReadsAlike : Type 0
 ReadsAlike = (image : Image) (u : UserMemory) (m : Memory) → IsImage image → Sees image u m

@@ -1,4 +1,5 @@
 pub mod Words
+pub mod Numbers
 pub mod Tasks
 pub mod Sees
 pub mod Causes

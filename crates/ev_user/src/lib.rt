@@ -2,16 +2,18 @@
 //! machine's user code does.
 #![tactic(auto)]
 
-ghost use Rattle.ev_user.specs.Claims.{OpeningSees, PagesFaultAlike, ReadsAlike, UserGoesOn, UserRaises};
+ghost use Rattle.ev_user.specs.Claims.{OpeningSees, PagesFaultAlike, KernelFaultsAlike, ReadsAlike, UserGoesOn, UserRaises};
 ghost use Rattle.ev_user.specs.Deliveries.{EventsAreOwn, EventsPass, EventsAreDeliverable};
 ghost use Rattle.ev_user.specs.Deliveries.{ArrivesAtOnce, CallArrives, RefusalArrives};
+ghost use Rattle.ev_user.specs.Numbers.{ItemsKeepNumbers, OpeningHoldsNumbers};
 ghost use Rattle.ev_user.specs.Words.{UserKeepsWords};
 
 /// What user code sees of memory: the same on both sides at the opening, and then the page rules
-/// and the bytes at RIP are.
+/// and the bytes at RIP are; the page rules also where the kernel's code reads or writes user words.
 pub fn reads()
     ensures opening { OpeningSees }
     ensures faults { PagesFaultAlike }
+    ensures kernel_faults { KernelFaultsAlike }
     ensures text { ReadsAlike }
 {}
 
@@ -38,4 +40,11 @@ pub fn deliveries()
     ensures arrives { ArrivesAtOnce }
     ensures call { CallArrives }
     ensures refusal { RefusalArrives }
+{}
+
+/// The numbers of bodies, slots, shared cells and calls are below 2^64: they are at the opening, and
+/// every item keeps them so.
+pub fn numbers()
+    ensures opening { OpeningHoldsNumbers }
+    ensures items { ItemsKeepNumbers }
 {}
