@@ -46,5 +46,7 @@ pub mod BodyRaising
 pub mod BodyRaisingFred
 pub mod BodyRaisingIdt
 pub mod KernelSafe
+pub mod BodyTurn
+pub mod BodyBreak
 pub mod CodeFacts
 pub mod Refine
