@@ -1,7 +1,6 @@
 -- What the proofs of steps use of an image's code: what stands where, its marks, and that memory holds its bytes.
-use Rattle.std.proofs.Common.{◌≡◌, ℕ, ◌+◌, ◌-◌, ◌/◌, ◌<◌, ◌≤◌, ◌^◌, Bool, true, false, ◌||◌, length, Some, refl, arith}
-use Rattle.std.specs.Prelude.{suc, ◌==◌, slice_get}
-use Rattle.std.proofs.lemmas.Bool.{eqb-true}
+use Rattle.std.proofs.Common.{◌≡◌, ℕ, ◌+◌, ◌<◌, ◌≤◌, ◌^◌, Bool, true, false, length, Some, arith}
+use Rattle.std.specs.Prelude.{suc, slice_get}
 use Rattle.ev_isa.specs.Word.{is_canonical, bit_if}
 use Rattle.ev_isa.specs.Flags.{Flags, flags_word}
 use Rattle.ev_isa.specs.declared.mode.Mode.{Mode}
@@ -23,8 +22,10 @@ use Rattle.ev_proc.specs.Conditions.{IsInCode}
 use Rattle.ev_symbolic.specs.Agrees.{Cell, Spaced}
 use Rattle.ev_symbolic.specs.Listed.{AllFound}
 use Rattle.ev_symbolic.specs.Machine.{Fetches}
+pub use Rattle.ev_user.proofs.KeepsNumbers.{word_of_canonical}
 use Rattle.ev_paths.specs.Lines.{HasKernel}
 use Rattle.ev_table.specs.Table.{code_table, other_exit, RetCell, places_of, item_lines, item_cells}
+use Rattle.ev_table.proofs.Expanded.{is_plain}
 use Rattle.ev_fetch.specs.Claims.{HoldsText}
 use Rattle.ev_refine.specs.Relation.{first_word, IsFixed}
 
@@ -50,6 +51,7 @@ pub record Facts (mode : Mode) (image : Image) : Type 0 where
       × (item_address mode n b i + 0x100 ≤ 2 ^ 64)
   pub unmarked : (a : ℕ) (x : Cell) → code_table mode image a ≡ Some x → x.mark ≡ false → mark_at (marks_of mode image) a ≡ Never
   pub marked : (a : ℕ) (x : Cell) → code_table mode image a ≡ Some x → x.mark ≡ true → mark_at (marks_of mode image) a ≡ Always
+  pub plain : (a : ℕ) → is_plain (mark_at (marks_of mode image) a) ≡ true
   pub fetches : (m : Memory) → m.regions ≡ regions image → HasFixed mode image m → Fetches (code_table mode image) m
   pub holds : (m : Memory) → HasFixed mode image m → HoldsText image.text m.words
   pub in_code : (m : Memory) → m.regions ≡ regions image → (c : Processor) → IsInCode c m
@@ -71,17 +73,3 @@ word_of_flags f =
     let o = bit_small 11 f.status.overflow in
     let a = bit_small 18 f.alignment in
     omega arith
-
--- canonical addresses
-pub word_of_canonical : (a : ℕ) → is_canonical a ≡ true → a < 2 ^ 64
-word_of_canonical a h = pick (a / 2 ^ 47 == 0) refl h
-  where
-    pick : (t : Bool) → (a / 2 ^ 47 == 0) ≡ t → (t || (a / 2 ^ 47 == 2 ^ 17 - 1)) ≡ true → a < 2 ^ 64
-    pick true q k = let e : a / 2 ^ 47 ≡ 0 = eqb-true (a / 2 ^ 47) 0 q in low a e
-      where
-        low : (a : ℕ) → a / 140737488355328 ≡ 0 → a < 2 ^ 64
-        low a e = omega arith
-    pick false q k = let e : a / 2 ^ 47 ≡ 2 ^ 17 - 1 = eqb-true (a / 2 ^ 47) (2 ^ 17 - 1) k in high a e
-      where
-        high : (a : ℕ) → a / 140737488355328 ≡ 131071 → a < 2 ^ 64
-        high a e = omega arith

@@ -9,7 +9,7 @@ use Rattle.ev_isa.specs.declared.mode.Mode.{Mode}
 use Rattle.ev_effect.specs.Task.{Task}
 use Rattle.ev_event.specs.declared.boundary.Next.{Next}
 use Rattle.ev_body.specs.declared.item.Item.{Item}
-use Rattle.ev_body.specs.declared.item.Item.TheVariants.{Log, Ret}
+use Rattle.ev_body.specs.declared.item.Item.TheVariants.{Ret}
 use Rattle.ev_body.specs.declared.body.Body.{Body}
 use Rattle.ev_body.specs.declared.image.Image.{Image}
 use Rattle.ev_body.specs.WellFormed.{IsImage}
@@ -21,10 +21,9 @@ use Rattle.ev_mem.specs.Memory.{Memory, page_map}
 use Rattle.ev_proc.specs.ProcessorStep.{has_fred, next_of, executed, ran}
 use Rattle.ev_proc.specs.declared.stepped.Stepped.{Stepped}
 use Rattle.ev_abstract.specs.Boundary.{Choice, choice, maskable, open_to_interrupts, interrupt_or_next, deliverable, is_nmi_body}
-use Rattle.ev_abstract.specs.Context.{BodyContext, local}
-use Rattle.ev_abstract.specs.Context as context
+use Rattle.ev_abstract.specs.Context.{BodyContext}
 use Rattle.ev_abstract.specs.Delivery.{dropped, rescheduled}
-use Rattle.ev_abstract.specs.ItemMeaning.{Step, item_step, replace_last, below_last}
+use Rattle.ev_abstract.specs.ItemMeaning.{Step, item_step, below_last}
 use Rattle.ev_abstract.specs.declared.entry.Entry.{Entry}
 use Rattle.ev_abstract.specs.Machine.{Machine, processor, with_processor, task}
 use Rattle.ev_abstract.specs.Machine as abstract
@@ -64,9 +63,12 @@ use Rattle.ev_refine.proofs.Stays.{means_again, leads_again, AreSpared, chain_st
 use Rattle.ev_refine.proofs.Chains.{Kept, chain_kept, chain_plain, chain_open}
 use Rattle.ev_refine.proofs.After.{AreNames, AreSparing, own_word, none_spares, slot_same, cell_same, page_same, user_same, few_inner, latch_parts, as_chain, returns_to, own_becomes, own_after, stands_become, stands_after}
 use Rattle.ev_refine.proofs.CallKinds.{is_over_task, is_plain_kind, over_any, beneath_as, stands_alone, ArePlain, none_nmi, seat_under, plain_seat, plain_knows}
-use Rattle.ev_refine.proofs.Domains.{four_tasks, one_task_each}
+use Rattle.ev_refine.proofs.Domains.{four_tasks}
+use Rattle.ev_law.proofs.Ruled.{body_ruled}
+use Rattle.ev_user.specs.Numbers.{AreOfWords, HoldsNumbers}
+use Rattle.ev_user.proofs.KeepsNumbers.{items_keep_numbers}
 use Rattle.ev_refine.proofs.Legality.{turn_legal, legal_few}
-use Rattle.ev_refine.proofs.Depth.{active_outside, stands_depth, goes_on_inside, ran_counts}
+use Rattle.ev_refine.proofs.Depth.{body_at, active_outside, stands_depth, goes_on_inside, ran_counts}
 
 -- the names of a block's writes
 rsp_spares : (p : ℕ) → p < 32 → (rsp : Bool) → AreSparing p (names_if rsp p)
@@ -129,8 +131,8 @@ module _ (mode : Mode) (image : Image) (built : IsBuilt image) (good : IsImage i
   abbrev pub t : Task
   t = x.tasks r
 
-  pub first_task : r ≡ 0
-  first_task = let n = returns_to mode image p (left p) s x on in let one = one_task_each image built p hp in omega arith
+  pub narrow_task : r < 4
+  narrow_task = let n = returns_to mode image p (left p) s x on in let four = four_tasks image good p hp in omega arith
 
   abbrev pub Chained : (now : ℕ) (t : Task) → List BodyContext → List Activation → Processor → Memory → Type 0
   Chained now t bs as' cpu mem = Chain mode image p now r t on.frame on.switching bs as' cpu mem
@@ -227,7 +229,7 @@ module _ (mode : Mode) (image : Image) (built : IsBuilt image) (good : IsImage i
     under_is = sym seat_is ∙ plain_seat mode image r b below all_plain
 
     pub in_seat : IsSeat σ
-    in_seat = let z = first_task in subst IsSeat seat_is (seat_fits mode image r b below all_plain (omega arith) shallow)
+    in_seat = let z = narrow_task in subst IsSeat seat_is (seat_fits mode image r b below all_plain (omega arith) shallow)
 
     on_stack : σ.stack ≡ r
     on_stack = ap (λ (y : Seat). y.stack) under_is
@@ -291,7 +293,7 @@ module _ (mode : Mode) (image : Image) (built : IsBuilt image) (good : IsImage i
         → Beneath mode image (keeps_cr2 mode image κ)
         (λ v. Chain mode image p (body_edges mode image) r t on.frame (chained mode image on.switching below) below o.others v (with_words s.memory words)) w
     below_stays names allowed unknown words changes =
-        let z = first_task in
+        let z = narrow_task in
         let spared : AreSpared mode image p r below s.memory.words words
         = below_spared mode image p r names s.memory.words words b below small (omega arith) shallow allowed.written unknown
         (subst (λ y. Changes p y names s.memory.words words) (sym seat_is) changes) all_plain in
@@ -331,15 +333,15 @@ module _ (mode : Mode) (image : Image) (built : IsBuilt image) (good : IsImage i
         (subst (λ bs. Chained now t bs (o.last ∷ o.others) cpu (with_words s.memory words)) (sym o.bodies)
         (with_last b o.kind ctx now cpu words names sparing.allowed unknown changes act)) in
         let there : StandsOn mode image p (now + inner_edges (s.latches p)) (after_ran s p cpu words) x
-        = own_after mode image p (left p) s (after_ran s p cpu words) x σ cpu _ words x.tasks x.bodies now on small (four_tasks image built p hp)
+        = own_after mode image p (left p) s (after_ran s p cpu words) x σ cpu _ words x.tasks x.bodies now on small (four_tasks image good p hp)
         (moves cpu words) on_stack narrow names sparing changes (λ i d. refl) on.tasks
         (hb ∙ sym none_is_nmi) (λ class. refl) (let l = on.enough in let f = on.few in omega arith) goes_on in
         let all : Stands mode image (put_at left p (now + inner_edges (s.latches p))) (after_ran s p cpu words) m
         = stands_after mode image left s (after_ran s p cpu words) m m p (now + inner_edges (s.latches p)) x σ cpu _ words good built.accepted
-        (four_tasks image built) h hp (moves cpu words) narrow names sparing changes
+        (four_tasks image good) h hp (moves cpu words) narrow names sparing changes
         (λ a u. user_same p σ names small narrow s.memory.words words sparing.allowed.written changes no_user a u ∙ h.shares.user a u) h.shares.held
         (record { own = refl; others = λ q e. refl; present = refl; cells = refl; mail = refl; mail_nmi = refl; records = refl; queue = refl })
-        h.legal domain there in
+        h.legal h.numbers domain there in
         let bound = on.enough in record {
           safe = ran_safe mode image s p cpu words run;
           counts = ran_counts image.processors s p cpu words cell.ins run (fetches c.rip cell hc).1 (length x.bodies) (length x.bodies) depth
@@ -355,6 +357,31 @@ module _ (mode : Mode) (image : Image) (built : IsBuilt image) (good : IsImage i
             writes = ran_writes image.processors s p cpu words run;
           });
         }
+
+    -- ---- what the abstract machine does
+
+    pub are_quiet : AreQuiet (b ∷ below)
+    are_quiet = subst AreQuiet o.bodies domain.bodies
+
+    pub quiet : IsQuiet b
+    quiet = are_quiet.0
+
+    pub turns : (i : Item) → item_at (slice_get image.bodies b.body) b.place ≡ Some i → turn image m p ≡ item_step image m p b i
+    unfolding turn choice
+    turns i hi =
+        ap (chosen_step image m p) (ap (λ n. if n && not (list_any (is_nmi_body image) x.bodies) then Choice.Nmi else maskable x) domain.nmi
+        ∙ ap (λ bs. if open_to_interrupts bs then interrupt_or_next (greatest_below 256 (deliverable x)) else Choice.Next) o.bodies
+        ∙ ap (λ z. if z then interrupt_or_next (greatest_below 256 (deliverable x)) else Choice.Next) quiet.interrupts)
+        ∙ ap (next_step image m p) o.bodies ∙ ap (item_or_nothing image m p b) hi
+
+    -- its numbers stay words
+    numbers_behind : (m' : Machine) (es : List Entry) → turn image m p ≡ (m', es) → HoldsNumbers m'
+    numbers_behind m' es ht =
+        let found = body_at (slice_get image.bodies b.body) b.place ctx.item ctx.is in
+        let ops = (body_ruled image good built.accepted.1.kept b.body found.0 found.1).operands b.place ctx.item found.2 in
+        subst (λ (z : Step). HoldsNumbers z.0) (sym (turns ctx.item ctx.is) ∙ ht)
+        (items_keep_numbers image m p b ctx.item (length image.text) ops.0 ops.1 ops.2 (omega arith) h.numbers h.shares.held
+        (on.tasks x.running on.running).words (subst AreOfWords o.bodies (h.numbers.each p).bodies).0)
 
     -- What a visible step makes of the abstract machine: these are processor p's tasks, slots and bodies behind it, of which the returning task may be another;
     -- other processors are as they were, and memory holds these slots, and the cells, pages and user words of the machine behind it.
@@ -385,14 +412,14 @@ module _ (mode : Mode) (image : Image) (built : IsBuilt image) (good : IsImage i
         let none : list_any (is_nmi_body image) bs ≡ false
         = none_nmi image bs (chain_plain mode image p now r (tasks r) on.frame on.switching bs _ cpu (with_words s.memory words) goes_on) in
         let there : StandsOn mode image p (now + inner_edges (s.latches p)) (after_ran s p cpu words) x'
-        = own_becomes mode image p (left p) s (after_ran s p cpu words) x σ cpu _ words tasks slots bs now on small (four_tasks image built p hp)
+        = own_becomes mode image p (left p) s (after_ran s p cpu words) x σ cpu _ words tasks slots bs now on small (four_tasks image good p hp)
         (moves cpu words) on_stack narrow names allowed changes y.slots_are y.same_tasks y.good_tasks (hb ∙ sym none)
         (λ class. unserved class bs quiet ∙ sym (unserved class x.bodies domain.bodies))
         (let f = few_inner mode image (s.latches p) in omega arith) goes_on in
         let inside : IsInDomain x' = record { pending = domain.pending; nmi = domain.nmi; resched = domain.resched; bodies = quiet } in
         let all : Stands mode image (put_at left p (now + inner_edges (s.latches p))) (after_ran s p cpu words) m'
         = stands_become mode image left s (after_ran s p cpu words) m m' p (now + inner_edges (s.latches p)) x' σ cpu _ words
-        good built.accepted (four_tasks image built) h hp (moves cpu words) narrow names allowed changes
+        good built.accepted (four_tasks image good) h hp (moves cpu words) narrow names allowed changes
         (record {
           own = y.own;
           others = y.others;
@@ -405,7 +432,7 @@ module _ (mode : Mode) (image : Image) (built : IsBuilt image) (good : IsImage i
           pages = y.pages;
           cells = y.cells;
         })
-        (turn_legal image good built.accepted m p hp h.legal (m', es) ht) inside there in
+        (turn_legal image good built.accepted m p hp h.legal (m', es) ht) (numbers_behind m' es ht) inside there in
         let turned : Stands mode image (put_at left p (now + inner_edges (s.latches p))) (after_ran s p cpu words) (turn image m p).0 =
         subst (λ q. Stands mode image (put_at left p (now + inner_edges (s.latches p))) (after_ran s p cpu words) q.0) (sym ht) all in record {
           safe = ran_safe mode image s p cpu words run;
@@ -451,26 +478,6 @@ module _ (mode : Mode) (image : Image) (built : IsBuilt image) (good : IsImage i
       }
 
     -- ---- the abstract machine's step
-
-    pub are_quiet : AreQuiet (b ∷ below)
-    are_quiet = subst AreQuiet o.bodies domain.bodies
-
-    pub quiet : IsQuiet b
-    quiet = are_quiet.0
-
-    pub turns : (i : Item) → item_at (slice_get image.bodies b.body) b.place ≡ Some i → turn image m p ≡ item_step image m p b i
-    unfolding turn choice
-    turns i hi =
-        ap (chosen_step image m p) (ap (λ n. if n && not (list_any (is_nmi_body image) x.bodies) then Choice.Nmi else maskable x) domain.nmi
-        ∙ ap (λ bs. if open_to_interrupts bs then interrupt_or_next (greatest_below 256 (deliverable x)) else Choice.Next) o.bodies
-        ∙ ap (λ z. if z then interrupt_or_next (greatest_below 256 (deliverable x)) else Choice.Next) quiet.interrupts)
-        ∙ ap (next_step image m p) o.bodies ∙ ap (item_or_nothing image m p b) hi
-
-    pub log_turn : (q : ℕ) → item_at (slice_get image.bodies b.body) b.place ≡ Some (Log q)
-        → turn image m p ≡ (with_processor m p (record x { bodies = context.onward b ∷ below }), Entry.Log p (local b q) ∷ [])
-    unfolding item_step
-    log_turn q hi = turns (Log q) hi ∙ ap
-        (λ bs. (with_processor m p (record x { bodies = replace_last (context.onward b) bs }), Entry.Log p (local b q) ∷ [])) o.bodies
 
     -- the processor without its last context
     below_is : (ds : List BodyContext) → dropped image b x ds ≡ record x { bodies = ds }

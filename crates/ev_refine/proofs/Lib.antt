@@ -36,6 +36,7 @@ pub mod UserState
 pub mod UserStep
 pub mod UserPlain
 pub mod UserBody
+pub mod Live
 pub mod UserSafe
 pub mod Raising
 pub mod RaisingFred
@@ -49,4 +50,5 @@ pub mod KernelSafe
 pub mod BodyTurn
 pub mod BodyBreak
 pub mod CodeFacts
+pub mod Visible
 pub mod Refine

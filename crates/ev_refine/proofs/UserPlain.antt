@@ -30,6 +30,8 @@ use Rattle.ev_refine.specs.Nmi.{inner_edges}
 use Rattle.ev_refine.specs.Named.{Named, Outside, Changes}
 use Rattle.ev_user.specs.Sees.{IsUserWord, with_write}
 use Rattle.ev_user.specs.Words.{HoldsWords}
+use Rattle.ev_user.specs.Numbers.{AreOfWords, HoldsNumbers}
+use Rattle.ev_user.proofs.KeepsNumbers.{put_numbers}
 use Rattle.ev_user.specs.Claims.{Site, GoesOn}
 use Rattle.ev_user.proofs.Follows.{user_goes_on}
 use Rattle.ev_symbolic.proofs.Words.{put_other}
@@ -110,17 +112,17 @@ module _ (mode : Mode) (image : Image) (formed : IsImage image) (built : IsBuilt
       → Changes p (record { stack = (processor m p).running; used = 0 }) names s.memory.words words
       → (memory : NatMap ℕ) → ((a : ℕ) → IsUserWord a → words a ≡ memory a) → HoldsWords memory
       → Legal image (with_processor (record m { words = memory }) p (record (with_task (processor m p) t) { bodies = bs }))
-      → IsTask t → cpu.nmi_blocked ≡ list_any (is_nmi_body image) bs → AreQuiet bs
+      → AreOfWords bs → IsTask t → cpu.nmi_blocked ≡ list_any (is_nmi_body image) bs → AreQuiet bs
       → ((class : ℕ) → list_any (λ (b : BodyContext). serves mode image class b.service) bs ≡ false) → own ≤ 500
       → ((r : ℕ) → r ≡ (processor m p).running → Chain mode image p own r t u.on.frame u.on.switching bs as' cpu (with_words s.memory words))
       → (StandsOn mode image p (own + inner_edges (s.latches p)) s' (record (with_task (processor m p) t) { bodies = bs }))
       × Stands mode image (put_at left p (own + inner_edges (s.latches p))) s'
       (with_processor (record m { words = memory }) p (record (with_task (processor m p) t) { bodies = bs }))
-  user_after left s s' m p lt h u cpu as' words t bs own hb mv names sparing changes memory user held legal good blocked quiet serving few chain =
+  user_after left s s' m p lt h u cpu as' words t bs own hb mv names sparing changes memory user held legal of_words good blocked quiet serving few chain =
       let x : abstract.Processor = processor m p in
       let y : abstract.Processor = record (with_task x t) { bodies = bs } in
-      let small : p < 32 = omega (arith, built.one_processor) in
-      let four = four_tasks image built p lt in
+      let small : p < 32 = let eight = formed.count.1 in omega arith in
+      let four = four_tasks image formed p lt in
       let narrow : x.running < 7 = let l = u.on.running in omega arith in
       let there : StandsOn mode image p (own + inner_edges (s.latches p)) s' y
       = own_after mode image p (left p) s s' x (record { stack = x.running; used = 0 }) cpu as' words (put_at x.tasks x.running t) bs own u.on small four mv
@@ -134,12 +136,16 @@ module _ (mode : Mode) (image : Image) (formed : IsImage image) (built : IsBuilt
         nmi = u.domain.nmi;
         resched = u.domain.resched;
         bodies = quiet;
-      } in (
+      } in
+      let has = h.numbers.each p in
+      let numbers : HoldsNumbers (with_processor (record m { words = memory }) p y)
+      = put_numbers (record m { words = memory }) p y (record { each = h.numbers.each; cells = h.numbers.cells })
+      (record { bodies = of_words; slots = has.slots; arguments = has.arguments; queue = has.queue }) in (
         there,
         stands_after mode image left s s' m (with_processor (record m { words = memory }) p y) p (own + inner_edges (s.latches p)) y
             (record { stack = x.running; used = 0 }) cpu as'
             words
-            formed built.accepted (four_tasks image built) h lt mv narrow names sparing changes user held
+            formed built.accepted (four_tasks image formed) h lt mv narrow names sparing changes user held
             (record {
               own = at_same m.processors p p y refl;
               others = λ q e. at_other m.processors p q y e;
@@ -149,7 +155,7 @@ module _ (mode : Mode) (image : Image) (formed : IsImage image) (built : IsBuilt
               mail_nmi = refl;
               records = refl;
               queue = refl;
-            }) legal inside there,
+            }) legal numbers inside there,
       )
     where
       others : (i : ℕ) → (i ≡ (processor m p).running → ⊥) → put_at (processor m p).tasks (processor m p).running t i ≡ (processor m p).tasks i
@@ -210,7 +216,7 @@ module _ (mode : Mode) (image : Image) (formed : IsImage image) (built : IsBuilt
       (writes p (record { stack = x.running; used = 0 }) g.write s.memory.words) memory g.sees.words g.sees.held
       (turn_legal image formed built.accepted m p lt h.legal (with_processor (record m { words = memory }) p (record (with_task x t) { bodies = [] }), [])
       (u.turns ∙ ap (task_step image m p) goes ∙ ap (λ z. (with_processor (record m { words = memory }) p z, [])) (sym same)))
-      g.runs.task u.open_to tt (λ class. refl)
+      tt g.runs.task u.open_to tt (λ class. refl)
       (omega arith)
       (λ r e. (subst (λ z. RunsTask mode image p z t d) (sym e) g.runs, u.rest.still, none)) in
       record {

@@ -30,6 +30,7 @@ use Rattle.ev_refine.specs.Tasks.{IsSaved, CurrentIs}
 use Rattle.ev_refine.specs.Nmi.{Frame, Leads, Layer, Plain, LatchIs, inner_edges}
 use Rattle.ev_user.specs.Sees.{IsUserWord}
 use Rattle.ev_user.specs.Words.{HoldsWords}
+use Rattle.ev_user.specs.Numbers.{HoldsNumbers}
 use Rattle.ev_refine.specs.Active.{Active}
 use Rattle.ev_refine.specs.Domain.{IsInDomain}
 
@@ -179,5 +180,6 @@ module _ (mode : Mode) (image : Image) where
     pub fixed : (a : ℕ) → IsFixed a → s.memory.words a ≡ first_word mode image a
     pub shares : Shares s m
     pub legal : Legal image m
+    pub numbers : HoldsNumbers m
     pub domain : (p : ℕ) → p < image.processors → IsInDomain (processor m p)
     pub each : (p : ℕ) → p < image.processors → StandsOn p (left p) s (processor m p)

@@ -8,11 +8,4 @@ mod fred;
 mod position;
 
 pub use fred::{fred_code, fred_sections, fred_visible};
-<<<<<<< HEAD
-pub use position::{FredBlock, FredPlace, fred_position};
-=======
 pub use position::{FredBlock, FredPlace, fred_place_at, fred_position};
-
-#[cfg(test)]
-mod tests;
->>>>>>> 8b079f721f1c1a38be64048257a17748e4c07a0a

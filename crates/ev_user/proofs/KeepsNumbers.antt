@@ -1,10 +1,10 @@
 -- Items keep the numbers of bodies words.
-use Rattle.std.proofs.Common.{◌≡◌, ℕ, zero, suc, ◌+◌, ◌-◌, ◌%◌, ◌^◌, ◌<◌, ◌≤◌, Bool, true, false, ◌&&◌, List, [], ◌∷◌, ◌++◌, Option, Some, None, refl, sym, subst, arith}
-use Rattle.std.specs.Prelude.{◌==◌, if◌then◌else◌, nat_lt, slice_get, not}
+use Rattle.std.proofs.Common.{◌≡◌, ℕ, zero, suc, ◌+◌, ◌-◌, ◌/◌, ◌%◌, ◌^◌, ◌<◌, ◌≤◌, Bool, true, false, ◌&&◌, List, [], ◌∷◌, ◌++◌, Option, Some, None, refl, sym, subst, arith}
+use Rattle.std.specs.Prelude.{◌==◌, ◌||◌, if◌then◌else◌, nat_lt, slice_get, not}
 use Rattle.std.specs.List.{list_all}
-use Rattle.std.proofs.lemmas.Bool.{ltb-true}
+use Rattle.std.proofs.lemmas.Bool.{ltb-true, eqb-true}
 use Rattle.std.proofs.lemmas.Nat.{and_le_r}
-use Rattle.ev_isa.specs.Word.{put_at, wrap, bit_if, values}
+use Rattle.ev_isa.specs.Word.{put_at, is_canonical, wrap, bit_if, values}
 use Rattle.ev_isa.specs.Flags.{Status, alu}
 use Rattle.ev_isa.specs.Pages.{Place, Text, Page, KernelWord, Lower, Upper, Access, fault_code, fault_if, fault_at, place_of}
 use Rattle.ev_event.specs.declared.event.Event.{Event}
@@ -27,6 +27,7 @@ use Rattle.ev_abstract.specs.Machine.{CallState, Free, Queued, Taken, CallRecord
 use Rattle.ev_abstract.specs.Delivery.{event_key, body_at_start, side_of, entered, delivered, switched, rescheduled, dropped}
 use Rattle.ev_abstract.specs.CrossCall.{record_of, with_record, in_state, with_queue, queued, new_record, queue_answer, all_taken, at_first_call}
 use Rattle.ev_abstract.specs.ItemMeaning.{replace_last, below_last, with_context, unknown_flags, arithmetic, taken, with_cell, user_address, with_page, mailed, with_mail, raised, kernel_access, kernel_fault, guarded, called, waited, finished, item_step}
+use Rattle.ev_user.specs.Causes.{Fault, Undefined, Stack, Protection, Alignment, Cause, Faulted, Debug, Breakpoint, Three, Refused, IsCause, raised_event}
 use Rattle.ev_user.specs.Words.{AreWords, HoldsWords}
 use Rattle.ev_user.specs.Numbers.{AreCallers, IsOfWords, AreOfWords, HasWords, HoldsNumbers, OpeningHoldsNumbers, ItemsKeepNumbers}
 use Rattle.ev_user.proofs.Words.{alu_small, put_words, set_words}
@@ -46,7 +47,7 @@ start_words error key info e k i (suc (suc (suc (suc (suc (suc (suc zero))))))) 
 start_words error key info e k i (suc (suc (suc (suc (suc (suc (suc (suc r)))))))) = omega arith
 
 -- another processor
-put_numbers : (m : Machine) (p : ℕ) (x : Processor) → HoldsNumbers m → HasWords x → HoldsNumbers (with_processor m p x)
+pub put_numbers : (m : Machine) (p : ℕ) (x : Processor) → HoldsNumbers m → HasWords x → HoldsNumbers (with_processor m p x)
 put_numbers m p x h k = record { each = λ q. pick q (q == p); cells = h.cells }
   where
     pick : (q : ℕ) (b : Bool) → HasWords (elim b as (λ y. Processor) [ true ↦ x | false ↦ m.processors q ])
@@ -123,6 +124,34 @@ pub record IsSmallEvent (e : Event) : Type 0 where
 pub starts_with_words : (n : ℕ) (side : Side) (e : Event) → IsSmallEvent e → IsOfWords (body_at_start n side e)
 starts_with_words n side e h =
     record { locals = start_words e.error (event_key e.kind e.vector) e.info h.error h.key h.info; calls = tt }
+
+-- a canonical address is a word
+pub word_of_canonical : (a : ℕ) → is_canonical a ≡ true → a < 2 ^ 64
+word_of_canonical a h = pick (a / 2 ^ 47 == 0) refl h
+  where
+    low : (a : ℕ) → a / 140737488355328 ≡ 0 → a < 2 ^ 64
+    low a e = omega arith
+
+    high : (a : ℕ) → a / 140737488355328 ≡ 131071 → a < 2 ^ 64
+    high a e = omega arith
+
+    pick : (t : Bool) → (a / 2 ^ 47 == 0) ≡ t → (t || (a / 2 ^ 47 == 2 ^ 17 - 1)) ≡ true → a < 2 ^ 64
+    pick true q k = low a (eqb-true (a / 2 ^ 47) 0 q)
+    pick false q k = high a (eqb-true (a / 2 ^ 47) (2 ^ 17 - 1) k)
+
+-- what user code raises has such words
+pub causes_small : (cause : Cause) → IsCause cause → IsSmallEvent (raised_event cause)
+causes_small (Faulted Undefined) h = record { error = omega arith; key = omega arith; info = omega arith }
+causes_small (Faulted Stack) h = record { error = omega arith; key = omega arith; info = omega arith }
+causes_small (Faulted Protection) h = record { error = omega arith; key = omega arith; info = omega arith }
+causes_small (Faulted (Fault.Page code address)) h =
+    let c = h.0 in record { error = omega arith; key = omega arith; info = word_of_canonical address h.1 }
+causes_small (Faulted Alignment) h = record { error = omega arith; key = omega arith; info = omega arith }
+causes_small Debug h = record { error = omega arith; key = omega arith; info = omega arith }
+causes_small Breakpoint h = record { error = omega arith; key = omega arith; info = omega arith }
+causes_small Three h = record { error = omega arith; key = omega arith; info = omega arith }
+causes_small (Refused n) h = let c = h.0 in record { error = omega arith; key = omega arith; info = omega arith }
+causes_small Cause.Call h = record { error = omega arith; key = omega arith; info = omega arith }
 
 entered_words : (p : ℕ) (x : Processor) (e : Event) (side : Side) (o : Option ℕ) (bodies : List Body) → IsSmallEvent e → HasWords x
     → HasWords (entered p x e side o bodies).0

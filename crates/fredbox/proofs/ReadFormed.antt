@@ -53,15 +53,19 @@ opened_reached : (n before : ℕ) (head : Head) (lines : List (List ℕ)) (o : O
 unfolding opened
 opened_reached n before head [] o r h = absurd cc
 opened_reached n before head (line ∷ lines) o r h =
-    by (line_follows head_follows before head line) refl h
+    by (line_follows head_follows before head line) refl h (λ next k. opened_reached (n + 1) (before + length line) next lines o k)
   where
-    at : (next : Head) → Reached next
+    -- what is shown of the lines behind
+    abbrev Behind : Type 0
+    Behind = (next : Head) → Reached next → opened (n + 1) (before + length line) next lines ≡ Ok o → Reached (Head.Opened o.image)
+
+    at : (next : Head) → Reached next → Behind
         → (let q : Result Opened (ℕ × Cause) = elim (image_in next) [
           | Some image ↦ Ok (record { image = image; lines = n + 1; bytes = before + length line; behind = lines })
           | None ↦ opened (n + 1) (before + length line) next lines
         ] in q) ≡ Ok o → Reached (Head.Opened o.image)
-    at (Head.Opened image) r e = let g : image ≡ o.image = cc in subst (λ i. Reached (Head.Opened i)) g r
-    at next r e = opened_reached (n + 1) (before + length line) next lines o r e
+    at (Head.Opened image) r rest e = let g : image ≡ o.image = cc in subst (λ i. Reached (Head.Opened i)) g r
+    at next r rest e = rest next r e
 
     by : (f : Result Head Cause) → line_follows head_follows before head line ≡ f
         → (let q : Result Opened (ℕ × Cause) = elim f [
@@ -70,9 +74,9 @@ opened_reached n before head (line ∷ lines) o r h =
             | Some image ↦ Ok (record { image = image; lines = n + 1; bytes = before + length line; behind = lines })
             | None ↦ opened (n + 1) (before + length line) next lines
           ]
-        ] in q) ≡ Ok o → Reached (Head.Opened o.image)
-    by (Err cause) k e = absurd cc
-    by (Ok next) k e = at next (followed head_follows before head line next k Reached r (λ ts j. reached_more head ts next r j)) e
+        ] in q) ≡ Ok o → Behind → Reached (Head.Opened o.image)
+    by (Err cause) k e rest = absurd cc
+    by (Ok next) k e rest = at next (followed head_follows before head line next k Reached r (λ ts j. reached_more head ts next r j)) rest e
 
 pub opened_is_image : (lines : List (List ℕ)) (o : Opened) → opened 0 0 Head.Image lines ≡ Ok o → IsImage o.image
 opened_is_image lines o h = image_kept o.image (opened_reached 0 0 Head.Image lines o ([], refl) h)
@@ -129,16 +133,20 @@ read_formed : (image : KernelImage) (n before : ℕ) (s : Standing) (lines : Lis
     → read (follows image) n before s lines ≡ Ok last → Formed image last
 unfolding read
 read_formed image n before s [] last f h = let g : s ≡ last = cc in subst (Formed image) g f
-read_formed image n before s (line ∷ lines) last f h = by (line_follows (follows image) before s line) refl h
+read_formed image n before s (line ∷ lines) last f h =
+    by (line_follows (follows image) before s line) refl h (λ next k. read_formed image (n + 1) (before + length line) next lines last k)
   where
+    -- what is shown of the lines behind
+    abbrev Behind : Type 0
+    Behind = (next : Standing) → Formed image next → read (follows image) (n + 1) (before + length line) next lines ≡ Ok last → Formed image last
+
     by : (r : Result Standing Cause) → line_follows (follows image) before s line ≡ r
         → (let q : Result Standing (ℕ × Cause) = elim r [
           | Err cause ↦ Err (n + 1, cause)
           | Ok next ↦ read (follows image) (n + 1) (before + length line) next lines
-        ] in q) ≡ Ok last → Formed image last
-    by (Err cause) k e = absurd cc
-    by (Ok next) k e = read_formed image (n + 1) (before + length line) next lines last
-        (followed (follows image) before s line next k (Formed image) f (λ ts j. follows_formed image s ts next f j)) e
+        ] in q) ≡ Ok last → Behind → Formed image last
+    by (Err cause) k e rest = absurd cc
+    by (Ok next) k e rest = rest next (followed (follows image) before s line next k (Formed image) f (λ ts j. follows_formed image s ts next f j)) e
 
 pub script_is_formed : (image : KernelImage) (n before : ℕ) (lines : List (List ℕ)) (script : List Line) → read_script image n before lines ≡ Ok script
     → IsScript image script

@@ -9,4 +9,4 @@ use Rattle.fredbox.proofs.ReadFormed.{opened_is_image, script_is_formed}
 pub frames_are_safe : FramesAreSafe
 frames_are_safe bytes image script h mode =
     let is : IsImage image = subst IsImage h.image_is (opened_is_image _ h.read h.opens) in
-    run_is_safe mode image script is (taken_are_built image is h.accepted h.built) (script_is_formed image _ _ _ script h.script_is) h.lines_built
+    run_is_safe mode image script is (taken_are_built image h.accepted h.built) (script_is_formed image _ _ _ script h.script_is) h.lines_built

@@ -18,7 +18,7 @@ ghost use Rattle.fredbox.specs.Taken.{IsUnwritten, Took, Wrote};
 
 use crate::faults::script_status;
 use ev_abstract::Line;
-use ev_accept::{AcceptFault, accept};
+use ev_accept::{AcceptFault, Accepted, accept};
 use ev_body::Image;
 use ev_built::{built_laws, is_built, line_is_built};
 use ev_io::{Lines, Sink, Source};
@@ -54,21 +54,21 @@ fn modes_asked(mode: Option<Mode>) -> Modes
 /// Runs a script and writes the text of its run.
 fn write_run<K: Sink>(
     alloc: Global,
-    image: &Image,
+    accepted: &Accepted,
     script: &[Line],
     mode: Option<Mode>,
     frames: bool,
     sink: &mut K,
 ) -> Status
-    requires image { IsBuilt image.now }
-    requires script { IsScript image.now script.now }
+    requires image { IsBuilt accepted.now.image }
+    requires script { IsScript accepted.now.image script.now }
     requires lines { list_all line_is_built script.now ≡ true }
     requires few { length script.now < 2 ^ 32 }
     ensures wrote { Wrote (K.taken sink.old) (K.taken sink.new)
-        (run_text image.now script.now (modes_of mode) frames) result }
+        (run_text accepted.now.image script.now (modes_of mode) frames) result }
     ensures cause { result ≡ Status.WriteFault → Rose (K.faults sink.old) (K.faults sink.new) }
 {
-    match run_modes(alloc, image, script, modes_asked(mode), frames, sink) {
+    match run_modes(alloc, accepted, script, modes_asked(mode), frames, sink) {
         Ok(()) => Status::Done,
         Err(RunFault::WriteFault) => Status::WriteFault,
         Err(RunFault::NoMemory) => Status::NoMemory,
@@ -119,5 +119,5 @@ pub(crate) fn run<S: Source, K: Sink>(
         return Status::NotBuilt;
     }
     built_laws();
-    write_run(alloc, accepted.image(), &script.lines, mode, frames, sink)
+    write_run(alloc, &accepted, &script.lines, mode, frames, sink)
 }

@@ -54,4 +54,5 @@ loop-line-preserved c =
     }
 
 pub returns : goal.returns
-returns c = none_left marked_of c.loop-line.index c.loop-line.at c.args.rip c.args.lines.now c.loop-line.line-index _ c.loop-line-test.false c.loop-line.invariant.same
+returns c =
+    none_left marked_of c.loop-line.index c.loop-line.at c.args.rip c.args.lines.now c.loop-line.line-index _ c.loop-line-test.false c.loop-line.invariant.same
