@@ -1,7 +1,6 @@
 -- What the proofs of steps use of an image's code: what stands where, its marks, and that memory holds its bytes.
-use Rattle.std.proofs.Common.{◌≡◌, ℕ, ◌+◌, ◌-◌, ◌/◌, ◌<◌, ◌≤◌, ◌^◌, Bool, true, false, ◌||◌, length, Some, refl, arith}
-use Rattle.std.specs.Prelude.{suc, ◌==◌, slice_get}
-use Rattle.std.proofs.lemmas.Bool.{eqb-true}
+use Rattle.std.proofs.Common.{◌≡◌, ℕ, ◌+◌, ◌<◌, ◌≤◌, ◌^◌, Bool, true, false, length, Some, arith}
+use Rattle.std.specs.Prelude.{suc, slice_get}
 use Rattle.ev_isa.specs.Word.{is_canonical, bit_if}
 use Rattle.ev_isa.specs.Flags.{Flags, flags_word}
 use Rattle.ev_isa.specs.declared.mode.Mode.{Mode}

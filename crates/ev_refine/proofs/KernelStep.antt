@@ -9,7 +9,7 @@ use Rattle.ev_isa.specs.declared.mode.Mode.{Mode}
 use Rattle.ev_effect.specs.Task.{Task}
 use Rattle.ev_event.specs.declared.boundary.Next.{Next}
 use Rattle.ev_body.specs.declared.item.Item.{Item}
-use Rattle.ev_body.specs.declared.item.Item.TheVariants.{Log, Ret}
+use Rattle.ev_body.specs.declared.item.Item.TheVariants.{Ret}
 use Rattle.ev_body.specs.declared.body.Body.{Body}
 use Rattle.ev_body.specs.declared.image.Image.{Image}
 use Rattle.ev_body.specs.WellFormed.{IsImage}
@@ -21,10 +21,9 @@ use Rattle.ev_mem.specs.Memory.{Memory, page_map}
 use Rattle.ev_proc.specs.ProcessorStep.{has_fred, next_of, executed, ran}
 use Rattle.ev_proc.specs.declared.stepped.Stepped.{Stepped}
 use Rattle.ev_abstract.specs.Boundary.{Choice, choice, maskable, open_to_interrupts, interrupt_or_next, deliverable, is_nmi_body}
-use Rattle.ev_abstract.specs.Context.{BodyContext, local}
-use Rattle.ev_abstract.specs.Context as context
+use Rattle.ev_abstract.specs.Context.{BodyContext}
 use Rattle.ev_abstract.specs.Delivery.{dropped, rescheduled}
-use Rattle.ev_abstract.specs.ItemMeaning.{Step, item_step, replace_last, below_last}
+use Rattle.ev_abstract.specs.ItemMeaning.{Step, item_step, below_last}
 use Rattle.ev_abstract.specs.declared.entry.Entry.{Entry}
 use Rattle.ev_abstract.specs.Machine.{Machine, processor, with_processor, task}
 use Rattle.ev_abstract.specs.Machine as abstract
