@@ -12,4 +12,3 @@ pub mod Small
 pub mod MissingSides
 pub mod RuleNames
 pub mod Acceptance
-pub mod Samples

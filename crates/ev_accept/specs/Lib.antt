@@ -5,4 +5,3 @@ pub mod Acceptance
 pub mod Checks
 pub mod Calls
 pub mod Missing
-pub mod Sample

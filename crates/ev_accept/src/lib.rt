@@ -12,6 +12,3 @@ mod missing;
 
 pub use accepted::{AcceptFault, Accepted, accept};
 pub use laws::acceptance_laws;
-
-#[cfg(test)]
-mod tests;

@@ -4,8 +4,6 @@
 mod apic;
 mod inbox;
 mod send;
-#[cfg(test)]
-mod tests;
 mod vectors;
 
 pub use apic::{Apic, apic_laws};

@@ -1,3 +1,4 @@
 pub mod Statements
 pub mod LabelLaws
 pub mod Sections
+pub mod FirstLabels

@@ -1,16 +1,16 @@
 -- Labels and bytes of several sections, one section further.
-use Rattle.std.proofs.Common.{◌≡◌, ℕ, zero, suc, ◌+◌, ◌<◌, ◌≤◌, ◌^◌, Bool, true, false, not, ◌&&◌, List, [], ◌∷◌, ◌++◌, length, get_or, drop, map, refl, sym, ap, ◌∙◌, arith, drop-cons, append_assoc}
+use Rattle.std.proofs.Common.{◌≡◌, ℕ, zero, suc, ◌+◌, ◌<◌, ◌≤◌, ◌^◌, Bool, true, false, ◌&&◌, List, [], ◌∷◌, ◌++◌, length, get_or, drop, map, refl, sym, ap, ◌∙◌, arith, drop-cons, append_assoc}
 use Rattle.std.specs.Prelude.{nat_le}
 use Rattle.std.proofs.lemmas.List.{drop_all, append-nil}
 use Rattle.std.proofs.lemmas.Bool.{ltb-true, leb-true}
 use Rattle.std.specs.List.{list_all}
 use Rattle.ev_asm.specs.declared.statement.Stmt.{Stmt}
-use Rattle.ev_asm.specs.declared.statement.Stmt.TheVariants.{Label, Plain, Jump}
+use Rattle.ev_asm.specs.declared.statement.Stmt.TheVariants.{Jump}
 use Rattle.ev_asm.specs.declared.block.Block.{Block}
 use Rattle.ev_asm.specs.declared.linking.Section.{Section}
-use Rattle.ev_asm.specs.Assembly.{Name, Places, is_name, size, total_size, places, place}
-use Rattle.ev_asm.specs.Assembled.{are_instructions, stmt_labels, is_new_name}
-use Rattle.ev_asm.specs.Linked.{section_places, block_in, reaches, all_reach, is_linkable}
+use Rattle.ev_asm.specs.Assembly.{Name, Places, size, total_size, place}
+use Rattle.ev_asm.specs.Assembled.{are_instructions}
+use Rattle.ev_asm.specs.Linked.{block_in, reaches, all_reach, is_linkable}
 use Rattle.ev_asm.proofs.Statements.{split_at}
 
 both : (a b : Bool) → (a && b) ≡ true → (a ≡ true) × (b ≡ true)
@@ -38,63 +38,6 @@ linkable_at env (x ∷ xs) (suc n) s h lt e = linkable_at env xs n s ((both (is_
 
 pub section_at : (ss : List Section) (n : ℕ) (s : Section) → n < length ss → s ≡ get_or ss n s → drop n ss ≡ s ∷ drop (suc n) ss
 section_at ss n s lt e = drop-cons ss n s lt ∙ ap (λ (x : Section). x ∷ drop (suc n) ss) (sym e)
-
--- ---- labels
-
-pub is_given : (b : Bool) → not b ≡ true → b ≡ false
-is_given true h = absurd cc
-is_given false h = refl
-
-pub is_not_given : (b : Bool) → not b ≡ false → b ≡ true
-is_not_given true h = refl
-is_not_given false h = absurd cc
-
-new_by : (b : Bool) (n name : Name) (ss : List Stmt) (a : ℕ) (rest : Places) → is_name n name ≡ b
-    → (is_new_name (stmt_labels ss) name ≡ true → place (places a ss ++ rest) name ≡ place rest name)
-    → is_new_name (n ∷ stmt_labels ss) name ≡ true → place ((n, a) ∷ places a ss ++ rest) name ≡ place rest name
-new_by true n name ss a rest e more h = let k = rw e at h in absurd cc
-new_by false n name ss a rest e more h = let k = rw e at h in rw e (more k)
-
--- a label that the statements don't give is behind them
-pub place_behind : (ss : List Stmt) (a : ℕ) (rest : Places) (name : Name) → is_new_name (stmt_labels ss) name ≡ true
-    → place (places a ss ++ rest) name ≡ place rest name
-unfolding places
-place_behind [] a rest name h = refl
-place_behind (Label n ∷ ss) a rest name h = new_by (is_name n name) n name ss a rest refl (λ k. place_behind ss a rest name k) h
-place_behind (Plain i ∷ ss) a rest name h = place_behind ss (a + size (Plain i)) rest name h
-place_behind (Jump c n ∷ ss) a rest name h = place_behind ss (a + size (Jump c n)) rest name h
-
-given_by : (b : Bool) (n name : Name) (ss : List Stmt) (a : ℕ) (rest : Places) → is_name n name ≡ b
-    → (is_new_name (stmt_labels ss) name ≡ false → place (places a ss ++ rest) name ≡ place (places a ss) name)
-    → is_new_name (n ∷ stmt_labels ss) name ≡ false → place ((n, a) ∷ places a ss ++ rest) name ≡ place ((n, a) ∷ places a ss) name
-given_by true n name ss a rest e more h = rw e refl
-given_by false n name ss a rest e more h = let k = rw e at h in rw e (more k)
-
--- one that they give is among them
-pub place_here : (ss : List Stmt) (a : ℕ) (rest : Places) (name : Name) → is_new_name (stmt_labels ss) name ≡ false
-    → place (places a ss ++ rest) name ≡ place (places a ss) name
-unfolding places
-place_here [] a rest name h = absurd cc
-place_here (Label n ∷ ss) a rest name h = given_by (is_name n name) n name ss a rest refl (λ k. place_here ss a rest name k) h
-place_here (Plain i ∷ ss) a rest name h = place_here ss (a + size (Plain i)) rest name h
-place_here (Jump c n ∷ ss) a rest name h = place_here ss (a + size (Jump c n)) rest name h
-
-pub places_step : (ss : List Section) (n m : ℕ) (s : Section) (name : Name) (W : ℕ) → n < length ss → m ≡ suc n → s ≡ get_or ss n s
-    → is_new_name (stmt_labels s.stmts) name ≡ true
-    → place (section_places (drop n ss)) name ≡ W → place (section_places (drop m ss)) name ≡ W
-places_step ss n m s name W lt k e h w =
-    rw k (sym (place_behind s.stmts s.address (section_places (drop (suc n) ss)) name h) ∙ ap (λ (x : List Section). place (section_places x) name)
-    (sym (section_at ss n s lt e)) ∙ w)
-
-pub places_stop : (ss : List Section) (n : ℕ) (s : Section) (name : Name) (W : ℕ) → n < length ss → s ≡ get_or ss n s
-    → is_new_name (stmt_labels s.stmts) name ≡ false
-    → place (section_places (drop n ss)) name ≡ W → place (places s.address s.stmts) name ≡ W
-places_stop ss n s name W lt e h w =
-    sym (place_here s.stmts s.address (section_places (drop (suc n) ss)) name h) ∙ ap (λ (x : List Section). place (section_places x) name)
-    (sym (section_at ss n s lt e)) ∙ w
-
-pub places_end : (ss : List Section) (n : ℕ) (name : Name) (W : ℕ) → length ss ≤ n → place (section_places (drop n ss)) name ≡ W → 0 ≡ W
-places_end ss n name W le w = sym (ap (λ (x : List Section). place (section_places x) name) (drop_all n ss le)) ∙ w
 
 -- ---- jumps
 

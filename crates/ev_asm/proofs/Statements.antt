@@ -11,7 +11,7 @@ use Rattle.ev_isa.specs.Spelling.{spelling, four_bytes}
 use Rattle.ev_asm.specs.declared.statement.Stmt.{Stmt}
 use Rattle.ev_asm.specs.declared.statement.Stmt.TheVariants.{Label, Plain, Jump}
 use Rattle.ev_asm.specs.Assembly.{Name, Places, is_name, size, total_size, places, place, stmt_bytes, code}
-use Rattle.ev_asm.specs.Assembled.{is_encoded, are_instructions, gives_label, stmt_labels, is_new_name, first_at, first_too_large, leads_nowhere, addresses_of}
+use Rattle.ev_asm.specs.Assembled.{is_encoded, are_instructions, stmt_labels, is_new_name, first_at, first_too_large, leads_nowhere, addresses_of}
 use Rattle.ev_asm.specs.Linked.{reaches}
 
 -- the statement at n, and those behind it
@@ -108,62 +108,36 @@ total_fits (s ∷ ss) n left h =
 
 -- ---- labels
 
-pub gives_not : (s : Stmt) (ss : List Stmt) (name : Name) → gives_label s name ≡ false
+-- whether a statement gives this label
+abbrev gives_label : Stmt → Name → Bool
+gives_label (Label n) name = is_name n name
+gives_label s name = false
+
+gives_not : (s : Stmt) (ss : List Stmt) (name : Name) → gives_label s name ≡ false
     → is_new_name (stmt_labels (s ∷ ss)) name ≡ is_new_name (stmt_labels ss) name
-unfolding gives_label
 gives_not (Label n) ss name h = rw h refl
 gives_not (Plain i) ss name h = refl
 gives_not (Jump c n) ss name h = refl
 
-pub gives_yes : (s : Stmt) (ss : List Stmt) (name : Name) → gives_label s name ≡ true → is_new_name (stmt_labels (s ∷ ss)) name ≡ false
-unfolding gives_label
+gives_yes : (s : Stmt) (ss : List Stmt) (name : Name) → gives_label s name ≡ true → is_new_name (stmt_labels (s ∷ ss)) name ≡ false
 gives_yes (Label n) ss name h = rw h refl
 gives_yes (Plain i) ss name h = absurd cc
 gives_yes (Jump c n) ss name h = absurd cc
-
-pub label_step : (stmts : List Stmt) (n m : ℕ) (s : Stmt) (name : Name) (W : Bool) → n < length stmts → m ≡ suc n → s ≡ get_or stmts n s
-    → gives_label s name ≡ false
-    → is_new_name (stmt_labels (drop n stmts)) name ≡ W → is_new_name (stmt_labels (drop m stmts)) name ≡ W
-label_step stmts n m s name W lt k e h w =
-    rw k (sym (gives_not s (drop (suc n) stmts) name h) ∙ ap (λ (x : List Stmt). is_new_name (stmt_labels x) name) (sym (split_at stmts n s lt e)) ∙ w)
-
-pub label_stop : (stmts : List Stmt) (n : ℕ) (s : Stmt) (name : Name) (W : Bool) → n < length stmts → s ≡ get_or stmts n s → gives_label s name ≡ true
-    → is_new_name (stmt_labels (drop n stmts)) name ≡ W → W ≡ false
-label_stop stmts n s name W lt e h w =
-    sym w ∙ ap (λ (x : List Stmt). is_new_name (stmt_labels x) name) (split_at stmts n s lt e) ∙ gives_yes s (drop (suc n) stmts) name h
-
-pub label_end : (stmts : List Stmt) (n : ℕ) (name : Name) (W : Bool) → length stmts ≤ n → is_new_name (stmt_labels (drop n stmts)) name ≡ W → W ≡ true
-label_end stmts n name W le w = sym w ∙ ap (λ (x : List Stmt). is_new_name (stmt_labels x) name) (drop_all n stmts le)
 
 -- ---- places
 
 place_not : (s : Stmt) (ss : List Stmt) (a : ℕ) (name : Name) → gives_label s name ≡ false
     → place (places a (s ∷ ss)) name ≡ place (places (a + size s) ss) name
-unfolding gives_label places size
+unfolding places size
 place_not (Label n) ss a name h = let e : a + 0 ≡ a = omega arith in rw (h, e) refl
 place_not (Plain i) ss a name h = refl
 place_not (Jump c n) ss a name h = refl
 
 place_yes : (s : Stmt) (ss : List Stmt) (a : ℕ) (name : Name) → gives_label s name ≡ true → place (places a (s ∷ ss)) name ≡ a
-unfolding gives_label places
+unfolding places
 place_yes (Label n) ss a name h = rw h refl
 place_yes (Plain i) ss a name h = absurd cc
 place_yes (Jump c n) ss a name h = absurd cc
-
-pub place_step : (stmts : List Stmt) (n m a b : ℕ) (s : Stmt) (name : Name) (W : ℕ) → n < length stmts → m ≡ suc n → s ≡ get_or stmts n s
-    → gives_label s name ≡ false → b ≡ a + size s
-    → place (places a (drop n stmts)) name ≡ W → place (places b (drop m stmts)) name ≡ W
-place_step stmts n m a b s name W lt k e h l w =
-    rw (k, l) (sym (place_not s (drop (suc n) stmts) a name h) ∙ ap (λ (x : List Stmt). place (places a x) name) (sym (split_at stmts n s lt e)) ∙ w)
-
-pub place_stop : (stmts : List Stmt) (n a : ℕ) (s : Stmt) (name : Name) (W : ℕ) → n < length stmts → s ≡ get_or stmts n s → gives_label s name ≡ true
-    → place (places a (drop n stmts)) name ≡ W → a ≡ W
-place_stop stmts n a s name W lt e h w =
-    sym (place_yes s (drop (suc n) stmts) a name h) ∙ ap (λ (x : List Stmt). place (places a x) name) (sym (split_at stmts n s lt e)) ∙ w
-
-pub place_end : (stmts : List Stmt) (n a : ℕ) (name : Name) (W : ℕ) → length stmts ≤ n → place (places a (drop n stmts)) name ≡ W → 0 ≡ W
-unfolding places
-place_end stmts n a name W le w = sym (ap (λ (x : List Stmt). place (places a x) name) (drop_all n stmts le)) ∙ w
 
 pub total_step : (stmts : List Stmt) (n m : ℕ) (s : Stmt) → n < length stmts → m ≡ suc n → s ≡ get_or stmts n s
     → total_size (drop n stmts) ≡ size s + total_size (drop m stmts)

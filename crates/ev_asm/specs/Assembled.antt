@@ -31,11 +31,6 @@ is_encoded s = true
 abbrev pub are_instructions : List Stmt → Bool
 are_instructions ss = list_all is_encoded ss
 
--- whether a statement gives this label
-unfoldable pub gives_label : Stmt → Name → Bool
-gives_label (Label n) name = is_name n name
-gives_label s name = false
-
 -- the number of the first statement at which the test holds of the statements before it and itself
 unfoldable pub first_at : (List Stmt → Stmt → Bool) → ℕ → List Stmt → List Stmt → Option ℕ
 first_at test n before [] = None

@@ -28,6 +28,10 @@ label_given place (Label name) = (name, place) ∷ []
 label_given place (Plain i) = []
 label_given place (Jump cond name) = []
 
+-- two tables of labels find the same places, whatever the name
+pub record FindAlike (labels others : Places) : Type 0 where
+  pub at : (name : Name) → found labels name ≡ found others name
+
 -- the labels are those of the statements, with their places if the statements end below 2^64
 pub record AreLabels (base : ℕ) (stmts : List Stmt) (labels : Places) : Type 0 where
   pub names : names_of labels ≡ stmt_labels stmts

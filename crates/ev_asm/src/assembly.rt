@@ -59,7 +59,7 @@ pub fn jump_size(condition: Option<Cond>) -> u64
 
 /// The bytes of a statement that stands at this address, where the labels have these places.
 #[tactic(auto, unfolding(crate::specs::Assembly::stmt_bytes, crate::specs::Assembly::size, crate::specs::Assembled::is_encoded, crate::specs::Linked::reaches))]
-fn statement(labels: &Labels, at: u64, s: &Stmt) -> ArrayVec<u8, 15>
+pub fn statement(labels: &Labels, at: u64, s: &Stmt) -> ArrayVec<u8, 15>
     requires counts { is_encoded s.now ≡ true }
     requires reaches { reaches labels.now at s.now ≡ true }
     requires room { at + size s.now < 2 ^ 64 }

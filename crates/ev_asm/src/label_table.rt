@@ -2,7 +2,7 @@
 
 ghost use Rattle.std.specs.Prelude.{◌≡◌, [], ◌∷◌, ◌++◌, None, IfOk, false};
 ghost use Rattle.ev_asm.specs.Assembly.{place};
-ghost use Rattle.ev_asm.specs.LabelTable.{found, gives_again, label_given};
+ghost use Rattle.ev_asm.specs.LabelTable.{found, gives_again, label_given, FindAlike};
 
 use crate::statement::Stmt;
 use ev_isa::Name;
@@ -92,6 +92,22 @@ impl Labels {
         match s {
             Stmt::Label(name) => self.with(alloc, Name::new(name.as_str()), place),
             Stmt::Plain(_) | Stmt::Jump(_, _) => Ok(self),
+        }
+    }
+
+    /// These labels and the one that the statement gives, if its name is new.
+    pub fn with_new_label_of(
+        self,
+        alloc: Global,
+        s: &Stmt,
+        place: u64,
+    ) -> Result<Labels, AllocError>
+        ensures { IfOk result (λ l. FindAlike l (self ++ label_given place s.now)) }
+    {
+        if self.has_label_of(s) {
+            Ok(self)
+        } else {
+            self.with_label_of(alloc, s, place)
         }
     }
 }

@@ -1,47 +1,14 @@
 // Labels, and the jumps to them.
 
-ghost use Rattle.std.specs.Prelude.{◌≡◌, ◌⊎◌, ◌+◌, ◌<◌, ◌^◌, [], not, true, Some, IfOk, IfErr};
-ghost use Rattle.ev_asm.specs.Assembly.{is_name, places, place, total_size};
-ghost use Rattle.ev_asm.specs.Assembled.{are_instructions, gives_label, stmt_labels, is_new_name, leads_nowhere, first_at};
+ghost use Rattle.std.specs.Prelude.{◌≡◌, ◌⊎◌, [], true, Some, IfOk, IfErr};
+ghost use Rattle.ev_asm.specs.Assembled.{are_instructions, stmt_labels, leads_nowhere, first_at};
 ghost use Rattle.ev_asm.specs.LabelTable.{AreLabels, names_of, second_fault};
 
 use crate::fault::AsmFault;
 use crate::label_table::Labels;
 use crate::size::size;
 use crate::statement::Stmt;
-use ev_isa::Name;
 use std::alloc::Global;
-
-/// Whether the names are one name.
-fn same(a: &Name, b: &Name) -> bool
-    ensures { result ≡ is_name a.now b.now }
-{
-    a.as_str() == b.as_str()
-}
-
-/// Whether the statement gives this label.
-#[tactic(auto, unfolding(crate::specs::Assembled::gives_label))]
-fn gives(s: &Stmt, name: &Name) -> bool
-    ensures { result ≡ gives_label s.now name.now }
-{
-    match s {
-        Stmt::Label(given) => same(given, name),
-        Stmt::Plain(_) => false,
-        Stmt::Jump(_, _) => false,
-    }
-}
-
-/// Whether a statement gives this label.
-pub fn has_label(stmts: &[Stmt], name: &Name) -> bool
-    ensures { result ≡ not (is_new_name (stmt_labels stmts.now) name.now) }
-{
-    for s in stmts {
-        if gives(s, name) {
-            return true;
-        }
-    }
-    false
-}
 
 /// The labels of statements from an address on, or the first statement that gives one again. The
 /// places mean nothing where the statements end above 2^64.
@@ -89,20 +56,4 @@ pub fn lost_jump(labels: &Labels, stmts: &[Stmt]) -> Option<usize>
         }
     }
     None
-}
-
-/// The place of a label, where the statements stand from an address on.
-pub fn place_of(stmts: &[Stmt], base: u64, name: &Name) -> u64
-    requires counts { are_instructions stmts.now ≡ true }
-    requires room { base + total_size stmts.now < 2 ^ 64 }
-    ensures { result ≡ place (places base stmts.now) name.now }
-{
-    let mut at = base;
-    for s in stmts {
-        if gives(s, name) {
-            return at;
-        }
-        at += size(s) as u64;
-    }
-    0
 }

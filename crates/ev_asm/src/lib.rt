@@ -19,6 +19,3 @@ pub use linking::{Section, link};
 pub use size::size as statement_size;
 pub use statement::Stmt;
 pub use text::Text;
-
-#[cfg(test)]
-mod tests;

@@ -1,17 +1,17 @@
 // Linking.
 
-ghost use Rattle.std.specs.Prelude.{◌≡◌, ◌+◌, ◌<◌, ◌^◌, true, IfOk};
-ghost use Rattle.ev_asm.specs.Assembly.{size, total_size, place, stmt_bytes, code};
-ghost use Rattle.ev_asm.specs.Assembled.{is_encoded, are_instructions};
-ghost use Rattle.ev_asm.specs.Linked.{section_places, linked, reaches, all_reach, AreLinkable};
+ghost use Rattle.std.specs.Prelude.{◌≡◌, ◌+◌, ◌<◌, ◌^◌, ◌++◌, true, IfOk};
+ghost use Rattle.ev_asm.specs.Assembly.{total_size, places, code};
+ghost use Rattle.ev_asm.specs.Assembled.{are_instructions};
+ghost use Rattle.ev_asm.specs.LabelTable.{FindAlike};
+ghost use Rattle.ev_asm.specs.Linked.{section_places, linked, all_reach, AreLinkable};
 
-use crate::assembly::{distance, jump, jump_size};
+use crate::assembly::statement;
 use crate::block::{Block, Blocks};
-use crate::labels::{has_label, place_of};
+use crate::label_table::Labels;
+use crate::size::size;
 use crate::statement::Stmt;
-use arrayvec::ArrayVec;
-use ev_code::encode;
-use ev_isa::{Many, Name, NoMemory};
+use ev_isa::{Many, NoMemory};
 use std::alloc::{AllocError, Global};
 
 /// Statements at an address. Own.
@@ -22,56 +22,50 @@ pub struct Section {
     pub stmts: Many<Stmt>,
 }
 
-/// The place of a label: that of the first section that gives it, and 0 where none does.
-fn place_in(sections: &[Section], name: &Name) -> u64
+/// These labels, and those of a section that have other names.
+fn with_section(alloc: Global, given: Labels, section: &Section) -> Result<Labels, AllocError>
+    requires counts { are_instructions section.now.stmts ≡ true }
+    requires room { section.now.address + total_size section.now.stmts < 2 ^ 64 }
+    ensures { IfOk result
+        (λ l. FindAlike l (given ++ places section.now.address section.now.stmts)) }
+{
+    let mut labels = given;
+    let mut at = section.address;
+    for s in section.stmts.as_slice() {
+        labels = labels.with_new_label_of(alloc, s, at)?;
+        at += size(s) as u64;
+    }
+    Ok(labels)
+}
+
+/// The labels of all sections, each with the first place that a section gives it.
+fn labels_in(alloc: Global, sections: &[Section]) -> Result<Labels, AllocError>
     requires { AreLinkable sections.now }
-    ensures { result ≡ place (section_places sections.now) name.now }
+    ensures { IfOk result (λ l. FindAlike l (section_places sections.now)) }
 {
+    let mut labels = Labels::new(alloc);
     for section in sections {
-        let stmts = section.stmts.as_slice();
-        if has_label(stmts, name) {
-            return place_of(stmts, section.address, name);
-        }
+        labels = with_section(alloc, labels, section)?;
     }
-    0
+    Ok(labels)
 }
 
-/// The bytes of a statement that stands at this address, among these sections.
-#[tactic(auto, unfolding(crate::specs::Assembly::stmt_bytes, crate::specs::Assembly::size, crate::specs::Assembled::is_encoded, crate::specs::Linked::reaches))]
-fn linked_statement(sections: &[Section], at: u64, s: &Stmt) -> ArrayVec<u8, 15>
-    requires linkable { AreLinkable sections.now }
-    requires counts { is_encoded s.now ≡ true }
-    requires reaches { reaches (section_places sections.now) at s.now ≡ true }
-    requires room { at + size s.now < 2 ^ 64 }
-    ensures { result.items ≡ stmt_bytes (section_places sections.now) at s.now }
-{
-    match s {
-        Stmt::Label(_) => ArrayVec::new(),
-        Stmt::Plain(i) => encode(i),
-        Stmt::Jump(condition, name) => {
-            let next = at + jump_size(*condition);
-            jump(*condition, distance(place_in(sections, name), next))
-        }
-    }
-}
-
-/// The bytes of statements that stand at this address, among these sections.
+/// The bytes of statements that stand at this address, where the labels have these places.
 fn linked_bytes(
     alloc: Global,
-    sections: &[Section],
+    labels: &Labels,
     address: u64,
     stmts: &[Stmt],
 ) -> Result<Vec<u8>, AllocError>
-    requires linkable { AreLinkable sections.now }
     requires counts { are_instructions stmts.now ≡ true }
-    requires reach { all_reach (section_places sections.now) address stmts.now ≡ true }
+    requires reach { all_reach labels.now address stmts.now ≡ true }
     requires room { address + total_size stmts.now < 2 ^ 64 }
-    ensures { IfOk result (λ v. v.items ≡ code (section_places sections.now) address stmts.now) }
+    ensures { IfOk result (λ v. v.items ≡ code labels.now address stmts.now) }
 {
     let mut bytes = Vec::new(alloc);
     let mut at = address;
     for s in stmts {
-        let code = linked_statement(sections, at, s);
+        let code = statement(labels, at, s);
         bytes.extend_from_slice(&code)?;
         at += code.len() as u64;
     }
@@ -82,9 +76,10 @@ fn linked_blocks(alloc: Global, sections: &[Section]) -> Result<Vec<Block>, Allo
     requires { AreLinkable sections.now }
     ensures { IfOk result (λ v. v.items ≡ linked sections.now) }
 {
+    let labels = labels_in(alloc, sections)?;
     let mut blocks = Vec::new(alloc);
     for section in sections {
-        let bytes = linked_bytes(alloc, sections, section.address, section.stmts.as_slice())?;
+        let bytes = linked_bytes(alloc, &labels, section.address, section.stmts.as_slice())?;
         blocks.push(Block {
             address: section.address,
             bytes: Many::from_vec(bytes),

@@ -7,6 +7,3 @@ mod text;
 
 pub use law::instructions_are_lines;
 pub use text::put_user_text;
-
-#[cfg(test)]
-mod tests;

@@ -9,6 +9,3 @@ mod line;
 pub use image::is_built;
 pub use laws::built_laws;
 pub use line::line_is_built;
-
-#[cfg(test)]
-mod tests;

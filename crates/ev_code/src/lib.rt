@@ -12,6 +12,3 @@ mod register_forms;
 pub use decoding::{decode, one_instruction, reading_law};
 pub use encoding::encode;
 pub use fault::DecodeFault;
-
-#[cfg(test)]
-mod tests;

@@ -24,7 +24,7 @@ use crate::task_view::TaskView;
 use crate::totals::Totals;
 use arrayvec::ArrayVec;
 use ev_abstract::Entry;
-use ev_body::Image;
+use ev_accept::Accepted;
 use ev_event::FrameNote;
 use ev_isa::{Mode, NoMemory};
 use ev_layout::{Places, build};
@@ -59,13 +59,15 @@ pub struct Turned {
 
 impl Machine {
     /// The machine of an image in a mode, at its opening. NoMemory means that memory was refused.
-    pub fn open(alloc: Global, image: &Image, mode: Mode) -> Result<Machine, NoMemory>
-        requires image { IsBuilt image.now }
+    pub fn open(alloc: Global, accepted: &Accepted, mode: Mode) -> Result<Machine, NoMemory>
+        requires image { IsBuilt accepted.now.image }
         requires mode { mode_is_built mode ≡ true }
-        ensures { IfOk result (λ m. IsRun mode image.now [] m) }
+        ensures { IfOk result (λ m. IsRun mode accepted.now.image [] m) }
     {
+        // The limits of the image are known where it is read.
+        let image = accepted.image();
         let _ = &image.processors;
-        let parts = build(alloc, image, mode)?;
+        let parts = build(alloc, accepted, mode)?;
         let cpus = parts.cpus.into_vec();
         let locals = match all_at_start(alloc, cpus.len()) {
             Ok(locals) => locals,

@@ -5,8 +5,6 @@ mod boundary;
 mod double_fault;
 mod event;
 mod frame_note;
-#[cfg(test)]
-mod tests;
 
 pub use boundary::{Boundary, Next, first_of};
 pub use double_fault::{Combined, FaultClass, combine, fault_class};

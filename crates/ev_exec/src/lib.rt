@@ -15,6 +15,3 @@ mod system;
 
 pub use instruction::exec;
 pub use outcome::Outcome;
-
-#[cfg(test)]
-mod tests;

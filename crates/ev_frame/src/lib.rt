@@ -3,8 +3,6 @@
 
 mod config;
 mod frame;
-#[cfg(test)]
-mod tests;
 
 pub use config::{
     FredConfig, Reserved, StackLevels, config_laws, config_word, level_rsp, read_config,

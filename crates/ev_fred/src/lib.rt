@@ -11,6 +11,3 @@ mod returns;
 pub use delivery::deliver_fred;
 pub use kernel_gs::lkgs;
 pub use returns::{erets, eretu};
-
-#[cfg(test)]
-mod tests;

@@ -2,8 +2,6 @@
 #![tactic(auto)]
 
 mod gate;
-#[cfg(test)]
-mod tests;
 mod tss;
 
 pub use gate::{Gate, GateFault, gate_bytes, gate_in, gate_laws, read_gate};

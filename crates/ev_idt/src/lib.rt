@@ -10,6 +10,3 @@ mod tables;
 pub use delivery::deliver_idt;
 pub use returns::iretq;
 pub use system_call::{swapgs, syscall_idt, sysretq};
-
-#[cfg(test)]
-mod tests;

@@ -9,8 +9,6 @@ mod kernel;
 mod lines;
 mod reading;
 mod said;
-#[cfg(test)]
-mod tests;
 
 pub use draft::Draft;
 pub use head::Head;

@@ -7,8 +7,6 @@ mod lines;
 mod memory;
 mod number;
 mod standard;
-#[cfg(test)]
-mod tests;
 mod text;
 mod tokens;
 mod transfer;

@@ -4,4 +4,4 @@
 
 mod laws;
 
-pub use laws::{faults_have_bodies, keeps_legal, runs_follow};
+pub use laws::{faults_have_bodies, keeps_bases, keeps_legal, runs_follow};

@@ -10,6 +10,3 @@ mod region;
 
 pub use mem::Mem;
 pub use region::{PageFault, Region, RegionKind, Who};
-
-#[cfg(test)]
-mod tests;

@@ -1,22 +1,19 @@
 -- A line of a script, what it shows, and what the end shows.
-use Rattle.std.proofs.Common.{◌≡◌, ℕ, Bool, true, false, List, [], ◌++◌, ap, refl, sym, ◌∙◌, zero, suc, take, Option, ⊎_elim, arith}
-use Rattle.std.specs.Io.KnownBytes.{append_known}
+use Rattle.std.proofs.Common.{◌≡◌, ℕ, Bool, true, List, ◌++◌, ap, refl, sym, ◌∙◌, ⊎_elim}
 use Rattle.std.proofs.lemmas.Bool.Decides.{eqb_tells}
 use Rattle.ev_isa.specs.declared.mode.Mode.{Mode}
 use Rattle.ev_event.specs.declared.frame_note.FrameNote.{FrameNote}
 use Rattle.ev_body.specs.declared.image.Image.{Image}
-use Rattle.ev_io.specs.Transfer.{TookPrefix}
 use Rattle.ev_abstract.specs.Run.{run, entries_of}
 use Rattle.ev_abstract.specs.declared.entry.Entry.{Entry}
 use Rattle.ev_abstract.specs.declared.script_line.Line.{Line}
 use Rattle.ev_abstract.specs.declared.script_line.Line.TheVariants.{Turn, Edge, Arrive, Accept}
-use Rattle.ev_abstract.specs.EntryText.{Text, trace_text, all_end_lines}
-use Rattle.ev_trace.specs.FrameText.{Totals, Noted, mode_text, totals_text}
+use Rattle.ev_abstract.specs.EntryText.{trace_text, all_end_lines}
+use Rattle.ev_trace.specs.FrameText.{Totals, mode_text, totals_text}
 use Rattle.ev_built.specs.Built.{line_is_built}
 use Rattle.ev_concrete.specs.ConcreteRun.{marks_of, noted, concrete_line, concrete_run}
 use Rattle.ev_concrete.specs.RunText.{shown_frames, settling}
 use Rattle.ev_pair.specs.SideText.{side_at, shown_line, shown_end}
-use Rattle.ev_io.proofs.Writes.{nothing_written}
 
 -- only turns of processor 0 are built today
 pub only_turns : (l : Line) → line_is_built l ≡ true → ((p : ℕ) → l ≡ Turn p → ⊥) → ⊥

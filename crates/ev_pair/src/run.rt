@@ -19,7 +19,7 @@ use crate::fault::RunFault;
 use crate::modes::Modes;
 use crate::side::{put_end, put_line};
 use ev_abstract::Line;
-use ev_body::Image;
+use ev_accept::Accepted;
 use ev_core::{Machine, Steps};
 use ev_io::{Failed, Sink};
 use ev_isa::Mode;
@@ -91,26 +91,26 @@ fn put_both<L: Ledger, K: Sink>(
 /// Runs a script in one mode.
 fn run_one<L: Ledger, K: Sink>(
     alloc: Global,
-    image: &Image,
+    accepted: &Accepted,
     script: &[Line],
     mode: Mode,
     frames: bool,
     sink: &mut K,
     steps: &mut Steps<L>,
 ) -> Result<(), RunFault>
-    requires image { IsBuilt image.now }
+    requires image { IsBuilt accepted.now.image }
     requires mode { mode_is_built mode ≡ true }
     requires lines { list_all line_is_built script.now ≡ true }
     requires few { length script.now < 2 ^ 32 }
     ensures ok { OnOk result (K.taken sink.new ≡ append_known (K.taken sink.old)
-        (run_text image.now script.now (mode ∷ []) frames)) }
+        (run_text accepted.now.image script.now (mode ∷ []) frames)) }
     ensures failed { OnErr result
         (TookPrefix (K.taken sink.old) (K.taken sink.new)
-        (run_text image.now script.now (mode ∷ []) frames)) }
+        (run_text accepted.now.image script.now (mode ∷ []) frames)) }
     ensures later { K.faults sink.old ≤ K.faults sink.new }
     ensures cause { OnWriteFault result (Rose (K.faults sink.old) (K.faults sink.new)) }
 {
-    let Ok(mut machine) = Machine::open(alloc, image, mode) else {
+    let Ok(mut machine) = Machine::open(alloc, accepted, mode) else {
         return Err(RunFault::NoMemory);
     };
     match put_one(&mut machine, mode, script, frames, sink, steps) {
@@ -122,29 +122,29 @@ fn run_one<L: Ledger, K: Sink>(
 /// Runs a script in both modes.
 fn run_both<L: Ledger, K: Sink>(
     alloc: Global,
-    image: &Image,
+    accepted: &Accepted,
     script: &[Line],
     frames: bool,
     sink: &mut K,
     steps: &mut Steps<L>,
 ) -> Result<(), RunFault>
-    requires image { IsBuilt image.now }
+    requires image { IsBuilt accepted.now.image }
     requires idt { mode_is_built Idt ≡ true }
     requires fred { mode_is_built Fred ≡ true }
     requires lines { list_all line_is_built script.now ≡ true }
     requires few { length script.now < 2 ^ 32 }
     ensures ok { OnOk result (K.taken sink.new ≡ append_known (K.taken sink.old)
-        (run_text image.now script.now (Idt ∷ Fred ∷ []) frames)) }
+        (run_text accepted.now.image script.now (Idt ∷ Fred ∷ []) frames)) }
     ensures failed { OnErr result
         (TookPrefix (K.taken sink.old) (K.taken sink.new)
-        (run_text image.now script.now (Idt ∷ Fred ∷ []) frames)) }
+        (run_text accepted.now.image script.now (Idt ∷ Fred ∷ []) frames)) }
     ensures later { K.faults sink.old ≤ K.faults sink.new }
     ensures cause { OnWriteFault result (Rose (K.faults sink.old) (K.faults sink.new)) }
 {
-    let Ok(mut idt) = Machine::open(alloc, image, Mode::Idt) else {
+    let Ok(mut idt) = Machine::open(alloc, accepted, Mode::Idt) else {
         return Err(RunFault::NoMemory);
     };
-    let Ok(mut fred) = Machine::open(alloc, image, Mode::Fred) else {
+    let Ok(mut fred) = Machine::open(alloc, accepted, Mode::Fred) else {
         return Err(RunFault::NoMemory);
     };
     match put_both(&mut idt, &mut fred, script, frames, sink, steps) {
@@ -156,7 +156,7 @@ fn run_both<L: Ledger, K: Sink>(
 /// The run for a blank ledger, in which its steps are counted.
 fn run_counted<L: Ledger, K: Sink>(
     alloc: Global,
-    image: &Image,
+    accepted: &Accepted,
     script: &[Line],
     modes: Modes,
     frames: bool,
@@ -164,23 +164,31 @@ fn run_counted<L: Ledger, K: Sink>(
     blank: Blank,
 ) -> Result<(), RunFault>
     requires ledger { (blank.name ≡ L.name) × (blank.parts ≡ L.parts) × (0 < blank.parts) }
-    requires image { IsBuilt image.now }
+    requires image { IsBuilt accepted.now.image }
     requires modes { all_built modes ≡ true }
     requires lines { list_all line_is_built script.now ≡ true }
     requires few { length script.now < 2 ^ 32 }
     ensures ok { OnOk result (K.taken sink.new ≡ append_known (K.taken sink.old)
-        (run_text image.now script.now (modes_of modes) frames)) }
+        (run_text accepted.now.image script.now (modes_of modes) frames)) }
     ensures failed { OnErr result
         (TookPrefix (K.taken sink.old) (K.taken sink.new)
-        (run_text image.now script.now (modes_of modes) frames)) }
+        (run_text accepted.now.image script.now (modes_of modes) frames)) }
     ensures later { K.faults sink.old ≤ K.faults sink.new }
     ensures cause { OnWriteFault result (Rose (K.faults sink.old) (K.faults sink.new)) }
 {
     let mut steps: Steps<L> = Steps::new(blank);
     match modes {
-        Modes::Idt => run_one(alloc, image, script, Mode::Idt, frames, sink, &mut steps),
-        Modes::Fred => run_one(alloc, image, script, Mode::Fred, frames, sink, &mut steps),
-        Modes::Both => run_both(alloc, image, script, frames, sink, &mut steps),
+        Modes::Idt => run_one(alloc, accepted, script, Mode::Idt, frames, sink, &mut steps),
+        Modes::Fred => run_one(
+            alloc,
+            accepted,
+            script,
+            Mode::Fred,
+            frames,
+            sink,
+            &mut steps,
+        ),
+        Modes::Both => run_both(alloc, accepted, script, frames, sink, &mut steps),
     }
 }
 
@@ -190,25 +198,27 @@ fn run_counted<L: Ledger, K: Sink>(
 /// In either mode no frame of the run holds a word that was live just before its step.
 pub fn run_modes<K: Sink>(
     alloc: Global,
-    image: &Image,
+    accepted: &Accepted,
     script: &[Line],
     modes: Modes,
     frames: bool,
     sink: &mut K,
 ) -> Result<(), RunFault>
-    requires image { IsBuilt image.now }
-    requires script { IsScript image.now script.now }
+    requires image { IsBuilt accepted.now.image }
+    requires script { IsScript accepted.now.image script.now }
     requires lines { list_all line_is_built script.now ≡ true }
     requires few { length script.now < 2 ^ 32 }
     ensures ok { OnOk result (K.taken sink.new ≡ append_known (K.taken sink.old)
-        (run_text image.now script.now (modes_of modes) frames)) }
+        (run_text accepted.now.image script.now (modes_of modes) frames)) }
     ensures failed { OnErr result
         (TookPrefix (K.taken sink.old) (K.taken sink.new)
-        (run_text image.now script.now (modes_of modes) frames)) }
-    ensures safe { (mode : Mode) → RunIsSafe mode image.now script.now }
+        (run_text accepted.now.image script.now (modes_of modes) frames)) }
+    ensures safe { (mode : Mode) → RunIsSafe mode accepted.now.image script.now }
     ensures later { K.faults sink.old ≤ K.faults sink.new }
     ensures cause { OnWriteFault result (Rose (K.faults sink.old) (K.faults sink.new)) }
 {
+    // The limits of the image are known where it is read.
+    let image = accepted.image();
     let _ = &image.processors;
-    run_counted::<Brand, K>(alloc, image, script, modes, frames, sink, Blank::new(1))
+    run_counted::<Brand, K>(alloc, accepted, script, modes, frames, sink, Blank::new(1))
 }

@@ -14,6 +14,3 @@ pub use items::item;
 pub use line::BodyLine;
 pub use operands::text_label;
 pub use part::PartLines;
-
-#[cfg(test)]
-mod tests;

@@ -19,6 +19,3 @@ pub use laws::{frames_read, refused_inputs, tries_end};
 pub use probing::{ProbeFault, probe};
 pub use report::{ProbeEnd, Report, Try};
 pub use text::print_report;
-
-#[cfg(test)]
-mod tests;

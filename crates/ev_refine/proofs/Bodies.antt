@@ -8,13 +8,13 @@ use Rattle.ev_isa.specs.declared.instruction.Ins.{Ins}
 use Rattle.ev_isa.specs.declared.instruction.Ins.TheVariants.{Load, JmpReg}
 use Rattle.ev_isa.specs.declared.mode.Mode.{Mode}
 use Rattle.ev_isa.specs.declared.mode.Mode.TheVariants.{Idt, Fred}
-use Rattle.ev_state.specs.Processor.{Processor, register, selector}
+use Rattle.ev_state.specs.Processor.{Processor, register, rsp, selector}
 use Rattle.ev_body.specs.declared.image.Image.{Image}
 use Rattle.ev_mem.specs.Memory.{Memory}
 use Rattle.ev_listing.specs.AddressMap.{pcpu, exit_entry}
 use Rattle.ev_abstract.specs.Context.{BodyContext}
 use Rattle.ev_symbolic.specs.Value.{M, V, FVar, K, P}
-use Rattle.ev_symbolic.specs.State.{SS, Win, Word, Block, in_win, absolute}
+use Rattle.ev_symbolic.specs.State.{SS, Win, Word, Block, in_win, absolute, top_tag}
 use Rattle.ev_symbolic.specs.Openings.{word, gs_word, at_base, all_regs, gs_tag}
 use Rattle.ev_symbolic.specs.Names.{saved, frame_rip, frame_flags, says_ring}
 use Rattle.ev_symbolic.specs.Agrees.{Env, Cell, Code, edge_cell, eval, eval_flags, addr, Known, IsTold, FactsHold, IsOpen, Open, Fits, Agrees, At}
@@ -143,8 +143,8 @@ exit_canonical Idt = refl
 
 -- what gives back w is told by none of the sixteen registers, and by no flags
 pub saved_again : (mode : Mode) (image : Image) (o : Origin) (e u : Env) (w : Processor) → ((i : ℕ) → 16 ≤ i → u.var i ≡ e.var i)
-    → u.base gs_tag ≡ e.base gs_tag → u.rest ≡ e.rest → SavedOf mode image o e w → SavedOf mode image o u w
-saved_again mode image UserCode e u w same base rest s =
+    → u.base gs_tag ≡ e.base gs_tag → u.base top_tag ≡ e.base top_tag → u.rest ≡ e.rest → SavedOf mode image o e w → SavedOf mode image o u w
+saved_again mode image UserCode e u w same base top rest s =
     let at = λ (n : ℕ) (l : 16 ≤ n). sym (same n l) in
     record {
       regs = s.regs ∙ (λ i. at 30 (omega arith) i ∷ at 31 (omega arith) i ∷ at 32 (omega arith) i ∷ at 33 (omega arith) i ∷ at 20 (omega arith) i
@@ -159,7 +159,7 @@ saved_again mode image UserCode e u w same base rest s =
       chosen = same 61 (omega arith) ∙ s.chosen;
       level = same 63 (omega arith) ∙ s.level;
     }
-saved_again mode image KernelCode e u w same base rest s =
+saved_again mode image KernelCode e u w same base top rest s =
     let at = λ (n : ℕ) (l : 16 ≤ n). sym (same n l) in
     record {
       regs = s.regs ∙ (λ i. at 30 (omega arith) i ∷ at 31 (omega arith) i ∷ at 32 (omega arith) i ∷ at 33 (omega arith) i ∷ at 20 (omega arith) i
@@ -181,6 +181,7 @@ saved_again mode image KernelCode e u w same base rest s =
       chosen = same 61 (omega arith) ∙ s.chosen;
       level = same 63 (omega arith) ∙ s.level;
       levels = s.levels;
+      above = subst (λ n. n ≤ rsp w) (sym top) s.above;
     }
 
 -- so at the load of the body's address with other flags
@@ -193,7 +194,7 @@ load_again mode image o e g w b l = record {
   found = l.found;
   begins = l.begins;
   unknown = l.unknown;
-  saved = saved_again mode image o e (record e { flags = g }) w (λ i h. refl) refl refl l.saved;
+  saved = saved_again mode image o e (record e { flags = g }) w (λ i h. refl) refl refl refl l.saved;
   locals = l.locals;
 }
 

@@ -25,6 +25,7 @@ use Rattle.ev_symbolic.specs.Machine.{Fetches}
 pub use Rattle.ev_user.proofs.KeepsNumbers.{word_of_canonical}
 use Rattle.ev_paths.specs.Lines.{HasKernel}
 use Rattle.ev_table.specs.Table.{code_table, other_exit, RetCell, places_of, item_lines, item_cells}
+use Rattle.ev_table.proofs.Expanded.{is_plain}
 use Rattle.ev_fetch.specs.Claims.{HoldsText}
 use Rattle.ev_refine.specs.Relation.{first_word, IsFixed}
 
@@ -50,6 +51,7 @@ pub record Facts (mode : Mode) (image : Image) : Type 0 where
       × (item_address mode n b i + 0x100 ≤ 2 ^ 64)
   pub unmarked : (a : ℕ) (x : Cell) → code_table mode image a ≡ Some x → x.mark ≡ false → mark_at (marks_of mode image) a ≡ Never
   pub marked : (a : ℕ) (x : Cell) → code_table mode image a ≡ Some x → x.mark ≡ true → mark_at (marks_of mode image) a ≡ Always
+  pub plain : (a : ℕ) → is_plain (mark_at (marks_of mode image) a) ≡ true
   pub fetches : (m : Memory) → m.regions ≡ regions image → HasFixed mode image m → Fetches (code_table mode image) m
   pub holds : (m : Memory) → HasFixed mode image m → HoldsText image.text m.words
   pub in_code : (m : Memory) → m.regions ≡ regions image → (c : Processor) → IsInCode c m

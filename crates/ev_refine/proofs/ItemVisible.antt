@@ -150,7 +150,7 @@ module _ (mode : Mode) (image : Image) (built : IsBuilt image) (good : IsImage i
     rest = refl;
     fred = step.fred_is mode image built good facts left s m h p hp o;
     saved = λ regs extra' f'. saved_again mode image (origin_of o.κ) (env ss extra v f) (env ss extra' (with_registers regs v) f') o.w
-        (beyond_registers regs v) refl refl a.means.saved;
+        (beyond_registers regs v) refl refl refl a.means.saved;
     known = λ regs extra' f'. any_known mode p o.κ o.σ ss o.w extra extra' v f f' regs words known;
     chains = λ b kind ctx now cpu act. step.with_last mode image built good facts left s m h p hp o b kind ctx now cpu words names allowed unknown changes act;
   }

@@ -218,7 +218,7 @@ module _ (mode : Mode) (image : Image) (built : IsBuilt image) (good : IsImage i
               code = refl;
               begins = l.begins;
               unknown = l.unknown;
-              saved = saved_again mode image (origin_of κ) e (env ss extra u f) w (λ i low. beside_rax i low) refl refl l.saved;
+              saved = saved_again mode image (origin_of κ) e (env ss extra u f) w (λ i low. beside_rax i low) refl refl refl l.saved;
               locals = l.locals;
             },
             place,

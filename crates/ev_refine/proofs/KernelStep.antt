@@ -63,7 +63,7 @@ use Rattle.ev_refine.proofs.Stays.{means_again, leads_again, AreSpared, chain_st
 use Rattle.ev_refine.proofs.Chains.{Kept, chain_kept, chain_plain, chain_open}
 use Rattle.ev_refine.proofs.After.{AreNames, AreSparing, own_word, none_spares, slot_same, cell_same, page_same, user_same, few_inner, latch_parts, as_chain, returns_to, own_becomes, own_after, stands_become, stands_after}
 use Rattle.ev_refine.proofs.CallKinds.{is_over_task, is_plain_kind, over_any, beneath_as, stands_alone, ArePlain, none_nmi, seat_under, plain_seat, plain_knows}
-use Rattle.ev_refine.proofs.Domains.{four_tasks, one_task_each}
+use Rattle.ev_refine.proofs.Domains.{four_tasks}
 use Rattle.ev_law.proofs.Ruled.{body_ruled}
 use Rattle.ev_user.specs.Numbers.{AreOfWords, HoldsNumbers}
 use Rattle.ev_user.proofs.KeepsNumbers.{items_keep_numbers}
@@ -131,8 +131,8 @@ module _ (mode : Mode) (image : Image) (built : IsBuilt image) (good : IsImage i
   abbrev pub t : Task
   t = x.tasks r
 
-  pub first_task : r ≡ 0
-  first_task = let n = returns_to mode image p (left p) s x on in let one = one_task_each image built p hp in omega arith
+  pub narrow_task : r < 4
+  narrow_task = let n = returns_to mode image p (left p) s x on in let four = four_tasks image good p hp in omega arith
 
   abbrev pub Chained : (now : ℕ) (t : Task) → List BodyContext → List Activation → Processor → Memory → Type 0
   Chained now t bs as' cpu mem = Chain mode image p now r t on.frame on.switching bs as' cpu mem
@@ -229,7 +229,7 @@ module _ (mode : Mode) (image : Image) (built : IsBuilt image) (good : IsImage i
     under_is = sym seat_is ∙ plain_seat mode image r b below all_plain
 
     pub in_seat : IsSeat σ
-    in_seat = let z = first_task in subst IsSeat seat_is (seat_fits mode image r b below all_plain (omega arith) shallow)
+    in_seat = let z = narrow_task in subst IsSeat seat_is (seat_fits mode image r b below all_plain (omega arith) shallow)
 
     on_stack : σ.stack ≡ r
     on_stack = ap (λ (y : Seat). y.stack) under_is
@@ -293,7 +293,7 @@ module _ (mode : Mode) (image : Image) (built : IsBuilt image) (good : IsImage i
         → Beneath mode image (keeps_cr2 mode image κ)
         (λ v. Chain mode image p (body_edges mode image) r t on.frame (chained mode image on.switching below) below o.others v (with_words s.memory words)) w
     below_stays names allowed unknown words changes =
-        let z = first_task in
+        let z = narrow_task in
         let spared : AreSpared mode image p r below s.memory.words words
         = below_spared mode image p r names s.memory.words words b below small (omega arith) shallow allowed.written unknown
         (subst (λ y. Changes p y names s.memory.words words) (sym seat_is) changes) all_plain in
@@ -333,12 +333,12 @@ module _ (mode : Mode) (image : Image) (built : IsBuilt image) (good : IsImage i
         (subst (λ bs. Chained now t bs (o.last ∷ o.others) cpu (with_words s.memory words)) (sym o.bodies)
         (with_last b o.kind ctx now cpu words names sparing.allowed unknown changes act)) in
         let there : StandsOn mode image p (now + inner_edges (s.latches p)) (after_ran s p cpu words) x
-        = own_after mode image p (left p) s (after_ran s p cpu words) x σ cpu _ words x.tasks x.bodies now on small (four_tasks image built p hp)
+        = own_after mode image p (left p) s (after_ran s p cpu words) x σ cpu _ words x.tasks x.bodies now on small (four_tasks image good p hp)
         (moves cpu words) on_stack narrow names sparing changes (λ i d. refl) on.tasks
         (hb ∙ sym none_is_nmi) (λ class. refl) (let l = on.enough in let f = on.few in omega arith) goes_on in
         let all : Stands mode image (put_at left p (now + inner_edges (s.latches p))) (after_ran s p cpu words) m
         = stands_after mode image left s (after_ran s p cpu words) m m p (now + inner_edges (s.latches p)) x σ cpu _ words good built.accepted
-        (four_tasks image built) h hp (moves cpu words) narrow names sparing changes
+        (four_tasks image good) h hp (moves cpu words) narrow names sparing changes
         (λ a u. user_same p σ names small narrow s.memory.words words sparing.allowed.written changes no_user a u ∙ h.shares.user a u) h.shares.held
         (record { own = refl; others = λ q e. refl; present = refl; cells = refl; mail = refl; mail_nmi = refl; records = refl; queue = refl })
         h.legal h.numbers domain there in
@@ -412,14 +412,14 @@ module _ (mode : Mode) (image : Image) (built : IsBuilt image) (good : IsImage i
         let none : list_any (is_nmi_body image) bs ≡ false
         = none_nmi image bs (chain_plain mode image p now r (tasks r) on.frame on.switching bs _ cpu (with_words s.memory words) goes_on) in
         let there : StandsOn mode image p (now + inner_edges (s.latches p)) (after_ran s p cpu words) x'
-        = own_becomes mode image p (left p) s (after_ran s p cpu words) x σ cpu _ words tasks slots bs now on small (four_tasks image built p hp)
+        = own_becomes mode image p (left p) s (after_ran s p cpu words) x σ cpu _ words tasks slots bs now on small (four_tasks image good p hp)
         (moves cpu words) on_stack narrow names allowed changes y.slots_are y.same_tasks y.good_tasks (hb ∙ sym none)
         (λ class. unserved class bs quiet ∙ sym (unserved class x.bodies domain.bodies))
         (let f = few_inner mode image (s.latches p) in omega arith) goes_on in
         let inside : IsInDomain x' = record { pending = domain.pending; nmi = domain.nmi; resched = domain.resched; bodies = quiet } in
         let all : Stands mode image (put_at left p (now + inner_edges (s.latches p))) (after_ran s p cpu words) m'
         = stands_become mode image left s (after_ran s p cpu words) m m' p (now + inner_edges (s.latches p)) x' σ cpu _ words
-        good built.accepted (four_tasks image built) h hp (moves cpu words) narrow names allowed changes
+        good built.accepted (four_tasks image good) h hp (moves cpu words) narrow names allowed changes
         (record {
           own = y.own;
           others = y.others;

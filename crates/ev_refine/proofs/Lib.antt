@@ -37,11 +37,17 @@ pub mod UserState
 pub mod UserStep
 pub mod UserPlain
 pub mod UserBody
+pub mod Live
 pub mod UserSafe
 pub mod Raising
 pub mod RaisingFred
 pub mod RaisingIdt
 pub mod SystemCallIdt
 pub mod User
+pub mod BodyRaising
+pub mod BodyRaisingFred
+pub mod BodyRaisingIdt
+pub mod KernelSafe
 pub mod CodeFacts
+pub mod Visible
 pub mod Refine

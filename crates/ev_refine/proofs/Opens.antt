@@ -1,25 +1,27 @@
 -- The opening of the concrete machine stands for that of the abstract one.
-use Rattle.std.proofs.Common.{◌≡◌, ℕ, suc, ◌+◌, ◌-◌, ◌*◌, ◌/◌, ◌%◌, ◌^◌, ◌<◌, ◌≤◌, ◌⊎◌, inl, inr, zero, Bool, true, false, ◌&&◌, ◌||◌, List, [], ◌∷◌, get_or, length, map, refl, sym, ap, ◌∙◌, subst, arith, ⊎_elim}
+use Rattle.std.proofs.Common.{◌≡◌, ◌≢◌, ◌++◌, ℕ, suc, ◌+◌, ◌-◌, ◌*◌, ◌/◌, ◌%◌, ◌^◌, ◌<◌, ◌≤◌, ◌⊎◌, inl, inr, zero, Bool, true, false, ◌&&◌, ◌||◌, List, [], ◌∷◌, get_or, length, map, drop, refl, sym, ap, ◌∙◌, subst, arith, ⊎_elim}
 use Rattle.std.specs.Prelude.{◌==◌, nat_lt, nat_le, if◌then◌else◌}
 use Rattle.std.specs.List.{list_all, list_any}
-use Rattle.std.proofs.lemmas.Bool.{eqb-true, ltb-true, leb-true, eq-eqb, le-leb, lt-ltb, lt-leb, le-ltb}
+use Rattle.std.proofs.lemmas.Bool.{and_parts, eqb-true, ltb-true, leb-true, eq-eqb, le-leb, lt-ltb, lt-leb, le-ltb}
 use Rattle.std.proofs.lemmas.Bool.Decides.{eqb_tells}
-use Rattle.std.proofs.Math.Nat.{zero-div}
-use Rattle.ev_isa.specs.Word.{numbers_from, is_aligned, is_canonical, members, values, bit}
+use Rattle.std.proofs.Math.Nat.{zero-div, mod-eq_of_lt}
+use Rattle.std.proofs.lemmas.List.{length-append, get_or_append_left}
+use Rattle.ev_isa.specs.Word.{NatMap, wrap, numbers_from, is_aligned, is_canonical, members, values, bit}
 use Rattle.ev_isa.specs.declared.mode.Mode.{Mode}
 use Rattle.ev_isa.specs.declared.mode.Mode.TheVariants.{Idt, Fred}
 use Rattle.ev_body.specs.declared.image.Image.{Image}
 use Rattle.ev_body.specs.declared.image.TaskSpec.{TaskSpec}
 use Rattle.ev_body.specs.WellFormed.{IsImage, is_task, is_text_place, is_word}
+use Rattle.ev_effect.specs.Frame.{addresses}
+use Rattle.ev_state.specs.Processor.{selector}
 use Rattle.ev_mem.specs.Memory.{page_map}
 use Rattle.ev_apic.specs.Vectors.{vectors_of}
 use Rattle.ev_listing.specs.AddressMap.{pcpu, slot_offset, record_address, user_table, kernel_table, idt_base, cells_base, task_words, stack_top, fred_page}
 use Rattle.ev_abstract.specs.Machine.{opening, processor, no_task, task_at_start}
 use Rattle.ev_concrete.specs.ConcreteRun.{opening_system}
-use Rattle.ev_concrete.specs.Opening.{Placed, opening_word, word_there, pcpu_word, within, tasks_of, opening_cpu}
-use Rattle.ev_built.specs.Built.{IsBuilt}
+use Rattle.ev_concrete.specs.Opening.{Placed, opening_word, word_there, pcpu_word, stack_word, below_top, saved_words, within, tasks_of, opening_cpu}
 use Rattle.ev_user.specs.Tasks.{IsTask, level_zero}
-use Rattle.ev_refine.specs.Tasks.{TssIs, CurrentIs}
+use Rattle.ev_refine.specs.Tasks.{order, IsSaved, TssIs, CurrentIs}
 use Rattle.ev_refine.specs.Nmi.{Held, Plain}
 use Rattle.ev_user.specs.Sees.{IsUserWord}
 use Rattle.ev_user.specs.Words.{AreWords, HoldsWords}
@@ -29,15 +31,15 @@ use Rattle.ev_refine.specs.Domain.{IsInDomain}
 use Rattle.ev_refine.specs.Relation.{Shares, Stands, StandsOn, first_word}
 use Rattle.ev_law.proofs.Runs.{opening_is_legal}
 use Rattle.ev_user.proofs.KeepsNumbers.{opening_holds_numbers}
-use Rattle.ev_refine.proofs.Domains.{one_task_each}
+use Rattle.ev_refine.proofs.Domains.{HasTasks, has_tasks}
 use Rattle.ev_user.proofs.Follows.{low_canonical}
 
--- ---- words of a processor's area, which has offsets o
+-- ---- words of a processor's area, by their offsets o
 
 pub opening_area : (es : Placed) (mode : Mode) (image : Image) (p o : ℕ) → p < image.processors → image.processors ≤ 8 → o < 0x10000 → o % 8 ≡ 0
     → opening_word es mode image (pcpu p + o) ≡ pcpu_word p o
 unfolding opening_word word_there
-opening_area es mode image p o here few lt al =
+opening_area es mode image p o hp few lt al =
     let a : ℕ = pcpu p + o in
     let aligned : is_aligned a ≡ true = eq-eqb (a % 8) 0 (omega arith) in
     let upper : nat_lt a (2 ^ 63) ≡ false = le-ltb a (2 ^ 63) (omega arith) in
@@ -49,6 +51,40 @@ opening_area es mode image p o here few lt al =
     let offset : a % 0x10000 ≡ o = omega arith in
     rw (aligned, upper, code, stacks, from, to) (λ i. pcpu_word (number i) (offset i))
 
+-- ---- words of stacks, d bytes below the top
+
+-- the word d bytes below the top of the stack of a task that waits is one of its saved words
+saved_word : (es : Placed) (mode : Mode) (image : Image) (p n d : ℕ) → image.processors ≤ 8 → p < image.processors → 0 < n
+    → n < length (tasks_of image p) → n < 4 → 0 < d → d ≤ 0x2000 → d % 8 ≡ 0
+    → opening_word es mode image (stack_top p n - d) ≡ below_top (saved_words mode (get_or (tasks_of image p) n no_task)) d
+unfolding opening_word word_there
+saved_word es mode image p n d few hp waits there small some most al =
+    let a : ℕ = stack_top p n - d in
+    let aligned : is_aligned a ≡ true = eq-eqb (a % 8) 0 (omega arith) in
+    let upper : nat_lt a (2 ^ 63) ≡ false = le-ltb a (2 ^ 63) (omega arith) in
+    let code : nat_le fred_page a ≡ false = lt-leb fred_page a (omega arith) in
+    let from : nat_le (stack_top 0 0 - 0x4000) a ≡ true = le-leb (stack_top 0 0 - 0x4000) a (omega arith) in
+    let to : nat_lt a (stack_top 0 0 - 0x4000 + 0x100000 * image.processors) ≡ true
+    = lt-ltb a (stack_top 0 0 - 0x4000 + 0x100000 * image.processors) (omega arith) in
+    let number : (a - (stack_top 0 0 - 0x4000)) / 0x100000 ≡ p = omega arith in
+    let stack : (a - (stack_top 0 0 - 0x4000)) % 0x100000 / 0x4000 ≡ n = omega arith in
+    let below : 0x4000 - a % 0x4000 ≡ d = omega arith in
+    let one : nat_lt 0 n ≡ true = lt-ltb 0 n waits in
+    let is : nat_lt n (length (tasks_of image p)) ≡ true = lt-ltb n (length (tasks_of image p)) there in
+    rw (aligned, upper, code, from, to) (λ i. stack_word mode image (number i) (stack i) (below i))
+    ∙ ap (λ b. if b && nat_lt n (length (tasks_of image p)) then below_top (saved_words mode (get_or (tasks_of image p) n no_task)) d else 0) one
+    ∙ ap (λ b. if b then below_top (saved_words mode (get_or (tasks_of image p) n no_task)) d else 0) is
+
+-- the words from an address up
+words_map : (m : NatMap ℕ) (ws : List ℕ) (a : ℕ) → a + 8 * length ws < 2 ^ 64 → ((k : ℕ) → k < length ws → m (a + 8 * k) ≡ get_or ws k 0)
+    → map m (addresses a (length ws)) ≡ ws
+words_map m [] a h f = refl
+words_map m (w ∷ ws) a h f =
+    let next : wrap (a + 8) ≡ a + 8 = omega arith in
+    (λ i. (ap m (let e : a ≡ a + 8 * 0 = omega arith in e) ∙ f 0 (omega arith)) i ∷ map m (addresses (next i) (length ws)))
+    ∙ ap (λ xs. w ∷ xs) (words_map m ws (a + 8) (omega arith)
+    (λ k l. ap m (let e : a + 8 + 8 * k ≡ a + 8 * suc k = omega arith in e) ∙ f (suc k) (omega arith)))
+
 -- ---- words of user code, pages and cells
 
 user_word : (es : Placed) (mode : Mode) (image : Image) (a : ℕ) → IsUserWord a → opening_word es mode image a ≡ (opening image).words a
@@ -59,7 +95,7 @@ user_word es mode image a h =
     rw (h.0, lower) refl
 
 -- an address between the IDT and the words of tasks, from 20000H of the tables on: of the page map and of the cells
-in_maps : (es : Placed) (mode : Mode) (image : Image) (a : ℕ) → image.processors ≡ 1 → 0xffff888000820000 ≤ a → a < 0xffff888000840000 → a % 8 ≡ 0
+in_maps : (es : Placed) (mode : Mode) (image : Image) (a : ℕ) → image.processors ≤ 8 → 0xffff888000820000 ≤ a → a < 0xffff888000840000 → a % 8 ≡ 0
     → opening_word es mode image a ≡ (if within page_map (8 * 256) a then (if members image.pages ((a - page_map) / 8) then 1 else 0)
     else (if within cells_base (8 * 256) a then values image.cells ((a - cells_base) / 8) else 0))
 unfolding opening_word word_there
@@ -82,7 +118,7 @@ in_maps es mode image a one from to al =
     behind : (base bytes a : ℕ) → base + bytes ≤ a → within base bytes a ≡ false
     behind base bytes a h = neither (nat_le base a) (nat_lt a (base + bytes)) (le-ltb a (base + bytes) h)
 
-page_word : (es : Placed) (mode : Mode) (image : Image) (i : ℕ) → image.processors ≡ 1 → i < 256
+page_word : (es : Placed) (mode : Mode) (image : Image) (i : ℕ) → image.processors ≤ 8 → i < 256
     → opening_word es mode image (page_map + 8 * i) ≡ (if members image.pages i then 1 else 0)
 page_word es mode image i one lt =
     let a : ℕ = page_map + 8 * i in
@@ -96,7 +132,7 @@ page_word es mode image i one lt =
     else (if within cells_base (8 * 256) a then values image.cells ((a - cells_base) / 8) else 0)) to
     ∙ ap (λ k. if members image.pages k then 1 else 0) n
 
-cell_word : (es : Placed) (mode : Mode) (image : Image) (k : ℕ) → image.processors ≡ 1 → k < 256
+cell_word : (es : Placed) (mode : Mode) (image : Image) (k : ℕ) → image.processors ≤ 8 → k < 256
     → opening_word es mode image (cells_base + 8 * k) ≡ values image.cells k
 cell_word es mode image k one lt =
     let a : ℕ = cells_base + 8 * k in
@@ -117,7 +153,7 @@ cell_word es mode image k one lt =
     neither true x y = refl
     neither false x y = refl
 
--- ---- what the first processor's area holds
+-- ---- what an area holds
 
 differs : (o k : ℕ) → (k < o) ⊎ (o < k) → (o == k) ≡ false
 differs o k h = ⊎_elim (λ e. absurd (clash e.1 h)) (λ e. e.0) (eqb_tells o k)
@@ -127,11 +163,11 @@ differs o k h = ⊎_elim (λ e. absurd (clash e.1 h)) (λ e. e.0) (eqb_tells o k
     clash e (inr l) = omega arith
 
 -- the mark, the head of the queue, and the slots
-pcpu_zero : (o : ℕ) → (o ≡ 0x20) ⊎ ((o ≡ 0x30) ⊎ ((0x200 ≤ o) × (o < 0x400))) → pcpu_word 0 o ≡ 0
+pcpu_zero : (p o : ℕ) → (o ≡ 0x20) ⊎ ((o ≡ 0x30) ⊎ ((0x200 ≤ o) × (o < 0x400))) → pcpu_word p o ≡ 0
 unfolding pcpu_word
-pcpu_zero o (inl h) = subst (λ k. pcpu_word 0 k ≡ 0) (sym h) refl
-pcpu_zero o (inr (inl h)) = subst (λ k. pcpu_word 0 k ≡ 0) (sym h) refl
-pcpu_zero o (inr (inr h)) =
+pcpu_zero p o (inl h) = subst (λ k. pcpu_word p k ≡ 0) (sym h) refl
+pcpu_zero p o (inr (inl h)) = subst (λ k. pcpu_word p k ≡ 0) (sym h) refl
+pcpu_zero p o (inr (inr h)) =
     let a : 0x200 ≤ o = h.0 in
     let b : o < 0x400 = h.1 in
     rw (
@@ -147,9 +183,9 @@ pcpu_zero o (inr (inr h)) =
     ) refl
 
 -- a call record is free, and has the number 0
-record_zero : (k r : ℕ) → k < 8 → (r ≡ 0) ⊎ (r ≡ 0x28) → pcpu_word 0 (0x800 + 0x40 * k + r) ≡ 0
+record_zero : (p k r : ℕ) → k < 8 → (r ≡ 0) ⊎ (r ≡ 0x28) → pcpu_word p (0x800 + 0x40 * k + r) ≡ 0
 unfolding pcpu_word
-record_zero k r hk h =
+record_zero p k r hk h =
     let o : ℕ = 0x800 + 0x40 * k + r in
     let small : r < 0x40 = ⊎_elim (λ (e : r ≡ 0). omega arith) (λ (e : r ≡ 0x28). omega arith) h in
     let part : o % 0x40 ≡ r = omega arith in
@@ -167,9 +203,9 @@ record_zero k r hk h =
       part,
     ) (zero_at h)
   where
-    zero_at : (r ≡ 0) ⊎ (r ≡ 0x28) → (if r == 0x20 then 0 else (if r == 0x30 then (0x800 + 0x40 * k + r - 0x800) / 0x40 else 0)) ≡ 0
-    zero_at (inl e) = ap (λ q. if q == 0x20 then 0 else (if q == 0x30 then (0x800 + 0x40 * k + r - 0x800) / 0x40 else 0)) e
-    zero_at (inr e) = ap (λ q. if q == 0x20 then 0 else (if q == 0x30 then (0x800 + 0x40 * k + r - 0x800) / 0x40 else 0)) e
+    zero_at : (r ≡ 0) ⊎ (r ≡ 0x28) → (if r == 0x20 then p else (if r == 0x30 then (0x800 + 0x40 * k + r - 0x800) / 0x40 else 0)) ≡ 0
+    zero_at (inl e) = ap (λ q. if q == 0x20 then p else (if q == 0x30 then (0x800 + 0x40 * k + r - 0x800) / 0x40 else 0)) e
+    zero_at (inr e) = ap (λ q. if q == 0x20 then p else (if q == 0x30 then (0x800 + 0x40 * k + r - 0x800) / 0x40 else 0)) e
 
 -- ---- no vectors
 
@@ -204,118 +240,165 @@ record IsGiven (bytes : ℕ) (t : TaskSpec) : Type 0 where
   long : length t.regs ≡ 16
   words : AreWords t.regs
 
-the_one : (ts : List (List TaskSpec)) (t : TaskSpec) (n : ℕ) → ts ≡ (t ∷ []) ∷ []
-    → list_all (λ (us : List TaskSpec). nat_lt 0 (length us) && nat_le (length us) 4 && list_all (is_task n) us) ts ≡ true → IsGiven n t
-the_one ts t n h k = found
-    (subst (λ (us : List (List TaskSpec)). list_all (λ (us : List TaskSpec). nat_lt 0 (length us) && nat_le (length us) 4 && list_all (is_task n) us) us
-    ≡ true) h k)
-  where
-    left : (a b : Bool) → (a && b) ≡ true → a ≡ true
-    left true b h = refl
-    left false b h = h
+given_by : (n : ℕ) (t : TaskSpec) → is_task n t ≡ true → IsGiven n t
+given_by n t h =
+    let c = and_parts (is_text_place n t.start && nat_lt t.gs (2 ^ 32) && (length t.regs == 16)) (list_all is_word t.regs) h in
+    let d = and_parts (is_text_place n t.start && nat_lt t.gs (2 ^ 32)) (length t.regs == 16) c.0 in
+    let e = and_parts (is_text_place n t.start) (nat_lt t.gs (2 ^ 32)) d.0 in
+    record { place = e.0; long = eqb-true (length t.regs) 16 d.1; words = are_words t.regs c.1 }
 
-    right : (a b : Bool) → (a && b) ≡ true → b ≡ true
-    right true b h = h
-    right false b h = absurd (cc)
+-- numbers below n are what they are modulo n
+numbers_below : (n i k : ℕ) → i + k ≤ n → numbers_from i k ≡ map (λ j. j % n) (numbers_from i k)
+numbers_below n i zero h = refl
+numbers_below n i (suc k) h = (λ j. sym (mod-eq_of_lt {n = i} {m = n} (omega arith)) j ∷ numbers_below n (suc i) k (omega arith) j)
 
-    found : list_all (λ (us : List TaskSpec). nat_lt 0 (length us) && nat_le (length us) 4 && list_all (is_task n) us) ((t ∷ []) ∷ []) ≡ true → IsGiven n t
-    found h =
-        let a = left (list_all (is_task n) (t ∷ [])) true h in
-        let b = left (is_task n t) true a in
-        let c = left (is_text_place n t.start && nat_lt t.gs (2 ^ 32) && (length t.regs == 16)) (list_all is_word t.regs) b in
-        let d = left (is_text_place n t.start && nat_lt t.gs (2 ^ 32)) (length t.regs == 16) c in record {
-          place = left (is_text_place n t.start) (nat_lt t.gs (2 ^ 32)) d;
-          long = eqb-true (length t.regs) 16 (right (is_text_place n t.start && nat_lt t.gs (2 ^ 32)) (length t.regs == 16) c);
-          words = are_words t.regs (right (is_text_place n t.start && nat_lt t.gs (2 ^ 32) && (length t.regs == 16)) (list_all is_word t.regs) b);
-        }
+-- ---- a task that waits
+
+-- its saved words tell its registers, and a frame that returns to it
+module _ (mode : Mode) (image : Image) (p n : ℕ) (few : image.processors ≤ 8) (hp : p < image.processors) (waits : 0 < n)
+    (there : n < length (tasks_of image p)) (small : n < 4) where
+  abbrev spec : TaskSpec
+  spec = get_or (tasks_of image p) n no_task
+
+  abbrev registers : List ℕ
+  registers = map (λ r. get_or spec.regs r 0) order
+
+  at : (d : ℕ) → 0 < d → d ≤ 0x2000 → d % 8 ≡ 0 → first_word mode image (stack_top p n - d) ≡ below_top (saved_words mode spec) d
+  at d some most al = saved_word _ mode image p n d few hp waits there small some most al
+
+  -- the word at an offset of the area
+  offset : (area o : ℕ) → o < area → area ≤ 0x2000 → (area - o) % 8 ≡ 0
+      → first_word mode image (stack_top p n - area + o) ≡ below_top (saved_words mode spec) (area - o)
+  offset area o lt most al = ap (first_word mode image) (let e : stack_top p n - area + o ≡ stack_top p n - (area - o) = omega arith in e)
+      ∙ at (area - o) (omega arith) (omega arith) al
+
+  -- register k of the area
+  register : (k n bytes : ℕ) (above : List ℕ) → k < 15 → 15 + length above ≡ n → bytes ≡ 8 * n
+      → below_top (registers ++ above) (bytes - 8 * k) ≡ get_or registers k 0
+  register k n bytes above l e h =
+      let long : length (registers ++ above) ≡ n = length-append registers above ∙ e in
+      let within : nat_le (bytes - 8 * k) (8 * length (registers ++ above)) ≡ true = le-leb (bytes - 8 * k) (8 * length (registers ++ above)) (omega arith) in
+      let place : length (registers ++ above) - (bytes - 8 * k) / 8 ≡ k = omega arith in
+      ap (λ b. if b then get_or (registers ++ above) (length (registers ++ above) - (bytes - 8 * k) / 8) 0 else 0) within
+      ∙ ap (λ j. get_or (registers ++ above) j 0) place ∙ get_or_append_left registers above 0 k l
+
+-- the words behind the registers
+abbrev frame_of : Mode → TaskSpec → List ℕ
+frame_of mode t = drop 15 (saved_words mode t)
+
+task_saved : (mode : Mode) (image : Image) (p n : ℕ) → image.processors ≤ 8 → p < image.processors → 0 < n → n < length (tasks_of image p) → n < 4
+    → IsSaved mode p n (task_at_start (get_or (tasks_of image p) n no_task)) (first_word mode image)
+task_saved Idt image p n few hp waits there small = record {
+  regs = words_map (first_word Idt image) (registers Idt image p n few hp waits there small) (stack_top p n - 0xb0) (omega arith)
+      (λ k l. offset Idt image p n few hp waits there small 0xb0 (8 * k) (omega arith) (omega arith) (omega arith)
+      ∙ register Idt image p n few hp waits there small k 22 0xb0 (frame_of Idt (get_or (tasks_of image p) n no_task)) l refl refl);
+  rip = offset Idt image p n few hp waits there small 0xb0 0x88 (omega arith) (omega arith) refl;
+  cs = offset Idt image p n few hp waits there small 0xb0 0x90 (omega arith) (omega arith) refl;
+  flags = offset Idt image p n few hp waits there small 0xb0 0x98 (omega arith) (omega arith) refl;
+  rsp = offset Idt image p n few hp waits there small 0xb0 0xa0 (omega arith) (omega arith) refl;
+  ss = ap selector (offset Idt image p n few hp waits there small 0xb0 0xa8 (omega arith) (omega arith) refl);
+  sti = ap (bit 16) (offset Idt image p n few hp waits there small 0xb0 0xa8 (omega arith) (omega arith) refl);
+  nmi = ap (bit 18) (offset Idt image p n few hp waits there small 0xb0 0xa8 (omega arith) (omega arith) refl);
+}
+task_saved Fred image p n few hp waits there small = record {
+  regs = words_map (first_word Fred image) (registers Fred image p n few hp waits there small) (stack_top p n - 0xc0) (omega arith)
+      (λ k l. offset Fred image p n few hp waits there small 0xc0 (8 * k) (omega arith) (omega arith) (omega arith)
+      ∙ register Fred image p n few hp waits there small k 24 0xc0 (frame_of Fred (get_or (tasks_of image p) n no_task)) l refl refl);
+  rip = offset Fred image p n few hp waits there small 0xc0 0x88 (omega arith) (omega arith) refl;
+  cs = offset Fred image p n few hp waits there small 0xc0 0x90 (omega arith) (omega arith) refl;
+  flags = offset Fred image p n few hp waits there small 0xc0 0x98 (omega arith) (omega arith) refl;
+  rsp = offset Fred image p n few hp waits there small 0xc0 0xa0 (omega arith) (omega arith) refl;
+  ss = ap selector (offset Fred image p n few hp waits there small 0xc0 0xa8 (omega arith) (omega arith) refl);
+  sti = ap (bit 16) (offset Fred image p n few hp waits there small 0xc0 0xa8 (omega arith) (omega arith) refl);
+  nmi = ap (bit 18) (offset Fred image p n few hp waits there small 0xc0 0xa8 (omega arith) (omega arith) refl);
+}
 
 level_first : (mode : Mode) (p : ℕ) → level_zero mode p 0 ≡ stack_top p 0
 level_first Idt p = refl
 level_first Fred p = refl
 
-module _ (mode : Mode) (image : Image) (built : IsBuilt image) (given : IsImage image) where
-  one : image.processors ≡ 1
-  one = built.one_processor
+module _ (mode : Mode) (image : Image) (given : IsImage image) where
+  few : image.processors ≤ 8
+  few = given.count.1
 
-  spec_is : get_or (get_or image.tasks 0 []) 0 no_task ≡ built.task
-  spec_is = ap (λ ts. get_or (get_or ts 0 []) 0 no_task) built.one_task
+  module _ (p : ℕ) (hp : p < image.processors) where
+    tasks : HasTasks image p
+    tasks = has_tasks image given p hp
 
-  task_given : IsGiven (length image.text) built.task
-  task_given = the_one image.tasks built.task (length image.text) built.one_task given.tasks_given.1
+    task_given : (i : ℕ) → i < length (tasks_of image p) → IsGiven (length image.text) (get_or (tasks_of image p) i no_task)
+    task_given i l = given_by (length image.text) (get_or (tasks_of image p) i no_task) (tasks.each i l)
 
-  -- in the text or at its end
-  start_canonical : is_canonical built.task.start ≡ true
-  start_canonical =
-      let high = leb-true built.task.start (0x400000 + length image.text) (and_right (nat_le 0x400000 built.task.start) _ task_given.place) in
-      low_canonical built.task.start (omega (arith, given.text_fits))
+    -- in the text or at its end
+    start_canonical : (i : ℕ) → i < length (tasks_of image p) → is_canonical (get_or (tasks_of image p) i no_task).start ≡ true
+    start_canonical i l =
+        let start : ℕ = (get_or (tasks_of image p) i no_task).start in
+        let high = leb-true start (0x400000 + length image.text) (and_right (nat_le 0x400000 start) _ (task_given i l).place) in
+        low_canonical start (omega (arith, given.text_fits))
 
-  task_good : IsTask (task_at_start (get_or (get_or image.tasks 0 []) 0 no_task))
-  task_good = record {
-    long = ap (λ (t : TaskSpec). length t.regs) spec_is ∙ task_given.long;
-    words = subst (λ (t : TaskSpec). AreWords t.regs) (sym spec_is) task_given.words;
-    canonical = subst (λ (t : TaskSpec). is_canonical t.start ≡ true) (sym spec_is) start_canonical;
-    interrupts = refl;
-  }
+    task_good : (i : ℕ) → i < length (tasks_of image p) → IsTask (task_at_start (get_or (tasks_of image p) i no_task))
+    task_good i l = record { long = (task_given i l).long; words = (task_given i l).words; canonical = start_canonical i l; interrupts = refl }
 
-  word : (o : ℕ) → o < 0x10000 → o % 8 ≡ 0 → first_word mode image (pcpu 0 + o) ≡ pcpu_word 0 o
-  word o lt al = opening_area _ mode image 0 o (omega arith) (omega arith) lt al
+    word : (o : ℕ) → o < 0x10000 → o % 8 ≡ 0 → first_word mode image (pcpu p + o) ≡ pcpu_word p o
+    word o lt al = opening_area _ mode image p o hp few lt al
 
-  tss_first : (mode' : Mode) → TssIs mode' 0 0 (first_word mode image)
-  unfolding pcpu_word
-  tss_first Fred = tt
-  tss_first Idt = word 0x408 (omega arith) refl
+    tss_first : (mode' : Mode) → TssIs mode' p 0 (first_word mode image)
+    unfolding pcpu_word
+    tss_first Fred = tt
+    tss_first Idt = word 0x408 (omega arith) refl
 
-  current_first : CurrentIs mode 0 0 (first_word mode image)
-  unfolding pcpu_word
-  current_first = record { top = word 0x10 (omega arith) refl; current = word 0x18 (omega arith) refl; tss = tss_first mode }
+    current_first : CurrentIs mode p 0 (first_word mode image)
+    unfolding pcpu_word
+    current_first = record { top = word 0x10 (omega arith) refl; current = word 0x18 (omega arith) refl; tss = tss_first mode }
 
-  first_processor : StandsOn mode image 0 0 (opening_system mode image) (processor (opening image) 0)
-  unfolding opening_system opening
-  first_processor =
-      let count : length (tasks_of image 0) ≡ 1 = one_task_each image built 0 (let o = one in omega arith) in
-      record {
-        few = omega arith;
-        own = 0;
-        more = 0;
-        enough = omega arith;
-        running = omega arith;
-        waiting = ap (λ n. numbers_from 1 (n - 1)) count ∙ sym (ap (λ n. map (λ k. k % n) (numbers_from 1 (n - 1))) count);
-        layer = Plain;
-        frame = Held;
-        switching = false;
-        marked = λ h. absurd (cc);
-        returning = 0;
-        is_returning = refl;
-        current = λ h. current_first;
-        mark = λ h. word 0x20 (omega arith) refl ∙ pcpu_zero 0x20 (inl refl);
-        saved = λ i lt d. absurd (d (omega arith));
-        tasks = λ i lt. subst (λ k. IsTask (task_at_start (get_or (get_or image.tasks 0 []) k no_task))) (let e : 0 ≡ i = omega arith in e) task_good;
-        latch = (refl, refl);
-        pending = λ v lt. no_vector v;
-        service = λ class. none_served class (numbers_from 0 256);
-        slots = λ k lt. ap (first_word mode image) (let e : pcpu 0 + slot_offset k ≡ pcpu 0 + (0x200 + 8 * k) = omega arith in e)
-            ∙ word (0x200 + 8 * k) (omega arith) (omega arith) ∙ pcpu_zero (0x200 + 8 * k) (inr (inr (omega arith, omega arith)));
-        runs = (
-          record {
-            is = λ i. record (opening_cpu mode image 0) {
-              msrs = record ((opening_cpu mode image 0).msrs) { rsp = sym (level_first mode 0) i ∷ stack_top 0 6 ∷ stack_top 0 4 ∷ stack_top 0 5 ∷ [] };
-            };
-            task = task_good;
-          },
-          refl,
-          refl,
-        );
-      }
+    opening_processor : StandsOn mode image p 0 (opening_system mode image) (processor (opening image) p)
+    unfolding opening_system opening
+    opening_processor =
+        let some = tasks.some in
+        let four = tasks.few in
+        record {
+          few = omega arith;
+          own = 0;
+          more = 0;
+          enough = omega arith;
+          running = some;
+          waiting = numbers_below (length (tasks_of image p)) 1 (length (tasks_of image p) - 1) (omega arith);
+          layer = Plain;
+          frame = Held;
+          switching = false;
+          marked = λ h. absurd (cc);
+          returning = 0;
+          is_returning = refl;
+          current = λ h. current_first;
+          mark = λ h. word 0x20 (omega arith) refl ∙ pcpu_zero p 0x20 (inl refl);
+          saved = λ i lt d. task_saved mode image p i few hp (above_zero i d) lt (omega arith);
+          tasks = task_good;
+          latch = (refl, refl);
+          pending = λ v lt. no_vector v;
+          service = λ class. none_served class (numbers_from 0 256);
+          slots = λ k lt. ap (first_word mode image) (let e : pcpu p + slot_offset k ≡ pcpu p + (0x200 + 8 * k) = omega arith in e)
+              ∙ word (0x200 + 8 * k) (omega arith) (omega arith) ∙ pcpu_zero p (0x200 + 8 * k) (inr (inr (omega arith, omega arith)));
+          runs = (
+            record {
+              is = λ i. record (opening_cpu mode image p) {
+                msrs = record ((opening_cpu mode image p).msrs) { rsp = sym (level_first mode p) i ∷ stack_top p 6 ∷ stack_top p 4 ∷ stack_top p 5 ∷ [] };
+              };
+              task = task_good 0 some;
+            },
+            refl,
+            refl,
+          );
+        }
+      where
+        above_zero : (i : ℕ) → i ≢ 0 → 0 < i
+        above_zero zero d = absurd (d refl)
+        above_zero (suc i) d = omega arith
 
-  only : (p : ℕ) → p < image.processors → 0 ≡ p
-  only p lt = let o = one in omega arith
-
-  record_word : (k r : ℕ) → k < 8 → (r ≡ 0) ⊎ (r ≡ 0x28) → first_word mode image (record_address 0 k + r) ≡ 0
-  record_word k r hk h =
-      let at : record_address 0 k + r ≡ pcpu 0 + (0x800 + 0x40 * k + r) = omega arith in
-      let small : r < 0x40 = ⊎_elim (λ (e : r ≡ 0). omega arith) (λ (e : r ≡ 0x28). omega arith) h in
-      let even : r % 8 ≡ 0 = ⊎_elim (λ (e : r ≡ 0). omega arith) (λ (e : r ≡ 0x28). omega arith) h in
-      ap (first_word mode image) at ∙ word (0x800 + 0x40 * k + r) (omega arith) (omega arith) ∙ record_zero k r hk h
+    record_word : (k r : ℕ) → k < 8 → (r ≡ 0) ⊎ (r ≡ 0x28) → first_word mode image (record_address p k + r) ≡ 0
+    record_word k r hk h =
+        let at : record_address p k + r ≡ pcpu p + (0x800 + 0x40 * k + r) = omega arith in
+        let small : r < 0x40 = ⊎_elim (λ (e : r ≡ 0). omega arith) (λ (e : r ≡ 0x28). omega arith) h in
+        let even : r % 8 ≡ 0 = ⊎_elim (λ (e : r ≡ 0). omega arith) (λ (e : r ≡ 0x28). omega arith) h in
+        ap (first_word mode image) at ∙ word (0x800 + 0x40 * k + r) (omega arith) (omega arith) ∙ record_zero p k r hk h
 
   held_first : HoldsWords (opening image).words
   held_first = let sees = opening_sees mode image given in sees.held
@@ -325,19 +408,19 @@ module _ (mode : Mode) (image : Image) (built : IsBuilt image) (given : IsImage 
   shares = record {
     user = λ a u. user_word _ mode image a u;
     held = held_first;
-    pages = λ i lt. page_word _ mode image i one lt;
-    cells = λ k lt. cell_word _ mode image k one lt;
+    pages = λ i lt. page_word _ mode image i few lt;
+    cells = λ k lt. cell_word _ mode image k few lt;
     mail = λ p v lt l. no_vector v;
     mail_nmi = λ p lt. refl;
-    numbers = λ p k lt l. subst (λ q. first_word mode image (record_address q k + 0x28) ≡ 0) (only p lt) (record_word k 0x28 l (inr refl));
-    records = λ p k lt l. subst (λ q. first_word mode image (record_address q k) ≡ 0) (only p lt)
-        (ap (first_word mode image) (let e : record_address 0 k ≡ record_address 0 k + 0 = omega arith in e) ∙ record_word k 0 l (inl refl));
-    queues = λ p lt. subst (λ q. first_word mode image (pcpu q + 0x30) ≡ 0) (only p lt) (word 0x30 (omega arith) refl ∙ pcpu_zero 0x30 (inr (inl refl)));
+    numbers = λ p k lt l. record_word p lt k 0x28 l (inr refl);
+    records = λ p k lt l. ap (first_word mode image) (let e : record_address p k ≡ record_address p k + 0 = omega arith in e)
+        ∙ record_word p lt k 0 l (inl refl);
+    queues = λ p lt. word p lt 0x30 (omega arith) refl ∙ pcpu_zero p 0x30 (inr (inl refl));
   }
 
-  domain : IsInDomain (processor (opening image) 0)
+  domain : (p : ℕ) → IsInDomain (processor (opening image) p)
   unfolding opening
-  domain = record {
+  domain p = record {
     pending = refl;
     nmi = refl;
     resched = refl;
@@ -352,6 +435,6 @@ module _ (mode : Mode) (image : Image) (built : IsBuilt image) (given : IsImage 
     shares = shares;
     legal = opening_is_legal image;
     numbers = opening_holds_numbers image given;
-    domain = λ p lt. subst (λ q. IsInDomain (processor (opening image) q)) (only p lt) domain;
-    each = λ p lt. subst (λ q. StandsOn mode image q 0 (opening_system mode image) (processor (opening image) q)) (only p lt) first_processor;
+    domain = λ p lt. domain p;
+    each = opening_processor;
   }

@@ -122,7 +122,7 @@ module _ (mode : Mode) (image : Image) (p n : ℕ) (t : Task) (cr2 : ℕ) (cause
 
   -- what it finds
   pub record Ready (m : Memory) : Type 0 where
-    pub running : n ≡ 0
+    pub running : n < 4
     pub within : p < image.processors
     pub few : image.processors ≤ 8
     pub formed : IsImage image
@@ -159,8 +159,9 @@ module _ (mode : Mode) (image : Image) (p n : ℕ) (t : Task) (cr2 : ℕ) (cause
     pub changes : Changes p seat (kernel_names p) m.words words
     pub told : told_event (is_refused (has_fred raiser) event) event ≡ raised_event cause
     pub saved : told_rip (is_refused (has_fred raiser) event) (saved_rip (has_fred raiser) cpu words event frame) ≡ saved_at t cause
-    pub safe : (s : System) → OnlyTask s → (k : ℕ) (z : System) → list_any (overwrites mode image s) (acted k z p (Stepped.Delivered event frame)).1 ≡ false
+    pub safe : (s : System) → OnlyTask s p n → (k : ℕ) (z : System) → z.cpus p ≡ cpu
+        → list_any (overwrites mode image s) (acted k z p (Stepped.Delivered event frame)).1 ≡ false
 
-  -- the seat of the first task's stack
-  pub in_seat : n ≡ 0 → IsSeat seat
+  -- the seat of a task's stack
+  pub in_seat : n < 4 → IsSeat seat
   in_seat h = record { stack = omega arith; room = omega arith; aligned = refl }

@@ -16,10 +16,9 @@ use Rattle.ev_state.specs.Outcome.{Went}
 use Rattle.ev_mem.specs.Memory.{Memory}
 use Rattle.ev_apic.specs.declared.apic.Apic.{Apic}
 use Rattle.ev_fred.specs.FredDelivery.{ss_word}
-use Rattle.ev_proc.specs.declared.stepped.Stepped.{Stepped}
 use Rattle.ev_proc.specs.ProcessorStep.{has_fred, try}
 use Rattle.ev_listing.specs.AddressMap.{stack_top, stack_bytes}
-use Rattle.ev_concrete.specs.ConcreteRun.{acted}
+use Rattle.ev_concrete.specs.ConcreteRun.{frame_size}
 use Rattle.ev_concrete.specs.Shown.{is_refused, told_event, told_rip}
 use Rattle.ev_built.specs.Built.{IsBuilt}
 use Rattle.ev_symbolic.specs.Value.{M, K}
@@ -43,12 +42,13 @@ use Rattle.ev_refine.specs.Named.{Outside, Changes}
 use Rattle.ev_refine.proofs.CallKinds.{knows_nothing, means_by}
 use Rattle.ev_refine.proofs.Fits.{fits_at, opens_at}
 use Rattle.ev_refine.proofs.After.{kernel_names}
-use Rattle.ev_refine.proofs.UserSafe.{overwrites_none}
+use Rattle.ev_refine.proofs.Domains.{four_tasks}
+use Rattle.ev_refine.proofs.UserSafe.{frame_is_safe}
 use Rattle.ev_refine.proofs.Raising as raise
 use Rattle.ev_refine.proofs.Raising.{cause_key, kind_at, saved_at, returning, arrival, entry_edges, key_small, over_one, Finds, Ready, Begins}
 
 -- the frame lies on the task's stack, at its top
-on_stack : (p n : ℕ) → n ≡ 0 → p < 32 → (vs : List ℕ) → length vs ≡ 8 → (words : NatMap ℕ) → Changes p (record { stack = n; used = 0 }) (kernel_names p) words
+on_stack : (p n : ℕ) → n < 4 → p < 32 → (vs : List ℕ) → length vs ≡ 8 → (words : NatMap ℕ) → Changes p (record { stack = n; used = 0 }) (kernel_names p) words
     (placed words ((top_at p (record { stack = n; used = 0 }) + (M - 64)) % M) vs)
 on_stack p n hn hp vs hl words x off d = from ((top_at p (record { stack = n; used = 0 }) + (M - 64)) % M) refl off
   where
@@ -336,6 +336,15 @@ module _ (image : Image) (built : IsBuilt image) (p n : ℕ) (t : Task) (cr2 : �
   unfolding eval
   saved_is = ap (fred_words at m.words) (next_place (top_at p (seat image p n t cr2 cause body)) (M - 64)) ∙ agrees.words.2.1
 
+  -- the frame ends at the top
+  frame_low : stack_top p n ≤ frame_at at + stack_bytes
+  unfolding eval
+  frame_low = let s = small in let r = ready.running in omega arith
+
+  frame_high : frame_at at + 8 * 8 ≤ stack_top p n
+  unfolding eval
+  frame_high = let s = small in let r = ready.running in omega arith
+
   loads : AtLoad Fred image UserCode (env_after at (way_values (way_of e)) no_flags) (over image p n t cr2 cause body)
       (raise.context Fred image p n t cr2 cause body)
   loads = record {
@@ -390,5 +399,6 @@ module _ (image : Image) (built : IsBuilt image) (p n : ℕ) (t : Task) (cr2 : �
     changes = on_stack p n ready.running small (map (eval at) fred_frame) refl m.words;
     told = does.told;
     saved = ap (told_rip (is_refused true e)) saved_is ∙ does.saved;
-    safe = λ s only k z. overwrites_none Fred image built s only (acted k z p (Stepped.Delivered e (Some (frame_at at)))).1;
+    safe = λ s only k z is. frame_is_safe Fred s p n only image (four_tasks image ready.formed) small ready.running (frame_at at) 8 k z e
+        (ap (λ y. frame_size y e) is) frame_low frame_high;
   }

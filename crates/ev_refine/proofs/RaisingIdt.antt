@@ -17,11 +17,10 @@ use Rattle.ev_mem.specs.Memory.{Memory}
 use Rattle.ev_apic.specs.declared.apic.Apic.{Apic}
 use Rattle.ev_fred.specs.FredDelivery.{fred_delivery}
 use Rattle.ev_idt.specs.IdtDelivery.{idt_delivery}
-use Rattle.ev_proc.specs.declared.stepped.Stepped.{Stepped}
 use Rattle.ev_proc.specs.ProcessorStep.{has_fred, try}
 use Rattle.ev_listing.specs.AddressMap.{pcpu, idt_base, vector_stub, stack_top, stack_bytes}
 use Rattle.ev_concrete.specs.Opening.{gate}
-use Rattle.ev_concrete.specs.ConcreteRun.{acted}
+use Rattle.ev_concrete.specs.ConcreteRun.{frame_size}
 use Rattle.ev_concrete.specs.Shown.{is_refused, told_event, told_rip}
 use Rattle.ev_built.specs.Built.{IsBuilt}
 use Rattle.ev_symbolic.specs.Value.{M}
@@ -48,12 +47,13 @@ use Rattle.ev_refine.specs.Named.{Outside, Changes}
 use Rattle.ev_refine.proofs.CallKinds.{knows_nothing, means_by}
 use Rattle.ev_refine.proofs.Fits.{fits_at, opens_at}
 use Rattle.ev_refine.proofs.After.{kernel_names}
-use Rattle.ev_refine.proofs.UserSafe.{overwrites_none}
+use Rattle.ev_refine.proofs.Domains.{four_tasks}
+use Rattle.ev_refine.proofs.UserSafe.{frame_is_safe}
 use Rattle.ev_refine.proofs.Raising as raise
 use Rattle.ev_refine.proofs.Raising.{cause_key, kind_at, saved_at, returning, arrival, entry_edges, key_small, over_one, Finds, Ready, Begins}
 
 -- the frame lies on the task's stack, at its top
-on_stack : (p n bytes : ℕ) → n ≡ 0 → p < 32 → (vs : List ℕ) → 8 * length vs ≡ bytes → bytes ≤ 0x30 → (words : NatMap ℕ)
+on_stack : (p n bytes : ℕ) → n < 4 → p < 32 → (vs : List ℕ) → 8 * length vs ≡ bytes → bytes ≤ 0x30 → (words : NatMap ℕ)
     → Changes p (record { stack = n; used = 0 }) (kernel_names p) words (placed words ((top_at p (record { stack = n; used = 0 }) + (M - bytes)) % M) vs)
 on_stack p n bytes hn hp vs hl hb words x off d = from ((top_at p (record { stack = n; used = 0 }) + (M - bytes)) % M) refl off
   where
@@ -407,6 +407,20 @@ module _ (image : Image) (built : IsBuilt image) (p n : ℕ) (t : Task) (cr2 : �
   saved_by_error true k = ap words (next_place (top_at p (seat image p n t cr2 cause body)) (M - 0x30)) ∙ k.2.1
   saved_by_error false k = k.1
 
+  -- the frame ends at the top
+  abbrev words_of : Bool → ℕ
+  words_of b = if b then 6 else 5
+
+  frame_low : (b : Bool) → stack_top p n ≤ frame_at at b + stack_bytes
+  unfolding eval
+  frame_low true = let s = small in let r = ready.running in omega arith
+  frame_low false = let s = small in let r = ready.running in omega arith
+
+  frame_high : (b : Bool) → frame_at at b + 8 * words_of b ≤ stack_top p n
+  unfolding eval
+  frame_high true = let s = small in let r = ready.running in omega arith
+  frame_high false = let s = small in let r = ready.running in omega arith
+
   loads : AtLoad Idt image UserCode (env_after (env_after at (stub_values (has_error_code (raised_event cause).vector) (raised_event cause).vector)
       (off_flags image p n t cr2 cause body)) (common_values UserCode ((raised_event cause).vector == 14)) (off_flags image p n t cr2 cause body))
       (over image p n t cr2 cause body) (raise.context Idt image p n t cr2 cause body)
@@ -470,5 +484,6 @@ module _ (image : Image) (built : IsBuilt image) (p n : ℕ) (t : Task) (cr2 : �
     changes = frame_changes with_error;
     told = does.told;
     saved = does.saved _ ∙ ap (λ b. words (if b then wrap (frame + 8) else frame)) passes.error ∙ saved_by_error with_error agrees.words;
-    safe = λ s only k z. overwrites_none Idt image built s only (acted k z p (Stepped.Delivered (raised_event cause) (Some frame))).1;
+    safe = λ s only k z is. frame_is_safe Idt s p n only image (four_tasks image ready.formed) small ready.running frame (words_of with_error) k z
+        (raised_event cause) (ap (λ y. frame_size y (raised_event cause)) is ∙ ap words_of passes.error) (frame_low with_error) (frame_high with_error);
   }

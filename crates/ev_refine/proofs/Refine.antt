@@ -1,5 +1,5 @@
 -- The step theorem, put together: a processor runs its task or a body.
-use Rattle.std.proofs.Common.{◌≡◌, ℕ, ◌<◌, List, [], ◌∷◌, refl, arith}
+use Rattle.std.proofs.Common.{◌≡◌, ℕ, ◌<◌, List, [], ◌∷◌, refl, sym, ne_eqb}
 use Rattle.ev_isa.specs.Word.{NatMap}
 use Rattle.ev_isa.specs.declared.mode.Mode.{Mode}
 use Rattle.ev_body.specs.declared.image.Image.{Image}
@@ -14,6 +14,7 @@ use Rattle.ev_refine.proofs.Facts.{Facts}
 use Rattle.ev_refine.proofs.CodeFacts.{facts}
 use Rattle.ev_refine.proofs.User.{user_turn}
 use Rattle.ev_refine.proofs.Kernel.{kernel_step}
+use Rattle.ev_refine.proofs.Visible.{stays_visible}
 use Rattle.ev_refine.proofs.Runs as runs
 use Rattle.ev_refine.proofs.Opens as opening
 use Rattle.ev_refine.proofs.Tells as telling
@@ -33,11 +34,11 @@ pub refines : Refines
 refines mode image built h given left s m r p lt = simulates mode image built given left s m r p lt
 
 pub opens : Opens
-opens mode image built h given = opening.opens mode image built given
+opens mode image built h given = opening.opens mode image given
 
--- there is one processor
 pub keeps_settled : KeepsSettled
-keeps_settled mode image built h given left s m r p q lt lt' differ hidden = let one = built.one_processor in absurd (differ (omega arith))
+keeps_settled mode image built h given left s m r p q lt lt' differ hidden =
+    stays_visible mode image (facts mode image given built) left s m r image.processors p q lt' (ne_eqb q p (λ e. differ (sym e)))
 
 pub all_settle : AllSettle
 all_settle mode image built h given left s m r p lt =

@@ -146,5 +146,5 @@ module _ (image : Image) (p n : ℕ) (t : Task) (cr2 body : ℕ) where
       changes = λ a off d. refl;
       told = refl;
       saved = rcx_is;
-      safe = λ s only k z. refl;
+      safe = λ s only k z is. refl;
     }

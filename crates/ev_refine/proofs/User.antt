@@ -17,7 +17,6 @@ use Rattle.ev_state.specs.Processor.{Processor, is_user}
 use Rattle.ev_mem.specs.Memory.{Memory}
 use Rattle.ev_proc.specs.ProcessorStep.{After, step, has_fred, next_of}
 use Rattle.ev_proc.specs.declared.stepped.Stepped.{Stepped}
-use Rattle.ev_listing.specs.AddressMap.{pcpu, task_words}
 use Rattle.ev_abstract.specs.Context.{BodyContext}
 use Rattle.ev_abstract.specs.declared.entry.Entry.{Entry}
 use Rattle.ev_abstract.specs.declared.entry.Entry.TheVariants.{Enter}
@@ -45,7 +44,8 @@ use Rattle.ev_refine.specs.Relation.{IsContext, serves, Beneath, keeps_cr2, chai
 use Rattle.ev_refine.specs.Claims.{Simulated}
 use Rattle.ev_refine.proofs.Facts.{Facts, word_of_canonical, word_of_flags}
 use Rattle.ev_refine.proofs.CallKinds.{is_over_task, plain_no_nmi, over_kind}
-use Rattle.ev_refine.proofs.Domains.{one_task_each}
+use Rattle.ev_refine.proofs.Domains.{four_tasks}
+use Rattle.ev_refine.proofs.Maps.{at_same}
 use Rattle.ev_user.proofs.KeepsNumbers.{starts_with_words, causes_small}
 use Rattle.ev_refine.proofs.Legality.{turn_legal}
 use Rattle.ev_refine.proofs.Standing.{Moves, step_moves, delivery_moves}
@@ -226,9 +226,8 @@ module _ (mode : Mode) (image : Image) (formed : IsImage image) (built : IsBuilt
       let κ : Kind = kind_at cause in
       let holder : HasBody image (cause_key cause) body = has_body image formed (cause_key cause) body found in
       let st : Starts t cause = starts t cause u.rest.task.task next_good (word_of_canonical next next_good) in
-      let small : p < 32 = omega (arith, built.one_processor) in
-      let zero_is : p ≡ 0 = omega (arith, built.one_processor) in
-      let first : n ≡ 0 = let l = u.on.running in let one = one_task_each image built p lt in omega arith in
+      let small : p < 32 = let eight = formed.count.1 in omega arith in
+      let first : n < 4 = let l = u.on.running in let four = four_tasks image formed p lt in omega arith in
       let words : NatMap ℕ = s.memory.words in
       let current : CurrentIs mode p n words = u.on.current u.rest.still in
       let is_raiser : c ≡ raiser mode image p n t c.cr2 cause body = u.rest.task.is ∙ ap (task_processor mode image p n t c.cr2) u.open_to in
@@ -291,11 +290,7 @@ module _ (mode : Mode) (image : Image) (formed : IsImage image) (built : IsBuilt
       (λ q e. subst (λ ys. Chain mode image p entry_edges q back u.on.frame u.on.switching (b ∷ []) ys d (with_words s.memory words')) (sym begins_last)
       (subst (λ z. Chain mode image p entry_edges z back u.on.frame u.on.switching (b ∷ []) (last ∷ []) d (with_words s.memory words')) (sym e) chain)) in
       let shallow : bodies_on s p ≡ 0 = stands_depth mode image facts p (left p) s x u.on ∙ ap length hb in
-      let only : OnlyTask s = record {
-        none = subst (λ q. s.activations q ≡ []) zero_is u.rest.none;
-        user = subst (λ q. is_user (s.cpus q) ≡ true) zero_is u.at_cpl3;
-        task_is = subst (λ q. words (pcpu q + 0x18) ≡ task_words q 0) zero_is (current.current ∙ ap (task_words p) first);
-      } in
+      let only : OnlyTask s p n = record { none = u.rest.none; user = u.at_cpl3; task_is = current.current } in
       record {
         after = r;
         steps = steps ∙ ap (λ nmi. raising c (s.apics p) s.memory nmi cause) u.latch
@@ -313,7 +308,7 @@ module _ (mode : Mode) (image : Image) (formed : IsImage image) (built : IsBuilt
             (ap (λ q. told_event (is_refused (has_fred q) begun.event) begun.event) is_raiser ∙ begun.told)
             (ap (λ q. told_rip (is_refused (has_fred q) begun.event) (saved_rip (has_fred q) begun.cpu begun.words begun.event begun.frame)) is_raiser
             ∙ begun.saved);
-        safe = begun.safe s only image.processors (after_step s p r);
+        safe = begun.safe s only image.processors (after_step s p r) (at_same s.cpus p p d refl);
       }
     where
       starts_inner_not : starts_inner s p (next_of (s.cpus p) (s.apics p) (s.latches p)) ≡ false

@@ -121,8 +121,8 @@ module _ (mode : Mode) (image : Image) (formed : IsImage image) (built : IsBuilt
   user_after left s s' m p lt h u cpu as' words t bs own hb mv names sparing changes memory user held legal of_words good blocked quiet serving few chain =
       let x : abstract.Processor = processor m p in
       let y : abstract.Processor = record (with_task x t) { bodies = bs } in
-      let small : p < 32 = omega (arith, built.one_processor) in
-      let four = four_tasks image built p lt in
+      let small : p < 32 = let eight = formed.count.1 in omega arith in
+      let four = four_tasks image formed p lt in
       let narrow : x.running < 7 = let l = u.on.running in omega arith in
       let there : StandsOn mode image p (own + inner_edges (s.latches p)) s' y
       = own_after mode image p (left p) s s' x (record { stack = x.running; used = 0 }) cpu as' words (put_at x.tasks x.running t) bs own u.on small four mv
@@ -145,7 +145,7 @@ module _ (mode : Mode) (image : Image) (formed : IsImage image) (built : IsBuilt
         stands_after mode image left s s' m (with_processor (record m { words = memory }) p y) p (own + inner_edges (s.latches p)) y
             (record { stack = x.running; used = 0 }) cpu as'
             words
-            formed built.accepted (four_tasks image built) h lt mv narrow names sparing changes user held
+            formed built.accepted (four_tasks image formed) h lt mv narrow names sparing changes user held
             (record {
               own = at_same m.processors p p y refl;
               others = λ q e. at_other m.processors p q y e;

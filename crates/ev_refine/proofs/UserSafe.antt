@@ -1,65 +1,65 @@
--- Where only the task runs, no word is live: no activation stands, and the task's own area is in no use.
-use Rattle.std.proofs.Common.{◌≡◌, ℕ, ◌+◌, ◌-◌, Bool, true, false, ◌&&◌, not, List, [], ◌∷◌, length, get_or, map, refl, ap, ◌∙◌}
+-- Where only the task runs on a processor, no word of its stack is live: no activation stands there, and the task's own area is in no use. So a frame there
+-- writes over no live word, whatever other tasks and processors have.
+use Rattle.std.proofs.Common.{◌≡◌, ℕ, zero, suc, ◌+◌, ◌-◌, ◌*◌, ◌<◌, ◌≤◌, Bool, true, false, ◌&&◌, not, [], length, map, Some, refl, ap, ◌∙◌, arith}
 use Rattle.std.specs.Prelude.{◌==◌, ◌||◌, nat_lt, nat_le, filter}
 use Rattle.std.specs.List.{list_any}
 use Rattle.std.proofs.lemmas.Bool.{eq-eqb}
-use Rattle.ev_isa.specs.Word.{numbers_from}
+use Rattle.std.proofs.lemmas.List.{length-map}
+use Rattle.ev_isa.specs.Word.{wrap}
 use Rattle.ev_isa.specs.declared.mode.Mode.{Mode}
+use Rattle.ev_event.specs.declared.event.Event.{Event}
 use Rattle.ev_body.specs.declared.image.Image.{Image}
-use Rattle.ev_body.specs.declared.image.TaskSpec.{TaskSpec}
-use Rattle.ev_event.specs.declared.frame_note.FrameNote.{FrameNote}
 use Rattle.ev_effect.specs.Frame.{addresses}
 use Rattle.ev_state.specs.Processor.{is_user}
-use Rattle.ev_listing.specs.AddressMap.{pcpu, stack_top, task_words}
+use Rattle.ev_proc.specs.declared.stepped.Stepped.{Stepped}
+use Rattle.ev_listing.specs.AddressMap.{pcpu, stack_top, stack_bytes, task_words}
 use Rattle.ev_concrete.specs.Opening.{tasks_of}
-use Rattle.ev_concrete.specs.ConcreteRun.{System, Activation, interrupted}
-use Rattle.ev_concrete.specs.LiveWords.{stands_on, standing, lowest, is_from, is_open, is_in_use, area_bytes, is_kept, is_live_on, is_live, overwrites}
-use Rattle.ev_built.specs.Built.{IsBuilt}
-
-none_of : {X : Type 0} (test : X → Bool) → ((x : X) → test x ≡ false) → (xs : List X) → list_any test xs ≡ false
-none_of test h [] = refl
-none_of test h (x ∷ xs) = ap (λ b. b || list_any test xs) (h x) ∙ none_of test h xs
+use Rattle.ev_concrete.specs.ConcreteRun.{System, Activation, interrupted, frame_size, acted}
+use Rattle.ev_concrete.specs.LiveWords.{stands_on, standing, lowest, is_from, is_open, is_in_use, area_bytes, is_kept, is_live, overwrites}
+use Rattle.ev_refine.proofs.Live.{not_live}
 
 never : (a : Bool) → (a && false) ≡ false
 never true = refl
 never false = refl
 
--- only the task of processor 0 runs
-pub record OnlyTask (s : System) : Type 0 where
-  pub none : s.activations 0 ≡ []
-  pub user : is_user (s.cpus 0) ≡ true
-  pub task_is : s.memory.words (pcpu 0 + 0x18) ≡ task_words 0 0
+-- only task n of p runs there
+pub record OnlyTask (s : System) (p n : ℕ) : Type 0 where
+  pub none : s.activations p ≡ []
+  pub user : is_user (s.cpus p) ≡ true
+  pub task_is : s.memory.words (pcpu p + 0x18) ≡ task_words p n
 
-unused : (mode : Mode) (s : System) → OnlyTask s → (address n : ℕ) → is_in_use mode s 0 n address ≡ false
-unused mode s o address n =
-    ap (λ (as' : List Activation). nat_lt address (stack_top 0 n) && is_from
-    (lowest (map (λ (a : Activation). a.rsp) (filter (stands_on mode s.memory.words 0 n) (interrupted (s.cpus 0) as')))) address
-    && is_open mode s 0 n (filter (stands_on mode s.memory.words 0 n) (interrupted (s.cpus 0) as')) address) o.none
-    ∙ ap (λ b. b && is_open mode s 0 n [] address) (never (nat_lt address (stack_top 0 n)))
+module _ (mode : Mode) (s : System) (p n : ℕ) (o : OnlyTask s p n) where
+  unused : (address : ℕ) → is_in_use mode s p n address ≡ false
+  unused address =
+      ap (λ as'. nat_lt address (stack_top p n) && is_from
+      (lowest (map (λ (a : Activation). a.rsp) (filter (stands_on mode s.memory.words p n) (interrupted (s.cpus p) as')))) address
+      && is_open mode s p n (filter (stands_on mode s.memory.words p n) (interrupted (s.cpus p) as')) address) o.none
+      ∙ ap (λ b. b && is_open mode s p n [] address) (never (nat_lt address (stack_top p n)))
 
-in_no_area : (mode : Mode) (s : System) → OnlyTask s → (address : ℕ) → is_kept mode s 0 0 address ≡ false
-in_no_area mode s o address =
-    let front : Bool = nat_le (stack_top 0 0 - area_bytes mode) address && nat_lt address (stack_top 0 0) && not
-    (list_any (λ (a : Activation). nat_lt a.rsp (stack_top 0 0)) (standing mode s 0 0)) in
-    ap (λ b. front && not (b && (s.memory.words (pcpu 0 + 0x18) == task_words 0 0))) o.user
-    ∙ ap (λ b. front && not b) (eq-eqb (s.memory.words (pcpu 0 + 0x18)) (task_words 0 0) o.task_is) ∙ never front
+  in_no_area : (address : ℕ) → is_kept mode s p n address ≡ false
+  in_no_area address =
+      let front : Bool = nat_le (stack_top p n - area_bytes mode) address && nat_lt address (stack_top p n) && not
+      (list_any (λ (a : Activation). nat_lt a.rsp (stack_top p n)) (standing mode s p n)) in
+      ap (λ b. front && not (b && (s.memory.words (pcpu p + 0x18) == task_words p n))) o.user
+      ∙ ap (λ b. front && not b) (eq-eqb (s.memory.words (pcpu p + 0x18)) (task_words p n) o.task_is) ∙ never front
 
-not_live_on : (mode : Mode) (s : System) → OnlyTask s → (address tasks : ℕ) → tasks ≡ 1 → is_live_on mode s address tasks 0 ≡ false
-not_live_on mode s o address tasks h =
-    ap (λ b. b || list_any (λ i. is_kept mode s 0 i address) (numbers_from 0 tasks))
-    (none_of (λ n. is_in_use mode s 0 n address) (unused mode s o address) (numbers_from 0 7))
-    ∙ ap (λ n. list_any (λ i. is_kept mode s 0 i address) (numbers_from 0 n)) h
-    ∙ ap (λ b. b || false) (in_no_area mode s o address)
+  module _ (image : Image) (few : (q : ℕ) → q < image.processors → length (tasks_of image q) ≤ 4) (hp : p < 32) (hn : n < 4) where
+    words_free : (a k : ℕ) → stack_top p n ≤ a + stack_bytes → a + 8 * k ≤ stack_top p n → list_any (is_live mode image s) (addresses a k) ≡ false
+    words_free a zero from to = refl
+    words_free a (suc k) from to =
+        let next : wrap (a + 8) ≡ a + 8 = omega arith in
+        ap (λ b. b || list_any (is_live mode image s) (addresses (wrap (a + 8)) k))
+        (not_live mode image s p n a few (omega arith) (record { from = from; to = omega arith }) (unused a) (in_no_area a))
+        ∙ ap (λ b. list_any (is_live mode image s) (addresses b k)) next ∙ words_free (a + 8) k (omega arith) (omega arith)
 
-not_live : (mode : Mode) (image : Image) → IsBuilt image → (s : System) → OnlyTask s → (address : ℕ) → is_live mode image s address ≡ false
-unfolding is_live
-not_live mode image built s o address =
-    ap (λ n. list_any (λ p. is_live_on mode s address (length (tasks_of image p)) p) (numbers_from 0 n)) built.one_processor
-    ∙ ap (λ b. b || false)
-    (not_live_on mode s o address (length (tasks_of image 0)) (ap (λ (ts : List (List TaskSpec)). length (get_or ts 0 [])) built.one_task))
-
--- so no frame writes over a live word
-pub overwrites_none : (mode : Mode) (image : Image) → IsBuilt image → (s : System) → OnlyTask s → (fs : List FrameNote) → list_any (overwrites mode image s)
-    fs ≡ false
-overwrites_none mode image built s o fs =
-    none_of (overwrites mode image s) (λ f. none_of (is_live mode image s) (not_live mode image built s o) (addresses f.address (length f.words.items))) fs
+    -- a delivery's frame there, of so many words
+    pub frame_is_safe : (a k j : ℕ) (z : System) (e : Event) → frame_size (z.cpus p) e ≡ k → stack_top p n ≤ a + stack_bytes → a + 8 * k ≤ stack_top p n
+        → list_any (overwrites mode image s) (acted j z p (Stepped.Delivered e (Some a))).1 ≡ false
+    frame_is_safe a k j z e size from to =
+        ap (λ b. b || false) (ap (λ i. list_any (is_live mode image s) (addresses a i))
+        (length-map (addresses a (frame_size (z.cpus p) e)) z.memory.words ∙ count a (frame_size (z.cpus p) e) ∙ size)
+        ∙ words_free a k from to)
+      where
+        count : (a k : ℕ) → length (addresses a k) ≡ k
+        count a zero = refl
+        count a (suc k) = ap suc (count (wrap (a + 8)) k)

@@ -10,7 +10,8 @@ use Rattle.ev_body.specs.declared.key.Side.TheVariants.{User, Kernel}
 use Rattle.ev_body.specs.declared.body.Body.{Body}
 use Rattle.ev_body.specs.declared.image.Image.{Image}
 use Rattle.ev_body.specs.Bodies.{first_body}
-use Rattle.ev_state.specs.Processor.{Processor, selector}
+use Rattle.ev_state.specs.Processor.{Processor, rsp, selector}
+use Rattle.ev_symbolic.specs.State.{top_tag}
 use Rattle.ev_mem.specs.Memory.{Memory}
 use Rattle.ev_listing.specs.AddressMap.{pcpu, body_code}
 use Rattle.ev_listing.specs.Expansion.{item_address}
@@ -102,7 +103,8 @@ module _ (mode : Mode) (image : Image) where
     pub chosen : v 61 ≡ w.gs
     pub level : v 63 ≡ get_or w.msrs.rsp 0 0
 
-  -- Of a body, which is at an item: GS is the kernel's and isn't exchanged, and SS stays. What a return asks of w is said of it here.
+  -- Of a body, which is at an item: GS is the kernel's and isn't exchanged, SS stays, and the frame lies below RSP. What a return asks of w is said of it
+  -- here.
   pub record SavedBody (e : Env) (w : Processor) : Type 0 where
     pub regs : w.regs ≡ e.var 30 ∷ e.var 31 ∷ e.var 32 ∷ e.var 33 ∷ e.var 20 ∷ e.var 35 ∷ e.var 36 ∷ e.var 37 ∷ e.var 38 ∷ e.var 39 ∷ e.var 40
         ∷ e.var 41 ∷ e.var 42 ∷ e.var 43 ∷ e.var 44 ∷ e.var 45 ∷ []
@@ -122,6 +124,7 @@ module _ (mode : Mode) (image : Image) where
     pub chosen : e.var 61 ≡ w.gs
     pub level : e.var 63 ≡ get_or w.msrs.rsp 0 0
     pub levels : length w.msrs.rsp ≡ 4
+    pub above : e.base top_tag ≤ rsp w
 
   -- by what the activation's event interrupted
   abbrev pub SavedOf : Origin → Env → Processor → Type 0

@@ -3,8 +3,6 @@
 
 mod line;
 mod reading;
-#[cfg(test)]
-mod tests;
 mod text;
 
 pub use ev_abstract::Line;

@@ -10,6 +10,3 @@ pub use cpu::Cpu;
 pub use flags::{Flags, Status, modelled, with_interrupts, with_status};
 pub use gdt::Gdt;
 pub use msr::MsrFile;
-
-#[cfg(test)]
-mod tests;

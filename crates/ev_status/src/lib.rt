@@ -7,6 +7,3 @@ mod status;
 
 pub use fault::print_fault;
 pub use status::Status;
-
-#[cfg(test)]
-mod tests;

@@ -41,30 +41,33 @@ found_first : (n a rip : ℕ) (l : Marked) (ls : List Marked) → is_counted l.s
 unfolding index_from
 found_first n a rip l ls h same = let e = eq-eqb a rip same in rw (h, e, index_from) refl
 
-here : (n a rip : ℕ) (ls : List Line) (k : ℕ) (l : Line) → k < length ls → l ≡ get_or ls k l
-    → index_from n a rip (map marked_of (drop k ls)) ≡ index_from n a rip (marked_of l ∷ map marked_of (drop (suc k) ls))
-here n a rip ls k l lt e = ap (λ (x : List Line). index_from n a rip (map marked_of x)) (item_at ls k l lt e)
+-- ---- one line further, whatever the lines stand for
 
-pub label_step : (n m a b rip : ℕ) (ls : List Line) (k j : ℕ) (l : Line) (W : Option ℕ) → k < length ls → j ≡ suc k → l ≡ get_or ls k l
-    → is_counted (stmt_of l) ≡ false → m ≡ n → b ≡ a + size (stmt_of l)
-    → index_from n a rip (map marked_of (drop k ls)) ≡ W → index_from m b rip (map marked_of (drop j ls)) ≡ W
-label_step n m a b rip ls k j l W lt next e h same behind w =
-    rw (next, same, behind) (sym (label_first n a rip (marked_of l) (map marked_of (drop (suc k) ls)) h) ∙ sym (here n a rip ls k l lt e) ∙ w)
+module _ {L : Type 0} (marked : L → Marked) where
+  here : (n a rip : ℕ) (ls : List L) (k : ℕ) (l : L) → k < length ls → l ≡ get_or ls k l
+      → index_from n a rip (map marked (drop k ls)) ≡ index_from n a rip (marked l ∷ map marked (drop (suc k) ls))
+  here n a rip ls k l lt e = ap (λ (x : List L). index_from n a rip (map marked x)) (item_at ls k l lt e)
 
-pub past_step : (n m a b rip : ℕ) (ls : List Line) (k j : ℕ) (l : Line) (W : Option ℕ) → k < length ls → j ≡ suc k → l ≡ get_or ls k l
-    → is_counted (stmt_of l) ≡ true → a ≢ rip → m ≡ suc n → b ≡ a + size (stmt_of l)
-    → index_from n a rip (map marked_of (drop k ls)) ≡ W → index_from m b rip (map marked_of (drop j ls)) ≡ W
-past_step n m a b rip ls k j l W lt next e h ne more behind w =
-    rw (next, more, behind) (sym (past_first n a rip (marked_of l) (map marked_of (drop (suc k) ls)) h ne) ∙ sym (here n a rip ls k l lt e) ∙ w)
+  pub label_step : (n m a b rip : ℕ) (ls : List L) (k j : ℕ) (l : L) (W : Option ℕ) → k < length ls → j ≡ suc k → l ≡ get_or ls k l
+      → is_counted (marked l).stmt ≡ false → m ≡ n → b ≡ a + size (marked l).stmt
+      → index_from n a rip (map marked (drop k ls)) ≡ W → index_from m b rip (map marked (drop j ls)) ≡ W
+  label_step n m a b rip ls k j l W lt next e h same behind w =
+      rw (next, same, behind) (sym (label_first n a rip (marked l) (map marked (drop (suc k) ls)) h) ∙ sym (here n a rip ls k l lt e) ∙ w)
 
-pub found_step : (n a rip : ℕ) (ls : List Line) (k : ℕ) (l : Line) (W : Option ℕ) → k < length ls → l ≡ get_or ls k l
-    → is_counted (stmt_of l) ≡ true → a ≡ rip → index_from n a rip (map marked_of (drop k ls)) ≡ W → Some n ≡ W
-found_step n a rip ls k l W lt e h same w =
-    sym (found_first n a rip (marked_of l) (map marked_of (drop (suc k) ls)) h same) ∙ sym (here n a rip ls k l lt e) ∙ w
+  pub past_step : (n m a b rip : ℕ) (ls : List L) (k j : ℕ) (l : L) (W : Option ℕ) → k < length ls → j ≡ suc k → l ≡ get_or ls k l
+      → is_counted (marked l).stmt ≡ true → a ≢ rip → m ≡ suc n → b ≡ a + size (marked l).stmt
+      → index_from n a rip (map marked (drop k ls)) ≡ W → index_from m b rip (map marked (drop j ls)) ≡ W
+  past_step n m a b rip ls k j l W lt next e h ne more behind w =
+      rw (next, more, behind) (sym (past_first n a rip (marked l) (map marked (drop (suc k) ls)) h ne) ∙ sym (here n a rip ls k l lt e) ∙ w)
 
-pub none_left : (n a rip : ℕ) (ls : List Line) (k : ℕ) (W : Option ℕ) → length ls ≤ k → index_from n a rip (map marked_of (drop k ls)) ≡ W → None ≡ W
-unfolding index_from
-none_left n a rip ls k W le w = ap (λ (x : List Line). index_from n a rip (map marked_of x)) (sym (drop_all k ls le)) ∙ w
+  pub found_step : (n a rip : ℕ) (ls : List L) (k : ℕ) (l : L) (W : Option ℕ) → k < length ls → l ≡ get_or ls k l
+      → is_counted (marked l).stmt ≡ true → a ≡ rip → index_from n a rip (map marked (drop k ls)) ≡ W → Some n ≡ W
+  found_step n a rip ls k l W lt e h same w =
+      sym (found_first n a rip (marked l) (map marked (drop (suc k) ls)) h same) ∙ sym (here n a rip ls k l lt e) ∙ w
+
+  pub none_left : (n a rip : ℕ) (ls : List L) (k : ℕ) (W : Option ℕ) → length ls ≤ k → index_from n a rip (map marked (drop k ls)) ≡ W → None ≡ W
+  unfolding index_from
+  none_left n a rip ls k W le w = ap (λ (x : List L). index_from n a rip (map marked x)) (sym (drop_all k ls le)) ∙ w
 
 -- ---- lines behind others
 

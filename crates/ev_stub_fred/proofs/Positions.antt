@@ -1,6 +1,6 @@
 -- The blocks: their instructions have numbers, and the positions in them one after the other.
 use Rattle.std.proofs.Common.{◌≡◌, ℕ, ◌+◌, true, [], ◌∷◌, ◌++◌, Option, Some, None, refl, ap, ◌∙◌, codes}
-use Rattle.std.specs.Option.{option_or}
+use Rattle.std.specs.Option.{option_or, option_map}
 use Rattle.ev_isa.specs.Instruction.{is_instruction}
 use Rattle.ev_isa.specs.Spelling.{spelling, four_bytes}
 use Rattle.ev_asm.specs.Assembly.{size}
@@ -12,7 +12,7 @@ use Rattle.ev_stub.specs.Position.{in_block, index_from, is_countable}
 use Rattle.ev_stub.proofs.Positions.{count_behind, address_behind, index_append}
 use Rattle.ev_stub_fred.specs.declared.position.FredBlock.{FredBlock}
 use Rattle.ev_stub_fred.specs.declared.position.FredBlock.TheVariants.{User, Kernel, Main}
-use Rattle.ev_stub_fred.specs.Position.{place_of, fred_place}
+use Rattle.ev_stub_fred.specs.Position.{place_of, fred_place_at}
 
 pub user_countable : is_countable fred_page (jmp (codes "FU") ∷ []) ≡ true
 unfolding is_encoded size
@@ -62,6 +62,6 @@ in_main rip = index_from 0 (fred_page + 0x200) rip (entries ++ exits)
 abbrev pub entered : ℕ → Option (FredBlock × ℕ)
 entered rip = option_or (in_block User (in_user rip)) (in_block Kernel (in_kernel rip))
 
-pub all_blocks : (rip : ℕ) → place_of (option_or (entered rip) (in_block Main (in_main rip))) ≡ fred_place rip
+pub all_blocks : (rip : ℕ) → option_map place_of (option_or (entered rip) (in_block Main (in_main rip))) ≡ fred_place_at rip
 unfolding fred_listings
-all_blocks rip = ap place_of (in_turn (in_block User (in_user rip)) (in_block Kernel (in_kernel rip)) (in_block Main (in_main rip)))
+all_blocks rip = ap (option_map place_of) (in_turn (in_block User (in_user rip)) (in_block Kernel (in_kernel rip)) (in_block Main (in_main rip)))

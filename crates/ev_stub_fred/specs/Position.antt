@@ -1,5 +1,5 @@
 -- Which instruction of the code under FRED stands at an address. Own.
-use Rattle.std.specs.Prelude.{ℕ, List, [], ◌∷◌, Option, Some, None}
+use Rattle.std.specs.Prelude.{ℕ, List, [], ◌∷◌, Option, option_map, unwrap_or}
 use Rattle.std.specs.List.{zip}
 use Rattle.ev_listing.specs.FredCode.{fred_listings}
 use Rattle.ev_listing.specs.Marks.{Listing}
@@ -13,10 +13,13 @@ abbrev pub fred_blocks : List (FredBlock × Listing)
 fred_blocks = zip (User ∷ Kernel ∷ Main ∷ []) fred_listings
 
 -- a position as a place
-abbrev pub place_of : Option (FredBlock × ℕ) → FredPlace
-place_of None = record { block = Outside; index = 0 }
-place_of (Some p) = record { block = p.0; index = p.1 }
+abbrev pub place_of : FredBlock × ℕ → FredPlace
+place_of p = record { block = p.0; index = p.1 }
 
--- the place of the instruction at rip
+-- the place of the instruction at rip, if one stands there
+abbrev pub fred_place_at : ℕ → Option FredPlace
+fred_place_at rip = option_map place_of (position_in rip fred_blocks)
+
+-- the same, where none is Outside
 abbrev pub fred_place : ℕ → FredPlace
-fred_place rip = place_of (position_in rip fred_blocks)
+fred_place rip = unwrap_or (fred_place_at rip) (record { block = Outside; index = 0 })

@@ -8,7 +8,4 @@ mod fred;
 mod position;
 
 pub use fred::{fred_code, fred_sections, fred_visible};
-pub use position::{FredBlock, FredPlace, fred_position};
-
-#[cfg(test)]
-mod tests;
+pub use position::{FredBlock, FredPlace, fred_place_at, fred_position};

@@ -4,7 +4,7 @@ ghost use Rattle.std.specs.Prelude.{◌≡◌, ◌+◌, ◌++◌};
 ghost use Rattle.ev_listing.specs.AddressMap.{fred_page};
 ghost use Rattle.ev_listing.specs.FredCode.{entries, exits};
 ghost use Rattle.ev_stub.specs.Position.{index_from};
-ghost use Rattle.ev_stub_fred.specs.Position.{fred_place};
+ghost use Rattle.ev_stub_fred.specs.Position.{fred_place, fred_place_at};
 
 use crate::code::{entries, exits};
 use crate::fred::{FROM_KERNEL, HANDLERS, PAGE};
@@ -48,19 +48,34 @@ fn in_handlers(rip: u64) -> Option<u16>
     }
 }
 
-/// The instruction whose first byte stands at an address. An address inside an instruction is
-/// outside, as is that of the code for keys without a body. Own.
-pub fn fred_position(rip: u64) -> FredPlace
-    ensures { result ≡ fred_place rip }
+/// The instruction of these blocks whose first byte stands at an address. An address inside an
+/// instruction has none, nor has that of the code for keys without a body. Own.
+pub fn fred_place_at(rip: u64) -> Option<FredPlace>
+    ensures { result ≡ fred_place_at rip }
 {
     let user = or_in_block(None, FredBlock::User, PAGE, rip, &[Jump(None, Fu)]);
     let entered = or_in_block(user, FredBlock::Kernel, FROM_KERNEL, rip, &[Jump(None, Fk)]);
-    let (block, index) = match entered {
-        Some(position) => position,
+    match entered {
+        Some((block, index)) => Some(FredPlace { block, index }),
         None => match in_handlers(rip) {
-            Some(index) => (FredBlock::Main, index),
-            None => (FredBlock::Outside, 0),
+            Some(index) => Some(FredPlace {
+                block: FredBlock::Main,
+                index,
+            }),
+            None => None,
         },
-    };
-    FredPlace { block, index }
+    }
+}
+
+/// The same, where what has no instruction is outside. Own.
+pub fn fred_position(rip: u64) -> FredPlace
+    ensures { result ≡ fred_place rip }
+{
+    match fred_place_at(rip) {
+        Some(place) => place,
+        None => FredPlace {
+            block: FredBlock::Outside,
+            index: 0,
+        },
+    }
 }

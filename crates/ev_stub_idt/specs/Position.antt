@@ -1,5 +1,5 @@
 -- Which instruction of the code under IDT stands at an address. Own.
-use Rattle.std.specs.Prelude.{ℕ, zero, suc, List, [], ◌∷◌, ◌++◌, Option, Some, None, drop}
+use Rattle.std.specs.Prelude.{ℕ, zero, suc, List, [], ◌∷◌, ◌++◌, Option, option_map, unwrap_or, drop}
 use Rattle.std.specs.List.{zip}
 use Rattle.ev_listing.specs.AddressMap.{vector_stub}
 use Rattle.ev_listing.specs.IdtCode.{stub, idt_listings}
@@ -23,10 +23,13 @@ abbrev pub entry_blocks : List (IdtBlock × Listing)
 entry_blocks = zip (Sys ∷ Common ∷ Exit ∷ Nmi ∷ Repeat ∷ Nbody ∷ Exitn ∷ Nlast ∷ []) (drop 1 idt_listings)
 
 -- a position as a place
-abbrev pub place_of : Option (IdtBlock × ℕ) → IdtPlace
-place_of None = record { block = Outside; index = 0 }
-place_of (Some p) = record { block = p.0; index = p.1 }
+abbrev pub place_of : IdtBlock × ℕ → IdtPlace
+place_of p = record { block = p.0; index = p.1 }
 
--- the place of the instruction at rip
+-- the place of the instruction at rip, if one stands there
+abbrev pub idt_place_at : ℕ → Option IdtPlace
+idt_place_at rip = option_map place_of (position_in rip (stub_blocks ++ entry_blocks))
+
+-- the same, where none is Outside
 abbrev pub idt_place : ℕ → IdtPlace
-idt_place rip = place_of (position_in rip (stub_blocks ++ entry_blocks))
+idt_place rip = unwrap_or (idt_place_at rip) (record { block = Outside; index = 0 })

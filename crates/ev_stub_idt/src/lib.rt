@@ -9,7 +9,4 @@ mod position;
 mod vectors;
 
 pub use idt::{idt_code, idt_sections, idt_visible};
-pub use position::{IdtBlock, IdtPlace, position_kind};
-
-#[cfg(test)]
-mod tests;
+pub use position::{IdtBlock, IdtPlace, idt_place_at, position_kind};

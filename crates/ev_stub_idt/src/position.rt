@@ -5,7 +5,7 @@ ghost use Rattle.std.specs.Option.{option_or};
 ghost use Rattle.ev_listing.specs.AddressMap.{vector_stub};
 ghost use Rattle.ev_listing.specs.IdtCode.{stub};
 ghost use Rattle.ev_stub.specs.Position.{index_from, position_in};
-ghost use Rattle.ev_stub_idt.specs.Position.{stub_blocks, entry_blocks, idt_place};
+ghost use Rattle.ev_stub_idt.specs.Position.{stub_blocks, entry_blocks, idt_place, idt_place_at};
 
 use crate::addresses::{
     COMMON_ENTRY, EXIT_ENTRY, EXITN_ENTRY, NBODY_ENTRY, NLAST_ENTRY, NMI_ENTRY, REPEAT_ENTRY,
@@ -89,13 +89,23 @@ fn or_in_entries(found: Option<(IdtBlock, u16)>, rip: u64) -> Option<(IdtBlock, 
     or_in_block(found, IdtBlock::Nlast, NLAST_ENTRY, rip, &nlast())
 }
 
-/// The instruction whose first byte stands at an address. An address inside an instruction is
-/// outside, as is that of the code for keys without a body. Own.
+/// The instruction of these blocks whose first byte stands at an address. An address inside an
+/// instruction has none, nor has that of the code for keys without a body. Own.
+pub fn idt_place_at(rip: u64) -> Option<IdtPlace>
+    ensures { result ≡ idt_place_at rip }
+{
+    match or_in_entries(in_stubs(rip), rip) {
+        Some((block, index)) => Some(IdtPlace { block, index }),
+        None => None,
+    }
+}
+
+/// The same, where what has no instruction is outside. Own.
 pub fn position_kind(rip: u64) -> IdtPlace
     ensures { result ≡ idt_place rip }
 {
-    match or_in_entries(in_stubs(rip), rip) {
-        Some((block, index)) => IdtPlace { block, index },
+    match idt_place_at(rip) {
+        Some(place) => place,
         None => IdtPlace {
             block: IdtBlock::Outside,
             index: 0,

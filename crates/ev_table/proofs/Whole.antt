@@ -230,12 +230,16 @@ module _ (mode : Mode) (image : Image) where
         never Never h = refl
         never _ h = absurd (cc)
 
+    -- no mark depends on memory
+    pub marks_plain : list_all (λ (b : Body). list_all (λ item. not (is_call item)) (body_items b)) image.bodies ≡ true → (a : ℕ)
+        → is_plain (mark_at (marks_of mode image) a) ≡ true
+    unfolding listings
+    marks_plain none a =
+        plain_at (listings mode image) a (plain_append bodies (kernel_listings mode) (plain mode image 0 image.bodies none) (kernel_plain mode))
+
     pub marked_seen : list_all (λ (b : Body). list_all (λ item. not (is_call item)) (body_items b)) image.bodies ≡ true → (a : ℕ) (x : Cell)
         → code_table mode image a ≡ Some x → x.mark ≡ true → mark_at (marks_of mode image) a ≡ Always
-    unfolding listings
-    marked_seen none a x q m =
-        always (mark_at (marks_of mode image) a) (cell_seen a x q ∙ m)
-        (plain_at (listings mode image) a (plain_append bodies (kernel_listings mode) (plain mode image 0 image.bodies none) (kernel_plain mode)))
+    marked_seen none a x q m = always (mark_at (marks_of mode image) a) (cell_seen a x q ∙ m) (marks_plain none a)
       where
         always : (m : Mark) → is_seen m ≡ true → is_plain m ≡ true → m ≡ Always
         always Never h k = absurd (cc)

@@ -10,11 +10,12 @@ use Rattle.ev_io.specs.Tokens.{Token}
 use Rattle.ev_io.specs.Number.{is_between, number_of, below_word, value as digits_value, is_decimal, is_hexadecimal}
 use Rattle.ev_asm.specs.Assembly.{place}
 use Rattle.ev_body.specs.declared.key.Key.{Key}
+use Rattle.ev_body.specs.Bodies.{key_number}
 use Rattle.ev_body.specs.WellFormed.{is_local, is_word, is_key, is_sendable}
 use Rattle.ev_abstract.specs.EntryText.{register_names, key_text}
 use Rattle.ev_line.specs.declared.kind.Kind.{Kind}
 use Rattle.ev_line.specs.Names.{register_of, place_from, low_digit, interrupt, interrupt_key, key_in, key_of, named_keys}
-use Rattle.ev_line.specs.Operands.{Place, Value, value, or_else, if_it, then_make, among, has_label, number, number_within, displacement, register, local, label, memory_parts, based, memory, key, sent_key, processor}
+use Rattle.ev_line.specs.Operands.{Place, Value, value, or_else, if_it, then_make, among, has_label, number, number_within, displacement, register, local, label, memory_parts, based, memory, key, sent_key, key_of_body, processor}
 use Rattle.ev_line.specs.Operands.{Register, Local, Number, Signed, Memory, Gs, Label, AnyKey, AnySide, SentKey, Within, Processor, New, NewRegister, TextLabel, KeyOfBody}
 use Rattle.ev_line.specs.Forms.{Maker, Form, takes, kind_at, kind_here, is_shaped, fitting, read_places, read_form, read_fitting, read_forms, has_places}
 use Rattle.ev_text.proofs.Ranges.{number_bounds}
@@ -31,6 +32,7 @@ InPlace (Within low high) v = (low ≤ v) × (v ≤ high)
 InPlace (Processor count) v = v < count
 InPlace (New taken high) v = (v ≤ high) × (among taken v ≡ false)
 InPlace (NewRegister taken) v = (v < 16) × (among taken v ≡ false)
+InPlace (KeyOfBody keys) v = (is_sendable v ≡ true) × (among keys (key_number v) ≡ true)
 InPlace (TextLabel labels) v = (name : Token) × (has_label labels name ≡ true) × (v ≡ place labels name)
 InPlace _ v = Unit {0}
 
@@ -190,7 +192,7 @@ key_in_place t k h = in_keys named_keys t k refl (there Cause.Name (key_of t) k 
 
 -- the value of a token at a place lies in it
 pub in_place : (p : Place) (t : Token) (v : Value p) → value p t ≡ Ok v → InPlace p v
-unfolding value local sent_key processor
+unfolding value local sent_key key_of_body processor
 in_place Register t v h = register_in t v h
 in_place Local t v h = (tested is_local Cause.Name (register t) v h).1
 in_place Number t v h = number_in t v h
@@ -212,7 +214,9 @@ in_place (NewRegister taken) t v h =
 in_place (TextLabel labels) t v h =
     let m = made (place labels) (if_it (has_label labels) Cause.NoLabel (label t)) v h in
     (m.0, (tested (has_label labels) Cause.NoLabel (label t) m.0 m.1).1, m.2)
-in_place (KeyOfBody keys) t v h = tt
+in_place (KeyOfBody keys) t v h =
+    let k = tested (λ key. among keys (key_number key)) Cause.NoBody (sent_key t) v h in
+    ((tested is_sendable Cause.Name (key t) v k.0).1, k.1)
 
 -- ---- reading
 

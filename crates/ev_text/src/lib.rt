@@ -14,6 +14,3 @@ pub use statements::statement;
 pub use stop::Stop;
 pub use text::{UserText, WholeText};
 pub use words::{alu_word, is};
-
-#[cfg(test)]
-mod tests;

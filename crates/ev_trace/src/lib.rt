@@ -6,8 +6,6 @@ mod entry;
 mod frame;
 mod key;
 mod state;
-#[cfg(test)]
-mod tests;
 mod words;
 
 pub use entry::print_entry;

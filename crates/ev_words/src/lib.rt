@@ -9,6 +9,3 @@ mod words;
 pub use access::access_event;
 pub use frame::{below, write_frame};
 pub use words::{ReturnWords, read_return};
-
-#[cfg(test)]
-mod tests;

@@ -56,7 +56,7 @@ rule_one laws image rest h s u t v (inr (r, b, d)) (inl (m, a, c)) = absurd (law
 rule_one laws image rest h s u t v (inr (r, a, c)) (inr (q, b, d)) = (c.0 ∙ ap Refused (laws.refusal image r q a b) ∙ sym d.0, c.1 ∙ sym d.1)
 
 runs_one : (mode : Option Mode) (frames : Bool) (image : KernelImage) (lines : List Line) → IsOne (runs mode frames image lines)
-runs_one mode frames image lines s u t v a b = is_one Done (run_text image lines (modes_of mode) frames) s u t v a.0 b.0
+runs_one mode frames image lines s u t v a b = is_one Done (run_text image lines (modes_of mode) frames) s u t v a b
 
 -- what a command comes to behind an image
 opened_one : Laws → (c : Command) (o : Opened) → IsOne (opened_comes c o)

@@ -1,2 +1,4 @@
 pub mod TakenLaws
 pub mod AnswerLaws
+pub mod ReadFormed
+pub mod Safe

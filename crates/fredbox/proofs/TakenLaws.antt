@@ -17,7 +17,6 @@ use Rattle.ev_image.specs.declared.head.Head.TheVariants as Head
 use Rattle.ev_io.specs.InputLines.{lines_of}
 use Rattle.ev_io.specs.Lines.{Reading, coming}
 use Rattle.ev_io.specs.declared.cause.Cause.{Cause}
-use Rattle.ev_pair.specs.Safety.{RunIsSafe}
 use Rattle.ev_status.specs.declared.status.Status.{Status}
 use Rattle.ev_status.specs.declared.status.Status.TheVariants.{Done, Usage, ReadFault, WriteFault, BadDocument, Refused, NotBuilt, NoMemory}
 use Rattle.ev_probe.specs.Answer.{told_of}
@@ -45,15 +44,14 @@ took_text old new come text NotBuilt c w = absurd w
 -- the run of a script that was read
 pub ran_took : (old new : Option (List ℕ)) (mode : Option Mode) (frames : Bool) (image : KernelImage) (bound : ℕ) (script : Result (List Line) (ℕ × Cause))
     (lines : List Line) (s : Status) → is_built image ≡ true → IsAcceptedWith image bound → script ≡ Ok lines → list_all line_is_built lines ≡ true
-    → Wrote old new (run_text image lines (modes_of mode) frames) s → ((m : Mode) → RunIsSafe m image lines)
-    → Took old new (comes (Run mode frames) image script) s
-ran_took old new mode frames image bound script lines s built accepted read all wrote safe =
+    → Wrote old new (run_text image lines (modes_of mode) frames) s → Took old new (comes (Run mode frames) image script) s
+ran_took old new mode frames image bound script lines s built accepted read all wrote =
     took_text old new (comes (Run mode frames) image script) text s
     (subst (λ b. or_not_built b (or_rule image (behind script)) Done text) (sym built) (inl (
       bound,
       accepted,
       subst (λ r. behind r bound Done text) (sym read)
-          (subst (λ b. or_not_built b (runs mode frames image lines) Done text) (sym all) ((refl, refl), safe)),
+          (subst (λ b. or_not_built b (runs mode frames image lines) Done text) (sym all) (refl, refl)),
     )))
     wrote
   where

@@ -17,7 +17,6 @@ use Rattle.ev_image.specs.declared.head.Head.TheVariants as Head
 use Rattle.ev_image.specs.Reads.{Opened, opened}
 use Rattle.ev_io.specs.InputLines.{lines_of}
 use Rattle.ev_io.specs.declared.cause.Cause.{Cause}
-use Rattle.ev_pair.specs.Safety.{RunIsSafe}
 use Rattle.ev_probe.specs.Input.{input_text}
 use Rattle.ev_script.specs.Script.{read_script}
 use Rattle.fredbox.specs.Comes.{Comes, Is, or_line, or_rule, or_not_built}
@@ -28,10 +27,9 @@ abbrev pub modes_of : Option Mode → List Mode
 modes_of None = Idt ∷ Fred ∷ []
 modes_of (Some mode) = mode ∷ []
 
--- the text of a run; and in either mode no frame of it holds a word that was live just before its step
+-- the text of a run
 abbrev pub runs : Option Mode → Bool → KernelImage → List Line → Comes
-runs mode frames image script s t =
-    Is Done (run_text image script (modes_of mode) frames) s t × ((m : Mode) → RunIsSafe m image script)
+runs mode frames image script = Is Done (run_text image script (modes_of mode) frames)
 
 -- the text of an accepted image
 abbrev pub bound_text : ℕ → Text

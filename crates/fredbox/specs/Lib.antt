@@ -3,3 +3,4 @@ pub mod Answer
 pub mod Broken
 pub mod Faults
 pub mod Taken
+pub mod Safe

@@ -9,9 +9,7 @@ ghost use Rattle.ev_concrete.specs.RunText.{run_text};
 ghost use Rattle.ev_io.specs.InputLines.{lines_of};
 ghost use Rattle.ev_io.specs.Lines.{coming, drawn};
 ghost use Rattle.ev_io.specs.Transfer.{Draws, Rose};
-ghost use Rattle.ev_isa.specs.declared.mode.Mode.{Mode};
 ghost use Rattle.ev_pair.specs.Modes as asked;
-ghost use Rattle.ev_pair.specs.Safety.{RunIsSafe};
 ghost use Rattle.ev_script.specs.Script.{read_script};
 ghost use Rattle.ev_status.specs.declared.status.Status.{Status};
 ghost use Rattle.fredbox.specs.Answer.{comes, modes_of};
@@ -20,7 +18,7 @@ ghost use Rattle.fredbox.specs.Taken.{IsUnwritten, Took, Wrote};
 
 use crate::faults::script_status;
 use ev_abstract::Line;
-use ev_accept::{AcceptFault, accept};
+use ev_accept::{AcceptFault, Accepted, accept};
 use ev_body::Image;
 use ev_built::{built_laws, is_built, line_is_built};
 use ev_io::{Lines, Sink, Source};
@@ -56,22 +54,21 @@ fn modes_asked(mode: Option<Mode>) -> Modes
 /// Runs a script and writes the text of its run.
 fn write_run<K: Sink>(
     alloc: Global,
-    image: &Image,
+    accepted: &Accepted,
     script: &[Line],
     mode: Option<Mode>,
     frames: bool,
     sink: &mut K,
 ) -> Status
-    requires image { IsBuilt image.now }
-    requires script { IsScript image.now script.now }
+    requires image { IsBuilt accepted.now.image }
+    requires script { IsScript accepted.now.image script.now }
     requires lines { list_all line_is_built script.now ≡ true }
     requires few { length script.now < 2 ^ 32 }
     ensures wrote { Wrote (K.taken sink.old) (K.taken sink.new)
-        (run_text image.now script.now (modes_of mode) frames) result }
-    ensures safe { (m : Mode) → RunIsSafe m image.now script.now }
+        (run_text accepted.now.image script.now (modes_of mode) frames) result }
     ensures cause { result ≡ Status.WriteFault → Rose (K.faults sink.old) (K.faults sink.new) }
 {
-    match run_modes(alloc, image, script, modes_asked(mode), frames, sink) {
+    match run_modes(alloc, accepted, script, modes_asked(mode), frames, sink) {
         Ok(()) => Status::Done,
         Err(RunFault::WriteFault) => Status::WriteFault,
         Err(RunFault::NoMemory) => Status::NoMemory,
@@ -122,5 +119,5 @@ pub(crate) fn run<S: Source, K: Sink>(
         return Status::NotBuilt;
     }
     built_laws();
-    write_run(alloc, accepted.image(), &script.lines, mode, frames, sink)
+    write_run(alloc, &accepted, &script.lines, mode, frames, sink)
 }

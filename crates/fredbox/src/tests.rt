@@ -93,14 +93,25 @@ fn words_in_any_order(rt: HostRuntime) -> Result<(), Fail> {
 fn first_refusal(rt: HostRuntime) -> Result<(), Fail> {
     let head =
         "image 1\nprocessors 1\nnest 1\ntext\nstart:\nsyscall\njmp start\nendtext\ntask 0 start 0\n";
-    let cases: [(&str, &str, &str, Status); 6] = [
+    let cases: [(&str, &str, &str, Status); 7] = [
         (
             "check",
             "script\n",
             "",
             Status::Refused(Refusal::MissingBody(Key::Sys, Side::User)),
         ),
-        ("run", "script\n", "turn\n", Status::NotBuilt),
+        (
+            "run",
+            "task 0 start 0\nscript\n",
+            "turn\n",
+            Status::NotBuilt,
+        ),
+        (
+            "run",
+            "script\n",
+            "turn\n",
+            Status::Refused(Refusal::MissingBody(Key::Sys, Side::User)),
+        ),
         (
             "check",
             "fill\nscript\n",
@@ -135,6 +146,95 @@ fn first_refusal(rt: HostRuntime) -> Result<(), Fail> {
         let mut to = sink(rt.alloc(), &[])?;
         assert_eq!(rt; top(rt.alloc(), &[word], &mut src, &mut to), status);
         assert_eq!(rt; to.calls, 0);
+    }
+    Ok(())
+}
+
+/// A document of one statement of user code, whose data page 0 is present and where each event has a
+/// body, with a register of the task and two turns.
+fn one_statement(alloc: Global, statement: &str, register: &str) -> Result<Vec<u8>, Fail> {
+    let mut bytes = Vec::new(alloc);
+    for piece in [
+        "image 1\nprocessors 1\nnest 1\npage 0\ntext\nstart:\n",
+        statement,
+        "\nendtext\ntask 0 start 0\nreg ",
+        register,
+        "\nfill\nscript\nturn 0\nturn 0\nend\n",
+    ] {
+        bytes.extend_from_slice(piece.as_bytes())?;
+    }
+    Ok(bytes)
+}
+
+/// The first lines of its run: both modes enter one body.
+fn both_enter(alloc: Global, entry: &str) -> Result<Vec<u8>, Fail> {
+    let mut bytes = Vec::new(alloc);
+    for piece in ["idt 0 enter ", entry, "\nfred 0 enter ", entry, "\n"] {
+        bytes.extend_from_slice(piece.as_bytes())?;
+    }
+    Ok(bytes)
+}
+
+// What user code raises by one access or jump, by the page rules and the order of the checks: an
+// address that isn't canonical is a general protection fault, or a stack fault by RSP, before all
+// else; then alignment, and then the page, whose error code says present, written, user, fetched. A
+// jump into a data page is made, and the fetch there faults.
+#[test]
+fn addresses_of_user_code(rt: HostRuntime) -> Result<(), Fail> {
+    let cases: [(&str, &str, &str); 9] = [
+        (
+            "mov rax [rbx+0]",
+            "rbx 0x800000000000",
+            "gp type 3 user depth 1 error 0 data 0 rip 400000",
+        ),
+        (
+            "mov rax [rsp+0]",
+            "rsp 0x800000000000",
+            "ss type 3 user depth 1 error 0 data 0 rip 400000",
+        ),
+        (
+            "mov rax [rbx+0]",
+            "rbx 0x10000001",
+            "ac type 3 user depth 1 error 0 data 0 rip 400000",
+        ),
+        (
+            "mov rax [rbx+0]",
+            "rbx 0x20000000",
+            "pf type 3 user depth 1 error 4 data 20000000 rip 400000",
+        ),
+        (
+            "mov rax [rbx+0]",
+            "rbx 0xffff888000000000",
+            "pf type 3 user depth 1 error 5 data ffff888000000000 rip 400000",
+        ),
+        (
+            "mov [rbx+0] rax",
+            "rbx 0x400000",
+            "pf type 3 user depth 1 error 7 data 400000 rip 400000",
+        ),
+        (
+            "push rax",
+            "rsp 0",
+            "pf type 3 user depth 1 error 7 data fffffffffffffff8 rip 400000",
+        ),
+        (
+            "jmp rbx",
+            "rbx 0x800000000000",
+            "gp type 3 user depth 1 error 0 data 0 rip 400000",
+        ),
+        (
+            "jmp rbx",
+            "rbx 0x10000000",
+            "pf type 3 user depth 1 error 15 data 10000000 rip 10000000",
+        ),
+    ];
+    for (statement, register, entry) in cases {
+        let bytes = one_statement(rt.alloc(), statement, register)?;
+        let mut src = source(rt.alloc(), &bytes, &[])?;
+        let mut to = sink(rt.alloc(), &[])?;
+        assert_eq!(rt; top(rt.alloc(), &["run"], &mut src, &mut to), Status::Done);
+        let wanted = both_enter(rt.alloc(), entry)?;
+        assert!(rt; to.taken.as_slice().starts_with(wanted.as_slice()));
     }
     Ok(())
 }

@@ -1,4 +1,4 @@
-use Rattle.std.proofs.Common.{subst}
+use Rattle.std.proofs.Common.{◌∙◌, subst}
 use Rattle.ev_body.specs.WellFormed.{IsImage}
 use Rattle.ev_pair.proofs.Built.{are_built}
 use Rattle.ev_pair.proofs.Safe.{run_is_safe}
@@ -9,4 +9,5 @@ run_counted-requires-clause-modes g c = are_built c.args.modes
 
 pub returns-clause-safe : goal.returns-clause-safe
 returns-clause-safe g c mode =
-    run_is_safe mode c.args.image.now c.args.script.now (subst IsImage c.image.view_is c.image.invariant) c.requires.image c.requires.script c.requires.lines
+    run_is_safe mode c.args.accepted.now.image c.args.script.now (subst IsImage (c.image.view_is ∙ c.image-image.ensures.image) c.image.invariant)
+    c.requires.image c.requires.script c.requires.lines

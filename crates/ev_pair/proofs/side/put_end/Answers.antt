@@ -1,4 +1,4 @@
-use Rattle.std.proofs.Common.{◌++◌, ap, refl, ◌∙◌, subst, arith}
+use Rattle.std.proofs.Common.{◌++◌, ap, refl, ◌∙◌, subst}
 use Rattle.std.specs.Io.KnownBytes.{append_known}
 use Rattle.ev_io.specs.Transfer.{TookPrefix}
 use Rattle.ev_abstract.specs.Run.{run}

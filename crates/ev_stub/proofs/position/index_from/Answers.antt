@@ -1,7 +1,7 @@
 use Rattle.std.proofs.Common.{◌≡◌, ◌+◌, ap, sym, ◌∙◌, arith}
 use Rattle.ev_asm.specs.Assembly.{size}
 use Rattle.ev_asm.specs.Assembled.{is_encoded}
-use Rattle.ev_stub.specs.Lines.{stmt_of}
+use Rattle.ev_stub.specs.Lines.{marked_of, stmt_of}
 use Rattle.ev_stub.proofs.Listed.{encoded_at, room_step}
 use Rattle.ev_stub.proofs.Positions.{countable, label_step, past_step, found_step, none_left}
 use Rattle.ev_stub.proofs.position.index_from.Goals as goal
@@ -9,7 +9,7 @@ use Rattle.ev_stub.proofs.position.index_from.Goals.{then-is_counted+else-at-rip
 
 pub returns-then-at-rip : goal.returns-then-at-rip
 returns-then-at-rip c =
-    found_step c.loop-line.index c.loop-line.at c.args.rip c.args.lines.now c.loop-line.line-index c.line-item.result _ c.loop-line-test.true
+    found_step marked_of c.loop-line.index c.loop-line.at c.args.rip c.args.lines.now c.loop-line.line-index c.line-item.result _ c.loop-line-test.true
     c.line-item.is (sym c.is_counted.ensures ∙ c.if-is_counted.true) c.if-at-rip.true c.loop-line.invariant.same
 
 pub size-requires : goal.size-requires
@@ -33,10 +33,10 @@ loop-line-preserved c =
     ap (λ x. c.loop-line.at + x) (c.size.ensures.is ∙ ap size c.statement.ensures) in
     record {
       same = elim c.if-is_counted.branch [
-        | then-is_counted+else-at-rip w ↦ past_step c.loop-line.index _ c.loop-line.at _ c.args.rip c.args.lines.now c.loop-line.line-index _
+        | then-is_counted+else-at-rip w ↦ past_step marked_of c.loop-line.index _ c.loop-line.at _ c.args.rip c.args.lines.now c.loop-line.line-index _
             c.line-item.result _ c.loop-line-test.true (omega arith) c.line-item.is (sym c.is_counted.ensures ∙ w.if-is_counted.true) w.if-at-rip.false
             (omega (arith, w.index-is)) next c.loop-line.invariant.same
-        | else-is_counted w ↦ label_step c.loop-line.index _ c.loop-line.at _ c.args.rip c.args.lines.now c.loop-line.line-index _
+        | else-is_counted w ↦ label_step marked_of c.loop-line.index _ c.loop-line.at _ c.args.rip c.args.lines.now c.loop-line.line-index _
             c.line-item.result _ c.loop-line-test.true (omega arith) c.line-item.is (sym c.is_counted.ensures ∙ w.if-is_counted.false)
             w.index-is next c.loop-line.invariant.same
       ];
@@ -54,4 +54,5 @@ loop-line-preserved c =
     }
 
 pub returns : goal.returns
-returns c = none_left c.loop-line.index c.loop-line.at c.args.rip c.args.lines.now c.loop-line.line-index _ c.loop-line-test.false c.loop-line.invariant.same
+returns c =
+    none_left marked_of c.loop-line.index c.loop-line.at c.args.rip c.args.lines.now c.loop-line.line-index _ c.loop-line-test.false c.loop-line.invariant.same

@@ -1,13 +1,10 @@
-use Rattle.std.proofs.Common.{rules, ◌≡◌, List, true, Some, sym, ◌∙◌, subst}
+use Rattle.std.proofs.Common.{rules, ◌≡◌, true}
 use Rattle.std.specs.Prelude.{Ok}
 use Rattle.std.specs.List.{list_all}
-use Rattle.ev_body.specs.KernelImage.{KernelImage}
 use Rattle.ev_built.specs.Built.{line_is_built}
 use Rattle.ev_built.specs.RunTakes.{is_built}
-use Rattle.ev_isa.specs.declared.mode.Mode.{Mode}
 use Rattle.ev_concrete.specs.RunText.{run_text}
 use Rattle.ev_io.specs.InputLines.{lines_of}
-use Rattle.ev_pair.specs.Safety.{RunIsSafe}
 use Rattle.ev_script.specs.Script.{read_script}
 use Rattle.fredbox.specs.Answer.{modes_of}
 use Rattle.fredbox.specs.Taken.{Wrote}
@@ -23,5 +20,4 @@ returns-clause-took g c = λ bytes e.
     let all : list_all line_is_built items ≡ true = search rules in
     let wrote : Wrote (g.K.Sink.taken c.args.sink.now) (g.K.Sink.taken c.write_run.new.sink)
     (run_text c.args.image items (modes_of c.args.mode) c.args.frames) c.write_run.result = search rules in
-    let safe : (m : Mode) → RunIsSafe m c.args.image items = search rules in
-    ran_took _ _ c.args.mode c.args.frames c.args.image c.in-Ok.accepted.bound _ items _ built c.in-Ok.ensures.accepted.1 read all wrote safe
+    ran_took _ _ c.args.mode c.args.frames c.args.image c.in-Ok.accepted.bound _ items _ built c.in-Ok.ensures.accepted.1 read all wrote

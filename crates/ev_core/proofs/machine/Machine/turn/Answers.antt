@@ -1,6 +1,5 @@
-use Rattle.std.proofs.Common.{◌≡◌, ◌<◌, ◌+◌, ◌++◌, ◌∙◌, ap, sym, subst, length, arith}
+use Rattle.std.proofs.Common.{◌<◌, ◌+◌, ◌++◌, ◌∙◌, ap, sym, subst, length, arith}
 use Rattle.ev_abstract.specs.Run.{run}
-use Rattle.ev_concrete.specs.ConcreteRun.{concrete_run}
 use Rattle.ev_core.specs.Run.{MachineView, IsRun, IsStandingAs}
 use Rattle.ev_core.specs.contracts.machine.Machine.{the_view}
 use Rattle.ev_core.proofs.Standing.{lt, tell, few_frames, edges_tell, can_step_after}

@@ -1,0 +1,35 @@
+// Bodies and lines that `run` takes, and ones that it doesn't.
+
+use crate::fixtures::image_of;
+use ev_abstract::Line;
+use ev_body::Key;
+use ev_built::{is_built, line_is_built};
+use std::test::Fail;
+
+#[test]
+fn bodies(rt: HostRuntime) -> Result<(), Fail> {
+    let cases: [(&str, bool); 4] = [
+        ("body sys user\nlog rdi\nret\nendbody\nfill\n", true),
+        ("body sys user\nnop\nret\nendbody\nfill\n", false),
+        ("body nmi user\nret\nendbody\nfill\n", false),
+        ("body bp both\nret\nendbody\nfill\n", false),
+    ];
+    for (bodies, taken) in cases {
+        let image = image_of(rt.alloc(), 1, "jmp start\n", bodies)?;
+        assert_eq!(rt; is_built(&image), taken, "{bodies}");
+    }
+    Ok(())
+}
+
+#[test]
+fn lines(rt: HostRuntime) {
+    assert!(rt; line_is_built(&Line::Turn(0)));
+    for line in [
+        Line::Turn(1),
+        Line::Edge(0, 1),
+        Line::Arrive(0, Key::Irq(0x31)),
+        Line::Accept(0),
+    ] {
+        assert!(rt; !line_is_built(&line));
+    }
+}
