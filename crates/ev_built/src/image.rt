@@ -35,6 +35,8 @@ fn is_built_item(item: &Item) -> bool
             | Item::Cpu(_)
             | Item::Slot(..)
             | Item::Put(..)
+            | Item::GetReg(..)
+            | Item::SetReg(..)
             | Item::Ret
     )
 }

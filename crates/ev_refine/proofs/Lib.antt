@@ -29,6 +29,7 @@ pub mod KernelStep
 pub mod ItemWords
 pub mod ItemVisible
 pub mod ItemSteps
+pub mod ItemTask
 pub mod KernelItems
 pub mod BodyTables
 pub mod Kernel
