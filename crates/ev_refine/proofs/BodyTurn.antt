@@ -240,7 +240,7 @@ module _ (mode : Mode) (image : Image) (built : IsBuilt image) (good : IsImage i
   n = length o.below
 
   narrow : r < 7
-  narrow = let z = step.first_task mode image built good facts left s m h p hp in omega arith
+  narrow = let z = step.narrow_task mode image built good facts left s m h p hp in omega arith
 
   -- the processor of an item, with another RIP
   pub at_item : (ss : ℕ) → IsKernelSs mode ss → (extra v : ℕ → ℕ) (f : Flags) (offset : ℕ) (rax rcx rdx : V) (g : Flags)
@@ -475,7 +475,7 @@ module _ (mode : Mode) (image : Image) (built : IsBuilt image) (good : IsImage i
 
     there : StandsOn mode image p now s' z
     there = own_becomes mode image p (left p) s s' x (seat_under mode r (suc n)) d as' words' x.tasks x.slots now_bodies (body_edges mode image) on small
-        (four_tasks image built p hp) mv refl narrow [] (none_spares p).allowed changes
+        (four_tasks image good p hp) mv refl narrow [] (none_spares p).allowed changes
         (λ k l. slot_same p (seat_under mode r (suc n)) [] small narrow s.memory.words words' tt changes refl p k small l ∙ on.slots k l)
         (λ i f. refl) on.tasks (begun.blocking ∙ sym (none_nmi image now_bodies plain_now))
         (λ class. step.unserved mode image built good facts left s m h p hp class now_bodies quiet
@@ -486,7 +486,7 @@ module _ (mode : Mode) (image : Image) (built : IsBuilt image) (good : IsImage i
     all : Stands mode image (put_at left p now) s' m'
     all =
         let domain = step.domain mode image built good facts left s m h p hp in
-        stands_become mode image left s s' m m' p now z (seat_under mode r (suc n)) d as' words' good built.accepted (four_tasks image built) h hp mv narrow []
+        stands_become mode image left s s' m m' p now z (seat_under mode r (suc n)) d as' words' good built.accepted (four_tasks image good) h hp mv narrow []
         (none_spares p).allowed changes
         (record {
           own = own_is;
@@ -503,7 +503,8 @@ module _ (mode : Mode) (image : Image) (built : IsBuilt image) (good : IsImage i
           cells = λ k l. cell_same p (seat_under mode r (suc n)) [] small narrow s.memory.words words' tt changes refl k l ∙ h.shares.cells k l
               ∙ sym (ap (λ q. q k) y.cells);
         })
-        legal (record { pending = domain.pending; nmi = domain.nmi; resched = domain.resched; bodies = quiet }) there
+        legal (step.numbers_behind mode image built good facts left s m h p hp o m' (entry_of p e (suc (suc n)) ∷ []) turned)
+        (record { pending = domain.pending; nmi = domain.nmi; resched = domain.resched; bodies = quiet }) there
 
     -- the frame's words are as many as before
     frame_fits : begun.frame + 8 * frame_size (middle.cpus p) e ≤ top_at p (seat_under mode r (suc n))
@@ -540,7 +541,7 @@ module _ (mode : Mode) (image : Image) (built : IsBuilt image) (good : IsImage i
           counts = stands_depth mode image facts p now s' z there
               ∙ ap suc (sym depth) ∙ sym (ap (λ i. if i then bodies_on s p else suc (bodies_on s p)) (ap (starts_inner s p) first));
           safe = delivery_safe mode image s middle p r (top_at p (seat_under mode r (suc n))) begun.frame image.processors e small narrow room.0 above
-              (four_tasks image built) (omega arith) frame_fits;
+              (four_tasks image good) (omega arith) frame_fits;
         }
 
     pub raise_step : Simulated mode image left s m p

@@ -293,7 +293,7 @@ module _ (mode : Mode) (image : Image) (built : IsBuilt image) (good : IsImage i
       fred = fred;
       saved = λ regs extra' f'. saved_as o.κ over (here mode p o.κ o.σ ss w extra' (with_registers regs var) f') w
           (saved_again mode image UserCode (here mode p o.κ o.σ ss w extra' var f') (here mode p o.κ o.σ ss w extra' (with_registers regs var) f') w
-          (beyond_registers regs var) refl refl saved);
+          (beyond_registers regs var) refl refl refl saved);
       known = known;
       chains = chains;
     }

@@ -375,7 +375,7 @@ module _ (mode : Mode) (image : Image) (built : IsBuilt image) (good : IsImage i
         ∙ ap (next_step image m p) o.bodies ∙ ap (item_or_nothing image m p b) hi
 
     -- its numbers stay words
-    numbers_behind : (m' : Machine) (es : List Entry) → turn image m p ≡ (m', es) → HoldsNumbers m'
+    pub numbers_behind : (m' : Machine) (es : List Entry) → turn image m p ≡ (m', es) → HoldsNumbers m'
     numbers_behind m' es ht =
         let found = body_at (slice_get image.bodies b.body) b.place ctx.item ctx.is in
         let ops = (body_ruled image good built.accepted.1.kept b.body found.0 found.1).operands b.place ctx.item found.2 in
