@@ -1,9 +1,9 @@
 -- A turn of `bp`: INT 3 is delivered to the body, which goes on at the next item.
-use Rattle.std.proofs.Common.{◌≡◌, ℕ, suc, ◌+◌, ◌*◌, ◌%◌, ◌^◌, ◌<◌, ◌≤◌, Bool, true, false, List, [], ◌∷◌, length, Option, Some, None, refl, sym, ap, ◌∙◌, subst, arith}
-use Rattle.std.specs.Prelude.{◌==◌, slice_get, is_some}
+use Rattle.std.proofs.Common.{◌≡◌, ℕ, suc, ◌+◌, ◌%◌, ◌<◌, ◌≤◌, Bool, true, Option, Some, None, refl, sym, ap, ◌∙◌, subst, arith}
+use Rattle.std.specs.Prelude.{slice_get, is_some}
 use Rattle.ev_isa.specs.Word.{NatMap}
-use Rattle.ev_isa.specs.Flags.{Flags, flags_word}
-use Rattle.ev_isa.specs.Spelling.{spelling, four_bytes}
+use Rattle.ev_isa.specs.Flags.{Flags}
+use Rattle.ev_isa.specs.Spelling.{spelling}
 use Rattle.ev_isa.specs.declared.instruction.Ins.TheVariants.{Int3}
 use Rattle.ev_isa.specs.declared.mode.Mode.{Mode}
 use Rattle.ev_event.specs.declared.event.Event.{Event}
@@ -19,7 +19,6 @@ use Rattle.ev_asm.specs.Assembly.{size}
 use Rattle.ev_listing.specs.Expansion.{item_address, expansion}
 use Rattle.ev_state.specs.Processor.{Processor}
 use Rattle.ev_apic.specs.declared.apic.Apic.{Apic}
-use Rattle.ev_mem.specs.Memory.{Memory}
 use Rattle.ev_exec.specs.Exec.{Special, exec}
 use Rattle.ev_proc.specs.ProcessorStep.{executed, delivering, special}
 use Rattle.ev_abstract.specs.Chain.{is_breakpoint}
@@ -34,7 +33,7 @@ use Rattle.ev_law.proofs.Required.{body_faults_have_bodies}
 use Rattle.ev_concrete.specs.ConcreteRun.{System}
 use Rattle.ev_built.specs.Built.{IsBuilt}
 use Rattle.ev_symbolic.specs.Value.{M}
-use Rattle.ev_symbolic.specs.Agrees.{Env, Code, Cell, Fits, Agrees}
+use Rattle.ev_symbolic.specs.Agrees.{Env, Code, Fits, Agrees}
 use Rattle.ev_symbolic.proofs.Sound.{executes}
 use Rattle.ev_symbolic.proofs.Blocks.{begins}
 use Rattle.ev_blocks.specs.Items as spots
@@ -51,9 +50,8 @@ use Rattle.ev_refine.proofs.CallKinds.{origin_of, plain_knows}
 use Rattle.ev_refine.proofs.Fits.{fits_at, opens_at}
 use Rattle.ev_refine.proofs.Spots.{few_edges}
 use Rattle.ev_refine.proofs.Bodies.{body, at_the_item, means_at, saved_again}
-use Rattle.ev_refine.proofs.After.{none_spares}
 use Rattle.ev_refine.proofs.Depth.{behind_repeat}
-use Rattle.ev_refine.proofs.ItemState.{opening_of, known_of, with_registers, ItemState, gone, lands, any_registers, any_known, beyond_registers}
+use Rattle.ev_refine.proofs.ItemState.{opening_of, with_registers, ItemState, gone, lands, any_registers, any_known, beyond_registers}
 use Rattle.ev_refine.proofs.ItemLocals.{locals_behind}
 use Rattle.ev_refine.proofs.ItemVisible as visible
 use Rattle.ev_refine.proofs.BodyRaising.{break_event}
@@ -132,7 +130,8 @@ module _ (mode : Mode) (image : Image) (built : IsBuilt image) (good : IsImage i
         (way.told u) in
         let item : InItem mode image (origin_of o.κ) u o.w (context.onward o.b) = record {
           saved = saved_again mode image (origin_of o.κ) (here mode p o.κ o.σ ss o.w extra v f) u o.w (beyond_registers c.regs v) refl refl refl a.means.saved;
-          locals = locals_behind mode image (here mode p o.κ o.σ ss o.w extra v f) d s.memory a.offset a.rax a.rcx a.rdx a.flags there o.b a.means.locals None tt;
+          locals = locals_behind mode image (here mode p o.κ o.σ ss o.w extra v f) d s.memory a.offset a.rax a.rcx a.rdx a.flags there o.b a.means.locals None
+              tt;
           flags = subst (FlagsAre mode image o.b.flags) (sym same) a.means.flags;
         } in record {
           stands = record {

@@ -1,17 +1,14 @@
 -- A turn in which an item of a body raises an event: the activation that begins on it, what the abstract machine enters, and what is shown.
-use Rattle.std.proofs.Common.{◌≡◌, inl, inr, ℕ, suc, ◌+◌, ◌-◌, ◌*◌, ◌%◌, ◌^◌, ◌<◌, ◌≤◌, Bool, true, false, not, ◌&&◌, List, [], ◌∷◌, get_or, drop, map, length, Option, Some, None, refl, sym, ap, ◌∙◌, subst, arith}
+use Rattle.std.proofs.Common.{◌≡◌, inr, ℕ, suc, ◌+◌, ◌-◌, ◌*◌, ◌%◌, ◌<◌, ◌≤◌, Bool, true, false, not, ◌&&◌, List, [], ◌∷◌, get_or, length, Option, Some, None, refl, sym, ap, ◌∙◌, subst, arith}
 use Rattle.std.specs.Prelude.{◌==◌, if◌then◌else◌, slice_get}
-use Rattle.std.specs.List.{list_any}
 use Rattle.ev_isa.specs.Word.{NatMap, put_at, is_canonical}
-use Rattle.ev_isa.specs.Flags.{Flags, flags_word, modelled}
-use Rattle.ev_isa.specs.declared.instruction.Ins.{Ins}
+use Rattle.ev_isa.specs.Flags.{Flags}
 use Rattle.ev_isa.specs.declared.mode.Mode.{Mode}
 use Rattle.ev_isa.specs.declared.mode.Mode.TheVariants.{Idt, Fred}
 use Rattle.ev_event.specs.declared.event.Event.{Event}
 use Rattle.ev_event.specs.Event.{has_error_code, is_hardware}
 use Rattle.std.proofs.lemmas.Bool.{eqb-true}
 use Rattle.ev_user.specs.Words.{HoldsWords}
-use Rattle.ev_effect.specs.Task.{Task}
 use Rattle.ev_body.specs.declared.key.Side.TheVariants.{Kernel}
 use Rattle.ev_body.specs.declared.body.Body.{Body}
 use Rattle.ev_body.specs.declared.image.Image.{Image}
@@ -20,11 +17,10 @@ use Rattle.ev_body.specs.WellFormed.{IsImage}
 use Rattle.ev_state.specs.Processor.{Processor, is_user, rsp}
 use Rattle.ev_state.proofs.FlagLaws.{kept}
 use Rattle.ev_apic.specs.declared.apic.Apic.{Apic}
-use Rattle.ev_mem.specs.Memory.{Memory, page_map}
-use Rattle.ev_proc.specs.ProcessorStep.{After, has_fred, executed, delivering, try}
+use Rattle.ev_mem.specs.Memory.{Memory}
+use Rattle.ev_proc.specs.ProcessorStep.{After, has_fred, executed, delivering}
 use Rattle.ev_proc.specs.declared.stepped.Stepped.{Stepped}
-use Rattle.ev_listing.specs.AddressMap.{pcpu, slot_offset, cells_base, stack_top, stack_bytes}
-use Rattle.ev_abstract.specs.Boundary.{is_nmi_body}
+use Rattle.ev_listing.specs.AddressMap.{pcpu, stack_top, stack_bytes}
 use Rattle.ev_abstract.specs.Context.{BodyContext}
 use Rattle.ev_abstract.specs.declared.entry.Entry.{Entry}
 use Rattle.ev_abstract.specs.declared.entry.Entry.TheVariants.{Enter}
@@ -34,7 +30,6 @@ use Rattle.ev_abstract.specs.Machine.{Machine, processor, with_processor}
 use Rattle.ev_abstract.specs.Machine as abstract
 use Rattle.ev_abstract.specs.Run.{turn}
 use Rattle.ev_law.specs.Legal.{Legal, AreLegal, knows}
-use Rattle.ev_concrete.specs.Opening.{tasks_of}
 use Rattle.ev_concrete.specs.ConcreteRun.{System, Activation, marks_of, acted, after_step, activations_by, interrupted, frame_size, starts_inner}
 use Rattle.ev_concrete.specs.Depth.{is_in_repeat, bodies_on}
 use Rattle.ev_concrete.specs.LiveWords.{area_bytes}
@@ -42,7 +37,7 @@ use Rattle.ev_concrete.specs.Shown.{shown_by, shown_event, told_event, told_rip,
 use Rattle.ev_built.specs.Built.{IsBuilt}
 use Rattle.ev_symbolic.specs.Value.{M, V}
 use Rattle.ev_symbolic.specs.State.{Block}
-use Rattle.ev_symbolic.specs.Agrees.{Env, eval, untracked, Cell, IsTold, At, with_words}
+use Rattle.ev_symbolic.specs.Agrees.{Env, eval, Cell, IsTold, At, with_words}
 use Rattle.ev_symbolic.proofs.Blocks.{cell_step, every_ok}
 use Rattle.ev_blocks.specs.Blocks.{block}
 use Rattle.ev_paths.specs.Ends.{is_untold, TellsNoCr2}
@@ -52,13 +47,12 @@ use Rattle.ev_activation.specs.Seat.{Kind, FromBody, NmiFromBody, Seat, kind_of,
 use Rattle.ev_user.proofs.Deliver.{arrives}
 use Rattle.ev_refine.specs.Nmi.{Frame, Leads, inner_edges}
 use Rattle.ev_refine.specs.Named.{Changes}
-use Rattle.ev_refine.specs.Domain.{IsQuiet, AreQuiet, IsInDomain}
+use Rattle.ev_refine.specs.Domain.{IsQuiet, AreQuiet}
 use Rattle.ev_refine.specs.Active.{here, IsKernelSs, Active}
 use Rattle.ev_refine.specs.Relation.{IsContext, Beneath, keeps_cr2, chained, body_edges, switches_at, Chain, StandsOn, Stands}
 use Rattle.ev_refine.specs.Claims.{Simulated}
 use Rattle.ev_refine.proofs.Facts.{Facts}
 use Rattle.ev_refine.proofs.Maps.{at_same, at_other}
-use Rattle.ev_refine.proofs.ModeFacts.{is_fred}
 use Rattle.ev_refine.proofs.CallKinds.{is_plain_kind, ArePlain, none_nmi, seat_under, plain_seat}
 use Rattle.ev_refine.proofs.Chains.{Kept, chain_kept}
 use Rattle.ev_refine.proofs.Domains.{four_tasks}
@@ -72,7 +66,6 @@ use Rattle.ev_refine.proofs.UserBody.{HasBody, has_body}
 use Rattle.ev_refine.proofs.ItemState.{opening_of, ItemState, gs_of}
 use Rattle.ev_refine.proofs.ItemVisible.{legal_context}
 use Rattle.ev_refine.proofs.KernelSafe.{AllAbove, above_less, deeper, chain_above, delivery_safe}
-use Rattle.ev_refine.proofs.BodyRaising as raise
 use Rattle.ev_refine.proofs.BodyRaising.{IsBodyEvent, AtItem, Ready, Begins}
 use Rattle.ev_refine.proofs.BodyRaisingFred.{begins_fred}
 use Rattle.ev_refine.proofs.BodyRaisingIdt.{begins_idt}
@@ -440,7 +433,8 @@ module _ (mode : Mode) (image : Image) (built : IsBuilt image) (good : IsImage i
     under : (a : ℕ) → Chain mode image p (body_edges mode image) r (x.tasks r) on.frame on.switching (b ∷ o.below) (under_now ∷ o.others)
         (record w { cr2 = a }) mem
     under a =
-        let k : Chain mode image p (body_edges mode image) r (x.tasks r) on.frame on.switching (b ∷ o.below) (o.last ∷ o.others) (record w { cr2 = a }) s.memory
+        let k : Chain mode image p (body_edges mode image) r (x.tasks r) on.frame on.switching (b ∷ o.below) (o.last ∷ o.others) (record w { cr2 = a })
+        s.memory
         = step.with_last mode image built good facts left s m h p hp o b kind contexts.1 (body_edges mode image) (record w { cr2 = a }) s.memory.words []
         (none_spares p).allowed (step.unknown_none o.below) (λ i off off'. refl) (y.stood a) in
         chain_stays mode image p (body_edges mode image) r (x.tasks r) on.frame on.switching (b ∷ o.below) (under_now ∷ o.others) (record w { cr2 = a }) s.memory

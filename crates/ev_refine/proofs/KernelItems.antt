@@ -53,6 +53,7 @@ use Rattle.ev_refine.proofs.ItemVisible as visible
 use Rattle.ev_refine.proofs.ItemSteps as steps
 use Rattle.ev_refine.proofs.ItemTask as task
 use Rattle.ev_refine.proofs.KernelStep as step
+use Rattle.ev_refine.proofs.BodyBreak as breaks
 
 -- ---- numbers
 
@@ -277,5 +278,6 @@ module _ (mode : Mode) (image : Image) (built : IsBuilt image) (good : IsImage i
           pick (Log q) today hi = does (steps.by_log mode image built good facts left s m h p hp o body' is ss extra v f a off same q hi)
           pick (GetReg d r) today hi = does (task.by_getreg mode image built good facts left s m h p hp o body' is ss extra v f a off same d r hi)
           pick (SetReg r q) today hi = does (task.by_setreg mode image built good facts left s m h p hp o body' is ss extra v f a off same r q hi)
+          pick Item.Bp today hi = breaks.by_bp mode image built good facts left s m h p hp o body' is ss extra v f a off same hi
           pick Ret today hi = at_ret act ss ss_is extra v f at means place long enough hi
           pick _ today hi = absurd (cc)
