@@ -9,7 +9,7 @@ use Rattle.ev_isa.specs.declared.instruction.Ins.TheVariants.{Jmp}
 use Rattle.ev_isa.specs.declared.mode.Mode.{Mode}
 use Rattle.ev_effect.specs.Task.{Task}
 use Rattle.ev_body.specs.declared.item.Item.{Item}
-use Rattle.ev_body.specs.declared.item.Item.TheVariants.{Set, Copy, Goto, Log, Cpu, Slot, Put, Ret}
+use Rattle.ev_body.specs.declared.item.Item.TheVariants.{Set, Copy, Goto, Log, Cpu, Slot, Put, GetReg, SetReg, Ret}
 use Rattle.ev_body.specs.declared.body.Body.{Body}
 use Rattle.ev_body.specs.declared.image.Image.{Image}
 use Rattle.ev_body.specs.WellFormed.{IsImage}
@@ -51,7 +51,9 @@ use Rattle.ev_refine.proofs.CallKinds.{is_over_task, is_over_body, is_plain_kind
 use Rattle.ev_refine.proofs.ItemState.{item_state, item_comes, item_flags}
 use Rattle.ev_refine.proofs.ItemVisible as visible
 use Rattle.ev_refine.proofs.ItemSteps as steps
+use Rattle.ev_refine.proofs.ItemTask as task
 use Rattle.ev_refine.proofs.KernelStep as step
+use Rattle.ev_refine.proofs.BodyBreak as breaks
 
 -- ---- numbers
 
@@ -274,5 +276,8 @@ module _ (mode : Mode) (image : Image) (built : IsBuilt image) (good : IsImage i
           pick (Slot d k) today hi = does (steps.by_slot mode image built good facts left s m h p hp o body' is ss extra v f a off same d k hi)
           pick (Put k q) today hi = does (steps.by_put mode image built good facts left s m h p hp o body' is ss extra v f a off same k q hi)
           pick (Log q) today hi = does (steps.by_log mode image built good facts left s m h p hp o body' is ss extra v f a off same q hi)
+          pick (GetReg d r) today hi = does (task.by_getreg mode image built good facts left s m h p hp o body' is ss extra v f a off same d r hi)
+          pick (SetReg r q) today hi = does (task.by_setreg mode image built good facts left s m h p hp o body' is ss extra v f a off same r q hi)
+          pick Item.Bp today hi = breaks.by_bp mode image built good facts left s m h p hp o body' is ss extra v f a off same hi
           pick Ret today hi = at_ret act ss ss_is extra v f at means place long enough hi
           pick _ today hi = absurd (cc)

@@ -29,6 +29,7 @@ pub mod KernelStep
 pub mod ItemWords
 pub mod ItemVisible
 pub mod ItemSteps
+pub mod ItemTask
 pub mod KernelItems
 pub mod BodyTables
 pub mod Kernel
@@ -47,6 +48,8 @@ pub mod BodyRaising
 pub mod BodyRaisingFred
 pub mod BodyRaisingIdt
 pub mod KernelSafe
+pub mod BodyTurn
+pub mod BodyBreak
 pub mod CodeFacts
 pub mod Visible
 pub mod Refine
