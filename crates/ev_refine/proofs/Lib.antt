@@ -50,6 +50,7 @@ pub mod BodyRaisingIdt
 pub mod KernelSafe
 pub mod BodyTurn
 pub mod BodyBreak
+pub mod BodyFault
 pub mod CodeFacts
 pub mod Visible
 pub mod Refine
