@@ -60,6 +60,7 @@ use Rattle.ev_refine.proofs.ItemInside as inside
 use Rattle.ev_refine.proofs.ItemCells.{visible_of}
 use Rattle.ev_law.proofs.Ruled.{IsRuled}
 use Rattle.ev_refine.proofs.KernelStep as step
+use Rattle.ev_refine.proofs.BodyBreak as breaks
 
 -- ---- numbers
 
@@ -294,6 +295,7 @@ module _ (mode : Mode) (image : Image) (built : IsBuilt image) (good : IsImage i
           pick (AddCell k d) today hi = number (AddCell k d) (Xadd 0 (pos 0) d) refl hi _ refl
           pick (SwapCell k d) today hi = number (SwapCell k d) (Xchg 0 (pos 0) d) refl hi _ refl
           pick (SetRip n) today hi = number (SetRip n) (Store 4 (pos saved_rip) 0) refl hi n refl
+          pick Item.Bp today hi = breaks.by_bp mode image built good facts left s m h p hp o body' is ss extra v f a off same hi
           pick Ret today hi = at_ret act ss ss_is extra v f at means place long enough hi
           pick _ today hi = absurd (cc)
 

@@ -50,6 +50,9 @@ pub mod BodyRaising
 pub mod BodyRaisingFred
 pub mod BodyRaisingIdt
 pub mod KernelSafe
+pub mod BodyTurn
+pub mod BodyBreak
+pub mod BodyFault
 pub mod CodeFacts
 pub mod Visible
 pub mod Refine
