@@ -1,8 +1,7 @@
 -- What is read is well formed: the image of a document, and the script behind it.
-use Rattle.std.proofs.Common.{◌≡◌, ℕ, ◌+◌, Bool, true, false, List, [], ◌∷◌, ◌++◌, length, map, Option, Some, None, Result, Ok, Err, refl, sym, ap, ◌∙◌, subst}
+use Rattle.std.proofs.Common.{◌≡◌, ℕ, ◌+◌, Bool, true, false, List, [], ◌∷◌, ◌++◌, length, map, Option, Some, None, Result, Ok, Err, refl, ap, ◌∙◌, subst}
 use Rattle.std.specs.Prelude.{nat_le, ◌==◌, ◌||◌}
 use Rattle.std.specs.List.{list_any}
-use Rattle.std.proofs.lemmas.Bool.{lt-ltb}
 use Rattle.ev_body.specs.declared.body.Body.{Body}
 use Rattle.ev_body.specs.Bodies.{key_number}
 use Rattle.ev_body.specs.KernelImage.{KernelImage}
@@ -10,7 +9,6 @@ use Rattle.ev_body.specs.WellFormed.{IsImage}
 use Rattle.ev_abstract.specs.Script.{IsScript, is_line}
 use Rattle.ev_abstract.specs.declared.script_line.Line.{Line}
 use Rattle.ev_image.specs.declared.head.Head.{Head}
-use Rattle.ev_image.specs.declared.head.Head.TheVariants as Head
 use Rattle.ev_image.specs.Head.{head_follows}
 use Rattle.ev_image.specs.Reads.{Opened, opened, image_in, Reached}
 use Rattle.ev_image.proofs.HeadKept.{image_kept}
@@ -21,7 +19,7 @@ use Rattle.ev_io.specs.InputLines.{ByteFault, line_fault, text_of}
 use Rattle.ev_io.specs.Tokens.{Token, tokens_of, is_passed_over}
 use Rattle.ev_line.specs.Operands.{among}
 use Rattle.ev_script.specs.declared.line.Word.{Word}
-use Rattle.ev_script.specs.Script.{Ended, Open, Standing, ends, follows, one_more, read_script, said, said_by, stands, then_stands, whole}
+use Rattle.ev_script.specs.Script.{Ended, Open, Standing, ends, follows, one_more, read_script, said, said_by, then_stands, whole}
 use Rattle.ev_script.specs.ScriptLine.{forms_of_word, keys_with_bodies, line_of_tokens, script_forms, word_of}
 use Rattle.ev_script.proofs.LineLaws.{arrive_formed, edge_formed, processor_formed}
 use Rattle.ev_script.proofs.ScriptLaws.{more_formed}
