@@ -6,7 +6,7 @@ use Rattle.ev_isa.specs.declared.mode.Mode.TheVariants.{Idt, Fred}
 use Rattle.ev_body.specs.declared.key.Key.{Key}
 use Rattle.ev_body.specs.declared.key.Key.TheVariants.{Nmi, Irq}
 use Rattle.ev_body.specs.declared.item.Item.{Item}
-use Rattle.ev_body.specs.declared.item.Item.TheVariants.{Set, Copy, Alu, Jcc, Goto, Nop, Log, Cpu, Slot, Put, GetReg, SetReg, Ret}
+use Rattle.ev_body.specs.declared.item.Item.TheVariants.{Set, Copy, Alu, Jcc, Goto, Nop, Log, Cpu, Slot, Put, Cell, SetCell, AddCell, SwapCell, GetReg, SetReg, SetRip, Ret}
 use Rattle.ev_body.specs.declared.body.Body.{Body}
 use Rattle.ev_body.specs.declared.image.TaskSpec.{TaskSpec}
 use Rattle.ev_body.specs.declared.image.Image.{Image}
@@ -27,8 +27,13 @@ is_built_item (Log s) = true
 is_built_item (Cpu d) = true
 is_built_item (Slot d k) = true
 is_built_item (Put k s) = true
+is_built_item (Cell d k) = true
+is_built_item (SetCell k s) = true
+is_built_item (AddCell k d) = true
+is_built_item (SwapCell k d) = true
 is_built_item (GetReg d r) = true
 is_built_item (SetReg r s) = true
+is_built_item (SetRip a) = true
 is_built_item Item.Bp = true
 is_built_item Ret = true
 is_built_item _ = false

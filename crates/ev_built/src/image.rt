@@ -35,8 +35,13 @@ fn is_built_item(item: &Item) -> bool
             | Item::Cpu(_)
             | Item::Slot(..)
             | Item::Put(..)
+            | Item::Cell(..)
+            | Item::SetCell(..)
+            | Item::AddCell(..)
+            | Item::SwapCell(..)
             | Item::GetReg(..)
             | Item::SetReg(..)
+            | Item::SetRip(_)
             | Item::Bp
             | Item::Ret
     )

@@ -437,8 +437,8 @@ module _ (mode : Mode) (image : Image) (built : IsBuilt image) (good : IsImage i
         s.memory
         = step.with_last mode image built good facts left s m h p hp o b kind contexts.1 (body_edges mode image) (record w { cr2 = a }) s.memory.words []
         (none_spares p).allowed (step.unknown_none o.below) (λ i off off'. refl) (y.stood a) in
-        chain_stays mode image p (body_edges mode image) r (x.tasks r) on.frame on.switching (b ∷ o.below) (under_now ∷ o.others) (record w { cr2 = a }) s.memory
-        words' hp good.count.1 spared (k.0, k.1, k.2, k.3, k.4, k.5, k.6)
+        chain_stays mode image p (body_edges mode image) r (x.tasks r) on.frame on.switching (b ∷ o.below) (under_now ∷ o.others) (record w { cr2 = a })
+        s.memory words' hp good.count.1 spared (k.0, k.1, k.2, k.3, k.4, k.5, k.6)
 
     chain : Chain mode image p (body_edges mode image) r (x.tasks r) on.frame on.switching now_bodies (last_now ∷ under_now ∷ o.others) d mem
     chain =

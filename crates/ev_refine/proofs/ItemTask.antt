@@ -1,24 +1,26 @@
 -- Items that reach the task: a register of its saved area is read or written, or the address where it goes on. Its activation's own block knows these words,
 -- and what they give back is the task behind the item.
-use Rattle.std.proofs.Common.{◌≡◌, ⊎_elim, ℕ, suc, ◌+◌, ◌-◌, ◌^◌, ◌<◌, ◌≤◌, Bool, true, false, not, List, [], ◌∷◌, set, get_or, Some, None, refl, sym, ap, ◌∙◌, subst, arith}
-use Rattle.std.specs.Prelude.{pos, slice_get, nat_lt, if◌then◌else◌}
-use Rattle.std.proofs.lemmas.Bool.{ltb-true, not-false, or_parts}
+use Rattle.std.proofs.Common.{◌≡◌, ⊎_elim, ℕ, suc, ◌+◌, ◌-◌, ◌^◌, ◌<◌, ◌≤◌, Bool, true, false, not, List, [], ◌∷◌, set, get_or, length, Some, None, refl, sym, ap, ◌∙◌, subst, arith}
+use Rattle.std.specs.Prelude.{pos, nat_le, slice_get, nat_lt, if◌then◌else◌}
+use Rattle.std.proofs.lemmas.Bool.{ltb-true, leb-true, not-false, or_parts}
 use Rattle.std.proofs.lemmas.Bool.Decides.{eqb_tells}
 use Rattle.std.proofs.lemmas.List.{length-set}
 use Rattle.ev_isa.specs.Word.{NatMap, put_at}
 use Rattle.ev_isa.specs.Flags.{Flags}
+use Rattle.ev_isa.specs.Spelling.{spelling, four_bytes}
 use Rattle.ev_isa.specs.declared.instruction.Ins.{Ins}
 use Rattle.ev_isa.specs.declared.instruction.Ins.TheVariants.{Load, Store}
 use Rattle.ev_isa.specs.declared.mode.Mode.{Mode}
 use Rattle.ev_isa.specs.declared.mode.Mode.TheVariants.{Idt, Fred}
 use Rattle.ev_effect.specs.Task.{Task, reg, with_reg}
 use Rattle.ev_body.specs.declared.item.Item.{Item}
-use Rattle.ev_body.specs.declared.item.Item.TheVariants.{GetReg, SetReg}
+use Rattle.ev_body.specs.declared.item.Item.TheVariants.{GetReg, SetReg, SetRip}
 use Rattle.ev_body.specs.declared.body.Body.{Body}
 use Rattle.ev_body.specs.declared.image.Image.{Image}
 use Rattle.ev_body.specs.declared.key.Side.TheVariants.{Kernel}
 use Rattle.ev_body.specs.Bodies.{covers}
 use Rattle.ev_body.specs.WellFormed.{IsImage, is_local, has_operands}
+use Rattle.ev_listing.specs.AddressMap.{saved_rip}
 use Rattle.ev_listing.specs.Expansion.{saved_offset, item_address}
 use Rattle.ev_state.specs.Processor.{Processor, register}
 use Rattle.ev_mem.specs.Memory.{Memory}
@@ -49,6 +51,7 @@ use Rattle.ev_blocks.specs.Blocks.{block}
 use Rattle.ev_activation.specs.Seat.{Kind, SystemCall, FromTask, FromBody, NmiFromTask, NmiFromBody, Seat, kind_of, seat_by, seat_of, room_of}
 use Rattle.ev_user.specs.Tasks.{IsTask, RunsTask, task_processor}
 use Rattle.ev_user.proofs.Words.{set_words}
+use Rattle.ev_user.proofs.Follows.{low_canonical}
 use Rattle.ev_refine.specs.Named.{Changes}
 use Rattle.ev_refine.specs.Active.{here, level_in, rest_in, Saved, SavedOf, Active}
 use Rattle.ev_refine.specs.Relation.{IsContext, Beneath, keeps_cr2, switches_at, chained, body_edges, Chain, StandsOn, Stands}
@@ -61,7 +64,7 @@ use Rattle.ev_refine.proofs.Maps.{at_same, at_other}
 use Rattle.ev_refine.proofs.Fits.{kernel_changes}
 use Rattle.ev_refine.proofs.Bodies.{layout_of, body, at_the_item, saved_again}
 use Rattle.ev_refine.proofs.CallKinds.{is_over_task, is_plain_kind, origin_of, saved_task, over_kind, level_of}
-use Rattle.ev_refine.proofs.ItemSaved.{variable_of, saved_at, IsSavedWord, saved_register, register_range, saved_registers, each_below, with_variable, the_variable, another_variable, saved_is, saved_address, saved_with_register, known_anew}
+use Rattle.ev_refine.proofs.ItemSaved.{variable_of, rip_variable, saved_place, saved_with_rip, saved_at, IsSavedWord, saved_register, register_range, saved_registers, each_below, with_variable, the_variable, another_variable, saved_is, saved_address, saved_with_register, known_anew}
 use Rattle.ev_refine.proofs.ItemCells.{bytes_of, before, visible_of, ItemCells}
 use Rattle.ev_refine.proofs.ItemCode.{cells_of}
 use Rattle.ev_refine.proofs.ItemState.{with_registers, opening_of, known_of, beyond_registers}
@@ -404,4 +407,30 @@ module _ (mode : Mode) (image : Image) (built : IsBuilt image) (good : IsImage i
       (put_at s.memory.words (addr env (saved_at mode (saved_offset r))) n)) value
       ((singles c s.memory next).stores 4 (pos (saved_offset r)) q (addr env (saved_at mode (saved_offset r))) i
       (saved_address mode env (register c 4) (saved_offset r) word.small (stack over)) (opened over (saved_offset r) (variable_of r) word)))
+      refl refl
+
+  pub by_setrip : a.offset ≡ 10 → a.flags ≡ f → (n : ℕ) → register c 0 ≡ n → item_at (Some body') b.place ≡ Some (SetRip n) → Does
+  unfolding item_step has_operands visible_of before is_return shown_always breaks_registers spelling four_bytes
+  by_setrip off same n rax hi =
+      let over : is_over_task o.κ ≡ true = reaches (not-false _ (ruled.registers b.place (SetRip n) hi)) in
+      let word = saved_place mode in
+      let upper : n ≤ 0x400000 + length image.text = leb-true n _ (and_right (nat_le 0x400000 n) _ (ruled.operands b.place (SetRip n) hi).2) in
+      let fits = good.text_fits in
+      let t : Task = record (task x) { rip = n } in
+      let w : Processor = record o.w { rip = n } in
+      let ran : RunsTask mode image p on.returning t w = record {
+        is = ap (λ (y : Processor). record y { rip = n }) (one over).task.is
+            ∙ ap (λ (k : Task). task_processor mode image p on.returning (record k { rip = n }) o.w.cr2 o.w.nmi_blocked) (task_is over);
+        task = record { long = running.long; canonical = low_canonical n (omega arith); interrupts = running.interrupts; words = running.words };
+      } in
+      let next : ℕ = steps.at mode image built good facts left s m h p hp o body' is ss extra v f a (suc b.place) in
+      let ins : Ins = Store 4 (pos saved_rip) 0 in
+      writes over saved_rip rip_variable n word (omega arith) (omega arith)
+      w t (saved_with_rip mode image v o.w n (saved over)) ran (same_rest over w refl refl)
+      (step.fred_is mode image built good facts left s m h p hp o)
+      (SetRip n) hi ins refl off (omega arith) same refl
+      (λ i. subst (λ n. Leads c s.memory ins (onward c c.regs next)
+      (put_at s.memory.words (addr env (saved_at mode saved_rip)) n)) rax
+      ((singles c s.memory next).stores 4 (pos saved_rip) 0 (addr env (saved_at mode saved_rip)) i
+      (saved_address mode env (register c 4) saved_rip word.small (stack over)) (opened over saved_rip rip_variable word)))
       refl refl

@@ -28,8 +28,10 @@ pub mod Instructions
 pub mod KernelStep
 pub mod ItemWords
 pub mod ItemVisible
+pub mod ItemInside
 pub mod ItemSteps
 pub mod ItemTask
+pub mod ItemNumbers
 pub mod KernelItems
 pub mod BodyTables
 pub mod Kernel
@@ -50,6 +52,7 @@ pub mod BodyRaisingIdt
 pub mod KernelSafe
 pub mod BodyTurn
 pub mod BodyBreak
+pub mod BodyFault
 pub mod CodeFacts
 pub mod Visible
 pub mod Refine
