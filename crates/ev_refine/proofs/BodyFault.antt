@@ -1,7 +1,6 @@
 -- A turn of an item that meets a page fault at a user word: the body of page faults begins on it, and the item's access runs again behind it.
-use Rattle.std.proofs.Common.{◌≡◌, ℕ, ◌+◌, ◌<◌, Bool, true, List, ◌∷◌, length, Option, Some, None, refl, ap, ◌∙◌}
-use Rattle.std.specs.Prelude.{◌==◌, slice_get, is_some}
-use Rattle.std.specs.List.{list_any}
+use Rattle.std.proofs.Common.{◌≡◌, ℕ, ◌<◌, Bool, true, length, Option, Some, None, refl, ap}
+use Rattle.std.specs.Prelude.{slice_get, is_some}
 use Rattle.ev_isa.specs.Word.{NatMap, is_canonical}
 use Rattle.ev_isa.specs.Flags.{Flags}
 use Rattle.ev_isa.specs.declared.mode.Mode.{Mode}
@@ -15,7 +14,6 @@ use Rattle.ev_state.specs.Processor.{Processor}
 use Rattle.ev_apic.specs.declared.apic.Apic.{Apic}
 use Rattle.ev_proc.specs.ProcessorStep.{executed, delivering}
 use Rattle.ev_abstract.specs.Chain.{has_item, is_user_access}
-use Rattle.ev_abstract.specs.Context.{BodyContext}
 use Rattle.ev_abstract.specs.ItemMeaning.{raised}
 use Rattle.ev_abstract.specs.Machine.{Machine, processor}
 use Rattle.ev_abstract.specs.Machine as abstract
