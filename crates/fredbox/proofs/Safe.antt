@@ -1,5 +1,5 @@
 -- The frames of a document's runs are safe.
-use Rattle.std.proofs.Common.{◌≡◌, sym, subst}
+use Rattle.std.proofs.Common.{subst}
 use Rattle.ev_body.specs.WellFormed.{IsImage}
 use Rattle.ev_built.proofs.Taken.{taken_are_built}
 use Rattle.ev_pair.proofs.Safe.{run_is_safe}

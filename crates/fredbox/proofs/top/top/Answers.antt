@@ -1,4 +1,4 @@
-use Rattle.std.proofs.Common.{sym, subst}
+use Rattle.std.proofs.Common.{subst}
 use Rattle.ev_command.specs.declared.command.Command.{Command}
 use Rattle.fredbox.specs.Answer.{comes_of}
 use Rattle.fredbox.proofs.AnswerLaws.{answered, same_command}
