@@ -39,6 +39,8 @@ fn is_built_item(item: &Item) -> bool
             | Item::SetCell(..)
             | Item::AddCell(..)
             | Item::SwapCell(..)
+            | Item::Uget(..)
+            | Item::Uput(..)
             | Item::GetReg(..)
             | Item::SetReg(..)
             | Item::SetRip(_)

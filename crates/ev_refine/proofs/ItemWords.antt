@@ -1,5 +1,5 @@
 -- The word with a name that a visible item writes, if any: what its step changes, what stays known, and what it makes of the abstract machine.
-use Rattle.std.proofs.Common.{◌≡◌, ◌≢◌, inl, inr, ⊎_elim, ℕ, ◌+◌, ◌*◌, ◌<◌, true, false, not, ◌&&◌, List, [], ◌∷◌, Some, refl, sym, ap, ◌∙◌, subst, arith}
+use Rattle.std.proofs.Common.{◌≡◌, ◌≢◌, inl, inr, ⊎_elim, ℕ, ◌+◌, ◌*◌, ◌^◌, ◌<◌, true, false, not, ◌&&◌, List, [], ◌∷◌, Some, refl, sym, ap, ◌∙◌, subst, arith}
 use Rattle.std.proofs.lemmas.Bool.Decides.{eqb_tells}
 use Rattle.ev_isa.specs.Word.{NatMap, put_at}
 use Rattle.ev_isa.specs.Flags.{Flags}
@@ -22,6 +22,8 @@ use Rattle.ev_distances.specs.Form.{OnStack}
 use Rattle.ev_blocks.specs.Shapes.{body_bytes}
 use Rattle.ev_blocks.specs.Items.{AtItem}
 use Rattle.ev_refine.specs.Named.{Named, UserRsp, Top, Current, Mark, Port, Head, TssTop, Slot, RecordWord, CellAt, PageBit, UserWord, address_of, owner, IsName, IsWritten, is_kernel_word, is_private, is_slot, is_cell, is_page_bit, is_user_word, have_none, Outside, UnknownTo, Changes}
+use Rattle.ev_user.specs.Sees.{IsPageWord, IsUserWord}
+use Rattle.ev_user.proofs.Words.{put_words}
 use Rattle.ev_refine.specs.Active.{here}
 use Rattle.ev_refine.specs.Relation.{StandsOn, Stands}
 use Rattle.ev_refine.proofs.Facts.{Facts}
@@ -171,6 +173,26 @@ module _ (mode : Mode) (image : Image) (built : IsBuilt image) (good : IsImage i
         held = h.shares.held;
         pages = step.same_pages mode image built good facts left s m h p hp o (z ∷ []) allowed _ changes refl;
         cells = λ i b. put_through (λ i. cells_base + 8 * i) s.memory.words m.cells k v i (λ e. omega arith) (h.shares.cells i b);
+      }
+
+  pub user_free : (a : ℕ) → IsUserWord a → IsPageWord a → IsFree p (UserWord a)
+  user_free a u w = record { name = u; written = w; own = λ q d f. absurd (cc); kernel = refl; private = refl }
+
+  pub makes_user : (a v : ℕ) → IsUserWord a → IsPageWord a → v < 2 ^ 64
+      → Makes (record m { words = put_at m.words a v }) (put_at s.memory.words (address_of (UserWord a)) v) x.tasks x.slots x.bodies
+  makes_user a v u w l =
+      let z : Named = UserWord a in
+      let allowed = are_names p z (user_free a u w) in
+      let changes = writes_name z v in record {
+        own = refl;
+        others = λ q e. refl;
+        same_tasks = λ i d. refl;
+        good_tasks = on.tasks;
+        slots_are = step.same_slots mode image built good facts left s m h p hp o (z ∷ []) allowed _ changes refl;
+        user = λ i b. put_through (λ i. i) s.memory.words m.words a v i (λ e. e) (h.shares.user i b);
+        held = put_words m.words a v h.shares.held l;
+        pages = step.same_pages mode image built good facts left s m h p hp o (z ∷ []) allowed _ changes refl;
+        cells = step.same_cells mode image built good facts left s m h p hp o (z ∷ []) allowed _ changes refl;
       }
 
   -- with another last context

@@ -29,9 +29,11 @@ pub mod KernelStep
 pub mod ItemWords
 pub mod ItemVisible
 pub mod ItemInside
+pub mod ItemAddress
 pub mod ItemSteps
 pub mod ItemTask
 pub mod ItemNumbers
+pub mod ItemUser
 pub mod KernelItems
 pub mod BodyTables
 pub mod Kernel
