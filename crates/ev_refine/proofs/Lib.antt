@@ -48,5 +48,6 @@ pub mod BodyRaisingFred
 pub mod BodyRaisingIdt
 pub mod KernelSafe
 pub mod CodeFacts
+pub mod Saved
 pub mod Visible
 pub mod Refine
