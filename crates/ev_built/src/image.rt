@@ -33,6 +33,8 @@ fn is_built_item(item: &Item) -> bool
             | Item::GetReg(..)
             | Item::SetReg(..)
             | Item::SetRip(_)
+            | Item::Map(_)
+            | Item::Unmap(_)
             | Item::Bp
             | Item::Ret
     )

@@ -152,7 +152,7 @@ address_before (Uput q t) r h = ap (λ x. MovReg 0 x ∷ mask_code) (unsome _ _ 
 address_before _ r h = absurd (cc)
 
 -- a move is no return
-move_stays : (r : ℕ) → is_return (Some (MovReg 0 r)) ≡ false
+pub move_stays : (r : ℕ) → is_return (Some (MovReg 0 r)) ≡ false
 unfolding is_return
 move_stays r = refl
 

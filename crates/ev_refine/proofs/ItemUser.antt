@@ -134,7 +134,7 @@ module _ (mode : Mode) (image : Image) (built : IsBuilt image) (good : IsImage i
   }
 
   -- locals are words
-  local_small : (r : ℕ) → local b r < 2 ^ 64
+  pub local_small : (r : ℕ) → local b r < 2 ^ 64
   local_small r = (subst AreOfWords o.bodies (h.numbers.each p).bodies).0.locals (r - 6)
 
   -- RAX is the address that local q has

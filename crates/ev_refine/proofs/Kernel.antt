@@ -39,7 +39,7 @@ use Rattle.ev_blocks.specs.Fred.{FromUser, FromKernel, FredToKernel, FredToTask,
 use Rattle.ev_blocks.specs.Fred as fred
 use Rattle.ev_blocks.specs.Idt.{Stub, Sys, Common, IdtToKernel, IdtToTask, idt_block, is_page_fault, table_of, stub_values, common_values, sys_values}
 use Rattle.ev_blocks.specs.Idt as idt
-use Rattle.ev_blocks.specs.Items.{BodySpot, AtTable, AtJump, AtItem, AtNumber, AtUserWord}
+use Rattle.ev_blocks.specs.Items.{BodySpot, AtTable, AtJump, AtItem, AtNumber, AtUserWord, AtPageWord, page_steps}
 use Rattle.ev_blocks.specs.Blocks.{Spot, InFred, InIdt, InBody, block, edges}
 use Rattle.ev_blocks.proofs.Falls.{edges_fall}
 use Rattle.ev_grounds.specs.Facts.{FactLaws}
@@ -73,6 +73,7 @@ use Rattle.ev_refine.proofs.Depth.{body_at, ends_a_body}
 use Rattle.ev_refine.proofs.Items.{which}
 use Rattle.ev_refine.proofs.ItemInside.{number_steps}
 use Rattle.ev_refine.proofs.ItemAddress.{address_steps}
+use Rattle.ev_refine.proofs.ItemPage.{page_block_steps}
 use Rattle.ev_refine.proofs.KernelStep as step
 use Rattle.ev_refine.proofs.KernelItems as items
 
@@ -384,6 +385,10 @@ module _ (mode : Mode) (image : Image) (built : IsBuilt image) (good : IsImage i
           (subst (λ i. At code (block mode (body mode AtUserWord)) i (env ss extra v f) c s.memory) (n ∙ address_steps mode) at) means.0 means.1 means.2 long
           (subst (λ i. edges mode (body mode AtUserWord) i ≤ on.own) (n ∙ address_steps mode) enough)
           (step.still mode image built good facts left s m h p hp o act) ctx.item hi
+      at_body act (AtPageWord is_page) k ss ss_is extra v f n at means long enough hi =
+          items.by_page mode image built good facts left s m h p hp o body' is act ss ss_is extra v f is_page
+          (subst (λ i. At code (block mode (body mode (AtPageWord is_page))) i (env ss extra v f) c s.memory) (n ∙ page_block_steps mode is_page) at)
+          means.0 means.1 means.2 long ctx.item hi
       at_body act _ k ss ss_is extra v f n at means long enough hi = absurd means
 
       -- which of them, by what was interrupted and the mode

@@ -6,11 +6,11 @@ use Rattle.ev_isa.specs.Word.{NatMap, is_canonical}
 use Rattle.ev_isa.specs.Flags.{Flags}
 use Rattle.ev_isa.specs.Spelling.{spelling}
 use Rattle.ev_isa.specs.declared.instruction.Ins.{Ins}
-use Rattle.ev_isa.specs.declared.instruction.Ins.TheVariants.{Load, Store, Xchg, Xadd, Jmp}
+use Rattle.ev_isa.specs.declared.instruction.Ins.TheVariants.{Load, Store, StoreImm, Xchg, Xadd, Jmp}
 use Rattle.ev_isa.specs.declared.mode.Mode.{Mode}
 use Rattle.ev_effect.specs.Task.{Task}
 use Rattle.ev_body.specs.declared.item.Item.{Item}
-use Rattle.ev_body.specs.declared.item.Item.TheVariants.{Set, Copy, Goto, Log, Cpu, Slot, Put, SetCell, AddCell, SwapCell, Uget, Uput, GetReg, SetReg, SetRip, Ret}
+use Rattle.ev_body.specs.declared.item.Item.TheVariants.{Set, Copy, Goto, Log, Cpu, Slot, Put, SetCell, AddCell, SwapCell, Uget, Uput, GetReg, SetReg, SetRip, Map, Unmap, Ret}
 use Rattle.ev_body.specs.declared.body.Body.{Body}
 use Rattle.ev_body.specs.declared.image.Image.{Image}
 use Rattle.ev_body.specs.WellFormed.{IsImage, is_local, has_operands}
@@ -37,14 +37,14 @@ use Rattle.ev_symbolic.specs.Machine.{Fetches}
 use Rattle.ev_symbolic.specs.Single.{IsAt, onward}
 use Rattle.ev_symbolic.proofs.Single.{singles}
 use Rattle.ev_symbolic.proofs.Blocks.{unsome, begins, at_end}
-use Rattle.ev_blocks.specs.Items.{AtItem, AtNumber, AtUserWord}
+use Rattle.ev_blocks.specs.Items.{AtItem, AtNumber, AtUserWord, AtPageWord, page_steps}
 use Rattle.ev_blocks.specs.Blocks.{Spot, InFred, InIdt, InBody, block, edges}
 use Rattle.ev_blocks.specs.Blocks as blocks
 use Rattle.ev_user.specs.Words.{AreWords}
 use Rattle.ev_activation.specs.Seat.{Kind, SystemCall, FromTask, FromBody, NmiFromTask, NmiFromBody, Seat}
 use Rattle.ev_table.specs.Table.{code_table, other_exit, RetCell}
 use Rattle.ev_refine.specs.Domain.{IsInDomain}
-use Rattle.ev_refine.specs.Active.{item_place, number_of, address_local, AddressInRax, here, IsKernelSs, Saved, SavedOf, InItem, Active}
+use Rattle.ev_refine.specs.Active.{item_place, number_of, address_local, page_local, LocalInRax, here, IsKernelSs, Saved, SavedOf, InItem, Active}
 use Rattle.ev_refine.specs.Relation.{IsContext, switches_at, StandsOn, Stands}
 use Rattle.ev_refine.specs.Claims.{Simulated}
 use Rattle.ev_refine.proofs.Facts.{Facts, word_of_flags, word_of_canonical}
@@ -61,6 +61,8 @@ use Rattle.ev_refine.proofs.ItemNumbers as numbers
 use Rattle.ev_refine.proofs.ItemInside as inside
 use Rattle.ev_refine.proofs.ItemAddress as addresses
 use Rattle.ev_refine.proofs.ItemUser as user
+use Rattle.ev_refine.proofs.ItemPage as pages
+use Rattle.ev_refine.proofs.ItemPages as page_items
 use Rattle.ev_refine.proofs.ItemCells.{visible_of}
 use Rattle.ev_law.proofs.Ruled.{IsRuled}
 use Rattle.ev_refine.proofs.KernelStep as step
@@ -261,7 +263,7 @@ module _ (mode : Mode) (image : Image) (built : IsBuilt image) (good : IsImage i
           → At code (block mode (body mode AtItem)) 0 (env ss extra v f) c s.memory → InItem mode image (origin_of κ) (env ss extra v f) w b
           → extra 20 ≡ item_place mode image b.body b.place → length c.regs ≡ 16 → edges mode (body mode AtItem) 0 ≤ on.own
           → (i : Item) → is_built_item i ≡ true → item_at (Some body') b.place ≡ Some i → Result
-      unfolding is_built_item at_visible visible_of number_of address_local has_operands
+      unfolding is_built_item at_visible visible_of number_of address_local page_local has_operands
       by_item act ss ss_is extra v f at means place long enough i today hi = pick i today hi
         where
           a : visible.AtVisible mode image built good facts left s m h p hp o body' is ss extra v f
@@ -294,6 +296,16 @@ module _ (mode : Mode) (image : Image) (built : IsBuilt image) (good : IsImage i
               i ins seen hi r q (steps.is_the_local mode image built good facts left s m h p hp o body' is ss extra v f a r ok)
               (kept c.flags a.flags a.state.flags) (at_item ss extra v f g place)
 
+          -- and that of a local to RAX, of which the page is told
+          page : (i : Item) (ins : Ins) → visible_of i ≡ Some ins → item_at (Some body') b.place ≡ Some i → (r : ℕ) → page_local (Some i) ≡ Some r
+              → is_local r ≡ true → Result
+          page i ins seen hi r q ok =
+              let g : Agrees (env ss extra v f) (block mode (body mode AtItem)).ground (block mode (body mode AtItem)).opening c s.memory
+              = at_end code (block mode (body mode AtItem)) 0 _ refl (env ss extra v f) c s.memory at in
+              pages.to_page mode image built good facts left s m h p hp o body' is act ss ss_is extra v f at means place long enough a.kernel
+              i ins seen hi r q (steps.is_the_local mode image built good facts left s m h p hp o body' is ss extra v f a r ok)
+              (kept c.flags a.flags a.state.flags) (at_item ss extra v f g place)
+
           pick : (i : Item) → is_built_item i ≡ true → item_at (Some body') b.place ≡ Some i → Result
           pick (Set d n) today hi = does (steps.by_set mode image built good facts left s m h p hp o body' is ss extra v f a off same d n hi)
           pick (Copy d q) today hi = does (steps.by_copy mode image built good facts left s m h p hp o body' is ss extra v f a off same d q hi)
@@ -314,6 +326,8 @@ module _ (mode : Mode) (image : Image) (built : IsBuilt image) (good : IsImage i
           pick (SetRip n) today hi = number (SetRip n) (Store 4 (pos saved_rip) 0) refl hi n refl
           pick (Uget d q) today hi = address (Uget d q) (Load d 0 (pos 0)) refl hi q refl (and_right (is_local d) _ (ruled.operands b.place (Uget d q) hi).2)
           pick (Uput q r) today hi = address (Uput q r) (Store 0 (pos 0) r) refl hi q refl (and_left (is_local q) _ (ruled.operands b.place (Uput q r) hi).2)
+          pick (Map q) today hi = page (Map q) (StoreImm 0 (pos 0) (pos 1)) refl hi q refl (ruled.operands b.place (Map q) hi).2
+          pick (Unmap q) today hi = page (Unmap q) (StoreImm 0 (pos 0) (pos 0)) refl hi q refl (ruled.operands b.place (Unmap q) hi).2
           pick Item.Bp today hi = breaks.by_bp mode image built good facts left s m h p hp o body' is ss extra v f a off same hi
           pick Ret today hi = at_ret act ss ss_is extra v f at means place long enough hi
           pick _ today hi = absurd (cc)
@@ -357,10 +371,35 @@ module _ (mode : Mode) (image : Image) (built : IsBuilt image) (good : IsImage i
               (rax ∙ sym (unsome _ _ q)) hi)
           pick _ q hi = absurd (cc)
 
+      -- behind the block that comes to the address of the page's word
+      pub by_page : (act : Stood on.own b c s.memory) (ss : ℕ) → IsKernelSs mode ss → (extra v : ℕ → ℕ) (f : Flags) (is_page : Bool)
+          → At code (block mode (body mode (AtPageWord is_page))) (page_steps is_page) (env ss extra v f) c s.memory
+          → InItem mode image (origin_of κ) (env ss extra v f) w b → extra 20 ≡ item_place mode image b.body b.place
+          → LocalInRax mode image page_local (env ss extra v f) b → length c.regs ≡ 16 → (i : Item) → item_at (Some body') b.place ≡ Some i → Result
+      unfolding page_local
+      by_page act ss ss_is extra v f is_page at means place page long i hi =
+          pick i (ap page_local (sym hi) ∙ ap (λ o. page_local (item_at o b.place)) (sym is) ∙ page.is) hi
+        where
+          z : pages.AtThePage mode image built good facts left s m h p hp o body' is ss extra v f is_page
+          z = pages.at_page mode image built good facts left s m h p hp o body' is act ss ss_is extra v f is_page at means place long
+
+          does : visible.Does mode image built good facts left s m h p hp o body' is ss extra v f z.visible → Result
+          does d = visible.visible mode image built good facts left s m h p hp o body' is ss extra v f z.visible d
+
+          asked : (r : ℕ) → Some r ≡ Some page.register → v 0 ≡ local b r
+          asked r q = page.rax ∙ ap (local b) (sym (unsome _ _ q))
+
+          pick : (i : Item) → page_local (Some i) ≡ Some page.register → item_at (Some body') b.place ≡ Some i → Result
+          pick (Map r) q hi = does (page_items.by_map mode image built good facts left s m h p hp o body' is ss extra v f z.visible z.offset is_page
+              r (asked r q) z.told z.rax hi)
+          pick (Unmap r) q hi = does (page_items.by_unmap mode image built good facts left s m h p hp o body' is ss extra v f z.visible z.offset is_page
+              r (asked r q) z.told z.rax hi)
+          pick _ q hi = absurd (cc)
+
       -- behind the block that cuts the address in RAX
       pub by_address : (ss : ℕ) → IsKernelSs mode ss → (extra v : ℕ → ℕ) (f : Flags)
           → At code (block mode (body mode AtUserWord)) 2 (env ss extra v f) c s.memory → InItem mode image (origin_of κ) (env ss extra v f) w b
-          → extra 20 ≡ item_place mode image b.body b.place → AddressInRax mode image (env ss extra v f) b → length c.regs ≡ 16
+          → extra 20 ≡ item_place mode image b.body b.place → LocalInRax mode image address_local (env ss extra v f) b → length c.regs ≡ 16
           → edges mode (body mode AtUserWord) 2 ≤ on.own → switches_at mode image on.switching below ≡ false
           → (i : Item) → item_at (Some body') b.place ≡ Some i → Result
       unfolding address_local

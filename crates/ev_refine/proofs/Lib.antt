@@ -34,6 +34,8 @@ pub mod ItemSteps
 pub mod ItemTask
 pub mod ItemNumbers
 pub mod ItemUser
+pub mod ItemPage
+pub mod ItemPages
 pub mod KernelItems
 pub mod BodyTables
 pub mod Kernel
