@@ -195,6 +195,7 @@ module _ (mode : Mode) (image : Image) where
       flags = act.stands.flags;
       ss = act.stands.ss;
       ss_is = act.stands.ss_is;
+      masked = act.stands.masked;
       within = act.stands.within;
       enough = few_edges mode image act.stands.spot (means_over mode image κ act.stands.spot _ w b m.words act.means) act.stands.k;
       at = at_any_cr2 (block mode act.stands.spot) act.stands.k _ c m a none act.stands.within act.stands.at;
@@ -404,7 +405,7 @@ module _ (mode : Mode) (image : Image) (built : IsBuilt image) (good : IsImage i
     under_now = record (o.last) { rsp = rsp c; rip = c.rip }
 
     acts_are : as' ≡ last_now ∷ under_now ∷ o.others
-    acts_are = (λ i. record { rsp = 0; rip = 0; inner = ap (starts_inner s p) (step.first mode image built good facts left s m h p hp) i }
+    acts_are = (λ i. record { rsp = 0; rip = 0; inner = ap (starts_inner s p) (step.first mode image built good facts left s m h p hp o) i }
         ∷ ap (interrupted c) o.acts i)
 
     above : AllAbove (top_at p (seat_under mode r (suc n))) (interrupted c (s.activations p))
@@ -514,7 +515,7 @@ module _ (mode : Mode) (image : Image) (built : IsBuilt image) (good : IsImage i
     pub raise_turns : TurnsTo mode image left s m p
     raise_turns =
         let hu : is_user c ≡ false = at.kernel in
-        let first = step.first mode image built good facts left s m h p hp in
+        let first = step.first mode image built good facts left s m h p hp o in
         let depth : bodies_on s p ≡ suc n = stands_depth mode image facts p (left p) s x on ∙ ap length o.bodies in
         let room = frame_room mode p r n small narrow deep in
         let size = size_small w e in

@@ -386,6 +386,7 @@ module _ (image : Image) (built : IsBuilt image) (p n : â„•) (t : Task) (cr2 : â
         flags = no_flags;
         ss = 0x18;
         ss_is = refl;
+        masked = refl;
         within = omega arith;
         enough = few_edges (way_of e);
         at = begun.at;

@@ -1,5 +1,6 @@
 -- The delivery through the IDT of what a task raises but for system calls: the frame that it writes, and the activation that it begins.
 use Rattle.std.proofs.Common.{◌≡◌, ◌≢◌, ℕ, ◌+◌, ◌-◌, ◌*◌, ◌%◌, ◌^◌, ◌<◌, ◌≤◌, Bool, true, false, ◌&&◌, List, length, map, Some, refl, sym, ap, ◌∙◌, arith, inl, inr}
+use Rattle.std.proofs.Math.Bool.{and-false}
 use Rattle.std.specs.Prelude.{◌==◌, if◌then◌else◌}
 use Rattle.std.proofs.lemmas.List.{length-set}
 use Rattle.ev_isa.specs.Word.{NatMap, wrap}
@@ -471,6 +472,7 @@ module _ (image : Image) (built : IsBuilt image) (p n : ℕ) (t : Task) (cr2 : �
         flags = off_flags image p n t cr2 cause body;
         ss = 0;
         ss_is = inl refl;
+        masked = and-false (interrupts_on c);
         within = omega arith;
         enough = few_edges with_error;
         at = begun.at;

@@ -57,6 +57,20 @@ instruction_first c a nmi hn ha =
     either true = refl
     either false = refl
 
+-- with IF off no vector comes
+pub masked_first : (c : Processor) (a : Apic) (nmi : Bool) → nmi ≡ false → interrupts_on c ≡ false → next_of c a nmi ≡ Next.Instruction
+unfolding next_of first_of
+masked_first c a nmi hn hi =
+    ap (next_of c a) hn
+    ∙ ap (λ b. first_of (record {
+      debug = false;
+      nmi = false;
+      nmi_blocked = c.nmi_blocked;
+      sti_blocked = c.sti_blocked;
+      if_set = b;
+      vector = next_vector a;
+    })) hi
+
 -- ---- whether the step is visible
 
 pub hidden : (marks : Marks) (s : System) (p : ℕ) → next_of (s.cpus p) (s.apics p) (s.latches p) ≡ Next.Instruction → is_user (s.cpus p) ≡ false
