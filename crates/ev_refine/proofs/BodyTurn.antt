@@ -59,7 +59,7 @@ use Rattle.ev_refine.proofs.Domains.{four_tasks}
 use Rattle.ev_refine.proofs.Legality.{turn_legal, legal_few}
 use Rattle.ev_refine.proofs.Standing.{seen, Moves, step_moves, delivery_moves}
 use Rattle.ev_refine.proofs.Stays.{AreSpared, chain_stays, below_spared}
-use Rattle.ev_refine.proofs.After.{none_spares, slot_same, cell_same, page_same, user_same, few_inner, own_becomes, stands_become}
+use Rattle.ev_refine.proofs.After.{none_spares, slot_same, cell_same, page_same, user_same, few_inner, apic_again, own_becomes, stands_become}
 use Rattle.ev_refine.proofs.Depth.{stands_depth}
 use Rattle.ev_refine.proofs.UserState.{TurnsTo, makes_turn, is_safe, tells_bodies}
 use Rattle.ev_refine.proofs.UserBody.{HasBody, has_body}
@@ -394,7 +394,7 @@ module _ (mode : Mode) (image : Image) (built : IsBuilt image) (good : IsImage i
     as' = activations_by s p (s.activations p) d after.step
 
     mv : Moves p s s' d as' words'
-    mv = delivery_moves image.processors p s middle d as' words' e (Some begun.frame) (step_moves s p after refl refl)
+    mv = delivery_moves image.processors p s middle d as' words' e (Some begun.frame) (step_moves s p after refl)
 
     -- ---- the activations
 
@@ -468,13 +468,19 @@ module _ (mode : Mode) (image : Image) (built : IsBuilt image) (good : IsImage i
     abbrev now : ℕ
     now = body_edges mode image + inner_edges (s.latches p)
 
+    -- the local APIC stays
+    same_apic : s'.apics p ≡ s.apics p
+    same_apic = at_same s.apics p p (s.apics p) refl
+
     there : StandsOn mode image p now s' z
     there = own_becomes mode image p (left p) s s' x (seat_under mode r (suc n)) d as' words' x.tasks x.slots now_bodies (body_edges mode image) on small
         (four_tasks image good p hp) mv refl narrow [] (none_spares p).allowed changes
         (λ k l. slot_same p (seat_under mode r (suc n)) [] small narrow s.memory.words words' tt changes refl p k small l ∙ on.slots k l)
         (λ i f. refl) on.tasks (begun.blocking ∙ sym (none_nmi image now_bodies plain_now))
+        x.pending (apic_again mode image (s.apics p) _ x.pending x.bodies now_bodies same_apic
         (λ class. step.unserved mode image built good facts left s m h p hp class now_bodies quiet
         ∙ sym (step.unserved mode image built good facts left s m h p hp class x.bodies (step.domain mode image built good facts left s m h p hp).bodies))
+        on.apic)
         (let f = few_inner mode image (s.latches p) in omega arith)
         (subst (λ ys. Chain mode image p (body_edges mode image) r (x.tasks r) on.frame on.switching now_bodies ys d mem) (sym acts_are) chain)
 

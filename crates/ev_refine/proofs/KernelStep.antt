@@ -62,7 +62,7 @@ use Rattle.ev_refine.proofs.Instructions.{stays_inside}
 use Rattle.ev_refine.proofs.Standing.{masked_first, hidden, seen, after_ran, Runs, ran_step, ran_writes, ran_safe, ran_shown, ran_stays, Moves, step_moves}
 use Rattle.ev_refine.proofs.Stays.{means_again, leads_again, AreSpared, chain_stays, seat_fits, below_spared}
 use Rattle.ev_refine.proofs.Chains.{Kept, chain_kept, chain_plain, chain_open, chain_masked, word_interrupts, at_interrupts}
-use Rattle.ev_refine.proofs.After.{AreNames, AreSparing, own_word, none_spares, slot_same, cell_same, page_same, user_same, few_inner, latch_parts, as_chain, returns_to, own_becomes, own_after, stands_become, stands_after}
+use Rattle.ev_refine.proofs.After.{AreNames, AreSparing, own_word, none_spares, slot_same, cell_same, page_same, user_same, few_inner, latch_parts, as_chain, returns_to, apic_again, own_becomes, own_after, stands_become, stands_after}
 use Rattle.ev_refine.proofs.CallKinds.{is_over_task, is_plain_kind, over_any, beneath_as, stands_alone, ArePlain, none_nmi, seat_under, plain_seat, plain_knows}
 use Rattle.ev_refine.proofs.Domains.{four_tasks}
 use Rattle.ev_law.proofs.Ruled.{body_ruled}
@@ -160,7 +160,7 @@ module _ (mode : Mode) (image : Image) (built : IsBuilt image) (good : IsImage i
   Executes i cpu words = (a : Apic) (nmi : Bool) → executed c a s.memory nmi (Some i) ≡ ran cpu a words nmi
 
   moves : (cpu : Processor) (words : NatMap ℕ) → Moves p s (after_ran s p cpu words) cpu (activations_by s p (s.activations p) cpu Stepped.Ran) words
-  moves cpu words = step_moves s p (ran cpu (s.apics p) words (s.latches p)) refl refl
+  moves cpu words = step_moves s p (ran cpu (s.apics p) words (s.latches p)) refl
 
   -- ---- the last context, on any contexts below
 
@@ -349,7 +349,8 @@ module _ (mode : Mode) (image : Image) (built : IsBuilt image) (good : IsImage i
         let there : StandsOn mode image p (now + inner_edges (s.latches p)) (after_ran s p cpu words) x
         = own_after mode image p (left p) s (after_ran s p cpu words) x σ cpu _ words x.tasks x.bodies now on small (four_tasks image good p hp)
         (moves cpu words) on_stack narrow names sparing changes (λ i d. refl) on.tasks
-        (hb ∙ sym none_is_nmi) (λ class. refl) (let l = on.enough in let f = on.few in omega arith) goes_on in
+        (hb ∙ sym none_is_nmi) x.pending
+        (apic_again mode image (s.apics p) _ x.pending x.bodies x.bodies (at_same s.apics p p (s.apics p) refl) (λ class. refl) on.apic) (let l = on.enough in let f = on.few in omega arith) goes_on in
         let all : Stands mode image (put_at left p (now + inner_edges (s.latches p))) (after_ran s p cpu words) m
         = stands_after mode image left s (after_ran s p cpu words) m m p (now + inner_edges (s.latches p)) x σ cpu _ words good built.accepted
         (four_tasks image good) h hp (moves cpu words) narrow names sparing changes
@@ -428,7 +429,8 @@ module _ (mode : Mode) (image : Image) (built : IsBuilt image) (good : IsImage i
         let there : StandsOn mode image p (now + inner_edges (s.latches p)) (after_ran s p cpu words) x'
         = own_becomes mode image p (left p) s (after_ran s p cpu words) x σ cpu _ words tasks slots bs now on small (four_tasks image good p hp)
         (moves cpu words) on_stack narrow names allowed changes y.slots_are y.same_tasks y.good_tasks (hb ∙ sym none)
-        (λ class. unserved class bs quiet ∙ sym (unserved class x.bodies domain.bodies))
+        x.pending (apic_again mode image (s.apics p) _ x.pending x.bodies bs (at_same s.apics p p (s.apics p) refl)
+        (λ class. unserved class bs quiet ∙ sym (unserved class x.bodies domain.bodies)) on.apic)
         (let f = few_inner mode image (s.latches p) in omega arith) goes_on in
         let inside : IsInDomain x' = record { pending = domain.pending; nmi = domain.nmi; resched = domain.resched; bodies = quiet } in
         let all : Stands mode image (put_at left p (now + inner_edges (s.latches p))) (after_ran s p cpu words) m'

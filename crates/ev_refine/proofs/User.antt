@@ -2,6 +2,7 @@
 use Rattle.std.proofs.Common.{◌≡◌, ℕ, suc, ◌+◌, ◌^◌, ◌<◌, Bool, true, false, List, [], ◌∷◌, set, length, Option, Some, None, refl, sym, ap, ◌∙◌, subst, arith, inr}
 use Rattle.std.specs.Prelude.{◌||◌, if◌then◌else◌, slice_get, is_some}
 use Rattle.std.proofs.lemmas.List.{length-set}
+use Rattle.std.specs.List.{list_any}
 use Rattle.ev_isa.specs.Word.{NatMap, is_canonical}
 use Rattle.ev_isa.specs.Flags.{flags_word}
 use Rattle.ev_isa.specs.declared.mode.Mode.{Mode}
@@ -48,8 +49,8 @@ use Rattle.ev_refine.proofs.Domains.{four_tasks}
 use Rattle.ev_refine.proofs.Maps.{at_same}
 use Rattle.ev_user.proofs.KeepsNumbers.{starts_with_words, causes_small}
 use Rattle.ev_refine.proofs.Legality.{turn_legal}
-use Rattle.ev_refine.proofs.Standing.{Moves, step_moves, delivery_moves}
-use Rattle.ev_refine.proofs.After.{kernel_names, kernel_spares, kernel_user}
+use Rattle.ev_refine.proofs.Standing.{Moves, step_moves, delivery_moves, delivery_apic}
+use Rattle.ev_refine.proofs.After.{apic_again, kernel_names, kernel_spares, kernel_user}
 use Rattle.ev_refine.proofs.Depth.{stands_depth}
 use Rattle.ev_refine.proofs.UserState.{put_same, TurnsTo, makes_turn, is_safe, tells_bodies}
 use Rattle.ev_refine.proofs.UserPlain.{AtUser, at_user, user_after, goes_turn}
@@ -261,7 +262,7 @@ module _ (mode : Mode) (image : Image) (formed : IsImage image) (built : IsBuilt
       let begins_last : as' ≡ last ∷ []
       = (λ i. record { rsp = 0; rip = 0; inner = starts_inner_not i } ∷ nothing_under c (s.activations p) u.rest.none i) in
       let mv : Moves p s s' d as' words' = delivery_moves image.processors p s (after_step s p r) d as' words' begun.event begun.frame
-      (step_moves s p r refl (sym u.latch)) in
+      (step_moves s p r (sym u.latch)) in
       let mem : Memory = with_words s.memory words' in
       let under : RunsTask mode image p n back w = record { is = refl; task = st.task } in
       let stood : Active mode image p entry_edges κ (record { stack = n; used = 0 }) u.on.frame u.on.switching w b d mem
@@ -285,7 +286,10 @@ module _ (mode : Mode) (image : Image) (formed : IsImage image) (built : IsBuilt
       (starts_with_words body User (raised_event cause) (causes_small cause is_cause), tt) st.task
       (begun.blocking ∙ sym (plain_no_nmi image b (ap is_over_task kind ∙ over_one cause)))
       (record { interrupts = refl; service = st.service; calls = refl }, tt)
-      (λ class. ap (λ o. serves mode image class o || false) st.service)
+      (apic_again mode image (s.apics p) _ x.pending x.bodies (b ∷ [])
+      (delivery_apic image.processors p p (after_step s p r) begun.event begun.frame ∙ at_same s.apics p p (s.apics p) refl)
+      (λ class. ap (λ o. serves mode image class o || false) st.service
+      ∙ sym (ap (list_any (λ (b : BodyContext). serves mode image class b.service)) hb)) u.on.apic)
       (omega arith)
       (λ q e. subst (λ ys. Chain mode image p entry_edges q back u.on.frame u.on.switching (b ∷ []) ys d (with_words s.memory words')) (sym begins_last)
       (subst (λ z. Chain mode image p entry_edges z back u.on.frame u.on.switching (b ∷ []) (last ∷ []) d (with_words s.memory words')) (sym e) chain)) in

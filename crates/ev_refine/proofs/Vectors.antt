@@ -14,7 +14,7 @@ use Rattle.ev_abstract.specs.Context.{BodyContext}
 use Rattle.ev_abstract.specs.Machine as abstract
 use Rattle.ev_isa.specs.declared.mode.Mode.{Mode}
 use Rattle.ev_body.specs.declared.image.Image.{Image}
-use Rattle.ev_refine.specs.Relation.{serves}
+use Rattle.ev_refine.specs.Relation.{ApicIs, serves}
 
 -- ---- sets and lists
 
@@ -107,16 +107,13 @@ module _ (mode : Mode) (image : Image) where
 
   -- ---- the next vector
 
-  -- An APIC whose requests are the pending vectors, and with the classes in service that the contexts have, delivers next what the abstract machine does: with
-  -- TPR 0, where each vector that is pending is an interrupt's.
-  module _ (a : Apic) (x : abstract.Processor) (tpr : a.tpr ≡ 0) (pending : (v : ℕ) → v < 256 → vectors_of a.irr v ≡ x.pending v)
-      (service : (class : ℕ) → list_any (λ v. vectors_of a.isr v && (v / 16 == class)) (numbers_from 0 256) ≡ list_any (has class) x.bodies)
-      (interrupts : (v : ℕ) → x.pending v ≡ true → 32 ≤ v) where
+  -- The APIC of a processor delivers next what the abstract machine does, where each vector that is pending is an interrupt's.
+  module _ (a : Apic) (x : abstract.Processor) (is : ApicIs mode image a x.pending x.bodies) (interrupts : (v : ℕ) → x.pending v ≡ true → 32 ≤ v) where
     all_outranked : ℕ → Bool
     all_outranked v = list_all (λ (b : BodyContext). outranks v b.service) x.bodies
 
     priority : priority_class a ≡ class_of (greatest_below 256 (vectors_of a.isr))
-    priority = ap (λ n. max (n / 16) (class_of (greatest_below 256 (vectors_of a.isr)))) tpr ∙ lowest (class_of (greatest_below 256 (vectors_of a.isr)))
+    priority = ap (λ n. max (n / 16) (class_of (greatest_below 256 (vectors_of a.isr)))) is.tpr ∙ lowest (class_of (greatest_below 256 (vectors_of a.isr)))
       where
         lowest : (n : ℕ) → max (0 / 16) n ≡ n
         lowest n = omega arith
@@ -130,17 +127,17 @@ module _ (mode : Mode) (image : Image) where
         pick true q = q
         pick false q =
             let r = outranked v x.bodies q in
-            let u = number_of_any (λ v. vectors_of a.isr v && (v / 16 == r.class)) 256 0 (service r.class ∙ r.has_it) in
+            let u = number_of_any (λ v. vectors_of a.isr v && (v / 16 == r.class)) 256 0 (is.service r.class ∙ r.has_it) in
             let clash : true ≡ false = sym (and_left (vectors_of a.isr u.0) _ u.2) ∙ none u.0 u.1 in absurd (cc)
-    by_greatest (Some g) is v big = pick (all_outranked v) refl
+    by_greatest (Some g) top v big = pick (all_outranked v) refl
       where
         pick : (t : Bool) → all_outranked v ≡ t → nat_lt (g / 16) (v / 16) ≡ all_outranked v
-        pick true q = lt-ltb (g / 16) (v / 16) (outranks_each v (g / 16) x.bodies q (sym (service (g / 16))
-            ∙ any_number (λ v. vectors_of a.isr v && (v / 16 == g / 16)) 256 0 g (omega arith) is.0
-            (ap (λ t. t && (g / 16 == g / 16)) is.1 ∙ eq-eqb (g / 16) (g / 16) refl))) ∙ sym q
+        pick true q = lt-ltb (g / 16) (v / 16) (outranks_each v (g / 16) x.bodies q (sym (is.service (g / 16))
+            ∙ any_number (λ v. vectors_of a.isr v && (v / 16 == g / 16)) 256 0 g (omega arith) top.0
+            (ap (λ t. t && (g / 16 == g / 16)) top.1 ∙ eq-eqb (g / 16) (g / 16) refl))) ∙ sym q
         pick false q =
             let r = outranked v x.bodies q in
-            let u = number_of_any (λ v. vectors_of a.isr v && (v / 16 == r.class)) 256 0 (service r.class ∙ r.has_it) in
+            let u = number_of_any (λ v. vectors_of a.isr v && (v / 16 == r.class)) 256 0 (is.service r.class ∙ r.has_it) in
             let held : vectors_of a.isr u.0 ≡ true = and_left (vectors_of a.isr u.0) _ u.2 in
             let class : u.0 / 16 ≡ r.class = eqb-true (u.0 / 16) r.class (and_right (vectors_of a.isr u.0) _ u.2) in
             let below : u.0 ≤ g = under u.0 u.1 held (nat_lt g u.0) refl in
@@ -148,7 +145,7 @@ module _ (mode : Mode) (image : Image) where
             le-ltb (g / 16) (v / 16) (let z : v / 16 ≤ g / 16 = omega arith in z) ∙ sym q
           where
             under : (u : ℕ) → u < 256 → vectors_of a.isr u ≡ true → (t : Bool) → nat_lt g u ≡ t → u ≤ g
-            under u lt h true e = let clash : true ≡ false = sym h ∙ is.2 u (ltb-true g u e) lt in absurd (cc)
+            under u lt h true e = let clash : true ≡ false = sym h ∙ top.2 u (ltb-true g u e) lt in absurd (cc)
             under u lt h false e = ltb-false g u e
 
     pub next_is : next_vector a ≡ greatest_below 256 (deliverable x)
@@ -157,8 +154,8 @@ module _ (mode : Mode) (image : Image) where
       where
         by_pending : (v : ℕ) → v < 256 → (t : Bool) → x.pending v ≡ t → (vectors_of a.irr v && nat_lt (priority_class a) (v / 16)) ≡ deliverable x v
         by_pending v lt true q =
-            ap (λ t. t && nat_lt (priority_class a) (v / 16)) (pending v lt ∙ q)
+            ap (λ t. t && nat_lt (priority_class a) (v / 16)) (is.pending v lt ∙ q)
             ∙ ap (λ n. nat_lt n (v / 16)) priority
             ∙ by_greatest (greatest_below 256 (vectors_of a.isr)) (greatest_law 256 (vectors_of a.isr)) v (interrupts v q)
             ∙ sym (ap (λ t. t && all_outranked v) q)
-        by_pending v lt false q = ap (λ t. t && nat_lt (priority_class a) (v / 16)) (pending v lt ∙ q) ∙ sym (ap (λ t. t && all_outranked v) q)
+        by_pending v lt false q = ap (λ t. t && nat_lt (priority_class a) (v / 16)) (is.pending v lt ∙ q) ∙ sym (ap (λ t. t && all_outranked v) q)
