@@ -142,6 +142,7 @@ module _ (mode : Mode) (image : Image) (built : IsBuilt image) (good : IsImage i
             flags = a.flags;
             ss = ss;
             ss_is = a.ss_is;
+            masked = step.masks_flags mode image built good facts left s m h p hp o a.flags a.state.flags;
             within = omega arith;
             enough = few_edges mode image (body mode spots.AtItem) way.over 0;
             at = begins code (block mode (body mode spots.AtItem)) u (record c { rip = next; cr2 = n }) s.memory fit

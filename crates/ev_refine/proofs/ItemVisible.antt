@@ -80,6 +80,10 @@ legal_context image known b below mode h =
       is = ap (λ o. item_at o b.place) l.is_body ∙ slice_get-get_or (body_items l.body) b.place Ret l.at.place;
     }
 
+-- the status flags are those that are told, and IF is what it was
+abbrev pub FlagsBehind : (mode : Mode) (image : Image) → Flags → Option Status → Flags → Type 0
+FlagsBehind mode image was status g = FlagsAre mode image status g × (g.interrupts ≡ was.interrupts)
+
 module _ (mode : Mode) (image : Image) (built : IsBuilt image) (good : IsImage image) (facts : Facts mode image)
     (left : NatMap ℕ) (s : System) (m : Machine) (h : Stands mode image left s m) (p : ℕ) (hp : p < image.processors)
     (o : step.Top mode image built good facts left s m h p hp) (body' : Body) (is : slice_get image.bodies o.b.body ≡ Some body') where
@@ -166,7 +170,7 @@ module _ (mode : Mode) (image : Image) (built : IsBuilt image) (good : IsImage i
     pub place : ℕ
     pub flags : Flags
     pub status : Option Status
-    pub flags_are : FlagsAre mode image status flags
+    pub flags_are : FlagsBehind mode image a.flags status flags
     pub words : NatMap ℕ
     pub runs : Leads c s.memory cell.ins (gone c (regs_with c.regs write) flags (at place)) words
     pub names : List Named
@@ -215,7 +219,7 @@ module _ (mode : Mode) (image : Image) (built : IsBuilt image) (good : IsImage i
       let item : InItem mode image (origin_of o.κ) u w b' = record {
         saved = d.over.saved regs further d.flags;
         locals = locals_behind mode image (env ss extra v f) c s.memory a.offset a.rax a.rcx a.rdx a.flags a.state o.b a.means.locals d.write d.local;
-        flags = d.flags_are;
+        flags = d.flags_are.0;
       } in
       let act' : Active mode image p (edges mode (body mode AtItem) 0) o.κ o.σ on.frame (switches_at mode image on.switching o.below) w b' cpu mem = record {
         stands = record {
@@ -226,6 +230,7 @@ module _ (mode : Mode) (image : Image) (built : IsBuilt image) (good : IsImage i
           flags = d.flags;
           ss = ss;
           ss_is = a.ss_is;
+          masked = d.flags_are.1 ∙ step.masks_flags mode image built good facts left s m h p hp o a.flags a.state.flags;
           within = omega arith;
           enough = omega arith;
           at = begins code (block mode (body mode AtItem)) u cpu mem fit agrees;

@@ -210,7 +210,8 @@ module _ (mode : Mode) (image : Image) (built : IsBuilt image) (good : IsImage i
           let found = table_reads mode image good (origin_of κ) l.key l.small b.body l.found s.memory h.regions_are h.fixed in
           let way = at_the_jump mode in
           let falls = table_falls mode in
-          step.goes mode image built good facts left s m h p hp o body' is act (body mode AtJump) ss ss_is extra u f (ap is_user g.rest)
+          step.goes mode image built good facts left s m h p hp o body' is act (body mode AtJump) ss ss_is extra u f
+          (step.masks mode image built good facts left s m h p hp o B 0 e at) (ap is_user g.rest)
           (loads mode code e c s.memory a (body_code b.body) facts.kernel at at_a found.0 found.1
           (step.fits mode image built good facts left s m h p hp o body' is (body mode AtJump) way.over ss extra u f place tt (way.told (env ss extra u f)))
           (step.windows mode image built good facts left s m h p hp o body' is (body mode AtJump) way.over ss extra u f))
@@ -256,7 +257,8 @@ module _ (mode : Mode) (image : Image) (built : IsBuilt image) (good : IsImage i
           let item : with_item e (v 0) ≡ e = same_base e (v 0) (place ∙ step.place_is mode image built good facts left s m h p hp o body' is ∙ sym target) in
           let way = at_the_item mode in
           let falls = jump_falls mode in
-          step.goes mode image built good facts left s m h p hp o body' is act (body mode AtItem) ss ss_is extra v f (ap is_user g.rest)
+          step.goes mode image built good facts left s m h p hp o body' is act (body mode AtItem) ss ss_is extra v f
+          (step.masks mode image built good facts left s m h p hp o B 0 e at) (ap is_user g.rest)
           (subst (Goes code c s.memory (block mode (body mode AtItem))) item
           (jumps mode code e c s.memory facts.kernel at (ap is_canonical target ∙ fine.0) (let upper = fine.1 in omega arith)
           (subst (λ y. Fits code y (block mode (body mode AtItem))) (sym item)
@@ -340,7 +342,8 @@ module _ (mode : Mode) (image : Image) (built : IsBuilt image) (good : IsImage i
           (subst (λ m. FactsHold (env ss extra u' g) (block m spot).ground.facts) q told)))
           (subst (λ m. Open (env ss extra u' g) (block m spot).ground.known s.memory.regions) (sym q)
           (step.windows mode image built good facts left s m h p hp o body' is spot fine ss extra u' g)) in
-          step.goes mode image built good facts left s m h p hp o body' is act spot ss ss_is extra u' g (ap is_user there.agrees.rest)
+          step.goes mode image built good facts left s m h p hp o body' is act spot ss ss_is extra u' g
+          (step.masked mode image built good facts left s m h p hp o) (ap is_user there.agrees.rest)
           (subst (λ m. Goes code c s.memory (block m spot) (env ss extra u' g)) q
           (goes_by code c s.memory _ _ (Jmp j.distance) _ _ on_way
           (stub_rip code og has v e c s.memory small_vector stub_at.2 there) j.is (jump_stays j.distance)))

@@ -11,6 +11,7 @@ pub mod CallKinds
 pub mod Domains
 pub mod Chains
 pub mod Legality
+pub mod Vectors
 pub mod Standing
 pub mod Stays
 pub mod After
