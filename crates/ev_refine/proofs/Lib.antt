@@ -1,6 +1,7 @@
 pub mod Facts
 pub mod Maps
 pub mod Runs
+pub mod Arrivals
 pub mod Opens
 pub mod Tells
 pub mod ModeFacts
