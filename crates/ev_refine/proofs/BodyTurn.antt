@@ -1,6 +1,7 @@
 -- A turn in which an item of a body raises an event: the activation that begins on it, what the abstract machine enters, and what is shown.
-use Rattle.std.proofs.Common.{◌≡◌, inr, ℕ, suc, ◌+◌, ◌-◌, ◌*◌, ◌%◌, ◌<◌, ◌≤◌, Bool, true, false, not, ◌&&◌, List, [], ◌∷◌, get_or, length, Option, Some, None, refl, sym, ap, ◌∙◌, subst, arith}
+use Rattle.std.proofs.Common.{◌≡◌, inr, ℕ, suc, ◌+◌, ◌-◌, ◌*◌, ◌%◌, ◌<◌, ◌≤◌, Bool, true, false, not, ◌&&◌, List, [], ◌∷◌, get_or, length, Option, Some, None, refl, sym, ap, ◌∙◌, subst, arith, ◌||◌}
 use Rattle.std.specs.Prelude.{◌==◌, if◌then◌else◌, slice_get}
+use Rattle.std.specs.List.{list_any}
 use Rattle.ev_isa.specs.Word.{NatMap, put_at, is_canonical}
 use Rattle.ev_isa.specs.Flags.{Flags}
 use Rattle.ev_isa.specs.declared.mode.Mode.{Mode}
@@ -49,7 +50,7 @@ use Rattle.ev_refine.specs.Nmi.{Frame, Leads, inner_edges}
 use Rattle.ev_refine.specs.Named.{Changes}
 use Rattle.ev_refine.specs.Domain.{IsQuiet, AreQuiet}
 use Rattle.ev_refine.specs.Active.{here, IsKernelSs, Active}
-use Rattle.ev_refine.specs.Relation.{IsContext, Beneath, keeps_cr2, chained, body_edges, switches_at, Chain, StandsOn, Stands}
+use Rattle.ev_refine.specs.Relation.{IsContext, Beneath, keeps_cr2, chained, body_edges, switches_at, Chain, StandsOn, Stands, serves}
 use Rattle.ev_refine.specs.Claims.{Simulated}
 use Rattle.ev_refine.proofs.Facts.{Facts}
 use Rattle.ev_refine.proofs.Maps.{at_same, at_other}
@@ -274,6 +275,7 @@ module _ (mode : Mode) (image : Image) (built : IsBuilt image) (good : IsImage i
     pub event : IsBodyEvent e
     pub found : first_body 0 image.bodies (event_key e.kind e.vector) Kernel ≡ Some body
     pub same_body : b.body ≡ o.b.body
+    pub same_service : b.service ≡ o.b.service
     pub quiet : IsQuiet b
     pub canonical : is_canonical saved ≡ true
     pub outside : is_in_repeat c.rip ≡ is_in_repeat saved
@@ -461,7 +463,7 @@ module _ (mode : Mode) (image : Image) (built : IsBuilt image) (good : IsImage i
 
     quiet : AreQuiet now_bodies
     quiet = (
-      record { interrupts = refl; service = y.event.service; calls = refl },
+      record { interrupts = refl; calls = refl },
       (y.quiet, (step.are_quiet mode image built good facts left s m h p hp o).1),
     )
 
@@ -478,8 +480,9 @@ module _ (mode : Mode) (image : Image) (built : IsBuilt image) (good : IsImage i
         (λ k l. slot_same p (seat_under mode r (suc n)) [] small narrow s.memory.words words' tt changes refl p k small l ∙ on.slots k l)
         (λ i f. refl) on.tasks (begun.blocking ∙ sym (none_nmi image now_bodies plain_now))
         x.pending (apic_again mode image (s.apics p) _ x.pending x.bodies now_bodies same_apic
-        (λ class. step.unserved mode image built good facts left s m h p hp class now_bodies quiet
-        ∙ sym (step.unserved mode image built good facts left s m h p hp class x.bodies (step.domain mode image built good facts left s m h p hp).bodies))
+        (λ class. ap (λ q. serves mode image class q || list_any (λ (a : BodyContext). serves mode image class a.service) (b ∷ o.below)) y.event.service
+        ∙ ap (λ q. serves mode image class q || list_any (λ (a : BodyContext). serves mode image class a.service) o.below) y.same_service
+        ∙ sym (ap (list_any (λ (a : BodyContext). serves mode image class a.service)) o.bodies))
         on.apic)
         (let f = few_inner mode image (s.latches p) in omega arith)
         (subst (λ ys. Chain mode image p (body_edges mode image) r (x.tasks r) on.frame on.switching now_bodies ys d mem) (sym acts_are) chain)

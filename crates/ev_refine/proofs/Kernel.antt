@@ -1,7 +1,8 @@
 -- A step of a processor on which a body stands: an instruction of the kernel's code, an item, or the return.
-use Rattle.std.proofs.Common.{◌≡◌, ℕ, suc, ◌+◌, ◌-◌, ◌*◌, ◌<◌, ◌≤◌, Bool, true, false, not, ◌&&◌, List, [], ◌∷◌, length, Some, refl, sym, ap, ◌∙◌, subst, arith}
+use Rattle.std.proofs.Common.{◌≡◌, ℕ, suc, ◌+◌, ◌-◌, ◌*◌, ◌<◌, ◌≤◌, Bool, true, false, not, ◌&&◌, List, [], ◌∷◌, length, Some, refl, sym, ap, ◌∙◌, subst, arith, ◌||◌}
 use Rattle.std.specs.Prelude.{ℤ, pos, ◌==◌, if◌then◌else◌, slice_get, nat_le}
 use Rattle.std.proofs.lemmas.Bool.{eqb-true, ne_eqb, leb-true, leb-false}
+use Rattle.std.specs.List.{list_any}
 use Rattle.ev_isa.specs.Word.{NatMap, is_canonical, displaced}
 use Rattle.ev_isa.specs.Flags.{Flags, flags_of}
 use Rattle.ev_isa.specs.declared.instruction.Ins.{Ins}
@@ -58,7 +59,7 @@ use Rattle.ev_paths.specs.IdtEnds.{idt_end}
 use Rattle.ev_paths.specs.Ends.{Enters}
 use Rattle.ev_refine.specs.Domain.{IsInDomain}
 use Rattle.ev_refine.specs.Active.{item_place, number_of, here, IsKernelSs, Saved, SavedBody, AtLoad, AtStart, FlagsAre, HasPlace, InSpot, Matches, OverTask, OverBody, Active}
-use Rattle.ev_refine.specs.Relation.{IsContext, switches_at, body_edges, Chain, StandsOn, Stands}
+use Rattle.ev_refine.specs.Relation.{IsContext, switches_at, body_edges, Chain, StandsOn, Stands, serves}
 use Rattle.ev_refine.specs.Claims.{Simulated}
 use Rattle.ev_refine.proofs.Facts.{Facts}
 use Rattle.ev_refine.proofs.Spots.{is_spot}
@@ -287,6 +288,8 @@ module _ (mode : Mode) (image : Image) (built : IsBuilt image) (good : IsImage i
           (step.bodies_alone mode image built good facts left s m h p hp o [] (none_spares p).allowed s.memory.words (λ y far far'. refl) (none_spares p) refl
           below)
           (step.are_quiet mode image built good facts left s m h p hp o).1
+          (λ class. sym (ap (list_any (λ (a : BodyContext). serves mode image class a.service)) o.bodies
+          ∙ ap (λ q. serves mode image class q || list_any (λ (a : BodyContext). serves mode image class a.service) below) (step.ret_serves mode image built good facts left s m h p hp o ret)))
           (ap (λ e. if e then length (processor m p).bodies - 1 else
           (if begins_body c (Some cell.ins) then suc (length (processor m p).bodies) else length (processor m p).bodies))
           (ends_a_body (Some cell.ins) c x.place x.rip x.outside hu x.is) ∙ ap (λ (bs : List BodyContext). length bs - 1) o.bodies

@@ -1,5 +1,5 @@
 -- What a step of kernel code gives: an edge, or a turn of the abstract machine; and steps inside blocks.
-use Rattle.std.proofs.Common.{◌≡◌, inl, inr, ℕ, suc, ◌+◌, ◌-◌, ◌*◌, ◌<◌, ◌≤◌, Bool, true, false, not, ◌&&◌, ◌||◌, List, [], ◌∷◌, length, Some, refl, sym, ap, ◌∙◌, subst, arith}
+use Rattle.std.proofs.Common.{◌≡◌, inl, inr, ℕ, suc, ◌+◌, ◌-◌, ◌*◌, ◌<◌, ◌≤◌, Bool, true, false, not, ◌&&◌, List, [], ◌∷◌, length, Some, refl, sym, ap, ◌∙◌, subst, arith, None}
 use Rattle.std.specs.Prelude.{if◌then◌else◌, ◌==◌, slice_get, nat_le, nat_lt}
 use Rattle.std.specs.List.{list_any}
 use Rattle.ev_isa.specs.Word.{NatMap, put_at, greatest_below}
@@ -68,7 +68,7 @@ use Rattle.ev_refine.proofs.Domains.{four_tasks}
 use Rattle.ev_law.proofs.Ruled.{body_ruled}
 use Rattle.ev_user.specs.Numbers.{AreOfWords, HoldsNumbers}
 use Rattle.ev_user.proofs.KeepsNumbers.{items_keep_numbers}
-use Rattle.ev_refine.proofs.Legality.{turn_legal, turn_bases, legal_few}
+use Rattle.ev_refine.proofs.Legality.{turn_legal, turn_bases, legal_few, context_serves}
 use Rattle.ev_refine.proofs.Depth.{body_at, active_outside, stands_depth, goes_on_inside, ran_counts}
 
 -- the names of a block's writes
@@ -150,11 +150,10 @@ module _ (mode : Mode) (image : Image) (built : IsBuilt image) (good : IsImage i
   pub blocked : c.nmi_blocked ≡ false
   blocked = (latch_parts on.layer on.frame _ (s.latches p) c.nmi_blocked x.nmi on.latch).1 ∙ none_is_nmi
 
-  -- no interrupt is in service
-  pub unserved : (class : ℕ) (ys : List BodyContext) → AreQuiet ys → list_any (λ (a : BodyContext). serves mode image class a.service) ys ≡ false
-  unserved class [] q = refl
-  unserved class (a ∷ ys) q = ap (λ o. serves mode image class o || list_any (λ (a : BodyContext). serves mode image class a.service) ys) q.0.service
-      ∙ unserved class ys q.1
+  -- the classes in service are those of the contexts
+  abbrev pub ServesAlike : List BodyContext → Type 0
+  ServesAlike bs = (class : ℕ) → list_any (λ (a : BodyContext). serves mode image class a.service) bs
+      ≡ list_any (λ (a : BodyContext). serves mode image class a.service) x.bodies
 
   abbrev pub Executes : Ins → Processor → NatMap ℕ → Type 0
   Executes i cpu words = (a : Apic) (nmi : Bool) → executed c a s.memory nmi (Some i) ≡ ran cpu a words nmi
@@ -389,6 +388,10 @@ module _ (mode : Mode) (image : Image) (built : IsBuilt image) (good : IsImage i
         ∙ ap (λ z. if z then interrupt_or_next (greatest_below 256 (deliverable x)) else Choice.Next) quiet.interrupts)
         ∙ ap (next_step image m p) o.bodies ∙ ap (item_or_nothing image m p b) hi
 
+    -- at `ret` it has no interrupt in service
+    pub ret_serves : item_at (slice_get image.bodies b.body) b.place ≡ Some Ret → b.service ≡ None
+    ret_serves hi = context_serves image good built.accepted m p h.legal b below o.bodies hi
+
     -- its numbers stay words
     pub numbers_behind : (m' : Machine) (es : List Entry) → turn image m p ≡ (m', es) → HoldsNumbers m'
     numbers_behind m' es ht =
@@ -415,13 +418,13 @@ module _ (mode : Mode) (image : Image) (built : IsBuilt image) (good : IsImage i
         → (cpu : Processor) (words : NatMap ℕ) → Executes cell.ins cpu words → cpu.nmi_blocked ≡ false
         → (names : List Named) → AreNames p names → Changes p σ names s.memory.words words
         → (m' : Machine) (es : List Entry) → turn image m p ≡ (m', es) → (tasks : NatMap Task) (slots : NatMap ℕ) (bs : List BodyContext)
-        → Makes m' words tasks slots bs → AreQuiet bs
+        → Makes m' words tasks slots bs → AreQuiet bs → ServesAlike bs
         → (if ends_body c (Some cell.ins) then length x.bodies - 1
         else (if begins_body c (Some cell.ins) then suc (length x.bodies) else length x.bodies)) ≡ length bs
         → (now : ℕ) → now ≤ body_edges mode image
         → Chained now (tasks r) bs (activations_by s p (s.activations p) cpu Stepped.Ran) cpu (with_words s.memory words)
         → shown_always p (bodies_on s p) c s.memory.words (Some cell.ins) ≡ es → Result
-    visible cell hc hm hu cpu words he hb names allowed changes m' es ht tasks slots bs y quiet told now few goes_on hes =
+    visible cell hc hm hu cpu words he hb names allowed changes m' es ht tasks slots bs y quiet serving told now few goes_on hes =
         let run : Runs s p cpu words = runs cell hc hu cpu words he in
         let x' : abstract.Processor = record x { tasks = tasks; slots = slots; bodies = bs } in
         let none : list_any (is_nmi_body image) bs ≡ false
@@ -430,7 +433,7 @@ module _ (mode : Mode) (image : Image) (built : IsBuilt image) (good : IsImage i
         = own_becomes mode image p (left p) s (after_ran s p cpu words) x σ cpu _ words tasks slots bs now on small (four_tasks image good p hp)
         (moves cpu words) on_stack narrow names allowed changes y.slots_are y.same_tasks y.good_tasks (hb ∙ sym none)
         x.pending (apic_again mode image (s.apics p) _ x.pending x.bodies bs (at_same s.apics p p (s.apics p) refl)
-        (λ class. unserved class bs quiet ∙ sym (unserved class x.bodies domain.bodies)) on.apic)
+        serving on.apic)
         (let f = few_inner mode image (s.latches p) in omega arith) goes_on in
         let inside : IsInDomain x' = record { pending = domain.pending; nmi = domain.nmi; resched = domain.resched; bodies = quiet } in
         let all : Stands mode image (put_at left p (now + inner_edges (s.latches p))) (after_ran s p cpu words) m'

@@ -305,7 +305,7 @@ module _ (mode : Mode) (image : Image) (formed : IsImage image) (built : IsBuilt
       (turn_bases image m p h.bases (with_processor m p (raised_in x cause body), entry_of p (raised_event cause) next ∷ []) turns)
       (starts_with_words body User (raised_event cause) (causes_small cause is_cause), tt) st.task
       (begun.blocking ∙ sym (plain_no_nmi image b (ap is_over_task kind ∙ over_one cause is_cause)))
-      (record { interrupts = refl; service = (st.service own); calls = refl }, tt)
+      (record { interrupts = refl; calls = refl }, tt)
       (apic_again mode image (s.apics p) _ x.pending x.bodies (b ∷ [])
       (delivery_apic image.processors p p (after_step s p r) begun.event begun.frame ∙ at_same s.apics p p (s.apics p) refl)
       (λ class. ap (λ o. serves mode image class o || false) (st.service own)
