@@ -7,7 +7,7 @@ use Rattle.ev_isa.specs.declared.instruction.Ins.{Ins}
 use Rattle.ev_isa.specs.declared.mode.Mode.{Mode}
 use Rattle.ev_event.specs.declared.boundary.Next.{Next}
 use Rattle.ev_event.specs.declared.event.Event.{Event}
-use Rattle.ev_event.specs.Boundary.{first_of}
+use Rattle.ev_event.specs.Boundary.{first_of, interrupt_or_instruction}
 use Rattle.ev_event.specs.declared.frame_note.FrameNote.{FrameNote}
 use Rattle.ev_body.specs.declared.image.Image.{Image}
 use Rattle.ev_listing.specs.Marks.{Never, Always}
@@ -67,6 +67,29 @@ masked_first c a nmi hn hi =
       nmi = false;
       nmi_blocked = c.nmi_blocked;
       sti_blocked = c.sti_blocked;
+      if_set = b;
+      vector = next_vector a;
+    })) hi
+
+-- with IF on and nothing blocked the next vector of the APIC comes, or an instruction
+pub vector_first : (c : Processor) (a : Apic) (nmi : Bool) → nmi ≡ false → c.sti_blocked ≡ false → interrupts_on c ≡ true
+    → next_of c a nmi ≡ interrupt_or_instruction (next_vector a)
+unfolding next_of first_of
+vector_first c a nmi hn hs hi =
+    ap (next_of c a) hn
+    ∙ ap (λ b. first_of (record {
+      debug = false;
+      nmi = false;
+      nmi_blocked = c.nmi_blocked;
+      sti_blocked = b;
+      if_set = interrupts_on c;
+      vector = next_vector a;
+    })) hs
+    ∙ ap (λ b. first_of (record {
+      debug = false;
+      nmi = false;
+      nmi_blocked = c.nmi_blocked;
+      sti_blocked = false;
       if_set = b;
       vector = next_vector a;
     })) hi
