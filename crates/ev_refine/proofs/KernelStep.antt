@@ -435,7 +435,7 @@ module _ (mode : Mode) (image : Image) (built : IsBuilt image) (good : IsImage i
         x.pending (apic_again mode image (s.apics p) _ x.pending x.bodies bs (at_same s.apics p p (s.apics p) refl)
         serving on.apic)
         (let f = few_inner mode image (s.latches p) in omega arith) goes_on in
-        let inside : IsInDomain x' = record { pending = domain.pending; nmi = domain.nmi; resched = domain.resched; bodies = quiet } in
+        let inside : IsInDomain x' = record { nmi = domain.nmi; resched = domain.resched; bodies = quiet } in
         let all : Stands mode image (put_at left p (now + inner_edges (s.latches p))) (after_ran s p cpu words) m'
         = stands_become mode image left s (after_ran s p cpu words) m m' p (now + inner_edges (s.latches p)) x' σ cpu _ words
         good built.accepted (four_tasks image good) h hp (moves cpu words) narrow names allowed changes
