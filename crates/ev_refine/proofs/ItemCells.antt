@@ -155,11 +155,13 @@ page_cells code env a next n k s j i q place_is h e =
           ),
         ),
       ),
-      seen_at code (at_label + 0 + 4 + 10 + 3) (a + bytes_of (MovReg 0 s ∷ page_code)) (length (spelling j)) next j i q tail.1.1.1.0 (omega arith) (omega arith),
+      seen_at code (at_label + 0 + 4 + 10 + 3) (a + bytes_of (MovReg 0 s ∷ page_code)) (length (spelling j)) next j i q tail.1.1.1.0 (omega arith)
+          (omega arith),
     )
 
-pub item_cells : (mode : Mode) (n k : ℕ) (key : Key) (f : ℕ → ℕ) (code : Code) (env : Places) (a next : ℕ) (item : Item) (i : Ins) → visible_of item ≡ Some i
-    → BranchIs env n k a item → AllFound code (cells_from env a (expansion mode n key f k item)) → next ≡ a + total_size (stmts_of (expansion mode n key f k item))
+pub item_cells : (mode : Mode) (n k : ℕ) (key : Key) (f : ℕ → ℕ) (code : Code) (env : Places) (a next : ℕ) (item : Item) (i : Ins)
+    → visible_of item ≡ Some i → BranchIs env n k a item → AllFound code (cells_from env a (expansion mode n key f k item))
+    → next ≡ a + total_size (stmts_of (expansion mode n key f k item))
     → ItemCells code a next item i
 unfolding expansion size spelling four_bytes before visible_of
 item_cells mode n k key f code env a next (Set d v) i q branch h e =
@@ -187,9 +189,11 @@ item_cells mode n k key f code env a next (AddCell x d) i q branch h e =
 item_cells mode n k key f code env a next (SwapCell x d) i q branch h e =
     record { edges = (h.0, tt); seen = seen_at code (a + 10) (a + 10) 7 next (Xchg 0 (pos 0) d) i q h.1.0 refl (omega arith) }
 item_cells mode n k key f code env a next (Uget d s) i q branch h e =
-    record { edges = (h.0, (h.1.0, (h.1.1.0, tt))); seen = seen_at code (a + 3 + 10 + 3) (a + 16) 7 next (Load d 0 (pos 0)) i q h.1.1.1.0 (omega arith) (omega arith) }
+    let seen = seen_at code (a + 3 + 10 + 3) (a + 16) 7 next (Load d 0 (pos 0)) i q h.1.1.1.0 (omega arith) (omega arith) in
+    record { edges = (h.0, (h.1.0, (h.1.1.0, tt))); seen = seen }
 item_cells mode n k key f code env a next (Uput s t) i q branch h e =
-    record { edges = (h.0, (h.1.0, (h.1.1.0, tt))); seen = seen_at code (a + 3 + 10 + 3) (a + 16) 7 next (Store 0 (pos 0) t) i q h.1.1.1.0 (omega arith) (omega arith) }
+    let seen = seen_at code (a + 3 + 10 + 3) (a + 16) 7 next (Store 0 (pos 0) t) i q h.1.1.1.0 (omega arith) (omega arith) in
+    record { edges = (h.0, (h.1.0, (h.1.1.0, tt))); seen = seen }
 item_cells mode n k key f code env a next (GetReg d r) i q branch h e =
     record { edges = tt; seen = seen_at code a (a + 0) 8 next (Load d 4 (pos (saved_offset r))) i q h.0 (omega arith) (omega arith) }
 item_cells mode n k key f code env a next (SetReg r s) i q branch h e =

@@ -32,7 +32,8 @@ pub record JumpCell (code : Code) (a next target : ℕ) (jump : ℤ → Ins) : T
   pub leads : displaced next distance ≡ target
 
 -- the label of the branch of an item of a page, whatever it stores there
-page_placed : (name : Name) (s : ℕ) (i : Ins) (a : ℕ) (rest : Places) → place (places a (stmts_of (page_word name s ++ seen i ∷ [])) ++ rest) name ≡ a + branch_label
+page_placed : (name : Name) (s : ℕ) (i : Ins) (a : ℕ) (rest : Places)
+    → place (places a (stmts_of (page_word name s ++ seen i ∷ [])) ++ rest) name ≡ a + branch_label
 unfolding places size spelling four_bytes
 page_placed name s i a rest = ap (λ t. if t then a + 3 + 10 + 3 + 4 + 7 + 6 + 10 else place rest name) (same_name name)
     ∙ (let e : a + 3 + 10 + 3 + 4 + 7 + 6 + 10 ≡ a + branch_label = omega arith in e)
@@ -58,7 +59,8 @@ module _ (mode : Mode) (image : Image) (facts : Facts mode image) (n : ℕ) (b :
   pub cells_of : (item : Item) (ins : Ins) → item_at (Some b) i ≡ Some item → visible_of item ≡ Some ins
       → ItemCells (code_table mode image) here behind item ins
   cells_of item ins h q =
-      item_cells mode n i b.key (function_address mode image) (code_table mode image) (places_of mode image) here behind item ins q (branch_is item h) (facts.items n i b item is h)
+      item_cells mode n i b.key (function_address mode image) (code_table mode image) (places_of mode image) here behind item ins q (branch_is item h)
+      (facts.items n i b item is h)
       (facts.follow n i b item h)
 
   -- the distance of a jump to an item

@@ -153,7 +153,7 @@ module _ (mode : Mode) (image : Image) (built : IsBuilt image) (good : IsImage i
     store item hi t k seen value offset meaning =
         let ins : Ins = StoreImm 0 (pos 0) k in
         steps.does mode image built good facts left s m h p hp o body' is ss extra v f a item hi ins seen offset (omega arith) refl
-        None tt a.flags None tt (Some (PageBit index, word_of t)) (words.page_free mode image built good facts left s m h p hp o index low)
+        None tt a.flags None (tt, refl) (Some (PageBit index, word_of t)) (words.page_free mode image built good facts left s m h p hp o index low)
         (λ i. goes_onward c s.memory ins a.flags _ next _ a.state.flags
         (subst (λ n. Leads c s.memory ins (onward c c.regs next) (put_at s.memory.words (page_map + 8 * index) n)) value
         (one.stores_number 0 (pos 0) k (page_map + 8 * index) i place_is opened)))
