@@ -1,6 +1,7 @@
 pub mod Facts
 pub mod Maps
 pub mod Runs
+pub mod Arrivals
 pub mod Opens
 pub mod Tells
 pub mod ModeFacts
@@ -57,5 +58,6 @@ pub mod BodyTurn
 pub mod BodyBreak
 pub mod BodyFault
 pub mod CodeFacts
+pub mod Saved
 pub mod Visible
 pub mod Refine

@@ -22,6 +22,7 @@ use Rattle.ev_abstract.specs.Machine.{Machine, processor, CallRecord, CallState,
 use Rattle.ev_abstract.specs.Machine as abstract
 use Rattle.ev_abstract.specs.Run.{item_at}
 use Rattle.ev_law.specs.Legal.{Legal}
+use Rattle.ev_law.specs.Bases.{HasBases}
 use Rattle.ev_concrete.specs.Opening.{listings, code_of, opening_word, tasks_of, regions}
 use Rattle.ev_concrete.specs.ConcreteRun.{System, Activation}
 use Rattle.ev_concrete.specs.Depth.{is_in_repeat}
@@ -193,6 +194,7 @@ module _ (mode : Mode) (image : Image) where
     pub fixed : (a : ℕ) → IsFixed a → s.memory.words a ≡ first_word mode image a
     pub shares : Shares s m
     pub legal : Legal image m
+    pub bases : HasBases image m
     pub numbers : HoldsNumbers m
     pub domain : (p : ℕ) → p < image.processors → IsInDomain (processor m p)
     pub each : (p : ℕ) → p < image.processors → StandsOn p (left p) s (processor m p)
