@@ -206,8 +206,9 @@ module _ (mode : Mode) (image : Image) where
 
   -- The vector is no longer pending, and a context has its class in service.
   pub begun_is : (a : Apic) (set : NatSet) (bs : List BodyContext) (v : ℕ) (b : BodyContext) → ApicIs mode image a set bs → v < 256 → b.service ≡ Some (v / 16)
+      → list_all (λ (d : BodyContext). outranks v d.service) bs ≡ true
       → ApicIs mode image (begun a v) (put_at set v false) (b ∷ bs)
-  begun_is a set bs v b is lt hb =
+  begun_is a set bs v b is lt hb above =
       let out = puts a.irr v false is.irr.four is.irr.small lt in
       let in' = puts a.isr v true is.isr.four is.isr.small lt in record {
         tpr = is.tpr;
@@ -220,4 +221,18 @@ module _ (mode : Mode) (image : Image) where
             ∙ any_more (vectors_of a.isr) (λ u. u / 16 == class) v lt
             ∙ ap (λ t. (v / 16 == class) || t) (is.service class)
             ∙ sym (ap (λ o. serves mode image class o || list_any (has class) bs) hb);
+        single = λ u w lu lw hu hw e. ⊎_elim
+            (λ q. ⊎_elim (λ r. q.1 ∙ sym r.1)
+            (λ r. let low = lower w lw (sym (at_other (vectors_of a.isr) v w true r.0) ∙ sym (in'.0 w) ∙ hw) in let same = q.1 in absurd (omega arith))
+            (eqb_tells w v))
+            (λ q. let held = sym (at_other (vectors_of a.isr) v u true q.0) ∙ sym (in'.0 u) ∙ hu in ⊎_elim
+            (λ r. let low = lower u lu held in let same = r.1 in absurd (omega arith))
+            (λ r. is.single u w lu lw held (sym (at_other (vectors_of a.isr) v w true r.0) ∙ sym (in'.0 w) ∙ hw) e) (eqb_tells w v))
+            (eqb_tells u v);
       }
+    where
+      -- the classes in service are below that of the vector
+      lower : (u : ℕ) → u < 256 → vectors_of a.isr u ≡ true → u / 16 < v / 16
+      lower u lu h = outranks_each v (u / 16) bs above (sym (is.service (u / 16))
+          ∙ any_number (λ w. vectors_of a.isr w && (w / 16 == u / 16)) 256 0 u (omega arith) lu
+          (ap (λ t. t && (u / 16 == u / 16)) h ∙ eq-eqb (u / 16) (u / 16) refl))
