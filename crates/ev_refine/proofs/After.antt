@@ -308,6 +308,7 @@ module _ (mode : Mode) (image : Image) where
     isr = h.isr;
     pending = h.pending;
     service = λ class. h.service class ∙ sym (serving class);
+    single = h.single;
   })
 
   -- Its tasks, slots, bodies and pending vectors may be others; of the rest the step leaves all.

@@ -400,7 +400,7 @@ module _ (mode : Mode) (image : Image) (formed : IsImage image) (built : IsBuilt
       let bs : List BodyContext = body_at_start found.0 User e ∷ [] in
       raise_turn left s m h p lt hb u (Arrived v) is_cause found.0 found.1 (begun (s.apics p) v) set
       (begun_is mode image (s.apics p) x.pending [] v (body_at_start found.0 User e)
-      (subst (ApicIs mode image (s.apics p) x.pending) hb u.on.apic) comes.to refl)
+      (subst (ApicIs mode image (s.apics p) x.pending) hb u.on.apic) comes.to refl refl)
       (ap (chosen_step image m p) (u.chosen ∙ ap interrupt_or_next is)
       ∙ ap (λ (q : abstract.Processor × List Entry). (with_processor m p q.0, q.1))
       (delivered_is image p (record x { pending = set }) found.0 e holder hb found.1 (holder.key_is ∙ st.key))

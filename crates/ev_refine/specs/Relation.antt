@@ -147,6 +147,8 @@ module _ (mode : Mode) (image : Image) where
     pub pending : (v : ℕ) → v < 256 → vectors_of a.irr v ≡ set v
     pub service : (class : ℕ) → list_any (λ v. vectors_of a.isr v && (v / 16 == class)) (numbers_from 0 256)
         ≡ list_any (λ (b : BodyContext). serves class b.service) bs
+    -- one vector of a class, so that the end of an interrupt ends its class
+    pub single : (u v : ℕ) → u < 256 → v < 256 → vectors_of a.isr u ≡ true → vectors_of a.isr v ≡ true → u / 16 ≡ v / 16 → u ≡ v
 
   -- Processor p of the one stands for processor p of the other; at most `left` edges come before a visible step.
   pub record StandsOn (p left : ℕ) (s : System) (x : abstract.Processor) : Type 0 where
