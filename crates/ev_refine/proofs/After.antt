@@ -1,9 +1,8 @@
 -- The relation after a step of one processor: of that processor, of the others, and of the words that all share.
-use Rattle.std.proofs.Common.{◌≡◌, ◌⊎◌, inl, inr, ⊎_elim, ℕ, ◌+◌, ◌*◌, ◌%◌, ◌<◌, ◌≤◌, Bool, true, false, not, List, [], ◌∷◌, length, map, get_or, Option, Some, None, refl, sym, ap, ◌∙◌, subst, arith}
+use Rattle.std.proofs.Common.{◌≡◌, ◌⊎◌, inl, inr, ⊎_elim, ℕ, ◌+◌, ◌*◌, ◌<◌, ◌≤◌, Bool, true, false, not, List, [], ◌∷◌, length, Option, Some, None, refl, sym, ap, ◌∙◌, subst, arith}
 use Rattle.std.specs.Prelude.{if◌then◌else◌, ◌==◌, ◌&&◌, ◌/◌, reverse}
 use Rattle.std.specs.List.{list_any}
 use Rattle.std.proofs.lemmas.Bool.Decides.{eqb_tells}
-use Rattle.std.proofs.lemmas.Nat.{mod_below}
 use Rattle.ev_isa.specs.Word.{NatMap, NatSet, put_at, numbers_from}
 use Rattle.ev_isa.specs.declared.mode.Mode.{Mode}
 use Rattle.ev_isa.specs.declared.mode.Mode.TheVariants.{Idt, Fred}
@@ -34,7 +33,7 @@ use Rattle.ev_refine.specs.Named.{Named, UserRsp, Top, Current, Mark, Port, Head
 use Rattle.ev_refine.specs.Domain.{IsInDomain}
 use Rattle.ev_refine.specs.Relation.{Chain, Runs, serves, StandsOn, RecordIs, Linked, Shares, Stands, most_edges}
 use Rattle.ev_refine.proofs.Maps.{at_same}
-use Rattle.ev_refine.proofs.Words.{area_word, fixed_stays, stack_stays, stacks_stay, area_stays, saved_stays}
+use Rattle.ev_refine.proofs.Words.{area_word, IsBeside, on_its_stack, fixed_stays, beside_stays, stacks_stay, area_stays, saved_stays}
 use Rattle.ev_symbolic.proofs.Values.{and_left, and_right}
 use Rattle.ev_refine.proofs.Chains.{chain_plain}
 use Rattle.ev_refine.proofs.Legality.{legal_few}
@@ -271,26 +270,13 @@ pub latch_parts : (layer : Layer) (f : Frame) (nmi latch blocked x : Bool) → L
 latch_parts Plain Held nmi latch blocked x h = h
 
 module _ (mode : Mode) (image : Image) where
-  pub as_runs : (layer : Layer) (p left more r : ℕ) (t : Task) (f : Frame) (sw : Bool) (bs : List BodyContext) (as' : List Activation) (c : Processor)
-      (m : Memory) → Chain mode image p left r t f sw bs as' c m → Runs mode image p left more r t layer f sw bs as' c m
-  as_runs Plain p left more r t f sw bs as' c m h = h
+  pub as_runs : (layer : Layer) (p left more r to : ℕ) (t : Task) (f : Frame) (sw : Bool) (bs : List BodyContext) (as' : List Activation) (c : Processor)
+      (m : Memory) → Chain mode image p left r to t f sw bs as' c m → Runs mode image p left more r to t layer f sw bs as' c m
+  as_runs Plain p left more r to t f sw bs as' c m h = h
 
-  pub as_chain : (layer : Layer) (p left more r : ℕ) (t : Task) (f : Frame) (sw : Bool) (bs : List BodyContext) (as' : List Activation) (c : Processor)
-      (m : Memory) → Runs mode image p left more r t layer f sw bs as' c m → Chain mode image p left r t f sw bs as' c m
-  as_chain Plain p left more r t f sw bs as' c m h = h
-
-  -- the bodies return to one of the tasks
-  first_small : (n d : ℕ) (xs : List ℕ) → d < n → get_or (map (λ k. k % n) xs) 0 d < n
-  first_small n d [] h = h
-  first_small n d (x ∷ xs) h = mod_below x n (omega arith)
-
-  pub returns_to : (p left : ℕ) (s : System) (x : abstract.Processor) (on : StandsOn mode image p left s x) → on.returning < length (tasks_of image p)
-  returns_to p left s x on = go on.switching on.is_returning
-    where
-      go : (sw : Bool) → on.returning ≡ (if sw then get_or x.waiting 0 x.running else x.running) → on.returning < length (tasks_of image p)
-      go true h = subst (λ n. n < length (tasks_of image p)) (sym (h ∙ ap (λ ws. get_or ws 0 x.running) on.waiting))
-          (first_small (length (tasks_of image p)) x.running _ on.running)
-      go false h = subst (λ n. n < length (tasks_of image p)) (sym h) on.running
+  pub as_chain : (layer : Layer) (p left more r to : ℕ) (t : Task) (f : Frame) (sw : Bool) (bs : List BodyContext) (as' : List Activation) (c : Processor)
+      (m : Memory) → Runs mode image p left more r to t layer f sw bs as' c m → Chain mode image p left r to t f sw bs as' c m
+  as_chain Plain p left more r to t f sw bs as' c m h = h
 
   pub few_inner : (latch : Bool) → inner_edges latch ≤ 31
   few_inner true = omega arith
@@ -299,16 +285,17 @@ module _ (mode : Mode) (image : Image) where
   -- Its tasks, slots and bodies may be others; of the rest the step leaves all.
   pub own_becomes : (p left : ℕ) (s s' : System) (x : abstract.Processor) (σ : Seat) (cpu : Processor) (as' : List Activation) (words : NatMap ℕ)
       (ts : NatMap Task) (slots : NatMap ℕ) (bs : List BodyContext) (own : ℕ) (on : StandsOn mode image p left s x) → p < 32
-      → length (tasks_of image p) ≤ 4 → Moves p s s' cpu as' words → σ.stack ≡ on.returning → σ.stack < 7 → (names : List Named) → AreNames p names
+      → length (tasks_of image p) ≤ 4 → Moves p s s' cpu as' words → ((i : ℕ) → (i ≡ on.returning → ⊥) → IsBeside mode σ i) → σ.stack < 7 →
+      (names : List Named) → AreNames p names
       → Changes p σ names s.memory.words words → ((k : ℕ) → k < 64 → words (pcpu p + slot_offset k) ≡ slots k)
       → ((i : ℕ) → (i ≡ on.returning → ⊥) → ts i ≡ x.tasks i) → ((i : ℕ) → i < length (tasks_of image p) → IsTask (ts i))
       → cpu.nmi_blocked ≡ list_any (is_nmi_body image) bs
       → ((class : ℕ) → list_any (λ (b : BodyContext). serves mode image class b.service) bs
       ≡ list_any (λ (b : BodyContext). serves mode image class b.service) x.bodies)
       → own + inner_edges (s.latches p) ≤ most_edges mode image
-      → Chain mode image p own on.returning (ts on.returning) on.frame on.switching bs as' cpu (with_words s.memory words)
+      → Chain mode image p own x.running on.returning (ts on.returning) on.frame on.switching bs as' cpu (with_words s.memory words)
       → StandsOn mode image p (own + inner_edges (s.latches p)) s' (record x { tasks = ts; slots = slots; bodies = bs })
-  own_becomes p left s s' x σ cpu as' words ts slots bs own on hp four mv at hs names good_names changes slots_are same good blocked serving few chain =
+  own_becomes p left s s' x σ cpu as' words ts slots bs own on hp four mv beside hs names good_names changes slots_are same good blocked serving few chain =
       let written = good_names.written in let spared = good_names.kernel in record {
         few = few;
         own = own;
@@ -327,7 +314,7 @@ module _ (mode : Mode) (image : Image) where
         mark = λ e. ap (λ w. w (pcpu p + 0x20)) mv.words_are ∙ mark_is p σ names hp hs s.memory.words words written changes spared p hp ∙ on.mark e;
         saved = λ i lt d. in_words (IsSaved mode p i (ts i)) (subst (λ t. IsSaved mode p i t words) (sym (same i d))
             (saved_stays mode p i (x.tasks i) s.memory.words words hp (omega arith)
-            (stack_stays p σ names s.memory.words words hp hs written changes i (λ e. d (e ∙ at)))
+            (beside_stays p σ names s.memory.words words hp hs written changes mode i (omega arith) (beside i d))
             (on.saved i lt d)));
         tasks = good;
         latch = latch_again on.layer on.frame (list_any (is_nmi_body image) x.bodies) (list_any (is_nmi_body image) bs) (s.latches p) (s'.latches p)
@@ -336,8 +323,9 @@ module _ (mode : Mode) (image : Image) where
         service = λ class. ap (λ (a : Apic). list_any (λ v. vectors_of a.isr v && (v / 16 == class)) (numbers_from 0 256)) mv.apic
             ∙ on.service class ∙ sym (serving class);
         slots = λ k lt. ap (λ w. w (pcpu p + slot_offset k)) mv.words_are ∙ slots_are k lt;
-        runs = as_runs on.layer p own 0 on.returning (ts on.returning) on.frame on.switching bs (s'.activations p) (s'.cpus p) s'.memory
-            (moved (λ a c w r. Chain mode image p own on.returning (ts on.returning) on.frame on.switching bs a c (record { regions = r; words = w })) chain);
+        runs = as_runs on.layer p own 0 x.running on.returning (ts on.returning) on.frame on.switching bs (s'.activations p) (s'.cpus p) s'.memory
+            (moved (λ a c w r. Chain mode image p own x.running on.returning (ts on.returning) on.frame on.switching bs a c
+            (record { regions = r; words = w })) chain);
       }
     where
       in_words : (P : NatMap ℕ → Type 0) → P words → P s'.memory.words
@@ -352,17 +340,17 @@ module _ (mode : Mode) (image : Image) where
   -- its slots are as they were
   pub own_after : (p left : ℕ) (s s' : System) (x : abstract.Processor) (σ : Seat) (cpu : Processor) (as' : List Activation) (words : NatMap ℕ)
       (ts : NatMap Task) (bs : List BodyContext) (own : ℕ) (on : StandsOn mode image p left s x) → p < 32 → length (tasks_of image p) ≤ 4
-      → Moves p s s' cpu as' words → σ.stack ≡ on.returning → σ.stack < 7 → (names : List Named) → AreSparing p names
+      → Moves p s s' cpu as' words → ((i : ℕ) → (i ≡ on.returning → ⊥) → IsBeside mode σ i) → σ.stack < 7 → (names : List Named) → AreSparing p names
       → Changes p σ names s.memory.words words
       → ((i : ℕ) → (i ≡ on.returning → ⊥) → ts i ≡ x.tasks i) → ((i : ℕ) → i < length (tasks_of image p) → IsTask (ts i))
       → cpu.nmi_blocked ≡ list_any (is_nmi_body image) bs
       → ((class : ℕ) → list_any (λ (b : BodyContext). serves mode image class b.service) bs
       ≡ list_any (λ (b : BodyContext). serves mode image class b.service) x.bodies)
       → own + inner_edges (s.latches p) ≤ most_edges mode image
-      → Chain mode image p own on.returning (ts on.returning) on.frame on.switching bs as' cpu (with_words s.memory words)
+      → Chain mode image p own x.running on.returning (ts on.returning) on.frame on.switching bs as' cpu (with_words s.memory words)
       → StandsOn mode image p (own + inner_edges (s.latches p)) s' (record x { tasks = ts; bodies = bs })
-  own_after p left s s' x σ cpu as' words ts bs own on hp four mv at hs names sparing changes same good blocked serving few chain =
-      own_becomes p left s s' x σ cpu as' words ts x.slots bs own on hp four mv at hs names sparing.allowed changes
+  own_after p left s s' x σ cpu as' words ts bs own on hp four mv beside hs names sparing changes same good blocked serving few chain =
+      own_becomes p left s s' x σ cpu as' words ts x.slots bs own on hp four mv beside hs names sparing.allowed changes
       (λ k lt. slot_same p σ names hp hs s.memory.words words sparing.allowed.written changes sparing.slots p k hp lt ∙ on.slots k lt)
       same good blocked serving few chain
 
@@ -390,7 +378,8 @@ module _ (mode : Mode) (image : Image) where
             (current_is p σ names hp hs s.memory.words words written changes spared mode q x.running hq (on.current f));
         mark = λ f. ap (λ w. w (pcpu q + 0x20)) mv.words_are ∙ mark_is p σ names hp hs s.memory.words words written changes spared q hq ∙ on.mark f;
         saved = λ i lt f. in_words (IsSaved mode q i (x.tasks i)) (saved_stays mode q i (x.tasks i) s.memory.words words hq (omega arith)
-            (λ a h k. stacks_stay p σ names s.memory.words words hp hs written changes q d a (omega arith) (omega arith)) (on.saved i lt f));
+            (λ a h k. let b = on_its_stack mode q i a h in stacks_stay p σ names s.memory.words words hp hs written changes q d a (omega arith) (omega arith))
+            (on.saved i lt f));
         tasks = on.tasks;
         latch = subst (λ b. LatchIs on.layer on.frame (list_any (is_nmi_body image) x.bodies) (s'.latches q) b x.nmi)
             (sym (ap (λ (c : Processor). c.nmi_blocked) (mv.other_cpu q e)))
@@ -401,29 +390,33 @@ module _ (mode : Mode) (image : Image) where
         slots = λ k lt. ap (λ w. w (pcpu q + slot_offset k)) mv.words_are
             ∙ area_stays p σ names s.memory.words words hp hs written changes q hq (good_names.own q d) (pcpu q + slot_offset k) (omega arith) (omega arith)
             ∙ on.slots k lt;
-        runs = as_runs on.layer q on.own on.more on.returning (x.tasks on.returning) on.frame on.switching x.bodies (s'.activations q) (s'.cpus q) s'.memory
-            (moved (λ a c w r. Chain mode image q on.own on.returning (x.tasks on.returning) on.frame on.switching x.bodies a c
+        runs = as_runs on.layer q on.own on.more x.running on.returning (x.tasks on.returning) on.frame on.switching x.bodies (s'.activations q)
+            (s'.cpus q) s'.memory
+            (moved (λ a c w r. Chain mode image q on.own x.running on.returning (x.tasks on.returning) on.frame on.switching x.bodies a c
             (record { regions = r; words = w }))
-            (chain_stays mode image q on.own on.returning (x.tasks on.returning) on.frame on.switching x.bodies (s.activations q) (s.cpus q) s.memory words lq
+            (chain_stays mode image q on.own x.running on.returning (x.tasks on.returning) on.frame on.switching x.bodies (s.activations q)
+            (s.cpus q) s.memory words lq
             eight
-            (others_spared mode image p q on.returning σ names s.memory.words words x.bodies hp hs hq d written (good_names.own q d) changes
-            (chain_plain mode image q on.own on.returning (x.tasks on.returning) on.frame on.switching x.bodies (s.activations q) (s.cpus q) s.memory chain)
-            returning_small deep)
+            (others_spared mode image p q x.running σ names s.memory.words words x.bodies hp hs hq d written (good_names.own q d) changes
+            (chain_plain mode image q on.own x.running on.returning (x.tasks on.returning) on.frame on.switching x.bodies (s.activations q)
+            (s.cpus q) s.memory chain)
+            running_small deep)
             chain));
       }
     where
       hq : q < 32
       hq = omega arith
 
-      chain : Chain mode image q on.own on.returning (x.tasks on.returning) on.frame on.switching x.bodies (s.activations q) (s.cpus q) s.memory
-      chain = as_chain on.layer q on.own on.more on.returning (x.tasks on.returning) on.frame on.switching x.bodies (s.activations q) (s.cpus q) s.memory
+      chain : Chain mode image q on.own x.running on.returning (x.tasks on.returning) on.frame on.switching x.bodies (s.activations q) (s.cpus q) s.memory
+      chain = as_chain on.layer q on.own on.more x.running on.returning (x.tasks on.returning) on.frame on.switching x.bodies (s.activations q)
+          (s.cpus q) s.memory
           on.runs
 
       in_words : (P : NatMap ℕ → Type 0) → P words → P s'.memory.words
       in_words P h = subst P (sym mv.words_are) h
 
-      returning_small : on.returning < 7
-      returning_small = let l = returns_to q left s x on in omega arith
+      running_small : x.running < 7
+      running_small = let l = on.running in omega arith
 
       moved : (P : List Activation → Processor → NatMap ℕ → List Region → Type 0) → P (s.activations q) (s.cpus q) words s.memory.regions
           → P (s'.activations q) (s'.cpus q) s'.memory.words s'.memory.regions

@@ -110,20 +110,20 @@ module _ (mode : Mode) (image : Image) where
   Interrupted (b ∷ below) w [] = ⊥
   Interrupted (b ∷ below) w (a ∷ as') = (a.rsp ≡ rsp w) × (is_in_repeat a.rip ≡ is_in_repeat w.rip)
 
-  -- Each context stands on the one before it, and the first on task r, which is t: the running one, or where its exit switches, the next one. Each has an
-  -- activation of its own, which isn't an inner NMI's.
-  abbrev pub Chain : (p left r : ℕ) → Task → Frame → (switching : Bool) → List BodyContext → List Activation → Processor → Memory → Type 0
-  Chain p left r t f sw [] as' c m = RunsTask mode image p r t c × (sw ≡ false) × (as' ≡ [])
-  Chain p left r t f sw (b ∷ below) [] c m = ⊥
-  Chain p left r t f sw (b ∷ below) (a ∷ as') c m =
+  -- Each context stands on the one before it, and the first on a task: all on the stack of task r, which runs, and the first returns to task `to`, which is t:
+  -- to the same, or where its exit switches, to the next one. Each has an activation of its own, which isn't an inner NMI's.
+  abbrev pub Chain : (p left r to : ℕ) → Task → Frame → (switching : Bool) → List BodyContext → List Activation → Processor → Memory → Type 0
+  Chain p left r to t f sw [] as' c m = RunsTask mode image p to t c × (sw ≡ false) × (as' ≡ [])
+  Chain p left r to t f sw (b ∷ below) [] c m = ⊥
+  Chain p left r to t f sw (b ∷ below) (a ∷ as') c m =
       (w : Processor) × IsContext b × (a.inner ≡ false) × Interrupted below w as'
-      × Beneath (keeps_cr2 (kind_of image b below)) (λ v. Chain p body_edges r t f (chained sw below) below as' v m) w
+      × Beneath (keeps_cr2 (kind_of image b below)) (λ v. Chain p body_edges r to t f (chained sw below) below as' v m) w
       × Leads mode p (kind_of image b below) f w m.words
       × Active mode image p left (kind_of image b below) (seat_of mode image r (b ∷ below)) f (switches_at sw below) w b c m
 
   -- and what stands on them; `more` edges come behind its own
-  abbrev pub Runs : (p left more r : ℕ) → Task → Layer → Frame → Bool → List BodyContext → List Activation → Processor → Memory → Type 0
-  Runs p left more r t Plain f sw bs as' c m = Chain p left r t f sw bs as' c m
+  abbrev pub Runs : (p left more r to : ℕ) → Task → Layer → Frame → Bool → List BodyContext → List Activation → Processor → Memory → Type 0
+  Runs p left more r to t Plain f sw bs as' c m = Chain p left r to t f sw bs as' c m
 
   -- ---- what belongs to one processor
 
@@ -155,7 +155,7 @@ module _ (mode : Mode) (image : Image) where
     pub service : (class : ℕ) → list_any (λ v. vectors_of (s.apics p).isr v && (v / 16 == class)) (numbers_from 0 256)
         ≡ list_any (λ (b : BodyContext). serves class b.service) x.bodies
     pub slots : (k : ℕ) → k < 64 → s.memory.words (pcpu p + slot_offset k) ≡ x.slots k
-    pub runs : Runs p own more returning (x.tasks returning) layer frame switching x.bodies (s.activations p) (s.cpus p) s.memory
+    pub runs : Runs p own more x.running returning (x.tasks returning) layer frame switching x.bodies (s.activations p) (s.cpus p) s.memory
 
   -- ---- what all processors share
 
