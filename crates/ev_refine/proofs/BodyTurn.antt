@@ -59,7 +59,7 @@ use Rattle.ev_refine.proofs.Domains.{four_tasks}
 use Rattle.ev_refine.proofs.Legality.{turn_legal, legal_few}
 use Rattle.ev_refine.proofs.Standing.{seen, Moves, step_moves, delivery_moves}
 use Rattle.ev_refine.proofs.Stays.{AreSpared, chain_stays, below_spared}
-use Rattle.ev_refine.proofs.After.{none_spares, slot_same, cell_same, page_same, user_same, few_inner, own_becomes, stands_become}
+use Rattle.ev_refine.proofs.After.{none_spares, slot_same, cell_same, page_same, user_same, few_inner, own_becomes, stands_become, AreSameWords, tasks_same, current_is, mark_is}
 use Rattle.ev_refine.proofs.Depth.{stands_depth}
 use Rattle.ev_refine.proofs.UserState.{TurnsTo, makes_turn, is_safe, tells_bodies}
 use Rattle.ev_refine.proofs.UserBody.{HasBody, has_body}
@@ -470,9 +470,14 @@ module _ (mode : Mode) (image : Image) (built : IsBuilt image) (good : IsImage i
     abbrev now : ℕ
     now = body_edges mode image + inner_edges (s.latches p)
 
+    words_same : AreSameWords p (seat_under mode r (suc n)) [] small narrow s.memory.words words' tt changes p
+    words_same = tasks_same p (seat_under mode r (suc n)) [] small narrow s.memory.words words' tt changes refl p small
+
     there : StandsOn mode image p now s' z
     there = own_becomes mode image p (left p) s s' x (seat_under mode r (suc n)) d as' words' x.tasks x.slots now_bodies (body_edges mode image) on small
         (four_tasks image good p hp) mv (λ i d. inr (area_under mode r n)) narrow [] (none_spares p).allowed changes
+        (λ f. current_is p (seat_under mode r (suc n)) [] small narrow s.memory.words words' tt changes p words_same mode x.running (on.current f))
+        (λ f. mark_is p (seat_under mode r (suc n)) [] small narrow s.memory.words words' tt changes p words_same ∙ on.mark f)
         (λ k l. slot_same p (seat_under mode r (suc n)) [] small narrow s.memory.words words' tt changes refl p k small l ∙ on.slots k l)
         (λ i f. refl) on.tasks (begun.blocking ∙ sym (none_nmi image now_bodies plain_now))
         (λ class. step.unserved mode image built good facts left s m h p hp class now_bodies quiet

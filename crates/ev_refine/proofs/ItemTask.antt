@@ -309,6 +309,8 @@ module _ (mode : Mode) (image : Image) (built : IsBuilt image) (good : IsImage i
       same_tasks = λ i d. ⊎_elim (λ e. absurd (d (e.1 ∙ sym (runs_is over)))) (λ e. at_other x.tasks x.running i t e.0) (eqb_tells i x.running);
       good_tasks = λ i q. ⊎_elim (λ e. subst IsTask (sym (at_same x.tasks x.running i t e.1)) runs.task)
           (λ e. subst IsTask (sym (at_other x.tasks x.running i t e.0)) (on.tasks i q)) (eqb_tells i x.running);
+      current = step.same_current mode image built good facts left s m h p hp o [] (none_spares p).allowed ws changes refl;
+      mark = step.same_mark mode image built good facts left s m h p hp o [] (none_spares p).allowed ws changes refl;
       slots_are = step.same_slots mode image built good facts left s m h p hp o [] (none_spares p).allowed ws changes refl;
       user = step.same_user mode image built good facts left s m h p hp o [] (none_spares p).allowed ws changes refl;
       held = h.shares.held;

@@ -45,8 +45,9 @@ use Rattle.ev_user.specs.Sees.{IsUserWord}
 use Rattle.ev_user.specs.Words.{HoldsWords}
 use Rattle.ev_concrete.specs.LiveWords.{area_bytes}
 use Rattle.ev_concrete.specs.Opening.{tasks_of}
+use Rattle.ev_refine.specs.Tasks.{CurrentIs}
 use Rattle.ev_refine.specs.Nmi.{Leads, inner_edges}
-use Rattle.ev_refine.specs.Named.{Named, is_slot, is_cell, is_page_bit, is_user_word, have_none, UnknownTo, Changes}
+use Rattle.ev_refine.specs.Named.{Named, is_task_word, is_slot, is_cell, is_page_bit, is_user_word, have_none, UnknownTo, Changes}
 use Rattle.ev_refine.specs.Domain.{IsQuiet, AreQuiet, IsInDomain}
 use Rattle.ev_refine.specs.Active.{item_place, address_of_item, here, IsKernelSs, Means, Active}
 use Rattle.ev_refine.specs.Relation.{IsContext, Beneath, keeps_cr2, switches_at, chained, Interrupted, body_edges, Chain, serves, StandsOn, Stands}
@@ -62,7 +63,7 @@ use Rattle.ev_refine.proofs.Instructions.{stays_inside}
 use Rattle.ev_refine.proofs.Standing.{instruction_first, hidden, seen, after_ran, Runs, ran_step, ran_writes, ran_safe, ran_shown, ran_stays, Moves, step_moves}
 use Rattle.ev_refine.proofs.Stays.{means_again, leads_again, AreSpared, chain_stays, seat_fits, below_spared}
 use Rattle.ev_refine.proofs.Chains.{Kept, chain_kept, chain_plain, chain_open}
-use Rattle.ev_refine.proofs.After.{AreNames, AreSparing, own_word, none_spares, slot_same, cell_same, page_same, user_same, few_inner, latch_parts, as_chain, own_becomes, own_after, stands_become, stands_after}
+use Rattle.ev_refine.proofs.After.{AreNames, AreSparing, own_word, none_spares, tasks_same, current_is, mark_is, slot_same, cell_same, page_same, user_same, few_inner, latch_parts, as_chain, own_becomes, own_after, stands_become, stands_after}
 use Rattle.ev_refine.proofs.CallKinds.{is_over_task, is_plain_kind, over_any, beneath_as, stands_alone, ArePlain, none_nmi, seat_under, area_under, plain_seat, plain_knows}
 use Rattle.ev_refine.proofs.Words.{IsBeside}
 use Rattle.ev_refine.proofs.Domains.{four_tasks}
@@ -75,7 +76,8 @@ use Rattle.ev_refine.proofs.Depth.{body_at, active_outside, stands_depth, goes_o
 -- the names of a block's writes
 rsp_spares : (p : ℕ) → p < 32 → (rsp : Bool) → AreSparing p (names_if rsp p)
 rsp_spares p hp true = record {
-  allowed = record { written = (hp, tt); own = λ q d. (own_word p q d, tt); kernel = refl };
+  allowed = record { written = (hp, tt); own = λ q d. (own_word p q d, tt); calls = refl };
+  tasks = refl;
   slots = refl;
   cells = refl;
   pages = refl;
@@ -407,6 +409,8 @@ module _ (mode : Mode) (image : Image) (built : IsBuilt image) (good : IsImage i
       pub others : (q : ℕ) → (q == p) ≡ false → processor m' q ≡ processor m q
       pub same_tasks : (i : ℕ) → (i ≡ to → ⊥) → tasks i ≡ x.tasks i
       pub good_tasks : (i : ℕ) → i < length (tasks_of image p) → IsTask (tasks i)
+      pub current : on.switching ≡ false → CurrentIs mode p r words
+      pub mark : on.switching ≡ false → words (pcpu p + 0x20) ≡ (if x.resched then 1 else 0)
       pub slots_are : (k : ℕ) → k < 64 → words (pcpu p + slot_offset k) ≡ slots k
       pub user : (a : ℕ) → IsUserWord a → words a ≡ m'.words a
       pub held : HoldsWords m'.words
@@ -430,7 +434,7 @@ module _ (mode : Mode) (image : Image) (built : IsBuilt image) (good : IsImage i
         = none_nmi image bs (chain_plain mode image p now r to (tasks to) on.frame on.switching bs _ cpu (with_words s.memory words) goes_on) in
         let there : StandsOn mode image p (now + inner_edges (s.latches p)) (after_ran s p cpu words) x'
         = own_becomes mode image p (left p) s (after_ran s p cpu words) x σ cpu _ words tasks slots bs now on small (four_tasks image good p hp)
-        (moves cpu words) beside narrow names allowed changes y.slots_are y.same_tasks y.good_tasks (hb ∙ sym none)
+        (moves cpu words) beside narrow names allowed changes y.current y.mark y.slots_are y.same_tasks y.good_tasks (hb ∙ sym none)
         (λ class. unserved class bs quiet ∙ sym (unserved class x.bodies domain.bodies))
         (let f = few_inner mode image (s.latches p) in omega arith) goes_on in
         let inside : IsInDomain x' = record { pending = domain.pending; nmi = domain.nmi; resched = domain.resched; bodies = quiet } in
@@ -467,6 +471,14 @@ module _ (mode : Mode) (image : Image) (built : IsBuilt image) (good : IsImage i
 
     -- what holds of the components that a step leaves alone, by the names that it writes
     module _ (names : List Named) (allowed : AreNames p names) (words : NatMap ℕ) (changes : Changes p σ names s.memory.words words) where
+      pub same_current : have_none is_task_word names ≡ true → on.switching ≡ false → CurrentIs mode p r words
+      same_current none e = current_is p σ names small narrow s.memory.words words allowed.written changes p
+          (tasks_same p σ names small narrow s.memory.words words allowed.written changes none p small) mode r (on.current e)
+
+      pub same_mark : have_none is_task_word names ≡ true → on.switching ≡ false → words (pcpu p + 0x20) ≡ (if x.resched then 1 else 0)
+      same_mark none e = mark_is p σ names small narrow s.memory.words words allowed.written changes p
+          (tasks_same p σ names small narrow s.memory.words words allowed.written changes none p small) ∙ on.mark e
+
       pub same_slots : have_none is_slot names ≡ true → (k : ℕ) → k < 64 → words (pcpu p + slot_offset k) ≡ x.slots k
       same_slots none k l = slot_same p σ names small narrow s.memory.words words allowed.written changes none p k small l ∙ on.slots k l
 
@@ -487,6 +499,8 @@ module _ (mode : Mode) (image : Image) (built : IsBuilt image) (good : IsImage i
         others = λ q e. at_other m.processors p q (record x { bodies = bs }) e;
         same_tasks = λ i d. refl;
         good_tasks = on.tasks;
+        current = same_current sparing.tasks;
+        mark = same_mark sparing.tasks;
         slots_are = same_slots sparing.slots;
         user = same_user no_user;
         held = h.shares.held;
