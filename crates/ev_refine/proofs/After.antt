@@ -18,6 +18,7 @@ use Rattle.ev_abstract.specs.Boundary.{is_nmi_body}
 use Rattle.ev_abstract.specs.Context.{BodyContext, CallId}
 use Rattle.ev_abstract.specs.Machine.{Machine, processor, CallRecord, CallState, Free, Queued, Taken}
 use Rattle.ev_abstract.specs.Machine as abstract
+use Rattle.ev_law.specs.Bases.{HasBases}
 use Rattle.ev_law.specs.Legal.{Legal}
 use Rattle.ev_concrete.specs.Opening.{tasks_of}
 use Rattle.ev_concrete.specs.ConcreteRun.{System, Activation}
@@ -593,13 +594,15 @@ module _ (mode : Mode) (image : Image) where
       (as' : List Activation) (words : NatMap ℕ) → IsImage image → IsAccepted image
       → ((q : ℕ) → q < image.processors → length (tasks_of image q) ≤ 4)
       → Stands mode image left s m → p < image.processors → Moves p s s' cpu as' words → σ.stack < 7 → (names : List Named) → AreNames p names
-      → Changes p σ names s.memory.words words → Becomes p m m' x words → Legal image m' → HoldsNumbers m' → IsInDomain x → StandsOn mode image p now s' x
+      → Changes p σ names s.memory.words words → Becomes p m m' x words → Legal image m' → HasBases image m' → HoldsNumbers m' → IsInDomain x
+      → StandsOn mode image p now s' x
       → Stands mode image (put_at left p now) s' m'
-  stands_become left s s' m m' p now x σ cpu as' words good accepted four h lt mv hs names good_names changes a legal numbers domain on = record {
+  stands_become left s s' m m' p now x σ cpu as' words good accepted four h lt mv hs names good_names changes a legal bases numbers domain on = record {
     regions_are = mv.regions ∙ h.regions_are;
     fixed = λ b f. ap (λ w. w b) mv.words_are ∙ fixed_stays p σ names s.memory.words words hp hs good_names.written changes b f ∙ h.fixed b f;
     shares = shares_become p s s' m m' x σ cpu as' words hp good.count.1 mv hs names good_names changes a h.shares;
     legal = legal;
+    bases = bases;
     numbers = numbers;
     domain = λ q lq. ⊎_elim (λ e. subst (λ r. IsInDomain (processor m' r)) (sym e.1) (subst IsInDomain (sym a.own) domain))
         (λ e. subst IsInDomain (sym (a.others q e.0)) (h.domain q lq)) (eqb_tells q p);
@@ -632,9 +635,9 @@ module _ (mode : Mode) (image : Image) where
       → ((q : ℕ) → q < image.processors → length (tasks_of image q) ≤ 4)
       → Stands mode image left s m → p < image.processors → Moves p s s' cpu as' words → σ.stack < 7 → (names : List Named) → AreSparing p names
       → Changes p σ names s.memory.words words → ((b : ℕ) → IsUserWord b → words b ≡ m'.words b) → HoldsWords m'.words → Alike p m m' x
-      → Legal image m' → HoldsNumbers m' → IsInDomain x → StandsOn mode image p now s' x
+      → Legal image m' → HasBases image m' → HoldsNumbers m' → IsInDomain x → StandsOn mode image p now s' x
       → Stands mode image (put_at left p now) s' m'
-  stands_after left s s' m m' p now x σ cpu as' words good accepted four h lt mv hs names sparing changes user held a legal numbers domain on =
+  stands_after left s s' m m' p now x σ cpu as' words good accepted four h lt mv hs names sparing changes user held a legal bases numbers domain on =
       stands_become left s s' m m' p now x σ cpu as' words good accepted four h lt mv hs names sparing.allowed changes
       (record {
         own = a.own;
@@ -649,7 +652,7 @@ module _ (mode : Mode) (image : Image) where
             ∙ sym (ap (λ w. if w i then 1 else 0) a.present);
         cells = λ k l. cell_same p σ names hp hs s.memory.words words sparing.allowed.written changes sparing.cells k l ∙ h.shares.cells k l
             ∙ sym (ap (λ w. w k) a.cells);
-      }) legal numbers domain on
+      }) legal bases numbers domain on
     where
       hp : p < 32
       hp = let n = good.count.1 in omega arith

@@ -56,7 +56,7 @@ use Rattle.ev_refine.proofs.Maps.{at_same, at_other}
 use Rattle.ev_refine.proofs.CallKinds.{is_plain_kind, ArePlain, none_nmi, seat_under, plain_seat, area_under}
 use Rattle.ev_refine.proofs.Chains.{Kept, chain_kept}
 use Rattle.ev_refine.proofs.Domains.{four_tasks}
-use Rattle.ev_refine.proofs.Legality.{turn_legal, legal_few}
+use Rattle.ev_refine.proofs.Legality.{turn_legal, turn_bases, legal_few}
 use Rattle.ev_refine.proofs.Standing.{seen, Moves, step_moves, delivery_moves}
 use Rattle.ev_refine.proofs.Stays.{AreSpared, chain_stays, below_spared}
 use Rattle.ev_refine.proofs.After.{none_spares, slot_same, cell_same, page_same, user_same, few_inner, own_becomes, stands_become, AreSameWords, tasks_same, current_is, mark_is}
@@ -505,7 +505,8 @@ module _ (mode : Mode) (image : Image) (built : IsBuilt image) (good : IsImage i
           cells = λ k l. cell_same p (seat_under mode r (suc n)) [] small narrow s.memory.words words' tt changes refl k l ∙ h.shares.cells k l
               ∙ sym (ap (λ q. q k) y.cells);
         })
-        legal (step.numbers_behind mode image built good facts left s m h p hp o m' (entry_of p e (suc (suc n)) ∷ []) turned)
+        legal (turn_bases image m p h.bases (m', entry_of p e (suc (suc n)) ∷ []) turned)
+        (step.numbers_behind mode image built good facts left s m h p hp o m' (entry_of p e (suc (suc n)) ∷ []) turned)
         (record { pending = domain.pending; nmi = domain.nmi; resched = domain.resched; bodies = quiet }) there
 
     -- the frame's words are as many as before

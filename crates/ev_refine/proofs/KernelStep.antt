@@ -70,7 +70,7 @@ use Rattle.ev_refine.proofs.Domains.{four_tasks}
 use Rattle.ev_law.proofs.Ruled.{body_ruled}
 use Rattle.ev_user.specs.Numbers.{AreOfWords, HoldsNumbers}
 use Rattle.ev_user.proofs.KeepsNumbers.{items_keep_numbers}
-use Rattle.ev_refine.proofs.Legality.{turn_legal, legal_few}
+use Rattle.ev_refine.proofs.Legality.{turn_legal, turn_bases, legal_few}
 use Rattle.ev_refine.proofs.Depth.{body_at, active_outside, stands_depth, goes_on_inside, ran_counts}
 
 -- the names of a block's writes
@@ -360,7 +360,7 @@ module _ (mode : Mode) (image : Image) (built : IsBuilt image) (good : IsImage i
         (four_tasks image good) h hp (moves cpu words) narrow names sparing changes
         (λ a u. user_same p σ names small narrow s.memory.words words sparing.allowed.written changes no_user a u ∙ h.shares.user a u) h.shares.held
         (record { own = refl; others = λ q e. refl; present = refl; cells = refl; mail = refl; mail_nmi = refl; records = refl; queue = refl })
-        h.legal h.numbers domain there in
+        h.legal h.bases h.numbers domain there in
         let bound = on.enough in record {
           safe = ran_safe mode image s p cpu words run;
           counts = ran_counts image.processors s p cpu words cell.ins run (fetches c.rip cell hc).1 (length x.bodies) (length x.bodies) depth
@@ -453,7 +453,8 @@ module _ (mode : Mode) (image : Image) (built : IsBuilt image) (good : IsImage i
           pages = y.pages;
           cells = y.cells;
         })
-        (turn_legal image good built.accepted m p hp h.legal (m', es) ht) (numbers_behind m' es ht) inside there in
+        (turn_legal image good built.accepted m p hp h.legal (m', es) ht) (turn_bases image m p h.bases (m', es) ht)
+        (numbers_behind m' es ht) inside there in
         let turned : Stands mode image (put_at left p (now + inner_edges (s.latches p))) (after_ran s p cpu words) (turn image m p).0 =
         subst (λ q. Stands mode image (put_at left p (now + inner_edges (s.latches p))) (after_ran s p cpu words) q.0) (sym ht) all in record {
           safe = ran_safe mode image s p cpu words run;

@@ -13,6 +13,8 @@ use Rattle.ev_abstract.specs.declared.script_line.Line.TheVariants.{Turn}
 use Rattle.ev_law.specs.Legal.{Legal, numbers, knows}
 use Rattle.ev_law.proofs.Runs.{are_chain, short}
 use Rattle.ev_law.proofs.Lines.{lines_keep_legal}
+use Rattle.ev_law.specs.Bases.{HasBases}
+use Rattle.ev_law.proofs.Bases.{lines_keep_bases}
 
 -- behind a turn, whose outcome is told
 pub turn_legal : (image : Image) → IsImage image → IsAccepted image → (m : Machine) (p : ℕ) → p < image.processors → Legal image m
@@ -20,6 +22,11 @@ pub turn_legal : (image : Image) → IsImage image → IsAccepted image → (m :
 unfolding line_step is_line
 turn_legal image given accepted m p lt h z is =
     subst (λ (y : Machine × List Entry). Legal image y.0) is (lines_keep_legal image m (Turn p) given accepted (lt-ltb p image.processors lt) h)
+
+-- and its tasks have the GS bases of the image
+pub turn_bases : (image : Image) (m : Machine) (p : ℕ) → HasBases image m → (z : Machine × List Entry) → turn image m p ≡ z → HasBases image z.0
+unfolding line_step
+turn_bases image m p h z is = subst (λ (y : Machine × List Entry). HasBases image y.0) is (lines_keep_bases image m (Turn p) h)
 
 -- no more bodies stand than 32
 pub legal_few : (image : Image) → IsImage image → IsAccepted image → (m : Machine) (p : ℕ) → Legal image m → length (processor m p).bodies ≤ 32

@@ -30,6 +30,7 @@ use Rattle.ev_symbolic.proofs.Values.{and_left, and_right}
 use Rattle.ev_refine.specs.Domain.{IsInDomain}
 use Rattle.ev_refine.specs.Relation.{Shares, Stands, StandsOn, first_word}
 use Rattle.ev_law.proofs.Runs.{opening_is_legal}
+use Rattle.ev_law.proofs.Bases.{opening_has_bases}
 use Rattle.ev_user.proofs.KeepsNumbers.{opening_holds_numbers}
 use Rattle.ev_refine.proofs.Domains.{HasTasks, has_tasks}
 use Rattle.ev_user.proofs.Follows.{low_canonical}
@@ -434,6 +435,7 @@ module _ (mode : Mode) (image : Image) (given : IsImage image) where
     fixed = λ a f. refl;
     shares = shares;
     legal = opening_is_legal image;
+    bases = opening_has_bases image;
     numbers = opening_holds_numbers image given;
     domain = λ p lt. domain p;
     each = opening_processor;

@@ -47,7 +47,7 @@ use Rattle.ev_refine.proofs.CallKinds.{is_over_task, plain_no_nmi, over_kind}
 use Rattle.ev_refine.proofs.Domains.{four_tasks}
 use Rattle.ev_refine.proofs.Maps.{at_same}
 use Rattle.ev_user.proofs.KeepsNumbers.{starts_with_words, causes_small}
-use Rattle.ev_refine.proofs.Legality.{turn_legal}
+use Rattle.ev_refine.proofs.Legality.{turn_legal, turn_bases}
 use Rattle.ev_refine.proofs.Standing.{Moves, step_moves, delivery_moves}
 use Rattle.ev_refine.proofs.After.{kernel_names, kernel_spares, kernel_user}
 use Rattle.ev_refine.proofs.Depth.{stands_depth}
@@ -282,6 +282,7 @@ module _ (mode : Mode) (image : Image) (formed : IsImage image) (built : IsBuilt
       (kernel_spares p small) begun.changes m.words
       (kernel_user p (record { stack = n; used = 0 }) small (omega arith) words words' m.words begun.changes h.shares.user) h.shares.held
       (turn_legal image formed built.accepted m p lt h.legal (with_processor m p (raised_in x cause body), entry_of p (raised_event cause) next ∷ []) turns)
+      (turn_bases image m p h.bases (with_processor m p (raised_in x cause body), entry_of p (raised_event cause) next ∷ []) turns)
       (starts_with_words body User (raised_event cause) (causes_small cause is_cause), tt) st.task
       (begun.blocking ∙ sym (plain_no_nmi image b (ap is_over_task kind ∙ over_one cause)))
       (record { interrupts = refl; service = st.service; calls = refl }, tt)

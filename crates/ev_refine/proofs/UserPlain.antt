@@ -14,6 +14,7 @@ use Rattle.ev_proc.specs.declared.stepped.Stepped.{Stepped}
 use Rattle.ev_proc.specs.ProcessorStep.{After, step, ran, next_of, instruction_at}
 use Rattle.ev_abstract.specs.Machine.{Machine, processor, with_processor, task, with_task, user_memory}
 use Rattle.ev_abstract.specs.Machine as abstract
+use Rattle.ev_law.specs.Bases.{HasBases}
 use Rattle.ev_law.specs.Legal.{Legal}
 use Rattle.ev_abstract.specs.Boundary.{is_nmi_body}
 use Rattle.ev_abstract.specs.Context.{BodyContext}
@@ -42,7 +43,7 @@ use Rattle.ev_refine.proofs.Maps.{at_same, at_other}
 use Rattle.ev_refine.proofs.Standing.{instruction_first, Moves, step_moves}
 use Rattle.ev_refine.proofs.After.{AreSparing, word_names, word_spares, latch_parts, own_after, stands_after, few_inner}
 use Rattle.ev_refine.proofs.Domains.{four_tasks}
-use Rattle.ev_refine.proofs.Legality.{turn_legal}
+use Rattle.ev_refine.proofs.Legality.{turn_legal, turn_bases}
 use Rattle.ev_refine.proofs.Depth.{stands_depth}
 use Rattle.ev_refine.proofs.Tells.{AtRest, at_rest}
 use Rattle.ev_refine.proofs.Facts.{Facts}
@@ -112,6 +113,7 @@ module _ (mode : Mode) (image : Image) (formed : IsImage image) (built : IsBuilt
       → Changes p (record { stack = (processor m p).running; used = 0 }) names s.memory.words words
       → (memory : NatMap ℕ) → ((a : ℕ) → IsUserWord a → words a ≡ memory a) → HoldsWords memory
       → Legal image (with_processor (record m { words = memory }) p (record (with_task (processor m p) t) { bodies = bs }))
+      → HasBases image (with_processor (record m { words = memory }) p (record (with_task (processor m p) t) { bodies = bs }))
       → AreOfWords bs → IsTask t → cpu.nmi_blocked ≡ list_any (is_nmi_body image) bs → AreQuiet bs
       → ((class : ℕ) → list_any (λ (b : BodyContext). serves mode image class b.service) bs ≡ false) → own ≤ 500
       → ((r : ℕ) → r ≡ (processor m p).running → Chain mode image p own (processor m p).running r t u.on.frame u.on.switching bs as' cpu
@@ -119,7 +121,8 @@ module _ (mode : Mode) (image : Image) (formed : IsImage image) (built : IsBuilt
       → (StandsOn mode image p (own + inner_edges (s.latches p)) s' (record (with_task (processor m p) t) { bodies = bs }))
       × Stands mode image (put_at left p (own + inner_edges (s.latches p))) s'
       (with_processor (record m { words = memory }) p (record (with_task (processor m p) t) { bodies = bs }))
-  user_after left s s' m p lt h u cpu as' words t bs own hb mv names sparing changes memory user held legal of_words good blocked quiet serving few chain =
+  user_after left s s' m p lt h u cpu as' words t bs own hb mv names sparing changes memory user held legal bases of_words good blocked quiet serving few
+      chain =
       let x : abstract.Processor = processor m p in
       let y : abstract.Processor = record (with_task x t) { bodies = bs } in
       let small : p < 32 = let eight = formed.count.1 in omega arith in
@@ -156,7 +159,7 @@ module _ (mode : Mode) (image : Image) (formed : IsImage image) (built : IsBuilt
               mail_nmi = refl;
               records = refl;
               queue = refl;
-            }) legal numbers inside there,
+            }) legal bases numbers inside there,
       )
     where
       others : (i : ℕ) → (i ≡ (processor m p).running → ⊥) → put_at (processor m p).tasks (processor m p).running t i ≡ (processor m p).tasks i
@@ -213,10 +216,13 @@ module _ (mode : Mode) (image : Image) (formed : IsImage image) (built : IsBuilt
       let none : as' ≡ [] = same_activations s p (s.activations p) d u.at_cpl3 ∙ u.rest.none in
       let mv : Moves p s s' d as' words = step_moves s p r refl refl in
       let same : record (with_task x t) { bodies = [] } ≡ with_task x t = ap (λ (bs : List BodyContext). record (with_task x t) { bodies = bs }) (sym hb) in
+      let turned : turn image m p ≡ (with_processor (record m { words = memory }) p (record (with_task x t) { bodies = [] }), [])
+      = u.turns ∙ ap (task_step image m p) goes ∙ ap (λ z. (with_processor (record m { words = memory }) p z, [])) (sym same) in
       let after = user_after left s s' m p lt h u d as' words t [] 0 hb mv (word_names g.write) (word_spares p m.present g.write g.place)
       (writes p (record { stack = x.running; used = 0 }) g.write s.memory.words) memory g.sees.words g.sees.held
       (turn_legal image formed built.accepted m p lt h.legal (with_processor (record m { words = memory }) p (record (with_task x t) { bodies = [] }), [])
-      (u.turns ∙ ap (task_step image m p) goes ∙ ap (λ z. (with_processor (record m { words = memory }) p z, [])) (sym same)))
+      turned)
+      (turn_bases image m p h.bases (with_processor (record m { words = memory }) p (record (with_task x t) { bodies = [] }), []) turned)
       tt g.runs.task u.open_to tt (λ class. refl)
       (omega arith)
       (λ r e. (subst (λ z. RunsTask mode image p z t d) (sym e) g.runs, u.rest.still, none)) in

@@ -20,6 +20,7 @@ use Rattle.ev_abstract.specs.Context.{BodyContext, CallId}
 use Rattle.ev_abstract.specs.Machine.{Machine, processor, CallRecord, CallState, Free, Queued, Taken}
 use Rattle.ev_abstract.specs.Machine as abstract
 use Rattle.ev_abstract.specs.Run.{item_at}
+use Rattle.ev_law.specs.Bases.{HasBases}
 use Rattle.ev_law.specs.Legal.{Legal}
 use Rattle.ev_concrete.specs.Opening.{listings, code_of, opening_word, tasks_of, regions}
 use Rattle.ev_concrete.specs.ConcreteRun.{System, Activation}
@@ -180,6 +181,7 @@ module _ (mode : Mode) (image : Image) where
     pub fixed : (a : ℕ) → IsFixed a → s.memory.words a ≡ first_word mode image a
     pub shares : Shares s m
     pub legal : Legal image m
+    pub bases : HasBases image m  -- the tasks have the GS bases of their descriptors
     pub numbers : HoldsNumbers m
     pub domain : (p : ℕ) → p < image.processors → IsInDomain (processor m p)
     pub each : (p : ℕ) → p < image.processors → StandsOn p (left p) s (processor m p)
