@@ -1,28 +1,12 @@
 -- An image that `run` takes is one of those for which the theorems stand.
 use Rattle.std.proofs.Common.{◌≡◌, refl, true, ◌&&◌, List, [], ◌∷◌}
-use Rattle.std.specs.Prelude.{◌==◌}
 use Rattle.std.specs.List.{list_all}
-use Rattle.std.proofs.lemmas.Bool.{and_parts, and_from, eqb-true}
+use Rattle.std.proofs.lemmas.Bool.{and_parts, and_from}
 use Rattle.ev_body.specs.declared.body.Body.{Body}
-use Rattle.ev_body.specs.declared.image.TaskSpec.{TaskSpec}
 use Rattle.ev_body.specs.WellFormed.{has_no_parts}
 use Rattle.ev_built.specs.Built.{is_built_body, is_built_item, is_built_key}
-use Rattle.ev_built.specs.RunTakes.{body_is_built, has_one_task}
+use Rattle.ev_built.specs.RunTakes.{body_is_built}
 use Rattle.ev_built.specs.Laws.{TakenAreBuilt}
-
--- ---- the task
-
--- the one task
-record OnlyTask (tasks : List (List TaskSpec)) : Type 0 where
-  task : TaskSpec
-  one : tasks ≡ (task ∷ []) ∷ []
-
-only_task : (tasks : List (List TaskSpec)) → has_one_task tasks ≡ true → OnlyTask tasks
-only_task [] h = absurd (cc)
-only_task ([] ∷ rest) h = absurd (cc)
-only_task ((task ∷ []) ∷ []) h = record { task = task; one = refl }
-only_task ((task ∷ []) ∷ row ∷ rest) h = absurd (cc)
-only_task ((task ∷ other ∷ more) ∷ rest) h = absurd (cc)
 
 -- ---- the bodies
 
@@ -47,15 +31,4 @@ taken_bodies (b ∷ bs) h =
 
 pub taken_are_built : TakenAreBuilt
 taken_are_built image accepted h =
-    let p = and_parts ((image.processors == 1) && has_one_task image.tasks) (list_all body_is_built image.bodies) h in
-    let q = and_parts (image.processors == 1) (has_one_task image.tasks) p.0 in
-    let t = only_task image.tasks q.1 in
-    let bodies = taken_bodies image.bodies p.1 in
-    record {
-      accepted = accepted;
-      one_processor = eqb-true image.processors 1 q.0;
-      task = t.task;
-      one_task = t.one;
-      bodies = bodies.0;
-      keys = bodies.1;
-    }
+    let bodies = taken_bodies image.bodies h in record { accepted = accepted; bodies = bodies.0; keys = bodies.1 }

@@ -1,5 +1,5 @@
 -- The images and script lines that the program can run today. Own.
-use Rattle.std.specs.Prelude.{◌≡◌, Bool, true, false, ◌&&◌, ◌==◌, [], ◌∷◌}
+use Rattle.std.specs.Prelude.{◌≡◌, Bool, true, false, ◌&&◌}
 use Rattle.std.specs.List.{list_all}
 use Rattle.ev_isa.specs.declared.mode.Mode.{Mode}
 use Rattle.ev_isa.specs.declared.mode.Mode.TheVariants.{Idt, Fred}
@@ -8,7 +8,6 @@ use Rattle.ev_body.specs.declared.key.Key.TheVariants.{Nmi, Irq}
 use Rattle.ev_body.specs.declared.item.Item.{Item}
 use Rattle.ev_body.specs.declared.item.Item.TheVariants.{Set, Copy, Alu, Jcc, Goto, Nop, Log, Cpu, Slot, Put, Cell, SetCell, AddCell, SwapCell, Uget, Uput, GetReg, SetReg, SetRip, Ret}
 use Rattle.ev_body.specs.declared.body.Body.{Body}
-use Rattle.ev_body.specs.declared.image.TaskSpec.{TaskSpec}
 use Rattle.ev_body.specs.declared.image.Image.{Image}
 use Rattle.ev_body.specs.WellFormed.{has_no_parts}
 use Rattle.ev_abstract.specs.Accepted.{IsAccepted}
@@ -50,12 +49,9 @@ is_built_key _ = true
 abbrev pub is_built_body : Body → Bool
 is_built_body b = has_no_parts b.parts && list_all is_built_item b.items
 
--- an accepted image of one processor with one task, whose user code is any
+-- an accepted image, of any number of processors and tasks, whose user code is any
 pub record IsBuilt (image : Image) : Type 0 where
   pub accepted : IsAccepted image
-  pub one_processor : image.processors ≡ 1
-  pub task : TaskSpec
-  pub one_task : image.tasks ≡ (task ∷ []) ∷ []
   pub bodies : list_all is_built_body image.bodies ≡ true
   pub keys : list_all (λ (b : Body). is_built_key b.key) image.bodies ≡ true
 
@@ -64,6 +60,7 @@ unfoldable pub mode_is_built : Mode → Bool
 mode_is_built Idt = true
 mode_is_built Fred = true
 
+-- turns, of any processor
 unfoldable pub line_is_built : Line → Bool
-line_is_built (Turn p) = p == 0
+line_is_built (Turn p) = true
 line_is_built _ = false

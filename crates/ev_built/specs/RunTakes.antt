@@ -1,21 +1,15 @@
 -- What `run` takes today, as tests that compute. Own.
-use Rattle.std.specs.Prelude.{Bool, true, false, ◌&&◌, ◌==◌, List, [], ◌∷◌}
+use Rattle.std.specs.Prelude.{Bool, ◌&&◌}
 use Rattle.std.specs.List.{list_all}
 use Rattle.ev_body.specs.declared.body.Body.{Body}
-use Rattle.ev_body.specs.declared.image.TaskSpec.{TaskSpec}
 use Rattle.ev_body.specs.declared.image.Image.{Image}
 use Rattle.ev_body.specs.WellFormed.{has_no_parts}
 use Rattle.ev_built.specs.Built.{is_built_item, is_built_key}
-
--- whether there is one task
-abbrev pub has_one_task : List (List TaskSpec) → Bool
-has_one_task ((task ∷ []) ∷ []) = true
-has_one_task _ = false
 
 -- whether the body is of a key that `fill` names, with such items
 abbrev pub body_is_built : Body → Bool
 body_is_built b = has_no_parts b.parts && is_built_key b.key && list_all is_built_item b.items
 
--- whether `run` takes the image, once it is accepted: one processor with one task, and such bodies
+-- whether `run` takes the image, once it is accepted: its bodies are such
 abbrev pub is_built : Image → Bool
-is_built image = (image.processors == 1) && has_one_task image.tasks && list_all body_is_built image.bodies
+is_built image = list_all body_is_built image.bodies

@@ -4,20 +4,9 @@ ghost use Rattle.std.specs.Prelude.{◌≡◌};
 ghost use Rattle.std.specs.List.{list_all};
 ghost use Rattle.ev_body.specs.WellFormed.{has_no_parts};
 ghost use Rattle.ev_built.specs.Built.{is_built_item, is_built_key};
-ghost use Rattle.ev_built.specs.RunTakes.{body_is_built, has_one_task, is_built};
+ghost use Rattle.ev_built.specs.RunTakes.{body_is_built, is_built};
 
-use ev_body::{Body, Image, Item, Key, TaskSpec};
-use ev_isa::Many;
-
-/// Whether there is one task.
-fn has_one_task(tasks: &[Many<TaskSpec>]) -> bool
-    ensures { result ≡ has_one_task tasks.now }
-{
-    match tasks {
-        [row] => row.len() == 1,
-        _ => false,
-    }
-}
+use ev_body::{Body, Image, Item, Key};
 
 #[tactic(auto, unfolding(crate::specs::Built::is_built_item))]
 fn is_built_item(item: &Item) -> bool
@@ -88,13 +77,11 @@ fn all_bodies_built(bodies: &[Body]) -> bool
     true
 }
 
-/// Whether `run` takes the image today, once it is accepted: one processor with one task, whose user
-/// code and pages are any; and bodies of the keys that `fill` names, of either side, without parts
+/// Whether `run` takes the image today, once it is accepted: any processors and tasks, whose user
+/// code and pages are any, and bodies of the keys that `fill` names, of either side, without parts
 /// and of the items that `is_built_item` names. Own.
 pub fn is_built(image: &Image) -> bool
     ensures { result ≡ is_built image.now }
 {
-    image.processors == 1
-        && has_one_task(image.tasks.as_slice())
-        && all_bodies_built(image.bodies.as_slice())
+    all_bodies_built(image.bodies.as_slice())
 }

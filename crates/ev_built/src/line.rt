@@ -5,13 +5,10 @@ ghost use Rattle.ev_built.specs.Built.{line_is_built};
 
 use ev_abstract::Line;
 
-/// Whether `run` takes the script line today: a turn of processor 0. Own.
+/// Whether `run` takes the script line today: a turn. Own.
 #[tactic(auto, unfolding(crate::specs::Built::line_is_built))]
 pub fn line_is_built(line: &Line) -> bool
     ensures { result ≡ line_is_built line.now }
 {
-    match line {
-        Line::Turn(processor) => *processor == 0,
-        _ => false,
-    }
+    matches!(line, Line::Turn(_))
 }

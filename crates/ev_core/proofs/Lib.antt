@@ -3,6 +3,7 @@ pub mod Step
 pub mod Acts
 pub mod Parts
 pub mod Edges
+pub mod Selectors
 pub mod Standing
 pub mod Turns
 pub mod Opening

@@ -1,9 +1,10 @@
 -- The machine at its opening.
-use Rattle.std.proofs.Common.{◌≡◌, ℕ, zero, suc, ◌+◌, ◌<◌, [], map, length, replicate, Some, None, ap, refl, sym, ◌∙◌, subst, arith}
+use Rattle.std.proofs.Common.{◌≡◌, ℕ, zero, suc, ◌+◌, ◌<◌, List, [], map, length, replicate, Some, None, ap, refl, sym, ◌∙◌, subst, arith}
 use Rattle.std.specs.Prelude.{slice_get}
 use Rattle.ev_isa.specs.Word.{numbers_from}
 use Rattle.ev_isa.specs.declared.mode.Mode.{Mode}
 use Rattle.ev_body.specs.declared.image.Image.{Image}
+use Rattle.ev_state.specs.Processor.{Processor}
 use Rattle.ev_mem.specs.Mapped.{memory}
 use Rattle.ev_abstract.specs.Machine as abstract
 use Rattle.ev_concrete.specs.Opening.{opening_cpu, opening_memory}
@@ -29,12 +30,16 @@ repeated x (suc n) zero h = refl
 repeated x (suc n) (suc i) h = repeated x n i (omega arith)
 
 module _ (mode : Mode) (image : Image) where
+  -- one for each processor
+  pub open_count : (cpus : List Processor) → cpus ≡ map (opening_cpu mode image) (numbers_from 0 image.processors) → length cpus ≡ image.processors
+  open_count cpus is = ap length is ∙ counted_numbers (opening_cpu mode image) image.processors 0
+
   pub open_shows : (v : Parts) → v.cpus ≡ map (opening_cpu mode image) (numbers_from 0 image.processors) → v.locals ≡ replicate (length v.cpus) start
       → memory v.mem ≡ opening_memory mode image → v.totals ≡ record { steps = 0; frames = 0; low = None }
       → Shows image.processors v (opening_system mode image)
   unfolding opening_system
   open_shows v cpus locals mem totals =
-      let count : length v.cpus ≡ image.processors = ap length cpus ∙ counted_numbers (opening_cpu mode image) image.processors 0 in record {
+      let count : length v.cpus ≡ image.processors = open_count v.cpus cpus in record {
         processors = count;
         cpu = λ p lt. ap (λ xs. slice_get xs p) cpus ∙ numbered (opening_cpu mode image) image.processors 0 p lt
             ∙ (let e : 0 + p ≡ p = omega arith in ap (λ k. Some (opening_cpu mode image k)) e);

@@ -1,23 +1,35 @@
 -- What a machine that stands for an abstract state says of its edges.
-use Rattle.std.proofs.Common.{◌≡◌, ℕ, suc, ◌+◌, ◌<◌, ◌≤◌, ⊎_elim, false, List, [], ◌++◌, length, ap, sym, ◌∙◌, subst, arith}
+use Rattle.std.proofs.Common.{◌≡◌, ◌≢◌, ℕ, suc, ◌+◌, ◌-◌, ◌<◌, ◌≤◌, ⊎_elim, true, false, List, [], ◌++◌, length, Some, refl, ap, sym, ◌∙◌, subst, arith}
+use Rattle.std.specs.Prelude.{◌==◌, nat_lt, is_some, if◌then◌else◌}
+use Rattle.std.proofs.lemmas.Bool.{eqb-true, eq-eqb}
 use Rattle.std.proofs.lemmas.Bool.Decides.{leb_tells}
+use Rattle.ev_isa.specs.Word.{bit}
+use Rattle.ev_isa.specs.Flags.{flags_word}
+use Rattle.ev_isa.specs.declared.mode.Mode.TheVariants.{Idt, Fred}
 use Rattle.ev_isa.specs.declared.mode.Mode.{Mode}
 use Rattle.ev_event.specs.declared.frame_note.FrameNote.{FrameNote}
 use Rattle.ev_body.specs.declared.image.Image.{Image}
 use Rattle.ev_abstract.specs.Machine as abstract
+use Rattle.ev_effect.specs.Task.{Task}
+use Rattle.ev_state.specs.Descriptors.{base_of}
+use Rattle.ev_listing.specs.AddressMap.{pcpu, stack_top, task_selector, task_words}
 use Rattle.ev_mem.specs.Mapped.{memory}
 use Rattle.ev_proc.specs.Conditions.{HasEntries, IsInCode}
 use Rattle.ev_concrete.specs.ConcreteRun.{System, Marks, marks_of, is_visible, concrete_step, edges, with_frames}
 use Rattle.ev_concrete.specs.Depth.{bodies_on}
+use Rattle.ev_concrete.specs.LiveWords.{area_bytes}
+use Rattle.ev_concrete.specs.Opening.{tasks_of, control}
+use Rattle.ev_refine.specs.Tasks.{IsSaved}
+use Rattle.ev_refine.proofs.Saved.{registers_saved}
 use Rattle.ev_refine.specs.Claims.{Settles, Tells}
 use Rattle.ev_refine.proofs.Refine.{all_settle, tells}
 use Rattle.ev_layout.specs.Marks.{marks_in}
 use Rattle.ev_core.specs.State.{Parts, Shows, CanStep, EdgesTell, local_of}
 use Rattle.ev_core.specs.Run.{MachineView, IsStandingAs, IsStanding}
 use Rattle.ev_state.specs.Processor.{Processor}
-use Rattle.ev_refine.proofs.Domains.{one_task_each}
-use Rattle.ev_core.specs.Task.{IsTaskView}
+use Rattle.ev_core.specs.Task.{IsTaskView, area_at, saved_view}
 use Rattle.ev_core.specs.declared.task_view.TaskView.{TaskView}
+use Rattle.ev_core.proofs.Selectors.{descriptor_tells, descriptor_has}
 use Rattle.ev_core.specs.declared.local.Local.{Local}
 use Rattle.ev_core.proofs.Parts.{same_value}
 use Rattle.ev_core.proofs.Edges.{edges_more}
@@ -32,7 +44,7 @@ module _ (mode : Mode) (image : Image) (s : System) (m : abstract.Machine) (v : 
   pub settling : Settles mode image so.left s m p
   settling = all_settle mode image so.can.built so.can.mode_built so.can.image_is so.left s m so.stands p lt
 
-  telling : Tells mode image s m p
+  pub telling : Tells mode image s m p
   telling = tells mode image so.can.built so.can.mode_built so.can.image_is so.left s m so.stands p lt
 
   -- edges tell how many bodies stand
@@ -43,19 +55,63 @@ module _ (mode : Mode) (image : Image) (s : System) (m : abstract.Machine) (v : 
   pub depth_is : (l : Local) → l ≡ local_of s p → l.depth ≡ length (abstract.processor m p).bodies
   depth_is l e = ap (λ (y : Local). y.depth) e ∙ telling.depth
 
-  -- where no body stands, the first task is the processor's own state
-  pub task_is : (view : TaskView) (i : ℕ) (c : Processor) → i ≡ 0 → (abstract.processor m p).bodies ≡ [] → c ≡ s.cpus p → view.regs ≡ c.regs
-      → view.rip ≡ c.rip → view.flags ≡ c.flags → view.gs ≡ c.msrs.gs_base → IsTaskView view ((abstract.processor m p).tasks i)
-  task_is view i c first none is regs rip flags gs =
-      let run = telling.running in
-      let one = one_task_each image so.can.built p lt in
-      let same : (abstract.processor m p).running ≡ i = omega arith in
-      subst (λ n. IsTaskView view ((abstract.processor m p).tasks n)) same (record {
-        regs = regs ∙ ap (λ (d : Processor). d.regs) is ∙ telling.regs none;
-        rip = rip ∙ ap (λ (d : Processor). d.rip) is ∙ telling.rip none;
-        flags = flags ∙ ap (λ (d : Processor). d.flags) is ∙ telling.flags none;
-        gs = gs ∙ ap (λ (d : Processor). d.msrs.gs_base) is ∙ telling.gs none;
-      })
+  -- ---- the tasks, where no body stands
+
+  module _ (none : (abstract.processor m p).bodies ≡ []) (i : ℕ) (small : i < 4) (c : Processor) (is : c ≡ s.cpus p) where
+    -- descriptors tell which tasks there are, and their bases
+    pub has_is : is_some (base_of c.gdt (task_selector p i)) ≡ nat_lt i (length (tasks_of image p))
+    has_is = ap (λ (d : Processor). is_some (base_of d.gdt (task_selector p i))) is
+        ∙ ap (λ ds. is_some (base_of ds (task_selector p i))) (telling.descriptors none) ∙ descriptor_tells image so.can.image_is p i small
+
+    module _ (there : i < length (tasks_of image p)) where
+      pub base_is : base_of c.gdt (task_selector p i) ≡ Some ((abstract.processor m p).tasks i).gs
+      base_is = ap (λ (d : Processor). base_of d.gdt (task_selector p i)) is ∙ ap (λ ds. base_of ds (task_selector p i)) (telling.descriptors none)
+          ∙ descriptor_has image so.can.image_is p i small there ∙ ap Some (sym (telling.bases p i))
+
+      -- the area names the running task alone
+      runs_it : (s.memory.words (pcpu p + 0x18) == task_words p i) ≡ true → (abstract.processor m p).running ≡ i
+      runs_it h =
+          let named : s.memory.words (pcpu p + 0x18) ≡ task_words p i = eqb-true (s.memory.words (pcpu p + 0x18)) (task_words p i) h in
+          let current = (telling.current none).current in omega arith
+
+      waits : (s.memory.words (pcpu p + 0x18) == task_words p i) ≡ false → i ≢ (abstract.processor m p).running
+      waits h e =
+          let named = eq-eqb (s.memory.words (pcpu p + 0x18)) (task_words p i) ((telling.current none).current ∙ ap (task_words p) (sym e)) in
+          let clash : true ≡ false = sym named ∙ h in absurd (cc)
+
+      -- the running task is the processor's own state
+      pub running_is : (s.memory.words (pcpu p + 0x18) == task_words p i) ≡ true → (v : TaskView) → v.regs ≡ c.regs → v.rip ≡ c.rip → v.flags ≡ c.flags
+          → v.gs ≡ ((abstract.processor m p).tasks i).gs → IsTaskView v ((abstract.processor m p).tasks i)
+      running_is h v regs rip flags gs =
+          let same : (abstract.processor m p).running ≡ i = runs_it h in record {
+            regs = regs ∙ ap (λ (d : Processor). d.regs) is ∙ telling.regs none ∙ ap (λ n. ((abstract.processor m p).tasks n).regs) same;
+            rip = rip ∙ ap (λ (d : Processor). d.rip) is ∙ telling.rip none ∙ ap (λ n. ((abstract.processor m p).tasks n).rip) same;
+            flags = flags ∙ ap (λ (d : Processor). d.flags) is ∙ telling.flags none
+                ∙ ap (λ n. flags_word ((abstract.processor m p).tasks n).flags) same;
+            gs = gs;
+          }
+
+      area_is : area_at c p i ≡ stack_top p i - area_bytes mode
+      area_is = ap (λ (d : Processor). area_at d p i) is ∙ ap (λ n. if bit 32 n then stack_top p i - 0xc0 else stack_top p i - 0xb0) (telling.control none)
+          ∙ by_mode mode
+        where
+          by_mode : (mode : Mode) → (if bit 32 (control mode) then stack_top p i - 0xc0 else stack_top p i - 0xb0) ≡ stack_top p i - area_bytes mode
+          by_mode Idt = refl
+          by_mode Fred = refl
+
+      -- the others are what their saved areas say
+      pub waiting_is : (s.memory.words (pcpu p + 0x18) == task_words p i) ≡ false → (gs : ℕ) → gs ≡ ((abstract.processor m p).tasks i).gs
+          → IsTaskView (saved_view s.memory.words (area_at c p i) gs) ((abstract.processor m p).tasks i)
+      waiting_is h gs base =
+          let t : Task = (abstract.processor m p).tasks i in
+          let saved : IsSaved mode p i t s.memory.words = telling.saved none i there (waits h) in
+          let few = so.can.image_is.count.1 in
+          subst (λ a. IsTaskView (saved_view s.memory.words a gs) t) (sym area_is) (record {
+            regs = registers_saved mode p i t s.memory.words (omega arith) (omega arith) (telling.long i there) saved;
+            rip = saved.rip;
+            flags = saved.flags;
+            gs = base;
+          })
 
   -- parts that show the state can make a step
   pub can_step : (w : Parts) → Shows image.processors w s → CanStep w p

@@ -1,7 +1,7 @@
 -- A turn of the machine and settling, from any standing state, and a turn as a line of its script.
 use Rattle.std.proofs.Common.{◌≡◌, ℕ, ◌<◌, Bool, true, false, ◌&&◌, List, [], ◌∷◌, ◌++◌, length, ap, refl, sym, ◌∙◌, subst, arith}
 use Rattle.std.specs.List.{list_all}
-use Rattle.std.proofs.lemmas.Bool.{lt-ltb, eq-eqb}
+use Rattle.std.proofs.lemmas.Bool.{lt-ltb}
 use Rattle.ev_isa.specs.declared.mode.Mode.{Mode}
 use Rattle.ev_event.specs.declared.frame_note.FrameNote.{FrameNote}
 use Rattle.ev_body.specs.declared.image.Image.{Image}
@@ -105,7 +105,7 @@ module _ (mode : Mode) (image : Image) (script : List Line) (v : MachineView) (r
 
   turn_built : line_is_built (Turn p) ≡ true
   unfolding line_is_built
-  turn_built = let one = r.can.built.one_processor in let l = in_image in eq-eqb p 0 (omega arith)
+  turn_built = refl
 
   line_is_turn : concrete_line marks image.processors reached (Turn p) ≡ concrete_turn marks image.processors reached p
   unfolding concrete_line

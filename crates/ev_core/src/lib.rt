@@ -10,6 +10,7 @@ mod mail;
 mod settle;
 mod state;
 mod steps;
+mod task;
 mod task_view;
 mod told;
 mod totals;

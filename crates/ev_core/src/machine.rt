@@ -1,6 +1,6 @@
 // The machine.
 
-ghost use Rattle.std.specs.Prelude.{◌≡◌, ◌<◌, ◌^◌, ℕ, true, List, [], ◌∷◌, ◌++◌, length, None, IfOk};
+ghost use Rattle.std.specs.Prelude.{◌≡◌, nat_lt, ◌<◌, ◌^◌, ℕ, true, List, [], ◌∷◌, ◌++◌, length, None, IfOk};
 ghost use Rattle.ev_isa.specs.declared.mode.Mode.{Mode};
 ghost use Rattle.ev_body.specs.declared.image.Image.{Image};
 ghost use Rattle.ev_abstract.specs.declared.script_line.Line.{Line};
@@ -8,6 +8,7 @@ ghost use Rattle.ev_abstract.specs.declared.script_line.Line.TheVariants.{Turn};
 ghost use Rattle.ev_abstract.specs.Machine as abstract;
 ghost use Rattle.ev_abstract.specs.Run.{entries_of};
 ghost use Rattle.ev_body.specs.WellFormed.{IsImage};
+ghost use Rattle.ev_concrete.specs.Opening.{tasks_of};
 ghost use Rattle.ev_concrete.specs.ConcreteRun.{System, concrete_line, concrete_run, is_visible, marks_of};
 ghost use Rattle.ev_built.specs.Built.{IsBuilt, mode_is_built};
 ghost use Rattle.ev_core.specs.Local.{optional};
@@ -20,6 +21,7 @@ use crate::local::all_at_start;
 use crate::settle::settle;
 use crate::state::State;
 use crate::steps::Steps;
+use crate::task::{area_of, is_current, saved_task, task_base};
 use crate::task_view::TaskView;
 use crate::totals::Totals;
 use arrayvec::ArrayVec;
@@ -158,21 +160,36 @@ impl Machine {
         self.state.locals[p].depth
     }
 
-    /// Task i of processor p, where no body stands. Machines run one task a processor today.
-    pub fn task(&self, p: usize, i: usize) -> TaskView
+    /// Whether processor p has a task of number i, where no body stands.
+    pub fn has_task(&self, p: usize, i: usize) -> bool
         requires place { p < length self.now.parts.cpus }
-        requires task { i ≡ 0 }
         ensures { (mode : Mode) (image : Image) (s : System) (m : abstract.Machine)
             → IsStandingAs mode image s m self.now → (abstract.processor m p).bodies ≡ []
+            → result ≡ nat_lt i (length (tasks_of image p)) }
+    {
+        i < 4 && task_base(&self.state.cpus[p], p, i).is_some()
+    }
+
+    /// Task i of processor p, where it has one and no body stands.
+    pub fn task(&self, p: usize, i: usize) -> TaskView
+        requires place { p < length self.now.parts.cpus }
+        requires task { i < 4 }
+        ensures { (mode : Mode) (image : Image) (s : System) (m : abstract.Machine)
+            → IsStandingAs mode image s m self.now → (abstract.processor m p).bodies ≡ []
+            → i < length (tasks_of image p)
             → IsTaskView result ((abstract.processor m p).tasks i) }
     {
         let cpu = &self.state.cpus[p];
-        TaskView {
-            regs: cpu.regs,
-            rip: cpu.rip,
-            flags: cpu.flags,
-            gs: cpu.msrs.gs_base,
+        let gs = task_base(cpu, p, i).unwrap_or(0);
+        if is_current(&self.state.mem, p, i) {
+            return TaskView {
+                regs: cpu.regs,
+                rip: cpu.rip,
+                flags: cpu.flags,
+                gs,
+            };
         }
+        saved_task(&self.state.mem, area_of(cpu, p, i), gs)
     }
 
     /// The totals of the run.

@@ -1,6 +1,5 @@
 -- A line of a script, what it shows, and what the end shows.
-use Rattle.std.proofs.Common.{◌≡◌, ℕ, Bool, true, List, ◌++◌, ap, refl, sym, ◌∙◌, ⊎_elim}
-use Rattle.std.proofs.lemmas.Bool.Decides.{eqb_tells}
+use Rattle.std.proofs.Common.{◌≡◌, ℕ, Bool, true, List, ◌++◌, ap, refl, sym, ◌∙◌}
 use Rattle.ev_isa.specs.declared.mode.Mode.{Mode}
 use Rattle.ev_event.specs.declared.frame_note.FrameNote.{FrameNote}
 use Rattle.ev_body.specs.declared.image.Image.{Image}
@@ -15,20 +14,13 @@ use Rattle.ev_concrete.specs.ConcreteRun.{marks_of, noted, concrete_line, concre
 use Rattle.ev_concrete.specs.RunText.{shown_frames, settling}
 use Rattle.ev_pair.specs.SideText.{side_at, shown_line, shown_end}
 
--- only turns of processor 0 are built today
+-- only turns are built today
 pub only_turns : (l : Line) → line_is_built l ≡ true → ((p : ℕ) → l ≡ Turn p → ⊥) → ⊥
 unfolding line_is_built
 only_turns (Turn p) e other = other p refl
 only_turns (Edge p n) e other = absurd (cc)
 only_turns (Arrive p key) e other = absurd (cc)
 only_turns (Accept p) e other = absurd (cc)
-
-pub first_only : (l : Line) (p : ℕ) → l ≡ Turn p → line_is_built l ≡ true → p ≡ 0
-unfolding line_is_built
-first_only (Turn q) p is e = ⊎_elim (λ h. let first = h.1 in cc) (λ h. absurd (let other = h.0 in cc)) (eqb_tells q 0)
-first_only (Edge q n) p is e = absurd (cc)
-first_only (Arrive q key) p is e = absurd (cc)
-first_only (Accept q) p is e = absurd (cc)
 
 module _ (frames : Bool) (mode : Mode) (image : Image) where
   pub turn_shown : (done : List Line) (line : Line) (p : ℕ) (fs : List FrameNote) (es : List Entry) → line ≡ Turn p

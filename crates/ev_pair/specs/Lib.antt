@@ -3,3 +3,4 @@ pub mod SideText
 pub mod Modes
 pub mod Agreement
 pub mod Safety
+pub mod Within

@@ -14,6 +14,7 @@ ghost use Rattle.ev_core.specs.Run.{IsRun};
 ghost use Rattle.ev_pair.specs.Modes.{all_built, modes_of};
 ghost use Rattle.ev_pair.specs.Outcome.{OnWriteFault};
 ghost use Rattle.ev_pair.specs.Safety.{RunIsSafe};
+ghost use Rattle.ev_pair.specs.Within.{is_within};
 
 use crate::fault::RunFault;
 use crate::modes::Modes;
@@ -38,7 +39,8 @@ fn put_one<L: Ledger, K: Sink>(
 ) -> Result<(), Failed>
     requires lines { list_all line_is_built script.now ≡ true }
     requires few { length script.now < 2 ^ 32 }
-    requires processors { length machine.old.parts.cpus ≡ 1 }
+    requires processors { length machine.old.parts.cpus < 256 }
+    requires within { list_all (is_within (length machine.old.parts.cpus)) script.now ≡ true }
     requires count { machine.old.parts.totals.steps ≡ 0 }
     ensures ok { (image : Image) → IsRun mode image [] machine.old
         → OnOk result (K.taken sink.new ≡ append_known (K.taken sink.old)
@@ -67,9 +69,11 @@ fn put_both<L: Ledger, K: Sink>(
 ) -> Result<(), Failed>
     requires lines { list_all line_is_built script.now ≡ true }
     requires few { length script.now < 2 ^ 32 }
-    requires idt_processors { length idt.old.parts.cpus ≡ 1 }
+    requires idt_processors { length idt.old.parts.cpus < 256 }
+    requires idt_within { list_all (is_within (length idt.old.parts.cpus)) script.now ≡ true }
     requires idt_count { idt.old.parts.totals.steps ≡ 0 }
-    requires fred_processors { length fred.old.parts.cpus ≡ 1 }
+    requires fred_processors { length fred.old.parts.cpus < 256 }
+    requires fred_within { list_all (is_within (length fred.old.parts.cpus)) script.now ≡ true }
     requires fred_count { fred.old.parts.totals.steps ≡ 0 }
     ensures ok { (image : Image) → IsRun Idt image [] idt.old → IsRun Fred image [] fred.old
         → OnOk result (K.taken sink.new ≡ append_known (K.taken sink.old)
@@ -100,6 +104,7 @@ fn run_one<L: Ledger, K: Sink>(
 ) -> Result<(), RunFault>
     requires image { IsBuilt accepted.now.image }
     requires mode { mode_is_built mode ≡ true }
+    requires script { IsScript accepted.now.image script.now }
     requires lines { list_all line_is_built script.now ≡ true }
     requires few { length script.now < 2 ^ 32 }
     ensures ok { OnOk result (K.taken sink.new ≡ append_known (K.taken sink.old)
@@ -131,6 +136,7 @@ fn run_both<L: Ledger, K: Sink>(
     requires image { IsBuilt accepted.now.image }
     requires idt { mode_is_built Idt ≡ true }
     requires fred { mode_is_built Fred ≡ true }
+    requires script { IsScript accepted.now.image script.now }
     requires lines { list_all line_is_built script.now ≡ true }
     requires few { length script.now < 2 ^ 32 }
     ensures ok { OnOk result (K.taken sink.new ≡ append_known (K.taken sink.old)
@@ -166,6 +172,7 @@ fn run_counted<L: Ledger, K: Sink>(
     requires ledger { (blank.name ≡ L.name) × (blank.parts ≡ L.parts) × (0 < blank.parts) }
     requires image { IsBuilt accepted.now.image }
     requires modes { all_built modes ≡ true }
+    requires script { IsScript accepted.now.image script.now }
     requires lines { list_all line_is_built script.now ≡ true }
     requires few { length script.now < 2 ^ 32 }
     ensures ok { OnOk result (K.taken sink.new ≡ append_known (K.taken sink.old)

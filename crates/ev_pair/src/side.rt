@@ -5,7 +5,8 @@ ghost use Rattle.std.specs.Io.KnownBytes.{append_known};
 ghost use Rattle.ev_body.specs.declared.image.Image.{Image};
 ghost use Rattle.ev_io.specs.Transfer.{Rose, TookPrefix};
 ghost use Rattle.ev_abstract.specs.declared.script_line.Line.{Line};
-ghost use Rattle.ev_abstract.specs.EntryText.{all_end_lines, end_lines};
+ghost use Rattle.ev_abstract.specs.EntryText.{all_end_lines, end_lines, task_lines};
+ghost use Rattle.ev_concrete.specs.Opening.{tasks_of};
 ghost use Rattle.ev_abstract.specs.Machine as abstract;
 ghost use Rattle.ev_abstract.specs.Run.{run};
 ghost use Rattle.ev_built.specs.Built.{line_is_built};
@@ -14,6 +15,7 @@ ghost use Rattle.ev_concrete.specs.ConcreteRun.{System};
 ghost use Rattle.ev_concrete.specs.RunText.{settling, shown_frames};
 ghost use Rattle.ev_core.specs.Run.{IsRun, IsStandingAs};
 ghost use Rattle.ev_pair.specs.SideText.{shown_end, shown_line, side_at};
+ghost use Rattle.ev_pair.specs.Within.{is_within};
 
 use crate::lines::{put_busy, put_entry, put_shown_frames, put_task, put_totals};
 use ev_abstract::Line;
@@ -33,7 +35,7 @@ pub fn put_line<L: Ledger, K: Sink>(
     steps: &mut Steps<L>,
 ) -> Result<(), Failed>
     requires built { line_is_built line.now ≡ true }
-    requires some { 0 < length machine.old.parts.cpus }
+    requires within { is_within (length machine.old.parts.cpus) line.now ≡ true }
     requires count { machine.old.parts.totals.steps < 2 ^ 62 }
     ensures run { (image : Image) (done : List Line) → IsRun mode image done machine.old
         → IsRun mode image (done ++ line.now ∷ []) machine.new }
@@ -88,7 +90,33 @@ fn put_settling<L: Ledger, K: Sink>(
     Ok(())
 }
 
-/// The state of a processor at the end: its task, or that it is busy.
+/// So many tasks a processor has at most.
+const TASKS: usize = 4;
+
+/// The tasks of a processor on which no body stands, in the order of their numbers.
+fn put_tasks<K: Sink>(machine: &Machine, mode: Mode, p: usize, sink: &mut K) -> Result<(), Failed>
+    requires place { p < length machine.now.parts.cpus }
+    requires few { length machine.now.parts.cpus < 256 }
+    ensures ok { (image : Image) (s : System) (m : abstract.Machine)
+        → IsStandingAs mode image s m machine.now → (abstract.processor m p).bodies ≡ []
+        → OnOk result (K.taken sink.new ≡ append_known (K.taken sink.old)
+        (task_lines (mode_text mode) p (abstract.processor m p) 0 (length (tasks_of image p)))) }
+    ensures failed { (image : Image) (s : System) (m : abstract.Machine)
+        → IsStandingAs mode image s m machine.now → (abstract.processor m p).bodies ≡ []
+        → OnErr result (TookPrefix (K.taken sink.old) (K.taken sink.new)
+        (task_lines (mode_text mode) p (abstract.processor m p) 0 (length (tasks_of image p)))) }
+    ensures later { K.faults sink.old ≤ K.faults sink.new }
+    ensures cause { OnErr result (Rose (K.faults sink.old) (K.faults sink.new)) }
+{
+    for i in 0..TASKS {
+        if machine.has_task(p, i) {
+            put_task(sink, mode, p as u32, i, &machine.task(p, i))?;
+        }
+    }
+    Ok(())
+}
+
+/// The state of a processor at the end: its tasks, or that it is busy.
 fn put_state<K: Sink>(machine: &Machine, mode: Mode, p: usize, sink: &mut K) -> Result<(), Failed>
     requires place { p < length machine.now.parts.cpus }
     requires few { length machine.now.parts.cpus < 256 }
@@ -109,7 +137,7 @@ fn put_state<K: Sink>(machine: &Machine, mode: Mode, p: usize, sink: &mut K) -> 
     if depth > 0 {
         return put_busy(sink, mode, p as u32, depth);
     }
-    put_task(sink, mode, p as u32, 0, &machine.task(p, 0))
+    put_tasks(machine, mode, p, sink)
 }
 
 /// The states of all processors.

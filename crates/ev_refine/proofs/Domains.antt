@@ -12,7 +12,6 @@ use Rattle.ev_effect.specs.Task.{Task}
 use Rattle.ev_state.specs.Processor.{Processor}
 use Rattle.ev_abstract.specs.Machine.{no_task}
 use Rattle.ev_concrete.specs.Opening.{tasks_of}
-use Rattle.ev_built.specs.Built.{IsBuilt}
 use Rattle.ev_user.specs.Tasks.{RunsTask}
 
 -- what a test of a list's elements says of the one that is read
@@ -43,12 +42,6 @@ has_tasks image given p lt =
 
 pub four_tasks : (image : Image) → IsImage image → (p : ℕ) → p < image.processors → length (tasks_of image p) ≤ 4
 four_tasks image given p lt = (has_tasks image given p lt).few
-
--- each processor has one task
-pub one_task_each : (image : Image) → IsBuilt image → (p : ℕ) → p < image.processors → length (tasks_of image p) ≡ 1
-one_task_each image built p lt =
-    let first : p ≡ 0 = let one = built.one_processor in omega arith in
-    ap (λ q. length (get_or image.tasks q [])) first ∙ ap (λ (ts : List (List TaskSpec)). length (get_or ts 0 [])) built.one_task
 
 -- no task depends on CR2, or on whether NMIs are blocked
 pub with_cr2 : (mode : Mode) (image : Image) (p r : ℕ) (t : Task) (w : Processor) (a : ℕ) → RunsTask mode image p r t w

@@ -1,4 +1,4 @@
--- The abstract machine stays legal: its turns are lines of scripts. And no more bodies stand than an image may nest.
+-- The abstract machine stays legal, and tasks keep their GS bases: its turns are lines of scripts. And no more bodies stand than an image may nest.
 use Rattle.std.proofs.Common.{◌≡◌, ℕ, suc, ◌<◌, ◌≤◌, List, [], ◌∷◌, length, refl, ap, subst, arith}
 use Rattle.std.proofs.lemmas.Bool.{lt-ltb}
 use Rattle.ev_body.specs.declared.image.Image.{Image}
@@ -12,8 +12,8 @@ use Rattle.ev_abstract.specs.Script.{is_line}
 use Rattle.ev_abstract.specs.declared.script_line.Line.TheVariants.{Turn}
 use Rattle.ev_law.specs.Legal.{Legal, numbers, knows}
 use Rattle.ev_law.proofs.Runs.{are_chain, short}
-use Rattle.ev_law.proofs.Lines.{lines_keep_legal}
 use Rattle.ev_law.specs.Bases.{HasBases}
+use Rattle.ev_law.proofs.Lines.{lines_keep_legal}
 use Rattle.ev_law.proofs.Bases.{lines_keep_bases}
 
 -- behind a turn, whose outcome is told

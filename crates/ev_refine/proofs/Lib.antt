@@ -56,5 +56,6 @@ pub mod BodyTurn
 pub mod BodyBreak
 pub mod BodyFault
 pub mod CodeFacts
+pub mod Saved
 pub mod Visible
 pub mod Refine

@@ -72,6 +72,10 @@ module _ (mode : Mode) (image : Image) where
         regs = λ h. ap (λ c. c.regs) (rest h).task.is;
         rip = λ h. ap (λ c. c.rip) (rest h).task.is;
         flags = λ h. ap (λ c. c.flags) (rest h).task.is;
-        gs = λ h. ap (λ c. c.msrs.gs_base) (rest h).task.is;
+        long = λ i l. (on.tasks i l).long;
+        bases = r.bases;
+        control = λ h. ap (λ c. c.cr4) (rest h).task.is;
+        descriptors = λ h. ap (λ c. c.gdt) (rest h).task.is;
+        current = λ h. on.current (rest h).still;
         saved = λ h i l d. on.saved i l (λ e. d (e ∙ (rest h).returning));
       }

@@ -16,6 +16,7 @@ use Rattle.ev_abstract.specs.Machine.{Machine, processor, with_processor, task, 
 use Rattle.ev_abstract.specs.Machine as abstract
 use Rattle.ev_law.specs.Bases.{HasBases}
 use Rattle.ev_law.specs.Legal.{Legal}
+use Rattle.ev_law.specs.Bases.{HasBases}
 use Rattle.ev_abstract.specs.Boundary.{is_nmi_body}
 use Rattle.ev_abstract.specs.Context.{BodyContext}
 use Rattle.ev_symbolic.specs.Agrees.{with_words}

@@ -181,7 +181,7 @@ module _ (mode : Mode) (image : Image) where
     pub fixed : (a : ℕ) → IsFixed a → s.memory.words a ≡ first_word mode image a
     pub shares : Shares s m
     pub legal : Legal image m
-    pub bases : HasBases image m  -- the tasks have the GS bases of their descriptors
+    pub bases : HasBases image m  -- which a switch loads from the descriptors
     pub numbers : HoldsNumbers m
     pub domain : (p : ℕ) → p < image.processors → IsInDomain (processor m p)
     pub each : (p : ℕ) → p < image.processors → StandsOn p (left p) s (processor m p)

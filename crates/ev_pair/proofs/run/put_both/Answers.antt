@@ -1,6 +1,9 @@
-use Rattle.std.proofs.Common.{◌≡◌, ◌+◌, ◌<◌, ◌≤◌, suc, [], ◌∷◌, ◌++◌, length, take, refl, sym, ◌∙◌, subst, arith}
+use Rattle.std.proofs.Common.{◌≡◌, ◌+◌, ◌<◌, ◌≤◌, suc, true, [], ◌∷◌, ◌++◌, length, get_or, take, refl, sym, ◌∙◌, subst, arith}
 use Rattle.ev_isa.specs.declared.mode.Mode.TheVariants.{Idt, Fred}
+use Rattle.ev_abstract.specs.declared.script_line.Line.TheVariants.{Turn}
 use Rattle.ev_concrete.specs.RunText.{run_text}
+use Rattle.ev_pair.specs.Within.{is_within}
+use Rattle.ev_pair.proofs.Opened.{line_at}
 use Rattle.ev_core.specs.Run.{IsRun}
 use Rattle.ev_pair.specs.SideText.{shown_end}
 use Rattle.ev_io.proofs.Writes.{Wrote, more_written, all_written, failed_within, failed_at_end, ok_then, err_then, err_now}
@@ -12,12 +15,24 @@ loop-line-init g c = record {
   idt_at = λ image r. r;
   fred_at = λ image q. q;
   wrote = λ image r q. at_start c.args.frames (Idt ∷ Fred ∷ []) image c.args.script.now (g.K.Sink.taken c.args.sink.now);
-  idt_processors = c.requires.idt_processors;
+  idt_processors = refl;
   idt_totals = omega arith;
-  fred_processors = c.requires.fred_processors;
+  fred_processors = refl;
   fred_totals = omega arith;
   count = omega arith;
 }
+
+pub put_line-requires-clause-within : goal.put_line-requires-clause-within
+put_line-requires-clause-within g c =
+    let n = length c.args.idt.now.parts.cpus in
+    subst (λ k. is_within k (get_or c.args.script.now c.loop-line.line-index (Turn 0)) ≡ true) (sym c.loop-line.invariant.idt_processors)
+    (line_at n c.args.script.now c.loop-line.line-index (Turn 0) c.requires.idt_within (omega arith))
+
+pub put_line-requires-in-loop-line-clause-within : goal.put_line-requires-in-loop-line-clause-within
+put_line-requires-in-loop-line-clause-within g c =
+    let n = length c.args.fred.now.parts.cpus in
+    subst (λ k. is_within k (get_or c.args.script.now c.loop-line.line-index (Turn 0)) ≡ true) (sym c.loop-line.invariant.fred_processors)
+    (line_at n c.args.script.now c.loop-line.line-index (Turn 0) c.requires.fred_within (omega arith))
 
 pub loop-line-preserved : goal.loop-line-preserved
 loop-line-preserved g c =

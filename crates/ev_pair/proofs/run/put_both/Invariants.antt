@@ -18,9 +18,9 @@ invariant-loop-line g l =
       wrote : (image : Image) → IsRun Idt image [] l.fn.idt → IsRun Fred image [] l.fn.fred
           → Wrote (taken l.fn.sink) (taken l.sink) (rest_text l.frames (Idt ∷ Fred ∷ []) image (take l.line-index l.script) (drop l.line-index l.script))
           (run_text image l.script (Idt ∷ Fred ∷ []) l.frames);
-      idt_processors : length l.idt.parts.cpus ≡ 1;
+      idt_processors : length l.idt.parts.cpus ≡ length l.fn.idt.parts.cpus;
       idt_totals : l.idt.parts.totals.steps ≤ 1024 * l.line-index;
-      fred_processors : length l.fred.parts.cpus ≡ 1;
+      fred_processors : length l.fred.parts.cpus ≡ length l.fn.fred.parts.cpus;
       fred_totals : l.fred.parts.totals.steps ≤ 1024 * l.line-index;
       count : faults l.fn.sink ≤ faults l.sink;
     }

@@ -1,5 +1,8 @@
-use Rattle.std.proofs.Common.{◌≡◌, ◌+◌, ◌<◌, ◌≤◌, suc, [], ◌∷◌, length, take, sym, ◌∙◌, subst, arith}
+use Rattle.std.proofs.Common.{◌≡◌, ◌+◌, ◌<◌, ◌≤◌, suc, true, [], ◌∷◌, length, get_or, take, refl, sym, ◌∙◌, subst, arith}
+use Rattle.ev_abstract.specs.declared.script_line.Line.TheVariants.{Turn}
 use Rattle.ev_concrete.specs.RunText.{run_text}
+use Rattle.ev_pair.specs.Within.{is_within}
+use Rattle.ev_pair.proofs.Opened.{line_at}
 use Rattle.ev_core.specs.Run.{IsRun}
 use Rattle.ev_pair.specs.SideText.{shown_end}
 use Rattle.ev_io.proofs.Writes.{Wrote, more_written, all_written, failed_within, failed_at_end, ok_then, err_then, err_now}
@@ -10,10 +13,16 @@ pub loop-line-init : goal.loop-line-init
 loop-line-init g c = record {
   at = λ image r. r;
   wrote = λ image r. at_start c.args.frames (c.args.mode ∷ []) image c.args.script.now (g.K.Sink.taken c.args.sink.now);
-  processors = c.requires.processors;
+  processors = refl;
   totals = omega arith;
   count = omega arith;
 }
+
+pub put_line-requires-clause-within : goal.put_line-requires-clause-within
+put_line-requires-clause-within g c =
+    let n = length c.args.machine.now.parts.cpus in
+    subst (λ k. is_within k (get_or c.args.script.now c.loop-line.line-index (Turn 0)) ≡ true) (sym c.loop-line.invariant.processors)
+    (line_at n c.args.script.now c.loop-line.line-index (Turn 0) c.requires.within (omega arith))
 
 pub loop-line-preserved : goal.loop-line-preserved
 loop-line-preserved g c =

@@ -16,7 +16,7 @@ invariant-loop-line g l =
       wrote : (image : Image) → IsRun l.mode image [] l.fn.machine
           → Wrote (taken l.fn.sink) (taken l.sink) (rest_text l.frames (l.mode ∷ []) image (take l.line-index l.script) (drop l.line-index l.script))
           (run_text image l.script (l.mode ∷ []) l.frames);
-      processors : length l.machine.parts.cpus ≡ 1;
+      processors : length l.machine.parts.cpus ≡ length l.fn.machine.parts.cpus;
       totals : l.machine.parts.totals.steps ≤ 1024 * l.line-index;
       count : faults l.fn.sink ≤ faults l.sink;
     }

@@ -1,4 +1,6 @@
-use Rattle.std.proofs.Common.{◌≡◌, ap, ◌∙◌, subst, arith}
+use Rattle.std.proofs.Common.{◌≡◌, ap, sym, ◌∙◌, subst}
+use Rattle.std.proofs.lemmas.Bool.{ltb-true}
+use Rattle.ev_pair.specs.Within.{is_within}
 use Rattle.std.specs.Io.KnownBytes.{append_known}
 use Rattle.ev_io.specs.Transfer.{TookPrefix}
 use Rattle.ev_trace.specs.FrameText.{mode_text}
@@ -7,14 +9,14 @@ use Rattle.ev_concrete.specs.ConcreteRun.{noted}
 use Rattle.ev_concrete.specs.RunText.{shown_frames}
 use Rattle.ev_core.specs.Local.{optional}
 use Rattle.ev_io.proofs.Writes.{then_ok, first_failed, second_failed, ok_then, err_then, err_now}
-use Rattle.ev_pair.proofs.Shown.{only_turns, first_only, turn_shown}
+use Rattle.ev_pair.proofs.Shown.{only_turns, turn_shown}
 use Rattle.ev_pair.proofs.side.put_line.Goals as goal
 
 pub returns-in_default : goal.returns-in_default
 returns-in_default g c = absurd (only_turns c.args.line.now c.requires.built c.in_default.not-Turn)
 
 pub turn-turned-requires-clause-place : goal.turn-turned-requires-clause-place
-turn-turned-requires-clause-place g c = let e : c.in-Turn.p ≡ 0 = first_only c.args.line.now c.in-Turn.p c.in-Turn.is c.requires.built in omega arith
+turn-turned-requires-clause-place g c = ltb-true c.in-Turn.p _ (ap (is_within _) (sym c.in-Turn.is) ∙ c.requires.within)
 
 pub returns-in_err-put_shown_frames-clause-failed : goal.returns-in_err-put_shown_frames-clause-failed
 returns-in_err-put_shown_frames-clause-failed g c image done r =

@@ -5,7 +5,7 @@ use Rattle.ev_abstract.specs.Machine as abstract
 use Rattle.ev_abstract.specs.EntryText.{end_lines}
 use Rattle.ev_trace.specs.FrameText.{mode_text}
 use Rattle.ev_io.proofs.Writes.{ok_then, err_then}
-use Rattle.ev_pair.proofs.Ends.{busy_line, task_line, none_wait, no_bodies}
+use Rattle.ev_pair.proofs.Ends.{busy_line, tasks_end, no_bodies}
 use Rattle.ev_pair.proofs.side.put_state.Goals as goal
 
 pub returns-then-depth-gt0-clause-ok : goal.returns-then-depth-gt0-clause-ok
@@ -32,11 +32,10 @@ returns-clause-ok g c image s m so =
     let none : c.depth-depth.result ≡ 0 = let f = c.if-depth-gt0.false in omega arith in
     let processors = so.at.shows.processors in
     let lt : c.args.p < image.processors = omega arith in
-    let text =
-    task_line (mode_text c.args.mode) c.args.p c.depth-depth.result x c.task.result none (none_wait c.args.mode image s m _ so c.args.p lt)
-    (c.task.ensures c.args.mode image s m so (no_bodies x.bodies (sym depth ∙ none)))
+    let text = tasks_end c.args.mode image s m _ so c.args.p lt (mode_text c.args.mode) c.depth-depth.result none
     ∙ ap (end_lines (mode_text c.args.mode) c.args.p x) depth in
-    ok_then c.put_task.result _ _ (λ h. h ∙ ap (append_known (g.K.Sink.taken c.args.sink.now)) text) c.put_task.ensures.ok
+    ok_then c.put_tasks.result _ _ (λ h. h ∙ ap (append_known (g.K.Sink.taken c.args.sink.now)) text)
+    (c.put_tasks.ensures.ok image s m so (no_bodies x.bodies (sym depth ∙ none)))
 
 pub returns-clause-failed : goal.returns-clause-failed
 returns-clause-failed g c image s m so =
@@ -45,9 +44,7 @@ returns-clause-failed g c image s m so =
     let none : c.depth-depth.result ≡ 0 = let f = c.if-depth-gt0.false in omega arith in
     let processors = so.at.shows.processors in
     let lt : c.args.p < image.processors = omega arith in
-    let text =
-    task_line (mode_text c.args.mode) c.args.p c.depth-depth.result x c.task.result none (none_wait c.args.mode image s m _ so c.args.p lt)
-    (c.task.ensures c.args.mode image s m so (no_bodies x.bodies (sym depth ∙ none)))
+    let text = tasks_end c.args.mode image s m _ so c.args.p lt (mode_text c.args.mode) c.depth-depth.result none
     ∙ ap (end_lines (mode_text c.args.mode) c.args.p x) depth in
-    err_then c.put_task.result _ _ (λ h. subst (TookPrefix (g.K.Sink.taken c.args.sink.now) (g.K.Sink.taken c.put_task.new.sink)) text h)
-    c.put_task.ensures.failed
+    err_then c.put_tasks.result _ _ (λ h. subst (TookPrefix (g.K.Sink.taken c.args.sink.now) (g.K.Sink.taken c.put_tasks.new.sink)) text h)
+    (c.put_tasks.ensures.failed image s m so (no_bodies x.bodies (sym depth ∙ none)))
