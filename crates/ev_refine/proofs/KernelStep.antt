@@ -63,7 +63,7 @@ use Rattle.ev_refine.proofs.Instructions.{stays_inside}
 use Rattle.ev_refine.proofs.Standing.{instruction_first, hidden, seen, after_ran, Runs, ran_step, ran_writes, ran_safe, ran_shown, ran_stays, Moves, step_moves}
 use Rattle.ev_refine.proofs.Stays.{means_again, leads_again, AreSpared, chain_stays, seat_fits, below_spared}
 use Rattle.ev_refine.proofs.Chains.{Kept, chain_kept, chain_plain, chain_open}
-use Rattle.ev_refine.proofs.After.{AreNames, AreSparing, own_word, none_spares, tasks_same, current_is, mark_is, slot_same, cell_same, page_same, user_same, few_inner, latch_parts, as_chain, own_becomes, own_after, stands_become, stands_after}
+use Rattle.ev_refine.proofs.After.{AreNames, AreSparing, own_word, none_spares, tasks_same, current_is, mark_is, slot_same, cell_same, page_same, user_same, few_inner, latch_parts, as_chain, own_becomes, own_after, Becomes, stands_become}
 use Rattle.ev_refine.proofs.CallKinds.{is_over_task, is_plain_kind, over_any, beneath_as, stands_alone, ArePlain, none_nmi, seat_under, area_under, plain_seat, plain_knows}
 use Rattle.ev_refine.proofs.Words.{IsBeside}
 use Rattle.ev_refine.proofs.Domains.{four_tasks}
@@ -173,6 +173,77 @@ module _ (mode : Mode) (image : Image) (built : IsBuilt image) (good : IsImage i
 
   moves : (cpu : Processor) (words : NatMap ℕ) → Moves p s (after_ran s p cpu words) cpu (activations_by s p (s.activations p) cpu Stepped.Ran) words
   moves cpu words = step_moves s p (ran cpu (s.apics p) words (s.latches p)) refl refl
+
+  -- an edge: the processor stands for the same behind it, and it writes no word of the abstract machine's
+  pub edge_to : (cell : Cell) → code c.rip ≡ Some cell → cell.mark ≡ false → is_return (Some cell.ins) ≡ false
+      → is_user c ≡ false → is_in_repeat c.rip ≡ false → (cpu : Processor) (words : NatMap ℕ) → Executes cell.ins cpu words
+      → (σ : Seat) → σ.stack < 7 → (names : List Named) → AreNames p names → have_none is_page_bit names ≡ true → have_none is_cell names ≡ true
+      → have_none is_user_word names ≡ true → Changes p σ names s.memory.words words → (now : ℕ) → now < on.own
+      → StandsOn mode image p (now + inner_edges (s.latches p)) (after_ran s p cpu words) x → Result
+  edge_to cell hc hm hr hu out cpu words he σ narrow names allowed no_page no_cell no_user changes now fewer there =
+      let run : Runs s p cpu words = runs cell hc hu cpu words he in
+      let all : Stands mode image (put_at left p (now + inner_edges (s.latches p))) (after_ran s p cpu words) m
+      = stands_become mode image left s (after_ran s p cpu words) m m p (now + inner_edges (s.latches p)) x σ cpu _ words good built.accepted
+      (four_tasks image good) h hp (moves cpu words) narrow names allowed changes
+      (record {
+        own = refl;
+        others = λ q e. refl;
+        mail = refl;
+        mail_nmi = refl;
+        records = refl;
+        queue = refl;
+        user = λ a u. user_same p σ names small narrow s.memory.words words allowed.written changes no_user a u ∙ h.shares.user a u;
+        held = h.shares.held;
+        pages = λ i l. page_same p σ names small narrow s.memory.words words allowed.written changes no_page i l ∙ h.shares.pages i l;
+        cells = λ k l. cell_same p σ names small narrow s.memory.words words allowed.written changes no_cell k l ∙ h.shares.cells k l;
+      })
+      h.legal h.bases h.numbers domain there in
+      let bound = on.enough in record {
+        safe = ran_safe mode image s p cpu words run;
+        counts = ran_counts image.processors s p cpu words cell.ins run (fetches c.rip cell hc).1 (length x.bodies) (length x.bodies) depth
+            (stands_depth mode image facts p (now + inner_edges (s.latches p)) (after_ran s p cpu words) x there)
+            (goes_on_inside (is_return (Some cell.ins)) (not (is_user c)) (not (nat_le nmi_entry c.rip && nat_lt c.rip repeat_entry))
+            (is_jump (Some cell.ins)) (is_in_repeat c.rip) (length x.bodies) hr out);
+        how = inl (record {
+          hidden = hidden (marks_of mode image) s p first hu (facts.unmarked c.rip cell hc hm);
+          now = put_at left p (now + inner_edges (s.latches p));
+          fewer = subst (λ n. n < left p) (sym (at_same left p p (now + inner_edges (s.latches p)) refl)) (omega arith);
+          stands = subst (λ y. Stands mode image (put_at left p (now + inner_edges (s.latches p))) y.0 m)
+              (sym (ran_step image.processors s p cpu words run)) all;
+          writes = ran_writes image.processors s p cpu words run;
+        });
+      }
+
+  -- a visible step: the processor stands for the one of the machine behind the abstract machine's turn, and memory for that machine's
+  pub turn_to : (cell : Cell) → code c.rip ≡ Some cell → cell.mark ≡ true → is_user c ≡ false
+      → (cpu : Processor) (words : NatMap ℕ) → Executes cell.ins cpu words
+      → (σ : Seat) → σ.stack < 7 → (names : List Named) → AreNames p names → Changes p σ names s.memory.words words
+      → (m' : Machine) (es : List Entry) → turn image m p ≡ (m', es) → (x' : abstract.Processor) → Becomes mode image p m m' x' words → HoldsNumbers m'
+      → IsInDomain x'
+      → (if ends_body c (Some cell.ins) then length x.bodies - 1
+      else (if begins_body c (Some cell.ins) then suc (length x.bodies) else length x.bodies)) ≡ length x'.bodies
+      → (now : ℕ) → StandsOn mode image p (now + inner_edges (s.latches p)) (after_ran s p cpu words) x'
+      → shown_always p (bodies_on s p) c s.memory.words (Some cell.ins) ≡ es → Result
+  turn_to cell hc hm hu cpu words he σ narrow names allowed changes m' es ht x' becomes numbers inside told now there hes =
+      let run : Runs s p cpu words = runs cell hc hu cpu words he in
+      let all : Stands mode image (put_at left p (now + inner_edges (s.latches p))) (after_ran s p cpu words) m'
+      = stands_become mode image left s (after_ran s p cpu words) m m' p (now + inner_edges (s.latches p)) x' σ cpu _ words
+      good built.accepted (four_tasks image good) h hp (moves cpu words) narrow names allowed changes becomes
+      (turn_legal image good built.accepted m p hp h.legal (m', es) ht) (turn_bases image m p h.bases (m', es) ht) numbers inside there in
+      let turned : Stands mode image (put_at left p (now + inner_edges (s.latches p))) (after_ran s p cpu words) (turn image m p).0 =
+      subst (λ q. Stands mode image (put_at left p (now + inner_edges (s.latches p))) (after_ran s p cpu words) q.0) (sym ht) all in record {
+        safe = ran_safe mode image s p cpu words run;
+        counts = ran_counts image.processors s p cpu words cell.ins run (fetches c.rip cell hc).1 (length x.bodies) (length x'.bodies) depth
+            (stands_depth mode image facts p (now + inner_edges (s.latches p)) (after_ran s p cpu words) x' there) told;
+        how = inr (record {
+          seen = seen (marks_of mode image) s p first hu (facts.marked c.rip cell hc hm);
+          now = put_at left p (now + inner_edges (s.latches p));
+          stands = subst (λ q. Stands mode image (put_at left p (now + inner_edges (s.latches p))) q.0 (turn image m p).0)
+              (sym (ran_step image.processors s p cpu words run)) turned;
+          entries = ran_shown (marks_of mode image) s p cpu words cell.ins run hu (facts.marked c.rip cell hc hm) (fetches c.rip cell hc).1
+              ∙ hes ∙ sym (ap (λ (q : Step). q.1) ht);
+        });
+      }
 
   -- ---- the last context, on any contexts below
 
@@ -344,7 +415,6 @@ module _ (mode : Mode) (image : Image) (built : IsBuilt image) (good : IsImage i
         → (names : List Named) → AreSparing p names → have_none is_user_word names ≡ true → UnknownTo below names → Changes p σ names s.memory.words words
         → (now : ℕ) → now < on.own → Stood now b cpu (with_words s.memory words) → Result
     edge cell hc hm hr hu out cpu words he hb names sparing no_user unknown changes now fewer act =
-        let run : Runs s p cpu words = runs cell hc hu cpu words he in
         let same : activations_by s p (s.activations p) cpu Stepped.Ran ≡ o.last ∷ o.others
         = ran_stays s p cpu cell.ins (fetches c.rip cell hc).1 hr ∙ o.acts in
         let goes_on : Chained now t x.bodies (activations_by s p (s.activations p) cpu Stepped.Ran) cpu (with_words s.memory words)
@@ -355,27 +425,7 @@ module _ (mode : Mode) (image : Image) (built : IsBuilt image) (good : IsImage i
         = own_after mode image p (left p) s (after_ran s p cpu words) x σ cpu _ words x.tasks x.bodies now on small (four_tasks image good p hp)
         (moves cpu words) beside narrow names sparing changes (λ i d. refl) on.tasks
         (hb ∙ sym none_is_nmi) (λ class. refl) (let l = on.enough in let f = on.few in omega arith) goes_on in
-        let all : Stands mode image (put_at left p (now + inner_edges (s.latches p))) (after_ran s p cpu words) m
-        = stands_after mode image left s (after_ran s p cpu words) m m p (now + inner_edges (s.latches p)) x σ cpu _ words good built.accepted
-        (four_tasks image good) h hp (moves cpu words) narrow names sparing changes
-        (λ a u. user_same p σ names small narrow s.memory.words words sparing.allowed.written changes no_user a u ∙ h.shares.user a u) h.shares.held
-        (record { own = refl; others = λ q e. refl; present = refl; cells = refl; mail = refl; mail_nmi = refl; records = refl; queue = refl })
-        h.legal h.bases h.numbers domain there in
-        let bound = on.enough in record {
-          safe = ran_safe mode image s p cpu words run;
-          counts = ran_counts image.processors s p cpu words cell.ins run (fetches c.rip cell hc).1 (length x.bodies) (length x.bodies) depth
-              (stands_depth mode image facts p (now + inner_edges (s.latches p)) (after_ran s p cpu words) x there)
-              (goes_on_inside (is_return (Some cell.ins)) (not (is_user c)) (not (nat_le nmi_entry c.rip && nat_lt c.rip repeat_entry))
-              (is_jump (Some cell.ins)) (is_in_repeat c.rip) (length x.bodies) hr out);
-          how = inl (record {
-            hidden = hidden (marks_of mode image) s p first hu (facts.unmarked c.rip cell hc hm);
-            now = put_at left p (now + inner_edges (s.latches p));
-            fewer = subst (λ n. n < left p) (sym (at_same left p p (now + inner_edges (s.latches p)) refl)) (omega arith);
-            stands = subst (λ y. Stands mode image (put_at left p (now + inner_edges (s.latches p))) y.0 m)
-                (sym (ran_step image.processors s p cpu words run)) all;
-            writes = ran_writes image.processors s p cpu words run;
-          });
-        }
+        edge_to cell hc hm hr hu out cpu words he σ narrow names sparing.allowed sparing.pages sparing.cells no_user changes now fewer there
 
     -- ---- what the abstract machine does
 
@@ -428,7 +478,6 @@ module _ (mode : Mode) (image : Image) (built : IsBuilt image) (good : IsImage i
         → Chained now (tasks to) bs (activations_by s p (s.activations p) cpu Stepped.Ran) cpu (with_words s.memory words)
         → shown_always p (bodies_on s p) c s.memory.words (Some cell.ins) ≡ es → Result
     visible cell hc hm hu cpu words he hb names allowed changes m' es ht tasks slots bs y quiet told now few goes_on hes =
-        let run : Runs s p cpu words = runs cell hc hu cpu words he in
         let x' : abstract.Processor = record x { tasks = tasks; slots = slots; bodies = bs } in
         let none : list_any (is_nmi_body image) bs ≡ false
         = none_nmi image bs (chain_plain mode image p now r to (tasks to) on.frame on.switching bs _ cpu (with_words s.memory words) goes_on) in
@@ -438,9 +487,7 @@ module _ (mode : Mode) (image : Image) (built : IsBuilt image) (good : IsImage i
         (λ class. unserved class bs quiet ∙ sym (unserved class x.bodies domain.bodies))
         (let f = few_inner mode image (s.latches p) in omega arith) goes_on in
         let inside : IsInDomain x' = record { pending = domain.pending; nmi = domain.nmi; resched = domain.resched; bodies = quiet } in
-        let all : Stands mode image (put_at left p (now + inner_edges (s.latches p))) (after_ran s p cpu words) m'
-        = stands_become mode image left s (after_ran s p cpu words) m m' p (now + inner_edges (s.latches p)) x' σ cpu _ words
-        good built.accepted (four_tasks image good) h hp (moves cpu words) narrow names allowed changes
+        turn_to cell hc hm hu cpu words he σ narrow names allowed changes m' es ht x'
         (record {
           own = y.own;
           others = y.others;
@@ -453,22 +500,7 @@ module _ (mode : Mode) (image : Image) (built : IsBuilt image) (good : IsImage i
           pages = y.pages;
           cells = y.cells;
         })
-        (turn_legal image good built.accepted m p hp h.legal (m', es) ht) (turn_bases image m p h.bases (m', es) ht)
-        (numbers_behind m' es ht) inside there in
-        let turned : Stands mode image (put_at left p (now + inner_edges (s.latches p))) (after_ran s p cpu words) (turn image m p).0 =
-        subst (λ q. Stands mode image (put_at left p (now + inner_edges (s.latches p))) (after_ran s p cpu words) q.0) (sym ht) all in record {
-          safe = ran_safe mode image s p cpu words run;
-          counts = ran_counts image.processors s p cpu words cell.ins run (fetches c.rip cell hc).1 (length x.bodies) (length bs) depth
-              (stands_depth mode image facts p (now + inner_edges (s.latches p)) (after_ran s p cpu words) x' there) told;
-          how = inr (record {
-            seen = seen (marks_of mode image) s p first hu (facts.marked c.rip cell hc hm);
-            now = put_at left p (now + inner_edges (s.latches p));
-            stands = subst (λ q. Stands mode image (put_at left p (now + inner_edges (s.latches p))) q.0 (turn image m p).0)
-                (sym (ran_step image.processors s p cpu words run)) turned;
-            entries = ran_shown (marks_of mode image) s p cpu words cell.ins run hu (facts.marked c.rip cell hc hm) (fetches c.rip cell hc).1
-                ∙ hes ∙ sym (ap (λ (q : Step). q.1) ht);
-          });
-        }
+        (numbers_behind m' es ht) inside told now there hes
 
     -- what holds of the components that a step leaves alone, by the names that it writes
     module _ (names : List Named) (allowed : AreNames p names) (words : NatMap ℕ) (changes : Changes p σ names s.memory.words words) where
