@@ -1,6 +1,6 @@
 -- The relation after a step of one processor: of that processor, of the others, and of the words that all share.
 use Rattle.std.proofs.Common.{◌≡◌, ◌≢◌, suc, get_or, ◌⊎◌, inl, inr, ⊎_elim, ℕ, ◌+◌, ◌*◌, ◌<◌, ◌≤◌, Bool, true, false, not, List, [], ◌∷◌, length, Option, Some, None, refl, sym, ap, ◌∙◌, subst, arith, map}
-use Rattle.std.specs.Prelude.{if◌then◌else◌, ◌==◌, ◌&&◌, ◌/◌, reverse, ◌%◌, ◌-◌}
+use Rattle.std.specs.Prelude.{if◌then◌else◌, ◌==◌, reverse, ◌%◌, ◌-◌}
 use Rattle.std.specs.List.{list_any}
 use Rattle.std.proofs.lemmas.Bool.Decides.{eqb_tells}
 use Rattle.ev_isa.specs.Word.{NatMap, NatSet, put_at, numbers_from}
@@ -32,7 +32,7 @@ use Rattle.ev_user.specs.Numbers.{HoldsNumbers}
 use Rattle.ev_user.specs.Sees.{IsUserWord, IsWrite}
 use Rattle.ev_refine.specs.Named.{Named, UserRsp, Top, Current, Mark, Port, Head, TssTop, Slot, RecordWord, CellAt, PageBit, UserWord, address_of, is_task_word, is_call_word, is_slot, is_cell, is_page_bit, is_user_word, have_none, IsWritten, Outside, NotNamed, AreWritten, NoneOf, Changes}
 use Rattle.ev_refine.specs.Domain.{IsInDomain}
-use Rattle.ev_refine.specs.Relation.{Chain, Runs, serves, StandsOn, RecordIs, Linked, Shares, Stands, most_edges}
+use Rattle.ev_refine.specs.Relation.{ApicIs, Chain, Runs, serves, StandsOn, RecordIs, Linked, Shares, Stands, most_edges}
 use Rattle.ev_refine.proofs.Maps.{at_same}
 use Rattle.ev_refine.proofs.Words.{area_word, IsBeside, on_its_stack, fixed_stays, beside_stays, stacks_stay, area_stays, saved_stays}
 use Rattle.ev_symbolic.proofs.Values.{and_left, and_right}
@@ -338,9 +338,22 @@ module _ (mode : Mode) (image : Image) where
   few_inner true = omega arith
   few_inner false = omega arith
 
+  -- the local APIC by contexts that have the same classes in service
+  pub apic_again : (a b : Apic) (set : NatSet) (bs ds : List BodyContext) → b ≡ a
+      → ((class : ℕ) → list_any (λ (d : BodyContext). serves mode image class d.service) ds
+      ≡ list_any (λ (d : BodyContext). serves mode image class d.service) bs)
+      → ApicIs mode image a set bs → ApicIs mode image b set ds
+  apic_again a b set bs ds same serving h = subst (λ y. ApicIs mode image y set ds) (sym same) (record {
+    tpr = h.tpr;
+    irr = h.irr;
+    isr = h.isr;
+    pending = h.pending;
+    service = λ class. h.service class ∙ sym (serving class);
+  })
+
   -- What a step gives of its own processor, which becomes x: its activations run on this processor over these words, at most `own` edges before a visible step.
-  pub record OwnBecomes (p own : ℕ) (s : System) (y x : abstract.Processor) (layer : Layer) (frame : Frame) (cpu : Processor) (as' : List Activation)
-      (words : NatMap ℕ) : Type 0 where
+  pub record OwnBecomes (p own : ℕ) (s : System) (y x : abstract.Processor) (layer : Layer) (frame : Frame) (cpu : Processor) (a : Apic)
+      (as' : List Activation) (words : NatMap ℕ) : Type 0 where
     pub running : x.running < length (tasks_of image p)
     pub waiting : x.waiting ≡ map (λ n. n % length (tasks_of image p)) (numbers_from (suc x.running) (length (tasks_of image p) - 1))
     pub switching : Bool
@@ -353,16 +366,14 @@ module _ (mode : Mode) (image : Image) where
     pub tasks : (i : ℕ) → i < length (tasks_of image p) → IsTask (x.tasks i)
     pub latch : x.nmi ≡ y.nmi
     pub blocked : cpu.nmi_blocked ≡ list_any (is_nmi_body image) x.bodies
-    pub pending : x.pending ≡ y.pending
-    pub serving : (class : ℕ) → list_any (λ (b : BodyContext). serves mode image class b.service) x.bodies
-        ≡ list_any (λ (b : BodyContext). serves mode image class b.service) y.bodies
+    pub apic : ApicIs mode image a x.pending x.bodies
     pub slots : (k : ℕ) → k < 64 → words (pcpu p + slot_offset k) ≡ x.slots k
     pub few : own + inner_edges (s.latches p) ≤ most_edges mode image
     pub chain : Chain mode image p own x.running returning (x.tasks returning) frame switching x.bodies as' cpu (with_words s.memory words)
 
   -- so it stands for x behind it
   pub own_stands : (p left own : ℕ) (s s' : System) (y x : abstract.Processor) (cpu : Processor) (as' : List Activation) (words : NatMap ℕ)
-      (on : StandsOn mode image p left s y) → Moves p s s' cpu as' words → OwnBecomes p own s y x on.layer on.frame cpu as' words
+      (on : StandsOn mode image p left s y) → Moves p s s' cpu as' words → OwnBecomes p own s y x on.layer on.frame cpu (s'.apics p) as' words
       → StandsOn mode image p (own + inner_edges (s.latches p)) s' x
   own_stands p left own s s' y x cpu as' words on mv b = record {
     few = b.few;
@@ -384,9 +395,7 @@ module _ (mode : Mode) (image : Image) where
     latch = subst (LatchIs on.layer on.frame (list_any (is_nmi_body image) x.bodies) (s'.latches p) (s'.cpus p).nmi_blocked) (sym b.latch)
         (latch_again on.layer on.frame (list_any (is_nmi_body image) y.bodies) (list_any (is_nmi_body image) x.bodies) (s.latches p) (s'.latches p)
         (s.cpus p).nmi_blocked (s'.cpus p).nmi_blocked y.nmi mv.latch (ap (λ (c : Processor). c.nmi_blocked) mv.cpu_is ∙ b.blocked) on.latch);
-    pending = λ v lt. ap (λ (a : Apic). vectors_of a.irr v) mv.apic ∙ on.pending v lt ∙ sym (ap (λ w. w v) b.pending);
-    service = λ class. ap (λ (a : Apic). list_any (λ v. vectors_of a.isr v && (v / 16 == class)) (numbers_from 0 256)) mv.apic
-        ∙ on.service class ∙ sym (b.serving class);
+    apic = b.apic;
     slots = λ k lt. ap (λ w. w (pcpu p + slot_offset k)) mv.words_are ∙ b.slots k lt;
     runs = as_runs on.layer p own 0 x.running b.returning (x.tasks b.returning) on.frame b.switching x.bodies (s'.activations p) (s'.cpus p) s'.memory
         (moved (λ a c w r. Chain mode image p own x.running b.returning (x.tasks b.returning) on.frame b.switching x.bodies a c
@@ -402,7 +411,7 @@ module _ (mode : Mode) (image : Image) where
           (subst (λ c. P as' c s'.memory.words s'.memory.regions) (sym mv.cpu_is)
           (subst (λ w. P as' cpu w s'.memory.regions) (sym mv.words_are) (subst (λ r. P as' cpu words r) (sym mv.regions) h)))
 
-  -- Its tasks, slots and bodies may be others; the running task, and that to which the bodies return, are the same.
+  -- Its tasks, slots, bodies and pending vectors may be others; the running task, and that to which the bodies return, are the same.
   pub own_becomes : (p left : ℕ) (s s' : System) (x : abstract.Processor) (σ : Seat) (cpu : Processor) (as' : List Activation) (words : NatMap ℕ)
       (ts : NatMap Task) (slots : NatMap ℕ) (bs : List BodyContext) (own : ℕ) (on : StandsOn mode image p left s x) → p < 32
       → length (tasks_of image p) ≤ 4 → Moves p s s' cpu as' words → ((i : ℕ) → (i ≡ on.returning → ⊥) → IsBeside mode σ i) → σ.stack < 7
@@ -411,14 +420,13 @@ module _ (mode : Mode) (image : Image) where
       → ((k : ℕ) → k < 64 → words (pcpu p + slot_offset k) ≡ slots k)
       → ((i : ℕ) → (i ≡ on.returning → ⊥) → ts i ≡ x.tasks i) → ((i : ℕ) → i < length (tasks_of image p) → IsTask (ts i))
       → cpu.nmi_blocked ≡ list_any (is_nmi_body image) bs
-      → ((class : ℕ) → list_any (λ (b : BodyContext). serves mode image class b.service) bs
-      ≡ list_any (λ (b : BodyContext). serves mode image class b.service) x.bodies)
+      → (set : NatSet) → ApicIs mode image (s'.apics p) set bs
       → own + inner_edges (s.latches p) ≤ most_edges mode image
       → Chain mode image p own x.running on.returning (ts on.returning) on.frame on.switching bs as' cpu (with_words s.memory words)
-      → StandsOn mode image p (own + inner_edges (s.latches p)) s' (record x { tasks = ts; slots = slots; bodies = bs })
-  own_becomes p left s s' x σ cpu as' words ts slots bs own on hp four mv beside hs names good_names changes current mark slots_are same good blocked serving
+      → StandsOn mode image p (own + inner_edges (s.latches p)) s' (record x { tasks = ts; slots = slots; bodies = bs; pending = set })
+  own_becomes p left s s' x σ cpu as' words ts slots bs own on hp four mv beside hs names good_names changes current mark slots_are same good blocked set apic
       few chain =
-      own_stands p left own s s' x (record x { tasks = ts; slots = slots; bodies = bs }) cpu as' words on mv (record {
+      own_stands p left own s s' x (record x { tasks = ts; slots = slots; bodies = bs; pending = set }) cpu as' words on mv (record {
         running = on.running;
         waiting = on.waiting;
         switching = on.switching;
@@ -433,8 +441,7 @@ module _ (mode : Mode) (image : Image) where
         tasks = good;
         latch = refl;
         blocked = blocked;
-        pending = refl;
-        serving = serving;
+        apic = apic;
         slots = slots_are;
         few = few;
         chain = chain;
@@ -447,19 +454,18 @@ module _ (mode : Mode) (image : Image) where
       → Changes p σ names s.memory.words words
       → ((i : ℕ) → (i ≡ on.returning → ⊥) → ts i ≡ x.tasks i) → ((i : ℕ) → i < length (tasks_of image p) → IsTask (ts i))
       → cpu.nmi_blocked ≡ list_any (is_nmi_body image) bs
-      → ((class : ℕ) → list_any (λ (b : BodyContext). serves mode image class b.service) bs
-      ≡ list_any (λ (b : BodyContext). serves mode image class b.service) x.bodies)
+      → (set : NatSet) → ApicIs mode image (s'.apics p) set bs
       → own + inner_edges (s.latches p) ≤ most_edges mode image
       → Chain mode image p own x.running on.returning (ts on.returning) on.frame on.switching bs as' cpu (with_words s.memory words)
-      → StandsOn mode image p (own + inner_edges (s.latches p)) s' (record x { tasks = ts; bodies = bs })
-  own_after p left s s' x σ cpu as' words ts bs own on hp four mv beside hs names sparing changes same good blocked serving few chain =
+      → StandsOn mode image p (own + inner_edges (s.latches p)) s' (record x { tasks = ts; bodies = bs; pending = set })
+  own_after p left s s' x σ cpu as' words ts bs own on hp four mv beside hs names sparing changes same good blocked set apic few chain =
       let words_same : AreSameWords p σ names hp hs s.memory.words words sparing.allowed.written changes p
       = tasks_same p σ names hp hs s.memory.words words sparing.allowed.written changes sparing.tasks p hp in
       own_becomes p left s s' x σ cpu as' words ts x.slots bs own on hp four mv beside hs names sparing.allowed changes
       (λ e. current_is p σ names hp hs s.memory.words words sparing.allowed.written changes p words_same mode x.running (on.current e))
       (λ e. mark_is p σ names hp hs s.memory.words words sparing.allowed.written changes p words_same ∙ on.mark e)
       (λ k lt. slot_same p σ names hp hs s.memory.words words sparing.allowed.written changes sparing.slots p k hp lt ∙ on.slots k lt)
-      same good blocked serving few chain
+      same good blocked set apic few chain
 
   -- ---- another processor
 
@@ -492,9 +498,7 @@ module _ (mode : Mode) (image : Image) where
         latch = subst (λ b. LatchIs on.layer on.frame (list_any (is_nmi_body image) x.bodies) (s'.latches q) b x.nmi)
             (sym (ap (λ (c : Processor). c.nmi_blocked) (mv.other_cpu q e)))
             (subst (λ b. LatchIs on.layer on.frame (list_any (is_nmi_body image) x.bodies) b (s.cpus q).nmi_blocked x.nmi) (sym (mv.other_latch q e)) on.latch);
-        pending = λ v lt. ap (λ (a : Apic). vectors_of a.irr v) (mv.other_apic q e) ∙ on.pending v lt;
-        service = λ class. ap (λ (a : Apic). list_any (λ v. vectors_of a.isr v && (v / 16 == class)) (numbers_from 0 256)) (mv.other_apic q e)
-            ∙ on.service class;
+        apic = subst (λ a. ApicIs mode image a x.pending x.bodies) (sym (mv.other_apic q e)) on.apic;
         slots = λ k lt. ap (λ w. w (pcpu q + slot_offset k)) mv.words_are
             ∙ area_stays p σ names s.memory.words words hp hs good_names.written changes q hq (good_names.own q d) (pcpu q + slot_offset k) (omega arith)
             (omega arith)

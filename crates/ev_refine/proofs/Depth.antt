@@ -1,5 +1,6 @@
 -- How many bodies stand: as many as contexts, and as a step tells it.
 use Rattle.std.proofs.Common.{◌≡◌, ℕ, suc, ◌+◌, ◌-◌, ◌%◌, ◌<◌, ◌≤◌, Bool, true, false, not, ◌&&◌, List, [], ◌∷◌, length, Option, Some, None, refl, sym, ap, ◌∙◌, arith}
+use Rattle.std.proofs.Math.Bool.{and-false}
 use Rattle.std.specs.Prelude.{if◌then◌else◌, ◌==◌, nat_lt, nat_le, filter, slice_get}
 use Rattle.std.proofs.lemmas.Bool.{eqb-true, ltb-true, lt-leb}
 use Rattle.ev_isa.specs.Word.{NatMap}
@@ -57,17 +58,13 @@ not_true : (b : Bool) → not b ≡ true → b ≡ false
 not_true true h = absurd (cc)
 not_true false h = refl
 
-and_false : (a : Bool) → (a && false) ≡ false
-and_false true = refl
-and_false false = refl
-
 -- code of bodies stands behind it
 pub behind_repeat : (a : ℕ) → 0xffffffff82000000 ≤ a → is_in_repeat a ≡ false
 behind_repeat a h = pick (nat_lt a nbody_entry) refl
   where
     pick : (b : Bool) → nat_lt a nbody_entry ≡ b → (nat_le repeat_entry a && b) ≡ false
     pick true q = let z = ltb-true a nbody_entry q in absurd (omega arith)
-    pick false q = and_false (nat_le repeat_entry a)
+    pick false q = and-false (nat_le repeat_entry a)
 
 elsewhere : (e : Env) → e.base 1000 ≡ 0 → (s : SS) → is_elsewhere s ≡ true → is_in_repeat (addr e s.rip) ≡ false
 elsewhere e z s h =

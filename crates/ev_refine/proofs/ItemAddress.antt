@@ -204,7 +204,8 @@ module _ (mode : Mode) (image : Image) (built : IsBuilt image) (good : IsImage i
       let plain = step.plain_kind mode image built good facts left s m h p hp o in
       let cell : code c.rip ≡ Some (edge_cell (MovReg 0 r) (a + 3)) = ap code rip_is ∙ from.0 in
       let there : a + 3 ≡ (extra 20 + 3) % M = (let z : a + 3 ≡ (a + 3) % M = omega arith in z) ∙ ap (λ x. (x + 3) % M) (sym base) in
-      step.goes mode image built good facts left s m h p hp o body' is act (body mode AtUserWord) ss ss_is extra u f hu
+      step.goes mode image built good facts left s m h p hp o body' is act (body mode AtUserWord) ss ss_is extra u f
+      (step.masks mode image built good facts left s m h p hp o (block mode (body mode AtItem)) 0 (env ss extra v f) at) hu
       (record {
         step = record {
           ins = MovReg 0 r;

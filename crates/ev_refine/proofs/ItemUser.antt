@@ -26,14 +26,13 @@ use Rattle.ev_symbolic.specs.Agrees.{Env}
 use Rattle.ev_symbolic.specs.Single.{onward, Leads, Singles}
 use Rattle.ev_symbolic.proofs.Single.{singles}
 use Rattle.ev_symbolic.proofs.Values.{and_left, and_right}
-use Rattle.ev_refine.specs.Active.{FlagsAre}
 use Rattle.ev_refine.specs.Relation.{Stands}
 use Rattle.ev_refine.proofs.Facts.{Facts}
 use Rattle.ev_refine.proofs.ItemCells.{before, visible_of}
 use Rattle.ev_refine.proofs.ItemAddresses.{displaced_zero}
 use Rattle.ev_refine.proofs.ItemWords.{IsFree, are_names, is_unknown}
 use Rattle.ev_refine.proofs.ItemWords as words
-use Rattle.ev_refine.proofs.ItemVisible.{goes_onward, goes_with}
+use Rattle.ev_refine.proofs.ItemVisible.{FlagsBehind, goes_onward, goes_with}
 use Rattle.ev_refine.proofs.ItemVisible as visible
 use Rattle.ev_refine.proofs.KernelStep as step
 use Rattle.ev_refine.proofs.ItemSteps.{WordWrite}
@@ -104,7 +103,7 @@ module _ (mode : Mode) (image : Image) (built : IsBuilt image) (good : IsImage i
   ruled = steps.ruled mode image built good facts left s m h p hp o body' is ss extra v f a
 
   -- the flags that the context knows
-  abbrev known : a.flags ≡ f → FlagsAre mode image b.flags a.flags
+  abbrev known : a.flags ≡ f → FlagsBehind mode image a.flags b.flags a.flags
   known same = steps.known_flags mode image built good facts left s m h p hp o body' is ss extra v f a same
 
   abbrev is_the_local : (r : ℕ) → is_local r ≡ true → register c r ≡ local b r
@@ -205,7 +204,7 @@ module _ (mode : Mode) (image : Image) (built : IsBuilt image) (good : IsImage i
             let fits = bounds d (and_left _ _ (ruled.operands b.place (Uget d q) hi).2) in
             visible.visible mode image built good facts left s m h p hp o body' is ss extra v f a
             (steps.does mode image built good facts left s m h p hp o body' is ss extra v f a (Uget d q) hi ins refl off (omega arith) refl
-            (Some (d, m.words address)) fits a.flags None tt None tt
+            (Some (d, m.words address)) fits a.flags None (tt, refl) None tt
             (λ i. goes_onward c s.memory ins a.flags _ next s.memory.words a.state.flags
             (subst (λ n. Leads c s.memory ins (onward c (set c.regs d n) next) s.memory.words) (h.shares.user address (of_user false e))
             (one.loads_allowed d 0 (pos 0) address i place_is (meets false (bad_address 0) None e))))
@@ -237,7 +236,7 @@ module _ (mode : Mode) (image : Image) (built : IsBuilt image) (good : IsImage i
             let w : IsPageWord address = on_page (reached true e) in
             visible.visible mode image built good facts left s m h p hp o body' is ss extra v f a
             (steps.does mode image built good facts left s m h p hp o body' is ss extra v f a (Uput q r) hi ins refl off (omega arith) refl
-            None tt a.flags None tt (Some (UserWord address, local b r)) (words.user_free mode image built good facts left s m h p hp o address u w)
+            None tt a.flags None (tt, refl) (Some (UserWord address, local b r)) (words.user_free mode image built good facts left s m h p hp o address u w)
             (λ i. goes_onward c s.memory ins a.flags _ next _ a.state.flags
             (subst (λ n. Leads c s.memory ins (onward c c.regs next) (put_at s.memory.words address n)) value
             (one.stores_allowed 0 (pos 0) r address i place_is (meets true (bad_address 0) None e))))

@@ -1,7 +1,8 @@
 -- A step of a processor on which a body stands: an instruction of the kernel's code, an item, or the return.
-use Rattle.std.proofs.Common.{◌≡◌, ℕ, suc, ◌+◌, ◌-◌, ◌*◌, ◌<◌, ◌≤◌, Bool, true, false, not, ◌&&◌, List, [], ◌∷◌, length, Some, refl, sym, ap, ◌∙◌, subst, arith}
+use Rattle.std.proofs.Common.{◌≡◌, ℕ, suc, ◌+◌, ◌-◌, ◌*◌, ◌<◌, ◌≤◌, Bool, true, false, not, ◌&&◌, List, [], ◌∷◌, length, Some, refl, sym, ap, ◌∙◌, subst, arith, ◌||◌}
 use Rattle.std.specs.Prelude.{ℤ, pos, ◌==◌, if◌then◌else◌, slice_get, nat_le}
 use Rattle.std.proofs.lemmas.Bool.{eqb-true, ne_eqb, leb-true, leb-false}
+use Rattle.std.specs.List.{list_any}
 use Rattle.ev_isa.specs.Word.{NatMap, is_canonical, displaced}
 use Rattle.ev_isa.specs.Flags.{Flags, flags_of}
 use Rattle.ev_isa.specs.declared.instruction.Ins.{Ins}
@@ -58,7 +59,7 @@ use Rattle.ev_paths.specs.IdtEnds.{idt_end}
 use Rattle.ev_paths.specs.Ends.{Enters}
 use Rattle.ev_refine.specs.Domain.{IsInDomain}
 use Rattle.ev_refine.specs.Active.{item_place, number_of, here, IsKernelSs, Saved, SavedBody, AtLoad, AtStart, FlagsAre, HasPlace, InSpot, Matches, OverTask, OverBody, Active}
-use Rattle.ev_refine.specs.Relation.{IsContext, switches_at, body_edges, Chain, StandsOn, Stands}
+use Rattle.ev_refine.specs.Relation.{IsContext, switches_at, body_edges, Chain, StandsOn, Stands, serves}
 use Rattle.ev_refine.specs.Claims.{Simulated}
 use Rattle.ev_refine.proofs.Facts.{Facts}
 use Rattle.ev_refine.proofs.Spots.{is_spot, means_over, never_switches}
@@ -213,7 +214,8 @@ module _ (mode : Mode) (image : Image) (built : IsBuilt image) (good : IsImage i
           let found = table_reads mode image good (origin_of κ) l.key l.small b.body l.found s.memory h.regions_are h.fixed in
           let way = at_the_jump mode in
           let falls = table_falls mode in
-          step.goes mode image built good facts left s m h p hp o body' is act (body mode AtJump) ss ss_is extra u f (ap is_user g.rest)
+          step.goes mode image built good facts left s m h p hp o body' is act (body mode AtJump) ss ss_is extra u f
+          (step.masks mode image built good facts left s m h p hp o B 0 e at) (ap is_user g.rest)
           (loads mode code e c s.memory a (body_code b.body) facts.kernel at at_a found.0 found.1
           (step.fits mode image built good facts left s m h p hp o body' is (body mode AtJump) way.over ss extra u f place tt (way.told (env ss extra u f)))
           (step.windows mode image built good facts left s m h p hp o body' is (body mode AtJump) way.over ss extra u f))
@@ -259,7 +261,8 @@ module _ (mode : Mode) (image : Image) (built : IsBuilt image) (good : IsImage i
           let item : with_item e (v 0) ≡ e = same_base e (v 0) (place ∙ step.place_is mode image built good facts left s m h p hp o body' is ∙ sym target) in
           let way = at_the_item mode in
           let falls = jump_falls mode in
-          step.goes mode image built good facts left s m h p hp o body' is act (body mode AtItem) ss ss_is extra v f (ap is_user g.rest)
+          step.goes mode image built good facts left s m h p hp o body' is act (body mode AtItem) ss ss_is extra v f
+          (step.masks mode image built good facts left s m h p hp o B 0 e at) (ap is_user g.rest)
           (subst (Goes code c s.memory (block mode (body mode AtItem))) item
           (jumps mode code e c s.memory facts.kernel at (ap is_canonical target ∙ fine.0) (let upper = fine.1 in omega arith)
           (subst (λ y. Fits code y (block mode (body mode AtItem))) (sym item)
@@ -287,6 +290,8 @@ module _ (mode : Mode) (image : Image) (built : IsBuilt image) (good : IsImage i
           (step.bodies_alone mode image built good facts left s m h p hp o [] (none_spares p).allowed s.memory.words (λ y far far'. refl) (none_spares p) refl
           below)
           (step.are_quiet mode image built good facts left s m h p hp o).1
+          (λ class. sym (ap (list_any (λ (a : BodyContext). serves mode image class a.service)) o.bodies
+          ∙ ap (λ q. serves mode image class q || list_any (λ (a : BodyContext). serves mode image class a.service) below) (step.ret_serves mode image built good facts left s m h p hp o ret)))
           (ap (λ e. if e then length (processor m p).bodies - 1 else
           (if begins_body c (Some cell.ins) then suc (length (processor m p).bodies) else length (processor m p).bodies))
           (ends_a_body (Some cell.ins) c x.place x.rip x.outside hu x.is) ∙ ap (λ (bs : List BodyContext). length bs - 1) o.bodies
@@ -342,7 +347,8 @@ module _ (mode : Mode) (image : Image) (built : IsBuilt image) (good : IsImage i
           (subst (λ m. FactsHold (env ss extra u' g) (block m spot).ground.facts) q told)))
           (subst (λ m. Open (env ss extra u' g) (block m spot).ground.known s.memory.regions) (sym q)
           (step.windows mode image built good facts left s m h p hp o body' is spot fine ss extra u' g)) in
-          step.goes mode image built good facts left s m h p hp o body' is act spot ss ss_is extra u' g (ap is_user there.agrees.rest)
+          step.goes mode image built good facts left s m h p hp o body' is act spot ss ss_is extra u' g
+          (step.masked mode image built good facts left s m h p hp o) (ap is_user there.agrees.rest)
           (subst (λ m. Goes code c s.memory (block m spot) (env ss extra u' g)) q
           (goes_by code c s.memory _ _ (Jmp j.distance) _ _ on_way
           (stub_rip code og has v e c s.memory small_vector stub_at.2 there) j.is (jump_stays j.distance)))

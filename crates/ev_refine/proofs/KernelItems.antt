@@ -242,6 +242,7 @@ module _ (mode : Mode) (image : Image) (built : IsBuilt image) (good : IsImage i
               flags = f;
               ss = ss;
               ss_is = ss_is;
+              masked = step.masks mode image built good facts left s m h p hp o B 0 e at;
               within = omega arith;
               enough = omega arith;
               at = begins code (block mode x.spot) e cpu s.memory
@@ -376,6 +377,7 @@ module _ (mode : Mode) (image : Image) (built : IsBuilt image) (good : IsImage i
               flags = f;
               ss = ss;
               ss_is = ss_is;
+              masked = step.masks mode image built good facts left s m h p hp o (block mode (body mode AtUserWord)) 2 (env ss extra v f) at;
               within = subst (λ y. 2 ≤ y) (sym last) (omega arith);
               enough = enough;
               at = at;

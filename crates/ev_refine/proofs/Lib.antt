@@ -1,6 +1,7 @@
 pub mod Facts
 pub mod Maps
 pub mod Runs
+pub mod Arrivals
 pub mod Opens
 pub mod Tells
 pub mod ModeFacts
@@ -11,6 +12,7 @@ pub mod CallKinds
 pub mod Domains
 pub mod Chains
 pub mod Legality
+pub mod Vectors
 pub mod Standing
 pub mod Stays
 pub mod After

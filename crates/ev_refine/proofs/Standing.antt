@@ -57,6 +57,20 @@ instruction_first c a nmi hn ha =
     either true = refl
     either false = refl
 
+-- with IF off no vector comes
+pub masked_first : (c : Processor) (a : Apic) (nmi : Bool) → nmi ≡ false → interrupts_on c ≡ false → next_of c a nmi ≡ Next.Instruction
+unfolding next_of first_of
+masked_first c a nmi hn hi =
+    ap (next_of c a) hn
+    ∙ ap (λ b. first_of (record {
+      debug = false;
+      nmi = false;
+      nmi_blocked = c.nmi_blocked;
+      sti_blocked = c.sti_blocked;
+      if_set = b;
+      vector = next_vector a;
+    })) hi
+
 -- ---- whether the step is visible
 
 pub hidden : (marks : Marks) (s : System) (p : ℕ) → next_of (s.cpus p) (s.apics p) (s.latches p) ≡ Next.Instruction → is_user (s.cpus p) ≡ false
@@ -121,7 +135,6 @@ ran_returns s p cpu i hi hr hu hl =
 pub record Moves (p : ℕ) (s s' : System) (cpu : Processor) (as' : List Activation) (words : NatMap ℕ) : Type 0 where
   pub cpu_is : s'.cpus p ≡ cpu
   pub activations_are : s'.activations p ≡ as'
-  pub apic : s'.apics p ≡ s.apics p
   pub latch : s'.latches p ≡ s.latches p
   pub inboxes : s'.inboxes ≡ s.inboxes
   pub regions : s'.memory.regions ≡ s.memory.regions
@@ -131,13 +144,12 @@ pub record Moves (p : ℕ) (s s' : System) (cpu : Processor) (as' : List Activat
   pub other_apic : (q : ℕ) → (q == p) ≡ false → s'.apics q ≡ s.apics q
   pub other_latch : (q : ℕ) → (q == p) ≡ false → s'.latches q ≡ s.latches q
 
--- a step that takes nothing from the APIC and no NMI
-pub step_moves : (s : System) (p : ℕ) (r : After) → r.apic ≡ s.apics p → r.nmi ≡ s.latches p
+-- a step that takes no NMI
+pub step_moves : (s : System) (p : ℕ) (r : After) → r.nmi ≡ s.latches p
     → Moves p s (after_step s p r) r.cpu (activations_by s p (s.activations p) r.cpu r.step) r.words
-step_moves s p r ha hn = record {
+step_moves s p r hn = record {
   cpu_is = at_same s.cpus p p r.cpu refl;
   activations_are = at_same s.activations p p _ refl;
-  apic = at_same s.apics p p r.apic refl ∙ ha;
   latch = at_same s.latches p p r.nmi refl ∙ hn;
   inboxes = refl;
   regions = refl;
@@ -155,7 +167,6 @@ delivery_moves n p s s' cpu as' words e None h = h
 delivery_moves n p s s' cpu as' words e (Some a) h = record {
   cpu_is = h.cpu_is;
   activations_are = h.activations_are;
-  apic = h.apic;
   latch = h.latch;
   inboxes = h.inboxes;
   regions = h.regions;
@@ -165,3 +176,8 @@ delivery_moves n p s s' cpu as' words e (Some a) h = record {
   other_apic = h.other_apic;
   other_latch = h.other_latch;
 }
+
+-- the count leaves the local APICs
+pub delivery_apic : (n p q : ℕ) (s' : System) (e : Event) (frame : Option ℕ) → (acted n s' p (Stepped.Delivered e frame)).0.apics q ≡ s'.apics q
+delivery_apic n p q s' e None = refl
+delivery_apic n p q s' e (Some a) = refl

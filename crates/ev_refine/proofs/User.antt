@@ -1,7 +1,9 @@
 -- The turns of the task: its user code goes on, or raises an event, which begins an activation.
 use Rattle.std.proofs.Common.{◌≡◌, ℕ, suc, ◌+◌, ◌^◌, ◌<◌, Bool, true, false, List, [], ◌∷◌, set, length, Option, Some, None, refl, sym, ap, ◌∙◌, subst, arith, inr}
 use Rattle.std.specs.Prelude.{◌||◌, if◌then◌else◌, slice_get, is_some}
+use Rattle.std.proofs.lemmas.Bool.{ne_eqb}
 use Rattle.std.proofs.lemmas.List.{length-set}
+use Rattle.std.specs.List.{list_any}
 use Rattle.ev_isa.specs.Word.{NatMap, is_canonical}
 use Rattle.ev_isa.specs.Flags.{flags_word}
 use Rattle.ev_isa.specs.declared.mode.Mode.{Mode}
@@ -33,7 +35,7 @@ use Rattle.ev_symbolic.specs.Agrees.{with_words}
 use Rattle.ev_concrete.specs.Shown.{shown_by, shown_event, told_event, told_rip, is_refused, saved_rip, key_of}
 use Rattle.ev_activation.specs.Seat.{Kind, kind_from, key_by, kind_of, seat_by, seat_of, room_of}
 use Rattle.ev_user.specs.Tasks.{IsTask, task_processor, RunsTask}
-use Rattle.ev_user.specs.Causes.{Fault, Undefined, Protection, Page, Cause, Faulted, Debug, Breakpoint, Three, Refused, Call, IsCause, own_event, raised_event, raising}
+use Rattle.ev_user.specs.Causes.{Fault, Undefined, Protection, Page, Cause, Faulted, Debug, Breakpoint, Three, Refused, Call, Arrived, IsCause, is_own, own_event, raised_event, raising}
 use Rattle.ev_user.specs.Claims.{Raised}
 use Rattle.ev_user.proofs.Follows.{user_raises}
 use Rattle.ev_user.proofs.Words.{set_words}
@@ -48,8 +50,8 @@ use Rattle.ev_refine.proofs.Domains.{four_tasks}
 use Rattle.ev_refine.proofs.Maps.{at_same}
 use Rattle.ev_user.proofs.KeepsNumbers.{starts_with_words, causes_small}
 use Rattle.ev_refine.proofs.Legality.{turn_legal, turn_bases}
-use Rattle.ev_refine.proofs.Standing.{Moves, step_moves, delivery_moves}
-use Rattle.ev_refine.proofs.After.{kernel_names, kernel_spares, kernel_user}
+use Rattle.ev_refine.proofs.Standing.{Moves, step_moves, delivery_moves, delivery_apic}
+use Rattle.ev_refine.proofs.After.{apic_again, kernel_names, kernel_spares, kernel_user}
 use Rattle.ev_refine.proofs.Depth.{stands_depth}
 use Rattle.ev_refine.proofs.UserState.{put_same, TurnsTo, makes_turn, is_safe, tells_bodies}
 use Rattle.ev_refine.proofs.UserPlain.{AtUser, at_user, user_after, goes_turn}
@@ -77,69 +79,86 @@ the_some (Some x) h = (x, refl)
 -- the key that is told is that of the body, no interrupt is in service, and the task that the body returns to is one
 record Starts (t : Task) (cause : Cause) : Type 0 where
   key : key_from (cause_key cause) ≡ key_of (raised_event cause).kind (raised_event cause).vector
-  service : service_of (raised_event cause).kind (raised_event cause).vector ≡ None
+  service : is_own cause ≡ true → service_of (raised_event cause).kind (raised_event cause).vector ≡ None
   rip : (returning t cause).rip ≡ saved_at t cause
   task : IsTask (returning t cause)
 
-starts : (t : Task) (cause : Cause) → IsTask t → is_canonical (saved_at t cause) ≡ true → saved_at t cause < 2 ^ 64 → Starts t cause
+starts : (t : Task) (cause : Cause) → IsCause cause → IsTask t → is_canonical (saved_at t cause) ≡ true → saved_at t cause < 2 ^ 64 → Starts t cause
 unfolding key_of
-starts t (Faulted Undefined) h g l = record {
+starts t (Faulted Undefined) is h g l = record {
   key = refl;
-  service = refl;
+  service = λ o. refl;
   rip = refl;
   task = record { long = h.long; canonical = g; interrupts = h.interrupts; words = h.words };
 }
-starts t (Faulted Fault.Stack) h g l = record {
+starts t (Faulted Fault.Stack) is h g l = record {
   key = refl;
-  service = refl;
+  service = λ o. refl;
   rip = refl;
   task = record { long = h.long; canonical = g; interrupts = h.interrupts; words = h.words };
 }
-starts t (Faulted Protection) h g l = record {
+starts t (Faulted Protection) is h g l = record {
   key = refl;
-  service = refl;
+  service = λ o. refl;
   rip = refl;
   task = record { long = h.long; canonical = g; interrupts = h.interrupts; words = h.words };
 }
-starts t (Faulted (Page code address)) h g l = record {
+starts t (Faulted (Page code address)) is h g l = record {
   key = refl;
-  service = refl;
+  service = λ o. refl;
   rip = refl;
   task = record { long = h.long; canonical = g; interrupts = h.interrupts; words = h.words };
 }
-starts t (Faulted Fault.Alignment) h g l = record {
+starts t (Faulted Fault.Alignment) is h g l = record {
   key = refl;
-  service = refl;
+  service = λ o. refl;
   rip = refl;
   task = record { long = h.long; canonical = g; interrupts = h.interrupts; words = h.words };
 }
-starts t Debug h g l = record {
+starts t (Arrived v) is h g l =
+    let low = is.0 in let high = is.1 in record {
+      key = rw (
+        ne_eqb v 0x100 (λ e. let z : ⊥ = omega arith in z),
+        ne_eqb v 1 (λ e. let z : ⊥ = omega arith in z),
+        ne_eqb v 2 (λ e. let z : ⊥ = omega arith in z),
+        ne_eqb v 3 (λ e. let z : ⊥ = omega arith in z),
+        ne_eqb v 6 (λ e. let z : ⊥ = omega arith in z),
+        ne_eqb v 12 (λ e. let z : ⊥ = omega arith in z),
+        ne_eqb v 13 (λ e. let z : ⊥ = omega arith in z),
+        ne_eqb v 14 (λ e. let z : ⊥ = omega arith in z),
+        ne_eqb v 17 (λ e. let z : ⊥ = omega arith in z),
+      ) refl;
+      service = λ o. let clash : false ≡ true = o in absurd (cc);
+      rip = refl;
+      task = record { long = h.long; canonical = g; interrupts = h.interrupts; words = h.words };
+    }
+starts t Debug is h g l = record {
   key = refl;
-  service = refl;
+  service = λ o. refl;
   rip = refl;
   task = record { long = h.long; canonical = g; interrupts = h.interrupts; words = h.words };
 }
-starts t Breakpoint h g l = record {
+starts t Breakpoint is h g l = record {
   key = refl;
-  service = refl;
+  service = λ o. refl;
   rip = refl;
   task = record { long = h.long; canonical = g; interrupts = h.interrupts; words = h.words };
 }
-starts t Three h g l = record {
+starts t Three is h g l = record {
   key = refl;
-  service = refl;
+  service = λ o. refl;
   rip = refl;
   task = record { long = h.long; canonical = g; interrupts = h.interrupts; words = h.words };
 }
-starts t (Refused n) h g l = record {
+starts t (Refused n) is h g l = record {
   key = refl;
-  service = refl;
+  service = λ o. refl;
   rip = refl;
   task = record { long = h.long; canonical = g; interrupts = h.interrupts; words = h.words };
 }
-starts t Call h g l = record {
+starts t Call is h g l = record {
   key = refl;
-  service = refl;
+  service = λ o. refl;
   rip = refl;
   task = record {
     long = length-set (set t.regs 1 (t.rip + 2)) 11 (flags_word t.flags) ∙ length-set t.regs 1 (t.rip + 2) ∙ h.long;
@@ -204,6 +223,7 @@ begins_entry : (mode : Mode) (image : Image) (built : IsBuilt image) (p n : ℕ)
 begins_entry Fred image built p n t cr2 cause body m ready = fred.begins_fred image built p n t cr2 cause body m ready
 begins_entry Idt image built p n t cr2 Call body m ready = idt.begins_call image p n t cr2 body m ready
 begins_entry Idt image built p n t cr2 (Faulted f) body m ready = through_gates.begins_idt image built p n t cr2 (Faulted f) body m ready (λ e. cc)
+begins_entry Idt image built p n t cr2 (Arrived v) body m ready = through_gates.begins_idt image built p n t cr2 (Arrived v) body m ready (λ e. cc)
 begins_entry Idt image built p n t cr2 Debug body m ready = through_gates.begins_idt image built p n t cr2 Debug body m ready (λ e. cc)
 begins_entry Idt image built p n t cr2 Breakpoint body m ready = through_gates.begins_idt image built p n t cr2 Breakpoint body m ready (λ e. cc)
 begins_entry Idt image built p n t cr2 Three body m ready = through_gates.begins_idt image built p n t cr2 Three body m ready (λ e. cc)
@@ -212,12 +232,12 @@ begins_entry Idt image built p n t cr2 (Refused k) body m ready = through_gates.
 module _ (mode : Mode) (image : Image) (formed : IsImage image) (built : IsBuilt image) (facts : Facts mode image) where
   -- what the task raises, where it has a body
   pub raise_turn : (left : NatMap ℕ) (s : System) (m : Machine) → Stands mode image left s m → (p : ℕ) → p < image.processors → (processor m p).bodies ≡ []
-      → (u : AtUser mode image formed built facts left s m p) (cause : Cause) → IsCause cause
+      → (u : AtUser mode image formed built facts left s m p) (cause : Cause) → IsCause cause → is_own cause ≡ true
       → user_step (user_memory image m) (task (processor m p)) ≡ Raises (saved_at (task (processor m p)) cause) (raised_event cause)
       → step (s.cpus p) (s.apics p) s.memory (s.latches p) ≡ raising (s.cpus p) (s.apics p) s.memory (s.latches p) cause
       → (body : ℕ) → first_body 0 image.bodies (cause_key cause) User ≡ Some body → is_canonical (saved_at (task (processor m p)) cause) ≡ true
       → ((own_event cause).length ≡ 2 → (task (processor m p)).rip + 2 < 2 ^ 64) → TurnsTo mode image left s m p
-  raise_turn left s m h p lt hb u cause is_cause raises steps body found next_good next_small =
+  raise_turn left s m h p lt hb u cause is_cause own raises steps body found next_good next_small =
       let x : abstract.Processor = processor m p in
       let c : Processor = s.cpus p in
       let t : Task = task x in
@@ -225,7 +245,7 @@ module _ (mode : Mode) (image : Image) (formed : IsImage image) (built : IsBuilt
       let next : ℕ = saved_at t cause in
       let κ : Kind = kind_at cause in
       let holder : HasBody image (cause_key cause) body = has_body image formed (cause_key cause) body User found in
-      let st : Starts t cause = starts t cause u.rest.task.task next_good (word_of_canonical next next_good) in
+      let st : Starts t cause = starts t cause is_cause u.rest.task.task next_good (word_of_canonical next next_good) in
       let small : p < 32 = let eight = formed.count.1 in omega arith in
       let first : n < 4 = let l = u.on.running in let four = four_tasks image formed p lt in omega arith in
       let words : NatMap ℕ = s.memory.words in
@@ -261,7 +281,7 @@ module _ (mode : Mode) (image : Image) (formed : IsImage image) (built : IsBuilt
       let begins_last : as' ≡ last ∷ []
       = (λ i. record { rsp = 0; rip = 0; inner = starts_inner_not i } ∷ nothing_under c (s.activations p) u.rest.none i) in
       let mv : Moves p s s' d as' words' = delivery_moves image.processors p s (after_step s p r) d as' words' begun.event begun.frame
-      (step_moves s p r refl (sym u.latch)) in
+      (step_moves s p r (sym u.latch)) in
       let mem : Memory = with_words s.memory words' in
       let under : RunsTask mode image p n back w = record { is = refl; task = st.task } in
       let stood : Active mode image p entry_edges κ (record { stack = n; used = 0 }) u.on.frame u.on.switching w b d mem
@@ -272,7 +292,7 @@ module _ (mode : Mode) (image : Image) (formed : IsImage image) (built : IsBuilt
       × Leads mode p k u.on.frame w mem.words
       × Active mode image p entry_edges k (seat_by mode k n (seat_of mode image n []) (room_of mode image [])) u.on.frame
       (switches_at mode image u.on.switching []) w b d mem) (sym kind)
-      (over_kind mode image p entry_edges n n back u.on.frame u.on.switching w b d mem κ (over_one cause) under u.rest.still stood) in
+      (over_kind mode image p entry_edges n n back u.on.frame u.on.switching w b d mem κ (over_one cause is_cause) under u.rest.still stood) in
       let is_context : IsContext mode image b = record { item = holder.item; is = holder.first } in
       let chain : Chain mode image p entry_edges n n back u.on.frame u.on.switching (b ∷ []) (last ∷ []) d mem =
       (w, is_context, refl, tt, tail.0, tail.1, tail.2) in
@@ -284,9 +304,12 @@ module _ (mode : Mode) (image : Image) (formed : IsImage image) (built : IsBuilt
       (turn_legal image formed built.accepted m p lt h.legal (with_processor m p (raised_in x cause body), entry_of p (raised_event cause) next ∷ []) turns)
       (turn_bases image m p h.bases (with_processor m p (raised_in x cause body), entry_of p (raised_event cause) next ∷ []) turns)
       (starts_with_words body User (raised_event cause) (causes_small cause is_cause), tt) st.task
-      (begun.blocking ∙ sym (plain_no_nmi image b (ap is_over_task kind ∙ over_one cause)))
-      (record { interrupts = refl; service = st.service; calls = refl }, tt)
-      (λ class. ap (λ o. serves mode image class o || false) st.service)
+      (begun.blocking ∙ sym (plain_no_nmi image b (ap is_over_task kind ∙ over_one cause is_cause)))
+      (record { interrupts = refl; calls = refl }, tt)
+      (apic_again mode image (s.apics p) _ x.pending x.bodies (b ∷ [])
+      (delivery_apic image.processors p p (after_step s p r) begun.event begun.frame ∙ at_same s.apics p p (s.apics p) refl)
+      (λ class. ap (λ o. serves mode image class o || false) (st.service own)
+      ∙ sym (ap (list_any (λ (b : BodyContext). serves mode image class b.service)) hb)) u.on.apic)
       (omega arith)
       (λ q e. subst (λ ys. Chain mode image p entry_edges n q back u.on.frame u.on.switching (b ∷ []) ys d (with_words s.memory words')) (sym begins_last)
       (subst (λ z. Chain mode image p entry_edges n z back u.on.frame u.on.switching (b ∷ []) (last ∷ []) d (with_words s.memory words')) (sym e) chain)) in
@@ -328,7 +351,7 @@ module _ (mode : Mode) (image : Image) (formed : IsImage image) (built : IsBuilt
       = user_events_have_bodies image (user_memory image m) t saved e formed built.accepted raises in
       let found = the_some (first_body 0 image.bodies (cause_key r.cause) User)
       (subst (λ (z : Event). is_some (first_body 0 image.bodies (event_key z.kind z.vector) User) ≡ true) r.event has) in
-      raise_turn left s m h p lt hb u r.cause r.is (raises ∙ ap (λ n. Raises n e) r.saved_is ∙ ap (Raises (saved_at t r.cause)) r.event) r.step_is found.0
+      raise_turn left s m h p lt hb u r.cause r.is r.own (raises ∙ ap (λ n. Raises n e) r.saved_is ∙ ap (Raises (saved_at t r.cause)) r.event) r.step_is found.0
       found.1 (subst (λ n. is_canonical n ≡ true) r.saved_is r.canonical) r.behind
 
   task_turn : (left : NatMap ℕ) (s : System) (m : Machine) → Stands mode image left s m → (p : ℕ) → p < image.processors → (processor m p).bodies ≡ []

@@ -39,10 +39,10 @@ use Rattle.ev_user.proofs.Follows.{user_goes_on}
 use Rattle.ev_symbolic.proofs.Words.{put_other}
 use Rattle.ev_activation.specs.Seat.{Seat}
 use Rattle.ev_refine.specs.Domain.{AreQuiet, IsInDomain}
-use Rattle.ev_refine.specs.Relation.{Chain, serves, StandsOn, Stands}
+use Rattle.ev_refine.specs.Relation.{ApicIs, Chain, serves, StandsOn, Stands}
 use Rattle.ev_refine.proofs.Maps.{at_same, at_other}
 use Rattle.ev_refine.proofs.Standing.{instruction_first, Moves, step_moves}
-use Rattle.ev_refine.proofs.After.{AreSparing, word_names, word_spares, latch_parts, own_after, stands_after, few_inner}
+use Rattle.ev_refine.proofs.After.{AreSparing, word_names, word_spares, latch_parts, apic_again, own_after, stands_after, few_inner}
 use Rattle.ev_refine.proofs.Domains.{four_tasks}
 use Rattle.ev_refine.proofs.Legality.{turn_legal, turn_bases}
 use Rattle.ev_refine.proofs.Depth.{stands_depth}
@@ -78,7 +78,7 @@ module _ (mode : Mode) (image : Image) (formed : IsImage image) (built : IsBuilt
       let latch : s.latches p ≡ false = sym latches.0 ∙ domain.nmi in
       let is_it : is_user c ≡ true = ap is_user rest.task.is in
       let next : next_of c (s.apics p) (s.latches p) ≡ Instruction
-      = instruction_first c (s.apics p) (s.latches p) latch (λ v l. on.pending v l ∙ ap (λ q. q v) domain.pending) in
+      = instruction_first c (s.apics p) (s.latches p) latch (λ v l. on.apic.pending v l ∙ ap (λ q. q v) domain.pending) in
       record {
         on = on;
         rest = rest;
@@ -116,14 +116,13 @@ module _ (mode : Mode) (image : Image) (formed : IsImage image) (built : IsBuilt
       → Legal image (with_processor (record m { words = memory }) p (record (with_task (processor m p) t) { bodies = bs }))
       → HasBases image (with_processor (record m { words = memory }) p (record (with_task (processor m p) t) { bodies = bs }))
       → AreOfWords bs → IsTask t → cpu.nmi_blocked ≡ list_any (is_nmi_body image) bs → AreQuiet bs
-      → ((class : ℕ) → list_any (λ (b : BodyContext). serves mode image class b.service) bs ≡ false) → own ≤ 500
+      → ApicIs mode image (s'.apics p) (processor m p).pending bs → own ≤ 500
       → ((r : ℕ) → r ≡ (processor m p).running → Chain mode image p own (processor m p).running r t u.on.frame u.on.switching bs as' cpu
       (with_words s.memory words))
       → (StandsOn mode image p (own + inner_edges (s.latches p)) s' (record (with_task (processor m p) t) { bodies = bs }))
       × Stands mode image (put_at left p (own + inner_edges (s.latches p))) s'
       (with_processor (record m { words = memory }) p (record (with_task (processor m p) t) { bodies = bs }))
-  user_after left s s' m p lt h u cpu as' words t bs own hb mv names sparing changes memory user held legal bases of_words good blocked quiet serving few
-      chain =
+  user_after left s s' m p lt h u cpu as' words t bs own hb mv names sparing changes memory user held legal bases of_words good blocked quiet apic few chain =
       let x : abstract.Processor = processor m p in
       let y : abstract.Processor = record (with_task x t) { bodies = bs } in
       let small : p < 32 = let eight = formed.count.1 in omega arith in
@@ -132,7 +131,7 @@ module _ (mode : Mode) (image : Image) (formed : IsImage image) (built : IsBuilt
       let there : StandsOn mode image p (own + inner_edges (s.latches p)) s' y
       = own_after mode image p (left p) s s' x (record { stack = x.running; used = 0 }) cpu as' words (put_at x.tasks x.running t) bs own u.on small four mv
       (λ i d. inl (λ e. d (e ∙ sym u.rest.returning))) narrow names sparing changes (λ i d. others i (λ e. d (e ∙ sym u.rest.returning))) tasks blocked
-      (λ class. serving class ∙ sym (ap (list_any (λ (b : BodyContext). serves mode image class b.service)) hb))
+      x.pending apic
       (let f = few_inner mode image (s.latches p) in omega arith)
       (subst (λ k. Chain mode image p own x.running u.on.returning k u.on.frame u.on.switching bs as' cpu (with_words s.memory words))
       (sym (at_same x.tasks x.running u.on.returning t u.rest.returning)) (chain u.on.returning u.rest.returning)) in
@@ -215,7 +214,7 @@ module _ (mode : Mode) (image : Image) (formed : IsImage image) (built : IsBuilt
       let s' : System = after_step s p r in
       let as' : List Activation = activations_by s p (s.activations p) d Stepped.Ran in
       let none : as' ≡ [] = same_activations s p (s.activations p) d u.at_cpl3 ∙ u.rest.none in
-      let mv : Moves p s s' d as' words = step_moves s p r refl refl in
+      let mv : Moves p s s' d as' words = step_moves s p r refl in
       let same : record (with_task x t) { bodies = [] } ≡ with_task x t = ap (λ (bs : List BodyContext). record (with_task x t) { bodies = bs }) (sym hb) in
       let turned : turn image m p ≡ (with_processor (record m { words = memory }) p (record (with_task x t) { bodies = [] }), [])
       = u.turns ∙ ap (task_step image m p) goes ∙ ap (λ z. (with_processor (record m { words = memory }) p z, [])) (sym same) in
@@ -224,7 +223,9 @@ module _ (mode : Mode) (image : Image) (formed : IsImage image) (built : IsBuilt
       (turn_legal image formed built.accepted m p lt h.legal (with_processor (record m { words = memory }) p (record (with_task x t) { bodies = [] }), [])
       turned)
       (turn_bases image m p h.bases (with_processor (record m { words = memory }) p (record (with_task x t) { bodies = [] }), []) turned)
-      tt g.runs.task u.open_to tt (λ class. refl)
+      tt g.runs.task u.open_to tt
+      (apic_again mode image (s.apics p) _ x.pending x.bodies [] (at_same s.apics p p (s.apics p) refl)
+      (λ class. sym (ap (list_any (λ (b : BodyContext). serves mode image class b.service)) hb)) u.on.apic)
       (omega arith)
       (λ r e. (subst (λ z. RunsTask mode image p z t d) (sym e) g.runs, u.rest.still, none)) in
       record {

@@ -68,7 +68,7 @@ module _ (mode : Mode) (image : Image) (facts : Facts mode image) (left : NatMap
       let domain : IsInDomain (processor m q) = h.domain q lt in
       instruction_first (s.cpus q) (s.apics q) (s.latches q)
       (sym (latch_parts on.layer on.frame _ (s.latches q) (s.cpus q).nmi_blocked (processor m q).nmi on.latch).0 ∙ domain.nmi)
-      (λ v l. on.pending v l ∙ ap (λ set. set v) domain.pending)
+      (λ v l. on.apic.pending v l ∙ ap (λ set. set v) domain.pending)
 
   pub stays_visible : (n p q : ℕ) → q < image.processors → (q == p) ≡ false
       → is_visible (marks_of mode image) (concrete_step n s p).0 q ≡ is_visible (marks_of mode image) s q

@@ -102,6 +102,7 @@ module _ (mode : Mode) (image : Image) where
     pub ss_is : IsKernelSs mode ss
     pub within : k ≤ (block mode spot).steps
     pub enough : edges mode spot k ≤ left
+    pub masked : flags.interrupts ≡ false  -- no interrupt comes
     pub at : At (code_table mode image) (block mode spot) k (here mode p κ σ ss w extra var flags) c m
     pub long : length c.regs ≡ 16
 

@@ -1,14 +1,13 @@
 -- What holds of the abstract machine as long as only images and script lines of today run. It is no part of what it means that states stand for each other:
 -- with more lines and items its fields go, one by one. Own.
-use Rattle.std.specs.Prelude.{◌≡◌, false, List, [], ◌∷◌, None}
+use Rattle.std.specs.Prelude.{◌≡◌, false, List, [], ◌∷◌}
 use Rattle.ev_isa.specs.Word.{no_numbers}
 use Rattle.ev_abstract.specs.Context.{BodyContext}
 use Rattle.ev_abstract.specs.Machine.{Processor}
 
--- bodies keep IF off, and have no interrupt in service and no call
+-- bodies keep IF off, and have no call
 pub record IsQuiet (b : BodyContext) : Type 0 where
   pub interrupts : b.interrupts ≡ false
-  pub service : b.service ≡ None
   pub calls : b.calls ≡ []
 
 -- each of them

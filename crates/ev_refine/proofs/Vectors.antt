@@ -1,0 +1,161 @@
+-- The interrupt that comes next: the local APIC's, and the abstract machine's choice.
+use Rattle.std.proofs.Common.{◌≡◌, ℕ, zero, suc, ◌+◌, ◌/◌, ◌<◌, ◌≤◌, Bool, true, false, ◌&&◌, ◌||◌, List, [], ◌∷◌, Option, Some, None, refl, sym, ap, ◌∙◌, arith}
+use Rattle.std.specs.Prelude.{◌==◌, nat_lt, max}
+use Rattle.std.specs.List.{list_any, list_all}
+use Rattle.std.proofs.lemmas.Bool.{ltb-true, ltb-false, lt-ltb, le-ltb, eq-eqb, eqb-true, eqb-false}
+use Rattle.ev_isa.specs.Word.{NatSet, greatest_below, numbers_from}
+use Rattle.ev_symbolic.proofs.Values.{and_left, and_right}
+use Rattle.ev_apic.specs.declared.apic.Apic.{Apic}
+use Rattle.ev_apic.specs.Apic.{class_of, priority_class, next_vector}
+use Rattle.ev_apic.specs.Vectors.{vectors_of, IsGreatestBelow}
+use Rattle.ev_apic.proofs.Greatest.{greatest_law}
+use Rattle.ev_abstract.specs.Boundary.{outranks, deliverable}
+use Rattle.ev_abstract.specs.Context.{BodyContext}
+use Rattle.ev_abstract.specs.Machine as abstract
+use Rattle.ev_isa.specs.declared.mode.Mode.{Mode}
+use Rattle.ev_body.specs.declared.image.Image.{Image}
+use Rattle.ev_refine.specs.Relation.{ApicIs, serves}
+
+-- ---- sets and lists
+
+same_greatest : (n : ℕ) (s t : NatSet) → ((v : ℕ) → v < n → s v ≡ t v) → greatest_below n s ≡ greatest_below n t
+same_greatest zero s t h = refl
+same_greatest (suc n) s t h = ap (λ b. elim b [ true ↦ Some n | false ↦ greatest_below n s ]) (h n (omega arith))
+    ∙ ap (λ o. elim (t n) [ true ↦ Some n | false ↦ o ]) (same_greatest n s t (λ v lt. h v (omega arith)))
+
+-- a number that passes a test
+any_number : (test : ℕ → Bool) (n a v : ℕ) → a ≤ v → v < a + n → test v ≡ true → list_any test (numbers_from a n) ≡ true
+any_number test zero a v l m h = let z : ⊥ = omega arith in absurd z
+any_number test (suc n) a v l m h = pick (v == a) refl (λ k. any_number test n (suc a) v k (omega arith) h)
+  where
+    or_later : (x y : Bool) → y ≡ true → (x || y) ≡ true
+    or_later true y e = refl
+    or_later false y e = e
+
+    pick : (b : Bool) → (v == a) ≡ b → (suc a ≤ v → list_any test (numbers_from (suc a) n) ≡ true)
+        → (test a || list_any test (numbers_from (suc a) n)) ≡ true
+    pick true e later = ap (λ b. b || list_any test (numbers_from (suc a) n)) (sym (ap test (eqb-true v a e)) ∙ h)
+    pick false e later = or_later (test a) _ (later (let d = eqb-false v a e in omega arith))
+
+-- and the number that one does
+number_of_any : (test : ℕ → Bool) (n a : ℕ) → list_any test (numbers_from a n) ≡ true → (v : ℕ) × (v < a + n) × (test v ≡ true)
+number_of_any test zero a h = absurd (cc)
+number_of_any test (suc n) a h = pick (test a) refl (λ k. number_of_any test n (suc a) k)
+  where
+    pick : (b : Bool) → test a ≡ b → (list_any test (numbers_from (suc a) n) ≡ true → (v : ℕ) × (v < suc a + n) × (test v ≡ true))
+        → (v : ℕ) × (v < a + suc n) × (test v ≡ true)
+    pick true q later = (a, (let z : a < a + suc n = omega arith in z), q)
+    pick false q later =
+        let r = later (sym (ap (λ b. b || list_any test (numbers_from (suc a) n)) q) ∙ h) in
+        let l = r.1 in (r.0, (let z : r.0 < a + suc n = omega arith in z), r.2)
+
+module _ (mode : Mode) (image : Image) where
+  abbrev has : ℕ → BodyContext → Bool
+  has class b = serves mode image class b.service
+
+  -- a vector that outranks each context outranks each class that one has in service
+  outranks_each : (v class : ℕ) (bs : List BodyContext) → list_all (λ (b : BodyContext). outranks v b.service) bs ≡ true → list_any (has class) bs ≡ true
+      → class < v / 16
+  outranks_each v class [] all any = absurd (cc)
+  outranks_each v class (b ∷ bs) all any = pick b.service refl (outranks_each v class bs (and_right (outranks v b.service) _ all))
+    where
+      pick : (o : Option ℕ) → b.service ≡ o → (list_any (has class) bs ≡ true → class < v / 16) → class < v / 16
+      pick None q later = later (sym (ap (λ o. serves mode image class o || list_any (has class) bs) q) ∙ any)
+      pick (Some k) q later = here (k == class) refl
+        where
+          here : (t : Bool) → (k == class) ≡ t → class < v / 16
+          here true e =
+              let l : k < v / 16 = ltb-true k (v / 16) (sym (ap (outranks v) q) ∙ and_left (outranks v b.service) _ all) in
+              let same : k ≡ class = eqb-true k class e in omega arith
+          here false e =
+              later (sym (ap (λ o. serves mode image class o || list_any (has class) bs) q ∙ ap (λ t. t || list_any (has class) bs) e) ∙ any)
+
+  -- a class that a context has in service, and the vector doesn't outrank
+  pub record Served (v : ℕ) (bs : List BodyContext) : Type 0 where
+    pub class : ℕ
+    pub high : v / 16 ≤ class
+    pub has_it : list_any (has class) bs ≡ true
+
+  -- where it doesn't outrank all of them, there is one
+  outranked : (v : ℕ) (bs : List BodyContext) → list_all (λ (b : BodyContext). outranks v b.service) bs ≡ false → Served v bs
+  outranked v [] all = absurd (cc)
+  outranked v (b ∷ bs) all = pick b.service refl (outranked v bs)
+    where
+      or_right : (x y : Bool) → y ≡ true → (x || y) ≡ true
+      or_right true y h = refl
+      or_right false y h = h
+
+      beyond : outranks v b.service ≡ true → (list_all (λ (b : BodyContext). outranks v b.service) bs ≡ false → Served v bs) → Served v (b ∷ bs)
+      beyond h later =
+          let r = later (sym (ap (λ t. t && list_all (λ (b : BodyContext). outranks v b.service) bs) h) ∙ all) in record {
+            class = r.class;
+            high = r.high;
+            has_it = or_right (has r.class b) (list_any (has r.class) bs) r.has_it;
+          }
+
+      pick : (o : Option ℕ) → b.service ≡ o → (list_all (λ (b : BodyContext). outranks v b.service) bs ≡ false → Served v bs) → Served v (b ∷ bs)
+      pick None q later = beyond (ap (outranks v) q) later
+      pick (Some k) q later = here (nat_lt k (v / 16)) refl
+        where
+          here : (t : Bool) → nat_lt k (v / 16) ≡ t → Served v (b ∷ bs)
+          here true e = beyond (ap (outranks v) q ∙ e) later
+          here false e = record {
+            class = k;
+            high = ltb-false k (v / 16) e;
+            has_it = ap (λ o. serves mode image k o || list_any (has k) bs) q ∙ ap (λ t. t || list_any (has k) bs) (eq-eqb k k refl);
+          }
+
+  -- ---- the next vector
+
+  -- The APIC of a processor delivers next what the abstract machine does, where each vector that is pending is an interrupt's.
+  module _ (a : Apic) (x : abstract.Processor) (is : ApicIs mode image a x.pending x.bodies) (interrupts : (v : ℕ) → x.pending v ≡ true → 32 ≤ v) where
+    all_outranked : ℕ → Bool
+    all_outranked v = list_all (λ (b : BodyContext). outranks v b.service) x.bodies
+
+    priority : priority_class a ≡ class_of (greatest_below 256 (vectors_of a.isr))
+    priority = ap (λ n. max (n / 16) (class_of (greatest_below 256 (vectors_of a.isr)))) is.tpr ∙ lowest (class_of (greatest_below 256 (vectors_of a.isr)))
+      where
+        lowest : (n : ℕ) → max (0 / 16) n ≡ n
+        lowest n = omega arith
+
+    -- the class of the greatest vector in service decides
+    by_greatest : (o : Option ℕ) → IsGreatestBelow 256 (vectors_of a.isr) o → (v : ℕ) → 32 ≤ v → nat_lt (class_of o) (v / 16) ≡ all_outranked v
+    unfolding all_outranked
+    by_greatest None none v big = lt-ltb 0 (v / 16) (let z : 0 < v / 16 = omega arith in z) ∙ sym (pick (all_outranked v) refl)
+      where
+        pick : (t : Bool) → all_outranked v ≡ t → all_outranked v ≡ true
+        pick true q = q
+        pick false q =
+            let r = outranked v x.bodies q in
+            let u = number_of_any (λ v. vectors_of a.isr v && (v / 16 == r.class)) 256 0 (is.service r.class ∙ r.has_it) in
+            let clash : true ≡ false = sym (and_left (vectors_of a.isr u.0) _ u.2) ∙ none u.0 u.1 in absurd (cc)
+    by_greatest (Some g) top v big = pick (all_outranked v) refl
+      where
+        pick : (t : Bool) → all_outranked v ≡ t → nat_lt (g / 16) (v / 16) ≡ all_outranked v
+        pick true q = lt-ltb (g / 16) (v / 16) (outranks_each v (g / 16) x.bodies q (sym (is.service (g / 16))
+            ∙ any_number (λ v. vectors_of a.isr v && (v / 16 == g / 16)) 256 0 g (omega arith) top.0
+            (ap (λ t. t && (g / 16 == g / 16)) top.1 ∙ eq-eqb (g / 16) (g / 16) refl))) ∙ sym q
+        pick false q =
+            let r = outranked v x.bodies q in
+            let u = number_of_any (λ v. vectors_of a.isr v && (v / 16 == r.class)) 256 0 (is.service r.class ∙ r.has_it) in
+            let held : vectors_of a.isr u.0 ≡ true = and_left (vectors_of a.isr u.0) _ u.2 in
+            let class : u.0 / 16 ≡ r.class = eqb-true (u.0 / 16) r.class (and_right (vectors_of a.isr u.0) _ u.2) in
+            let below : u.0 ≤ g = under u.0 u.1 held (nat_lt g u.0) refl in
+            let high = r.high in
+            le-ltb (g / 16) (v / 16) (let z : v / 16 ≤ g / 16 = omega arith in z) ∙ sym q
+          where
+            under : (u : ℕ) → u < 256 → vectors_of a.isr u ≡ true → (t : Bool) → nat_lt g u ≡ t → u ≤ g
+            under u lt h true e = let clash : true ≡ false = sym h ∙ top.2 u (ltb-true g u e) lt in absurd (cc)
+            under u lt h false e = ltb-false g u e
+
+    pub next_is : next_vector a ≡ greatest_below 256 (deliverable x)
+    unfolding next_vector all_outranked
+    next_is = same_greatest 256 _ _ (λ v lt. by_pending v lt (x.pending v) refl)
+      where
+        by_pending : (v : ℕ) → v < 256 → (t : Bool) → x.pending v ≡ t → (vectors_of a.irr v && nat_lt (priority_class a) (v / 16)) ≡ deliverable x v
+        by_pending v lt true q =
+            ap (λ t. t && nat_lt (priority_class a) (v / 16)) (is.pending v lt ∙ q)
+            ∙ ap (λ n. nat_lt n (v / 16)) priority
+            ∙ by_greatest (greatest_below 256 (vectors_of a.isr)) (greatest_law 256 (vectors_of a.isr)) v (interrupts v q)
+            ∙ sym (ap (λ t. t && all_outranked v) q)
+        by_pending v lt false q = ap (λ t. t && nat_lt (priority_class a) (v / 16)) (is.pending v lt ∙ q) ∙ sym (ap (λ t. t && all_outranked v) q)
