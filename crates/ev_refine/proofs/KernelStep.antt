@@ -505,7 +505,7 @@ module _ (mode : Mode) (image : Image) (built : IsBuilt image) (good : IsImage i
         (moves cpu words) beside narrow names allowed changes y.current y.mark y.slots_are y.same_tasks y.good_tasks (hb ∙ sym none)
         x.pending (apic_again mode image (s.apics p) _ x.pending x.bodies bs (at_same s.apics p p (s.apics p) refl) serving on.apic)
         (let f = few_inner mode image (s.latches p) in omega arith) goes_on in
-        let inside : IsInDomain x' = record { pending = domain.pending; nmi = domain.nmi; resched = domain.resched; bodies = quiet } in
+        let inside : IsInDomain x' = record { nmi = domain.nmi; resched = domain.resched; bodies = quiet } in
         turn_to cell hc hm hu cpu words he σ narrow names allowed changes m' es ht x'
         (record {
           own = y.own;

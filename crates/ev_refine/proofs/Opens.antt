@@ -430,7 +430,6 @@ module _ (mode : Mode) (image : Image) (given : IsImage image) where
   domain : (p : ℕ) → IsInDomain (processor (opening image) p)
   unfolding opening
   domain p = record {
-    pending = refl;
     nmi = refl;
     resched = refl;
     bodies = tt;

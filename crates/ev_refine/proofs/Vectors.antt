@@ -1,14 +1,17 @@
 -- The interrupt that comes next: the local APIC's, and the abstract machine's choice.
-use Rattle.std.proofs.Common.{◌≡◌, ℕ, zero, suc, ◌+◌, ◌/◌, ◌<◌, ◌≤◌, Bool, true, false, ◌&&◌, ◌||◌, List, [], ◌∷◌, Option, Some, None, refl, sym, ap, ◌∙◌, arith}
+use Rattle.std.proofs.Common.{◌≡◌, ℕ, zero, suc, ◌+◌, ◌/◌, ◌<◌, ◌≤◌, Bool, true, false, ◌&&◌, ◌||◌, List, [], ◌∷◌, Option, Some, None, refl, sym, ap, ◌∙◌, arith, ⊎_elim}
 use Rattle.std.specs.Prelude.{◌==◌, nat_lt, max}
 use Rattle.std.specs.List.{list_any, list_all}
 use Rattle.std.proofs.lemmas.Bool.{ltb-true, ltb-false, lt-ltb, le-ltb, eq-eqb, eqb-true, eqb-false}
-use Rattle.ev_isa.specs.Word.{NatSet, greatest_below, numbers_from}
+use Rattle.ev_isa.specs.Word.{NatSet, put_at, greatest_below, numbers_from}
 use Rattle.ev_symbolic.proofs.Values.{and_left, and_right}
 use Rattle.ev_apic.specs.declared.apic.Apic.{Apic}
-use Rattle.ev_apic.specs.Apic.{class_of, priority_class, next_vector}
+use Rattle.ev_apic.specs.Apic.{begun, class_of, priority_class, next_vector}
 use Rattle.ev_apic.specs.Vectors.{vectors_of, IsGreatestBelow}
 use Rattle.ev_apic.proofs.Greatest.{greatest_law}
+use Rattle.ev_apic.proofs.Laws.{puts}
+use Rattle.std.proofs.lemmas.Bool.Decides.{eqb_tells}
+use Rattle.ev_refine.proofs.Maps.{at_same, at_other}
 use Rattle.ev_abstract.specs.Boundary.{outranks, deliverable}
 use Rattle.ev_abstract.specs.Context.{BodyContext}
 use Rattle.ev_abstract.specs.Machine as abstract
@@ -159,3 +162,62 @@ module _ (mode : Mode) (image : Image) where
             ∙ by_greatest (greatest_below 256 (vectors_of a.isr)) (greatest_law 256 (vectors_of a.isr)) v (interrupts v q)
             ∙ sym (ap (λ t. t && all_outranked v) q)
         by_pending v lt false q = ap (λ t. t && nat_lt (priority_class a) (v / 16)) (is.pending v lt ∙ q) ∙ sym (ap (λ t. t && all_outranked v) q)
+
+  -- ---- a vector that begins
+
+  -- a set with one number more, under a test
+  or_left : (x y : Bool) → x ≡ true → (x || y) ≡ true
+  or_left true y h = refl
+  or_left false y h = absurd (cc)
+
+  or_right : (x y : Bool) → y ≡ true → (x || y) ≡ true
+  or_right true y h = refl
+  or_right false y h = h
+
+  alike : (x y : Bool) → (x ≡ true → y ≡ true) → (y ≡ true → x ≡ true) → x ≡ y
+  alike true y f g = sym (f refl)
+  alike false true f g = g refl
+  alike false false f g = refl
+
+  any_more : (s : NatSet) (test : ℕ → Bool) (v : ℕ) → v < 256
+      → list_any (λ u. put_at s v true u && test u) (numbers_from 0 256) ≡ (test v || list_any (λ u. s u && test u) (numbers_from 0 256))
+  any_more s test v lt = alike _ _ (λ h. from (number_of_any (λ u. put_at s v true u && test u) 256 0 h)) to
+    where
+      from : (u : ℕ) × (u < 0 + 256) × ((put_at s v true u && test u) ≡ true) → (test v || list_any (λ u. s u && test u) (numbers_from 0 256)) ≡ true
+      from u = ⊎_elim (λ e. or_left (test v) _ (sym (ap test e.1) ∙ and_right (put_at s v true u.0) (test u.0) u.2))
+          (λ e. or_right (test v) _ (any_number (λ u. s u && test u) 256 0 u.0 (omega arith) u.1
+          (sym (ap (λ b. b && test u.0) (at_other s v u.0 true e.0)) ∙ u.2))) (eqb_tells u.0 v)
+
+      there : (u : ℕ) × (u < 0 + 256) × ((s u && test u) ≡ true) → list_any (λ u. put_at s v true u && test u) (numbers_from 0 256) ≡ true
+      there u = any_number (λ u. put_at s v true u && test u) 256 0 u.0 (omega arith) u.1
+          (ap (λ b. b && test u.0) (⊎_elim (λ e. at_same s v u.0 true e.1) (λ e. at_other s v u.0 true e.0 ∙ and_left (s u.0) (test u.0) u.2)
+          (eqb_tells u.0 v)) ∙ and_right (s u.0) (test u.0) u.2)
+
+      to : (test v || list_any (λ u. s u && test u) (numbers_from 0 256)) ≡ true → list_any (λ u. put_at s v true u && test u) (numbers_from 0 256) ≡ true
+      to h = pick (test v) refl
+        where
+          pick : (t : Bool) → test v ≡ t → list_any (λ u. put_at s v true u && test u) (numbers_from 0 256) ≡ true
+          pick true q = any_number (λ u. put_at s v true u && test u) 256 0 v (omega arith) lt (ap (λ b. b && test v) (at_same s v v true refl) ∙ q)
+          pick false q = there (number_of_any (λ u. s u && test u) 256 0 (sym (ap (λ b. b || list_any (λ u. s u && test u) (numbers_from 0 256)) q) ∙ h))
+
+  same_any : (f g : ℕ → Bool) (xs : List ℕ) → ((u : ℕ) → f u ≡ g u) → list_any f xs ≡ list_any g xs
+  same_any f g [] h = refl
+  same_any f g (x ∷ xs) h = ap (λ b. b || list_any f xs) (h x) ∙ ap (λ b. g x || b) (same_any f g xs h)
+
+  -- The vector is no longer pending, and a context has its class in service.
+  pub begun_is : (a : Apic) (set : NatSet) (bs : List BodyContext) (v : ℕ) (b : BodyContext) → ApicIs mode image a set bs → v < 256 → b.service ≡ Some (v / 16)
+      → ApicIs mode image (begun a v) (put_at set v false) (b ∷ bs)
+  begun_is a set bs v b is lt hb =
+      let out = puts a.irr v false is.irr.four is.irr.small lt in
+      let in' = puts a.isr v true is.isr.four is.isr.small lt in record {
+        tpr = is.tpr;
+        irr = record { four = out.1; small = out.2 };
+        isr = record { four = in'.1; small = in'.2 };
+        pending = λ u l. out.0 u ∙ ⊎_elim (λ e. at_same (vectors_of a.irr) v u false e.1 ∙ sym (at_same set v u false e.1))
+            (λ e. at_other (vectors_of a.irr) v u false e.0 ∙ is.pending u l ∙ sym (at_other set v u false e.0)) (eqb_tells u v);
+        service = λ class.
+            same_any _ _ (numbers_from 0 256) (λ u. ap (λ b. b && (u / 16 == class)) (in'.0 u))
+            ∙ any_more (vectors_of a.isr) (λ u. u / 16 == class) v lt
+            ∙ ap (λ t. (v / 16 == class) || t) (is.service class)
+            ∙ sym (ap (λ o. serves mode image class o || list_any (has class) bs) hb);
+      }
