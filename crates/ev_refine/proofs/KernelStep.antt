@@ -158,7 +158,8 @@ module _ (mode : Mode) (image : Image) (built : IsBuilt image) (good : IsImage i
   abbrev pub Executes : Ins → Processor → NatMap ℕ → Type 0
   Executes i cpu words = (a : Apic) (nmi : Bool) → executed c a s.memory nmi (Some i) ≡ ran cpu a words nmi
 
-  moves : (a : Apic) (cpu : Processor) (words : NatMap ℕ) → Moves p s (after_ran s p a cpu words) cpu (activations_by s p (s.activations p) cpu Stepped.Ran) words
+  moves : (a : Apic) (cpu : Processor) (words : NatMap ℕ)
+      → Moves p s (after_ran s p a cpu words) cpu (activations_by s p (s.activations p) cpu Stepped.Ran) words
   moves a cpu words = step_moves s p (ran cpu a words (s.latches p)) refl
 
   -- ---- the last context, on any contexts below

@@ -18,8 +18,8 @@ use Rattle.ev_proc.specs.ProcessorStep.{After, step, ran, next_of, instruction_a
 use Rattle.ev_abstract.specs.Machine.{Machine, processor, with_processor, task, with_task, user_memory}
 use Rattle.ev_abstract.specs.Machine as abstract
 use Rattle.ev_law.specs.Legal.{Legal}
-use Rattle.ev_abstract.specs.Boundary.{is_nmi_body, choice, interrupt_or_next}
 use Rattle.ev_law.specs.Bases.{HasBases}
+use Rattle.ev_abstract.specs.Boundary.{is_nmi_body, choice, interrupt_or_next}
 use Rattle.ev_abstract.specs.Context.{BodyContext}
 use Rattle.ev_symbolic.specs.Agrees.{with_words}
 use Rattle.ev_abstract.specs.UserCode.{Goes, user_step}
