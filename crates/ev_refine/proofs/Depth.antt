@@ -250,7 +250,8 @@ ends_a_body i c place rip out hu hr =
     ∙ ap (λ a. not (nat_le nmi_entry a && nat_lt a repeat_entry)) rip ∙ ap not out
 
 -- a step that ran an instruction
-told_ran : (s : System) (p : ℕ) (a : Apic) (cpu : Processor) (words : NatMap ℕ) (i : Ins) → Runs s p a cpu words → instruction_at s.memory.words (s.cpus p).rip ≡ Some i
+told_ran : (s : System) (p : ℕ) (a : Apic) (cpu : Processor) (words : NatMap ℕ) (i : Ins) → Runs s p a cpu words
+    → instruction_at s.memory.words (s.cpus p).rip ≡ Some i
     → told_bodies s p ≡ (if ends_body (s.cpus p) (Some i) then bodies_on s p - 1
     else (if begins_body (s.cpus p) (Some i) then suc (bodies_on s p) else bodies_on s p))
 unfolding told_bodies

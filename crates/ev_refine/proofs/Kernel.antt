@@ -289,7 +289,8 @@ module _ (mode : Mode) (image : Image) (built : IsBuilt image) (good : IsImage i
           below)
           (step.are_quiet mode image built good facts left s m h p hp o).1
           (λ class. sym (ap (list_any (λ (a : BodyContext). serves mode image class a.service)) o.bodies
-          ∙ ap (λ q. serves mode image class q || list_any (λ (a : BodyContext). serves mode image class a.service) below) (step.ret_serves mode image built good facts left s m h p hp o ret)))
+          ∙ ap (λ q. serves mode image class q || list_any (λ (a : BodyContext). serves mode image class a.service) below)
+          (step.ret_serves mode image built good facts left s m h p hp o ret)))
           (ap (λ e. if e then length (processor m p).bodies - 1 else
           (if begins_body c (Some cell.ins) then suc (length (processor m p).bodies) else length (processor m p).bodies))
           (ends_a_body (Some cell.ins) c x.place x.rip x.outside hu x.is) ∙ ap (λ (bs : List BodyContext). length bs - 1) o.bodies

@@ -351,7 +351,8 @@ module _ (mode : Mode) (image : Image) (built : IsBuilt image) (good : IsImage i
         = own_after mode image p (left p) s (after_ran s p (s.apics p) cpu words) x σ cpu _ words x.tasks x.bodies now on small (four_tasks image good p hp)
         (moves (s.apics p) cpu words) on_stack narrow names sparing changes (λ i d. refl) on.tasks
         (hb ∙ sym none_is_nmi) x.pending
-        (apic_again mode image (s.apics p) _ x.pending x.bodies x.bodies (at_same s.apics p p (s.apics p) refl) (λ class. refl) on.apic) (let l = on.enough in let f = on.few in omega arith) goes_on in
+        (apic_again mode image (s.apics p) _ x.pending x.bodies x.bodies (at_same s.apics p p (s.apics p) refl) (λ class. refl) on.apic)
+        (let l = on.enough in let f = on.few in omega arith) goes_on in
         let all : Stands mode image (put_at left p (now + inner_edges (s.latches p))) (after_ran s p (s.apics p) cpu words) m
         = stands_after mode image left s (after_ran s p (s.apics p) cpu words) m m p (now + inner_edges (s.latches p)) x σ cpu _ words good built.accepted
         (four_tasks image good) h hp (moves (s.apics p) cpu words) narrow names sparing changes
@@ -615,7 +616,8 @@ module _ (mode : Mode) (image : Image) (built : IsBuilt image) (good : IsImage i
       windows spot over ss extra v f = opens_at mode image p σ in_seat hp good.count.1 κ ss w extra v f spot over s.memory h.regions_are
 
       -- an edge to the opening of a block
-      pub goes : (act : Stood on.own b c s.memory) (spot : Spot) (ss : ℕ) → IsKernelSs mode ss → (extra v : ℕ → ℕ) (f : Flags) → f.interrupts ≡ false → is_user c ≡ false
+      pub goes : (act : Stood on.own b c s.memory) (spot : Spot) (ss : ℕ) → IsKernelSs mode ss → (extra v : ℕ → ℕ) (f : Flags) → f.interrupts ≡ false
+          → is_user c ≡ false
           → Goes code c s.memory (block mode spot) (env ss extra v f) → edges mode spot 0 < on.own → length c.regs ≡ 16 → blocks.switches spot ≡ false
           → Means mode image κ spot (env ss extra v f) w b s.memory.words → Result
       goes act spot ss ss_is extra v f masked_by hu g fewer long off means =
