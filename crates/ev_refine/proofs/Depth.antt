@@ -14,6 +14,7 @@ use Rattle.ev_effect.specs.Task.{Task}
 use Rattle.ev_listing.specs.AddressMap.{nmi_entry, repeat_entry, nbody_entry, vector_stub}
 use Rattle.ev_listing.specs.Expansion.{item_address}
 use Rattle.ev_state.specs.Processor.{Processor, is_user, rsp}
+use Rattle.ev_apic.specs.declared.apic.Apic.{Apic}
 use Rattle.ev_mem.specs.Memory.{Memory}
 use Rattle.ev_proc.specs.ProcessorStep.{next_of, instruction_at}
 use Rattle.ev_abstract.specs.Context.{BodyContext}
@@ -258,21 +259,22 @@ ends_a_body i c place rip out hu hr =
     ∙ ap (λ a. not (nat_le nmi_entry a && nat_lt a repeat_entry)) rip ∙ ap not out
 
 -- a step that ran an instruction
-told_ran : (s : System) (p : ℕ) (cpu : Processor) (words : NatMap ℕ) (i : Ins) → Runs s p cpu words → instruction_at s.memory.words (s.cpus p).rip ≡ Some i
+told_ran : (s : System) (p : ℕ) (a : Apic) (cpu : Processor) (words : NatMap ℕ) (i : Ins) → Runs s p a cpu words
+    → instruction_at s.memory.words (s.cpus p).rip ≡ Some i
     → told_bodies s p ≡ (if ends_body (s.cpus p) (Some i) then bodies_on s p - 1
     else (if begins_body (s.cpus p) (Some i) then suc (bodies_on s p) else bodies_on s p))
 unfolding told_bodies
-told_ran s p cpu words i h hi =
+told_ran s p a cpu words i h hi =
     ap (λ r. bodies_after (bodies_on s p) (starts_inner s p (next_of (s.cpus p) (s.apics p) (s.latches p)))
     (ends_body (s.cpus p) (instruction_at s.memory.words (s.cpus p).rip)) (begins_body (s.cpus p) (instruction_at s.memory.words (s.cpus p).rip)) r.step) h
     ∙ ap (λ o. if ends_body (s.cpus p) o then bodies_on s p - 1 else (if begins_body (s.cpus p) o then suc (bodies_on s p) else bodies_on s p)) hi
 
-pub ran_counts : (n : ℕ) (s : System) (p : ℕ) (cpu : Processor) (words : NatMap ℕ) (i : Ins) → Runs s p cpu words
+pub ran_counts : (n : ℕ) (s : System) (p : ℕ) (a : Apic) (cpu : Processor) (words : NatMap ℕ) (i : Ins) → Runs s p a cpu words
     → instruction_at s.memory.words (s.cpus p).rip ≡ Some i
-    → (before after : ℕ) → bodies_on s p ≡ before → bodies_on (after_ran s p cpu words) p ≡ after
+    → (before after : ℕ) → bodies_on s p ≡ before → bodies_on (after_ran s p a cpu words) p ≡ after
     → (if ends_body (s.cpus p) (Some i) then before - 1 else (if begins_body (s.cpus p) (Some i) then suc before else before)) ≡ after
     → bodies_on (concrete_step n s p).0 p ≡ told_bodies s p
-ran_counts n s p cpu words i h hi before after hb ha ht =
-    ap (λ z. bodies_on z.0 p) (ran_step n s p cpu words h) ∙ ha
-    ∙ sym (told_ran s p cpu words i h hi
+ran_counts n s p a cpu words i h hi before after hb ha ht =
+    ap (λ z. bodies_on z.0 p) (ran_step n s p a cpu words h) ∙ ha
+    ∙ sym (told_ran s p a cpu words i h hi
     ∙ ap (λ k. if ends_body (s.cpus p) (Some i) then k - 1 else (if begins_body (s.cpus p) (Some i) then suc k else k)) hb ∙ ht)

@@ -51,7 +51,7 @@ use Rattle.ev_refine.specs.Nmi.{Leads, inner_edges}
 use Rattle.ev_refine.specs.Named.{Named, is_task_word, is_slot, is_cell, is_page_bit, is_user_word, have_none, UnknownTo, Changes}
 use Rattle.ev_refine.specs.Domain.{IsQuiet, AreQuiet, IsInDomain}
 use Rattle.ev_refine.specs.Active.{item_place, address_of_item, here, IsKernelSs, Means, Active}
-use Rattle.ev_refine.specs.Relation.{IsContext, Beneath, keeps_cr2, switches_at, chained, Interrupted, body_edges, Chain, serves, StandsOn, Stands}
+use Rattle.ev_refine.specs.Relation.{ApicIs, IsContext, Beneath, keeps_cr2, switches_at, chained, Interrupted, body_edges, Chain, serves, StandsOn, Stands}
 use Rattle.ev_refine.specs.Claims.{Simulated}
 use Rattle.ev_concrete.specs.Shown.{shown_always}
 use Rattle.ev_refine.proofs.Facts.{Facts}
@@ -165,8 +165,9 @@ module _ (mode : Mode) (image : Image) (built : IsBuilt image) (good : IsImage i
   abbrev pub Executes : Ins → Processor → NatMap ℕ → Type 0
   Executes i cpu words = (a : Apic) (nmi : Bool) → executed c a s.memory nmi (Some i) ≡ ran cpu a words nmi
 
-  moves : (cpu : Processor) (words : NatMap ℕ) → Moves p s (after_ran s p cpu words) cpu (activations_by s p (s.activations p) cpu Stepped.Ran) words
-  moves cpu words = step_moves s p (ran cpu (s.apics p) words (s.latches p)) refl
+  moves : (a : Apic) (cpu : Processor) (words : NatMap ℕ)
+      → Moves p s (after_ran s p a cpu words) cpu (activations_by s p (s.activations p) cpu Stepped.Ran) words
+  moves a cpu words = step_moves s p (ran cpu a words (s.latches p)) refl
 
   -- ---- the last context, on any contexts below
 
@@ -228,20 +229,21 @@ module _ (mode : Mode) (image : Image) (built : IsBuilt image) (good : IsImage i
     pub first : next_of c (s.apics p) (s.latches p) ≡ Next.Instruction
     first = masked_first c (s.apics p) (s.latches p) latch masked
 
-    runs : (cell : Cell) → code c.rip ≡ Some cell → is_user c ≡ false → (cpu : Processor) (words : NatMap ℕ) → Executes cell.ins cpu words → Runs s p cpu words
-    runs cell hc hu cpu words he = cell_step code c (s.apics p) s.memory (s.latches p) cell fetches hc first hu ∙ he (s.apics p) (s.latches p)
+    runs : (cell : Cell) → code c.rip ≡ Some cell → is_user c ≡ false → (a : Apic) (cpu : Processor) (words : NatMap ℕ)
+        → executed c (s.apics p) s.memory (s.latches p) (Some cell.ins) ≡ ran cpu a words (s.latches p) → Runs s p a cpu words
+    runs cell hc hu a cpu words he = cell_step code c (s.apics p) s.memory (s.latches p) cell fetches hc first hu ∙ he
 
     -- an edge: the processor stands for the same behind it, and it writes no word of the abstract machine's
     pub edge_to : (cell : Cell) → code c.rip ≡ Some cell → cell.mark ≡ false → is_return (Some cell.ins) ≡ false
         → is_user c ≡ false → is_in_repeat c.rip ≡ false → (cpu : Processor) (words : NatMap ℕ) → Executes cell.ins cpu words
         → (σ : Seat) → σ.stack < 7 → (names : List Named) → AreNames p names → have_none is_page_bit names ≡ true → have_none is_cell names ≡ true
         → have_none is_user_word names ≡ true → Changes p σ names s.memory.words words → (now : ℕ) → now < on.own
-        → StandsOn mode image p (now + inner_edges (s.latches p)) (after_ran s p cpu words) x → Result
+        → StandsOn mode image p (now + inner_edges (s.latches p)) (after_ran s p (s.apics p) cpu words) x → Result
     edge_to cell hc hm hr hu out cpu words he σ narrow names allowed no_page no_cell no_user changes now fewer there =
-        let run : Runs s p cpu words = runs cell hc hu cpu words he in
-        let all : Stands mode image (put_at left p (now + inner_edges (s.latches p))) (after_ran s p cpu words) m
-        = stands_become mode image left s (after_ran s p cpu words) m m p (now + inner_edges (s.latches p)) x σ cpu _ words good built.accepted
-        (four_tasks image good) h hp (moves cpu words) narrow names allowed changes
+        let run : Runs s p (s.apics p) cpu words = runs cell hc hu (s.apics p) cpu words (he (s.apics p) (s.latches p)) in
+        let all : Stands mode image (put_at left p (now + inner_edges (s.latches p))) (after_ran s p (s.apics p) cpu words) m
+        = stands_become mode image left s (after_ran s p (s.apics p) cpu words) m m p (now + inner_edges (s.latches p)) x σ cpu _ words good built.accepted
+        (four_tasks image good) h hp (moves (s.apics p) cpu words) narrow names allowed changes
         (record {
           own = refl;
           others = λ q e. refl;
@@ -256,9 +258,9 @@ module _ (mode : Mode) (image : Image) (built : IsBuilt image) (good : IsImage i
         })
         h.legal h.bases h.numbers domain there in
         let bound = on.enough in record {
-          safe = ran_safe mode image s p cpu words run;
-          counts = ran_counts image.processors s p cpu words cell.ins run (fetches c.rip cell hc).1 (length x.bodies) (length x.bodies) depth
-              (stands_depth mode image facts p (now + inner_edges (s.latches p)) (after_ran s p cpu words) x there)
+          safe = ran_safe mode image s p (s.apics p) cpu words run;
+          counts = ran_counts image.processors s p (s.apics p) cpu words cell.ins run (fetches c.rip cell hc).1 (length x.bodies) (length x.bodies) depth
+              (stands_depth mode image facts p (now + inner_edges (s.latches p)) (after_ran s p (s.apics p) cpu words) x there)
               (goes_on_inside (is_return (Some cell.ins)) (not (is_user c)) (not (nat_le nmi_entry c.rip && nat_lt c.rip repeat_entry))
               (is_jump (Some cell.ins)) (is_in_repeat c.rip) (length x.bodies) hr out);
           how = inl (record {
@@ -266,38 +268,39 @@ module _ (mode : Mode) (image : Image) (built : IsBuilt image) (good : IsImage i
             now = put_at left p (now + inner_edges (s.latches p));
             fewer = subst (λ n. n < left p) (sym (at_same left p p (now + inner_edges (s.latches p)) refl)) (omega arith);
             stands = subst (λ y. Stands mode image (put_at left p (now + inner_edges (s.latches p))) y.0 m)
-                (sym (ran_step image.processors s p cpu words run)) all;
-            writes = ran_writes image.processors s p cpu words run;
+                (sym (ran_step image.processors s p (s.apics p) cpu words run)) all;
+            writes = ran_writes image.processors s p (s.apics p) cpu words run;
           });
         }
 
     -- a visible step: the processor stands for the one of the machine behind the abstract machine's turn, and memory for that machine's
     pub turn_to : (cell : Cell) → code c.rip ≡ Some cell → cell.mark ≡ true → is_user c ≡ false
-        → (cpu : Processor) (words : NatMap ℕ) → Executes cell.ins cpu words
+        → (a : Apic) (cpu : Processor) (words : NatMap ℕ)
+        → executed c (s.apics p) s.memory (s.latches p) (Some cell.ins) ≡ ran cpu a words (s.latches p)
         → (σ : Seat) → σ.stack < 7 → (names : List Named) → AreNames p names → Changes p σ names s.memory.words words
         → (m' : Machine) (es : List Entry) → turn image m p ≡ (m', es) → (x' : abstract.Processor) → Becomes mode image p m m' x' words → HoldsNumbers m'
         → IsInDomain x'
         → (if ends_body c (Some cell.ins) then length x.bodies - 1
         else (if begins_body c (Some cell.ins) then suc (length x.bodies) else length x.bodies)) ≡ length x'.bodies
-        → (now : ℕ) → StandsOn mode image p (now + inner_edges (s.latches p)) (after_ran s p cpu words) x'
+        → (now : ℕ) → StandsOn mode image p (now + inner_edges (s.latches p)) (after_ran s p a cpu words) x'
         → shown_always p (bodies_on s p) c s.memory.words (Some cell.ins) ≡ es → Result
-    turn_to cell hc hm hu cpu words he σ narrow names allowed changes m' es ht x' becomes numbers inside told now there hes =
-        let run : Runs s p cpu words = runs cell hc hu cpu words he in
-        let all : Stands mode image (put_at left p (now + inner_edges (s.latches p))) (after_ran s p cpu words) m'
-        = stands_become mode image left s (after_ran s p cpu words) m m' p (now + inner_edges (s.latches p)) x' σ cpu _ words
-        good built.accepted (four_tasks image good) h hp (moves cpu words) narrow names allowed changes becomes
+    turn_to cell hc hm hu a cpu words he σ narrow names allowed changes m' es ht x' becomes numbers inside told now there hes =
+        let run : Runs s p a cpu words = runs cell hc hu a cpu words he in
+        let all : Stands mode image (put_at left p (now + inner_edges (s.latches p))) (after_ran s p a cpu words) m'
+        = stands_become mode image left s (after_ran s p a cpu words) m m' p (now + inner_edges (s.latches p)) x' σ cpu _ words
+        good built.accepted (four_tasks image good) h hp (moves a cpu words) narrow names allowed changes becomes
         (turn_legal image good built.accepted m p hp h.legal (m', es) ht) (turn_bases image m p h.bases (m', es) ht) numbers inside there in
-        let turned : Stands mode image (put_at left p (now + inner_edges (s.latches p))) (after_ran s p cpu words) (turn image m p).0 =
-        subst (λ q. Stands mode image (put_at left p (now + inner_edges (s.latches p))) (after_ran s p cpu words) q.0) (sym ht) all in record {
-          safe = ran_safe mode image s p cpu words run;
-          counts = ran_counts image.processors s p cpu words cell.ins run (fetches c.rip cell hc).1 (length x.bodies) (length x'.bodies) depth
-              (stands_depth mode image facts p (now + inner_edges (s.latches p)) (after_ran s p cpu words) x' there) told;
+        let turned : Stands mode image (put_at left p (now + inner_edges (s.latches p))) (after_ran s p a cpu words) (turn image m p).0 =
+        subst (λ q. Stands mode image (put_at left p (now + inner_edges (s.latches p))) (after_ran s p a cpu words) q.0) (sym ht) all in record {
+          safe = ran_safe mode image s p a cpu words run;
+          counts = ran_counts image.processors s p a cpu words cell.ins run (fetches c.rip cell hc).1 (length x.bodies) (length x'.bodies) depth
+              (stands_depth mode image facts p (now + inner_edges (s.latches p)) (after_ran s p a cpu words) x' there) told;
           how = inr (record {
             seen = seen (marks_of mode image) s p first hu (facts.marked c.rip cell hc hm);
             now = put_at left p (now + inner_edges (s.latches p));
             stands = subst (λ q. Stands mode image (put_at left p (now + inner_edges (s.latches p))) q.0 (turn image m p).0)
-                (sym (ran_step image.processors s p cpu words run)) turned;
-            entries = ran_shown (marks_of mode image) s p cpu words cell.ins run hu (facts.marked c.rip cell hc hm) (fetches c.rip cell hc).1
+                (sym (ran_step image.processors s p a cpu words run)) turned;
+            entries = ran_shown (marks_of mode image) s p a cpu words cell.ins run hu (facts.marked c.rip cell hc hm) (fetches c.rip cell hc).1
                 ∙ hes ∙ sym (ap (λ (q : Step). q.1) ht);
           });
         }
@@ -434,9 +437,9 @@ module _ (mode : Mode) (image : Image) (built : IsBuilt image) (good : IsImage i
         = subst (λ as'. Chained now t x.bodies as' cpu (with_words s.memory words)) (sym same)
         (subst (λ bs. Chained now t bs (o.last ∷ o.others) cpu (with_words s.memory words)) (sym o.bodies)
         (with_last b o.kind ctx now cpu words names sparing.allowed unknown changes act)) in
-        let there : StandsOn mode image p (now + inner_edges (s.latches p)) (after_ran s p cpu words) x
-        = own_after mode image p (left p) s (after_ran s p cpu words) x σ cpu _ words x.tasks x.bodies now on small (four_tasks image good p hp)
-        (moves cpu words) beside narrow names sparing changes (λ i d. refl) on.tasks
+        let there : StandsOn mode image p (now + inner_edges (s.latches p)) (after_ran s p (s.apics p) cpu words) x
+        = own_after mode image p (left p) s (after_ran s p (s.apics p) cpu words) x σ cpu _ words x.tasks x.bodies now on small (four_tasks image good p hp)
+        (moves (s.apics p) cpu words) beside narrow names sparing changes (λ i d. refl) on.tasks
         (hb ∙ sym none_is_nmi) x.pending
         (apic_again mode image (s.apics p) _ x.pending x.bodies x.bodies (at_same s.apics p p (s.apics p) refl) (λ class. refl) on.apic)
         (let l = on.enough in let f = on.few in omega arith) goes_on in
@@ -486,27 +489,29 @@ module _ (mode : Mode) (image : Image) (built : IsBuilt image) (good : IsImage i
       pub pages : (i : ℕ) → i < 256 → words (page_map + 8 * i) ≡ (if m'.present i then 1 else 0)
       pub cells : (k : ℕ) → k < 256 → words (cells_base + 8 * k) ≡ m'.cells k
 
-    pub visible : (cell : Cell) → code c.rip ≡ Some cell → cell.mark ≡ true → is_user c ≡ false
-        → (cpu : Processor) (words : NatMap ℕ) → Executes cell.ins cpu words → cpu.nmi_blocked ≡ false
+    -- with the local APIC behind the step
+    pub visible_with : (cell : Cell) → code c.rip ≡ Some cell → cell.mark ≡ true → is_user c ≡ false
+        → (a : Apic) (cpu : Processor) (words : NatMap ℕ)
+        → executed c (s.apics p) s.memory (s.latches p) (Some cell.ins) ≡ ran cpu a words (s.latches p) → cpu.nmi_blocked ≡ false
         → (names : List Named) → AreNames p names → Changes p σ names s.memory.words words
         → (m' : Machine) (es : List Entry) → turn image m p ≡ (m', es) → (tasks : NatMap Task) (slots : NatMap ℕ) (bs : List BodyContext)
-        → Makes m' words tasks slots bs → AreQuiet bs → ServesAlike bs
+        → Makes m' words tasks slots bs → AreQuiet bs → ApicIs mode image a x.pending bs
         → (if ends_body c (Some cell.ins) then length x.bodies - 1
         else (if begins_body c (Some cell.ins) then suc (length x.bodies) else length x.bodies)) ≡ length bs
         → (now : ℕ) → now ≤ body_edges mode image
         → Chained now (tasks to) bs (activations_by s p (s.activations p) cpu Stepped.Ran) cpu (with_words s.memory words)
         → shown_always p (bodies_on s p) c s.memory.words (Some cell.ins) ≡ es → Result
-    visible cell hc hm hu cpu words he hb names allowed changes m' es ht tasks slots bs y quiet serving told now few goes_on hes =
+    visible_with cell hc hm hu a cpu words he hb names allowed changes m' es ht tasks slots bs y quiet apic told now few goes_on hes =
         let x' : abstract.Processor = record x { tasks = tasks; slots = slots; bodies = bs } in
         let none : list_any (is_nmi_body image) bs ≡ false
         = none_nmi image bs (chain_plain mode image p now r to (tasks to) on.frame on.switching bs _ cpu (with_words s.memory words) goes_on) in
-        let there : StandsOn mode image p (now + inner_edges (s.latches p)) (after_ran s p cpu words) x'
-        = own_becomes mode image p (left p) s (after_ran s p cpu words) x σ cpu _ words tasks slots bs now on small (four_tasks image good p hp)
-        (moves cpu words) beside narrow names allowed changes y.current y.mark y.slots_are y.same_tasks y.good_tasks (hb ∙ sym none)
-        x.pending (apic_again mode image (s.apics p) _ x.pending x.bodies bs (at_same s.apics p p (s.apics p) refl) serving on.apic)
+        let there : StandsOn mode image p (now + inner_edges (s.latches p)) (after_ran s p a cpu words) x'
+        = own_becomes mode image p (left p) s (after_ran s p a cpu words) x σ cpu _ words tasks slots bs now on small (four_tasks image good p hp)
+        (moves a cpu words) beside narrow names allowed changes y.current y.mark y.slots_are y.same_tasks y.good_tasks (hb ∙ sym none)
+        x.pending (subst (λ y. ApicIs mode image y x.pending bs) (sym (at_same s.apics p p a refl)) apic)
         (let f = few_inner mode image (s.latches p) in omega arith) goes_on in
         let inside : IsInDomain x' = record { nmi = domain.nmi; resched = domain.resched; bodies = quiet } in
-        turn_to cell hc hm hu cpu words he σ narrow names allowed changes m' es ht x'
+        turn_to cell hc hm hu a cpu words he σ narrow names allowed changes m' es ht x'
         (record {
           own = y.own;
           others = y.others;
@@ -520,6 +525,21 @@ module _ (mode : Mode) (image : Image) (built : IsBuilt image) (good : IsImage i
           cells = y.cells;
         })
         (numbers_behind m' es ht) inside told now there hes
+
+    -- which stays
+    pub visible : (cell : Cell) → code c.rip ≡ Some cell → cell.mark ≡ true → is_user c ≡ false
+        → (cpu : Processor) (words : NatMap ℕ) → Executes cell.ins cpu words → cpu.nmi_blocked ≡ false
+        → (names : List Named) → AreNames p names → Changes p σ names s.memory.words words
+        → (m' : Machine) (es : List Entry) → turn image m p ≡ (m', es) → (tasks : NatMap Task) (slots : NatMap ℕ) (bs : List BodyContext)
+        → Makes m' words tasks slots bs → AreQuiet bs → ServesAlike bs
+        → (if ends_body c (Some cell.ins) then length x.bodies - 1
+        else (if begins_body c (Some cell.ins) then suc (length x.bodies) else length x.bodies)) ≡ length bs
+        → (now : ℕ) → now ≤ body_edges mode image
+        → Chained now (tasks to) bs (activations_by s p (s.activations p) cpu Stepped.Ran) cpu (with_words s.memory words)
+        → shown_always p (bodies_on s p) c s.memory.words (Some cell.ins) ≡ es → Result
+    visible cell hc hm hu cpu words he hb names allowed changes m' es ht tasks slots bs y quiet serving told now few goes_on hes =
+        visible_with cell hc hm hu (s.apics p) cpu words (he (s.apics p) (s.latches p)) hb names allowed changes m' es ht tasks slots bs y quiet
+        (apic_again mode image (s.apics p) (s.apics p) x.pending x.bodies bs refl serving on.apic) told now few goes_on hes
 
     -- what holds of the components that a step leaves alone, by the names that it writes
     module _ (names : List Named) (allowed : AreNames p names) (words : NatMap ℕ) (changes : Changes p σ names s.memory.words words) where
@@ -658,7 +678,8 @@ module _ (mode : Mode) (image : Image) (built : IsBuilt image) (good : IsImage i
       windows spot over ss extra v f = opens_at mode image p σ in_seat hp good.count.1 κ ss w extra v f spot over s.memory h.regions_are
 
       -- an edge to the opening of a block
-      pub goes : (act : Stood on.own b c s.memory) (spot : Spot) (ss : ℕ) → IsKernelSs mode ss → (extra v : ℕ → ℕ) (f : Flags) → f.interrupts ≡ false → is_user c ≡ false
+      pub goes : (act : Stood on.own b c s.memory) (spot : Spot) (ss : ℕ) → IsKernelSs mode ss → (extra v : ℕ → ℕ) (f : Flags) → f.interrupts ≡ false
+          → is_user c ≡ false
           → Goes code c s.memory (block mode spot) (env ss extra v f) → edges mode spot 0 < on.own → length c.regs ≡ 16 → blocks.switches spot ≡ false
           → Means mode image κ spot (env ss extra v f) w b s.memory.words → Result
       goes act spot ss ss_is extra v f masked_by hu g fewer long off means =

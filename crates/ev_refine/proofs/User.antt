@@ -205,7 +205,10 @@ raised_in x cause body set = record (with_task x (returning (task x) cause)) { b
 raise_steps : (image : Image) (m : Machine) (p : ℕ) (cause : Cause) (body : ℕ) (b : HasBody image (cause_key cause) body) → (processor m p).bodies ≡ []
     → first_body 0 image.bodies (cause_key cause) User ≡ Some body → Starts (task (processor m p)) cause
     → task_step image m p (Raises (saved_at (task (processor m p)) cause) (raised_event cause))
-    ≡ (with_processor m p (raised_in (processor m p) cause body (processor m p).pending), entry_of p (raised_event cause) (saved_at (task (processor m p)) cause) ∷ [])
+    ≡ (
+      with_processor m p (raised_in (processor m p) cause body (processor m p).pending),
+      entry_of p (raised_event cause) (saved_at (task (processor m p)) cause) ∷ [],
+    )
 raise_steps image m p cause body b hb hf st =
     let x : abstract.Processor = processor m p in
     let back : Task = returning (task x) cause in

@@ -147,7 +147,8 @@ module _ (mode : Mode) (image : Image) (formed : IsImage image) (built : IsBuilt
       → (StandsOn mode image p (own + inner_edges (s.latches p)) s' (record (with_task (processor m p) t) { bodies = bs; pending = set }))
       × Stands mode image (put_at left p (own + inner_edges (s.latches p))) s'
       (with_processor (record m { words = memory }) p (record (with_task (processor m p) t) { bodies = bs; pending = set }))
-  user_after left s s' m p lt h u cpu as' words t bs set own hb mv names sparing changes memory user held legal bases of_words good blocked quiet apic few chain =
+  user_after left s s' m p lt h u cpu as' words t bs set own hb mv names sparing changes memory user held legal bases of_words good blocked quiet apic few
+      chain =
       let x : abstract.Processor = processor m p in
       let y : abstract.Processor = record (with_task x t) { bodies = bs; pending = set } in
       let small : p < 32 = let eight = formed.count.1 in omega arith in
@@ -224,7 +225,8 @@ module _ (mode : Mode) (image : Image) (formed : IsImage image) (built : IsBuilt
       apart (inr l) q = omega arith
 
   pub goes_turn : (left : NatMap ℕ) (s : System) (m : Machine) → Stands mode image left s m → (p : ℕ) → p < image.processors → (processor m p).bodies ≡ []
-      → (u : AtUser left s m p) → AtInstruction left s m p → (t : Task) (memory : NatMap ℕ) → user_step (user_memory image m) (task (processor m p)) ≡ Goes t memory
+      → (u : AtUser left s m p) → AtInstruction left s m p → (t : Task) (memory : NatMap ℕ)
+      → user_step (user_memory image m) (task (processor m p)) ≡ Goes t memory
       → TurnsTo mode image left s m p
   goes_turn left s m h p lt hb u i t memory goes =
       let x : abstract.Processor = processor m p in

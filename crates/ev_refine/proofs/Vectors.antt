@@ -304,7 +304,8 @@ module _ (mode : Mode) (image : Image) where
               ⊎_elim (λ e. absurd (w.1 (is.single u.0 g u.1 top.0 w.0 top.1 (e ∙ sym class_of_top)))) (λ e. subst (λ n. list_any (has n) bs ≡ true) c e)
               (no_higher u.0 u.1 w.0)
 
-          right : (class : ℕ) → list_any (has class) bs ≡ true → list_any (λ u. put_at (vectors_of a.isr) g false u && (u / 16 == class)) (numbers_from 0 256) ≡ true
+          right : (class : ℕ) → list_any (has class) bs ≡ true
+              → list_any (λ u. put_at (vectors_of a.isr) g false u && (u / 16 == class)) (numbers_from 0 256) ≡ true
           right class h =
               let u = of_class class (or_right (has class b) (list_any (has class) bs) h) in
               let low = above class h in
