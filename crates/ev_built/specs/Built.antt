@@ -14,7 +14,7 @@ use Rattle.ev_abstract.specs.Accepted.{IsAccepted}
 use Rattle.ev_abstract.specs.declared.script_line.Line.{Line}
 use Rattle.ev_abstract.specs.declared.script_line.Line.TheVariants.{Turn}
 
--- items of registers, jumps, `log`, slots, `bp` and `ret`
+-- all items but those of IF, interrupts and their end, rescheduling and cross calls
 unfoldable pub is_built_item : Item → Bool
 is_built_item (Set d n) = true
 is_built_item (Copy d s) = true
