@@ -3,7 +3,7 @@ use Rattle.std.proofs.Common.{◌≡◌, refl, true, ◌&&◌, List, [], ◌∷�
 use Rattle.std.specs.List.{list_all}
 use Rattle.std.proofs.lemmas.Bool.{and_parts, and_from}
 use Rattle.ev_body.specs.declared.body.Body.{Body}
-use Rattle.ev_body.specs.WellFormed.{has_no_parts, is_user_side}
+use Rattle.ev_body.specs.WellFormed.{has_no_parts}
 use Rattle.ev_built.specs.Built.{is_built_body, is_built_item, is_built_key}
 use Rattle.ev_built.specs.RunTakes.{body_is_built}
 use Rattle.ev_built.specs.Laws.{TakenAreBuilt}
@@ -12,13 +12,9 @@ use Rattle.ev_built.specs.Laws.{TakenAreBuilt}
 
 taken_body : (b : Body) → body_is_built b ≡ true → (is_built_body b ≡ true) × (is_built_key b.key ≡ true)
 taken_body b h =
-    let p = and_parts (is_user_side b.side && has_no_parts b.parts && is_built_key b.key) (list_all is_built_item b.items) h in
-    let q = and_parts (is_user_side b.side && has_no_parts b.parts) (is_built_key b.key) p.0 in
-    let r = and_parts (is_user_side b.side) (has_no_parts b.parts) q.0 in (
-      and_from (is_user_side b.side) (has_no_parts b.parts && list_all is_built_item b.items) r.0
-          (and_from (has_no_parts b.parts) (list_all is_built_item b.items) r.1 p.1),
-      q.1,
-    )
+    let p = and_parts (has_no_parts b.parts && is_built_key b.key) (list_all is_built_item b.items) h in
+    let q = and_parts (has_no_parts b.parts) (is_built_key b.key) p.0 in
+    (and_from (has_no_parts b.parts) (list_all is_built_item b.items) q.0 p.1, q.1)
 
 taken_bodies : (bs : List Body) → list_all body_is_built bs ≡ true
     → (list_all is_built_body bs ≡ true) × (list_all (λ (b : Body). is_built_key b.key) bs ≡ true)

@@ -6,15 +6,15 @@ use Rattle.ev_isa.specs.declared.mode.Mode.TheVariants.{Idt, Fred}
 use Rattle.ev_body.specs.declared.key.Key.{Key}
 use Rattle.ev_body.specs.declared.key.Key.TheVariants.{Nmi, Irq}
 use Rattle.ev_body.specs.declared.item.Item.{Item}
-use Rattle.ev_body.specs.declared.item.Item.TheVariants.{Set, Copy, Alu, Jcc, Goto, Nop, Log, Cpu, Slot, Put, Ret}
+use Rattle.ev_body.specs.declared.item.Item.TheVariants.{Set, Copy, Alu, Jcc, Goto, Nop, Log, Cpu, Slot, Put, Cell, SetCell, AddCell, SwapCell, GetReg, SetReg, SetRip, Ret}
 use Rattle.ev_body.specs.declared.body.Body.{Body}
 use Rattle.ev_body.specs.declared.image.Image.{Image}
-use Rattle.ev_body.specs.WellFormed.{is_user_side, has_no_parts}
+use Rattle.ev_body.specs.WellFormed.{has_no_parts}
 use Rattle.ev_abstract.specs.Accepted.{IsAccepted}
 use Rattle.ev_abstract.specs.declared.script_line.Line.{Line}
 use Rattle.ev_abstract.specs.declared.script_line.Line.TheVariants.{Turn}
 
--- items of registers, jumps, `log`, slots, and `ret`
+-- items of registers, jumps, `log`, slots, `bp` and `ret`
 unfoldable pub is_built_item : Item → Bool
 is_built_item (Set d n) = true
 is_built_item (Copy d s) = true
@@ -26,6 +26,14 @@ is_built_item (Log s) = true
 is_built_item (Cpu d) = true
 is_built_item (Slot d k) = true
 is_built_item (Put k s) = true
+is_built_item (Cell d k) = true
+is_built_item (SetCell k s) = true
+is_built_item (AddCell k d) = true
+is_built_item (SwapCell k d) = true
+is_built_item (GetReg d r) = true
+is_built_item (SetReg r s) = true
+is_built_item (SetRip a) = true
+is_built_item Item.Bp = true
 is_built_item Ret = true
 is_built_item _ = false
 
@@ -35,11 +43,11 @@ is_built_key Nmi = false
 is_built_key (Irq v) = false
 is_built_key _ = true
 
--- of the user side, without parts
+-- without parts
 abbrev pub is_built_body : Body → Bool
-is_built_body b = is_user_side b.side && (has_no_parts b.parts && list_all is_built_item b.items)
+is_built_body b = has_no_parts b.parts && list_all is_built_item b.items
 
--- an accepted image, of any number of processors and tasks whose user code is any, with bodies of the user side alone
+-- an accepted image, of any number of processors and tasks whose user code is any
 pub record IsBuilt (image : Image) : Type 0 where
   pub accepted : IsAccepted image
   pub bodies : list_all is_built_body image.bodies ≡ true

@@ -3,13 +3,12 @@ use Rattle.std.specs.Prelude.{Bool, ◌&&◌}
 use Rattle.std.specs.List.{list_all}
 use Rattle.ev_body.specs.declared.body.Body.{Body}
 use Rattle.ev_body.specs.declared.image.Image.{Image}
-use Rattle.ev_body.specs.WellFormed.{has_no_parts, is_user_side}
+use Rattle.ev_body.specs.WellFormed.{has_no_parts}
 use Rattle.ev_built.specs.Built.{is_built_item, is_built_key}
 
--- whether the body is of the user side alone and of a key that `fill` names, with such items
+-- whether the body is of a key that `fill` names, with such items
 abbrev pub body_is_built : Body → Bool
-body_is_built b =
-    is_user_side b.side && has_no_parts b.parts && is_built_key b.key && list_all is_built_item b.items
+body_is_built b = has_no_parts b.parts && is_built_key b.key && list_all is_built_item b.items
 
 -- whether `run` takes the image, once it is accepted: its bodies are such
 abbrev pub is_built : Image → Bool

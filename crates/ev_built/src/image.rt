@@ -2,11 +2,11 @@
 
 ghost use Rattle.std.specs.Prelude.{◌≡◌};
 ghost use Rattle.std.specs.List.{list_all};
-ghost use Rattle.ev_body.specs.WellFormed.{has_no_parts, is_user_side};
+ghost use Rattle.ev_body.specs.WellFormed.{has_no_parts};
 ghost use Rattle.ev_built.specs.Built.{is_built_item, is_built_key};
 ghost use Rattle.ev_built.specs.RunTakes.{body_is_built, is_built};
 
-use ev_body::{Body, Image, Item, Key, Side};
+use ev_body::{Body, Image, Item, Key};
 
 #[tactic(auto, unfolding(crate::specs::Built::is_built_item))]
 fn is_built_item(item: &Item) -> bool
@@ -24,11 +24,19 @@ fn is_built_item(item: &Item) -> bool
             | Item::Cpu(_)
             | Item::Slot(..)
             | Item::Put(..)
+            | Item::Cell(..)
+            | Item::SetCell(..)
+            | Item::AddCell(..)
+            | Item::SwapCell(..)
+            | Item::GetReg(..)
+            | Item::SetReg(..)
+            | Item::SetRip(_)
+            | Item::Bp
             | Item::Ret
     )
 }
 
-/// Whether each item logs or returns.
+/// Whether `run` takes each item.
 fn all_built(items: &[Item]) -> bool
     ensures { result ≡ list_all is_built_item items.now }
 {
@@ -48,21 +56,11 @@ fn is_built_key(key: Key) -> bool
     !matches!(key, Key::Nmi | Key::Irq(_))
 }
 
-#[tactic(auto, unfolding(ev_body::specs::WellFormed::is_user_side))]
-fn is_user_side(side: Side) -> bool
-    ensures { result ≡ is_user_side side }
-{
-    matches!(side, Side::User)
-}
-
 /// Whether `run` takes the body.
 fn body_is_built(body: &Body) -> bool
     ensures { result ≡ body_is_built body.now }
 {
-    is_user_side(body.side)
-        && body.parts.len() == 0
-        && is_built_key(body.key)
-        && all_built(body.items.as_slice())
+    body.parts.len() == 0 && is_built_key(body.key) && all_built(body.items.as_slice())
 }
 
 /// Whether `run` takes each body.
@@ -78,8 +76,8 @@ fn all_bodies_built(bodies: &[Body]) -> bool
 }
 
 /// Whether `run` takes the image today, once it is accepted: any processors and tasks, whose user
-/// code and pages are any, and bodies of the user side on the keys that `fill` names, of the items
-/// that `is_built_item` names. Own.
+/// code and pages are any; and bodies of the keys that `fill` names, of either side, without parts
+/// and of the items that `is_built_item` names. Own.
 pub fn is_built(image: &Image) -> bool
     ensures { result ≡ is_built image.now }
 {

@@ -11,13 +11,13 @@ use Rattle.ev_abstract.specs.declared.script_line.Line.{Line}
 use Rattle.ev_concrete.specs.ConcreteRun.{System, marks_of, concrete_run}
 use Rattle.ev_built.specs.Built.{IsBuilt, mode_is_built, line_is_built}
 use Rattle.ev_refine.specs.Relation.{Stands}
-use Rattle.ev_layout.specs.declared.mark.Mark.{Mark}
+use Rattle.ev_layout.specs.KeptCode.{KeptCode}
 use Rattle.ev_layout.specs.Marks.{marks_in}
 use Rattle.ev_core.specs.State.{Parts, Shows}
 
 pub record MachineView : Type 0 where
   pub parts : Parts
-  pub places : List (ℕ × Mark)
+  pub places : KeptCode
 
 -- the machine of an image in a mode, in the state s
 pub record IsAt (mode : Mode) (image : Image) (s : System) (v : MachineView) : Type 0 where

@@ -31,3 +31,4 @@ mod WellFormedImages
 mod FramesOverNoLiveWord
 mod AgreementOfMachines
 mod ShownEntries
+mod PlacesOfInstructions

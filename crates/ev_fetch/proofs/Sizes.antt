@@ -35,7 +35,7 @@ total_append [] ys = omega arith
 total_append (x ∷ xs) ys = omega (arith, total_append xs ys)
 
 -- an item has at most 34 instructions of at most 15 bytes
-item_size : (mode : Mode) (b : ℕ) (key : Key) (function : ℕ → ℕ) (n : ℕ) (item : Item) → total_size (stmts_of (expansion mode b key function n item)) ≤ 510
+pub item_size : (mode : Mode) (b : ℕ) (key : Key) (function : ℕ → ℕ) (n : ℕ) (item : Item) → total_size (stmts_of (expansion mode b key function n item)) ≤ 510
 unfolding expansion size spelling four_bytes
 item_size mode b key function n (Set d v) = omega arith
 item_size mode b key function n (Copy d s) = omega arith

@@ -1,5 +1,6 @@
 -- Every statement of an item is an instruction of the project, a label or a jump; the lines that stand for it are, one by one.
-use Rattle.std.proofs.Common.{◌≡◌, ℕ, zero, suc, ◌+◌, ◌<◌, ◌≤◌, Bool, true, false, ◌&&◌, List, [], ◌∷◌, length, get_or, drop, refl, ap, ◌∙◌, arith}
+use Rattle.std.proofs.Common.{◌≡◌, ℕ, zero, suc, ◌+◌, ◌<◌, ◌≤◌, Bool, true, false, ◌&&◌, List, [], ◌∷◌, length, get_or, drop, map, Option, Some, None, refl, sym, ap, ◌∙◌, arith}
+use Rattle.std.specs.Prelude.{◌==◌}
 use Rattle.std.proofs.lemmas.List.{drop_all}
 use Rattle.ev_isa.specs.Instruction.{is_instruction}
 use Rattle.ev_isa.specs.declared.mode.Mode.{Mode}
@@ -11,6 +12,8 @@ use Rattle.ev_asm.specs.Assembled.{is_encoded, are_instructions}
 use Rattle.ev_listing.specs.Expansion.{expansion}
 use Rattle.ev_isa.specs.Spelling.{spelling, four_bytes}
 use Rattle.ev_listing.specs.Marks.{Marked, stmts_of, marks}
+use Rattle.ev_stub.specs.Position.{index_from}
+use Rattle.ev_stub.specs.Position as position
 use Rattle.ev_stub.proofs.Listed.{item_at}
 use Rattle.ev_items.specs.declared.line.ItemLine.{ItemLine}
 use Rattle.ev_items.specs.declared.line.ItemLine.TheVariants.{Label, Op, Seen, SeenNonzero, SeenEqual, Jump, SeenJump}
@@ -130,6 +133,70 @@ same_marks mode b key f g n x (Call site to func s) = refl
 same_marks mode b key f g n x Take = refl
 same_marks mode b key f g n x Finish = refl
 same_marks mode b key f g n x Ret = refl
+
+-- Nor do the numbers of instructions: they go by which lines are instructions, and by sizes.
+abbrev shape : List Marked → List (Bool × ℕ)
+shape ls = map (λ (l : Marked). (position.is_counted l.stmt, size l.stmt)) ls
+
+index_by : (m a rip : ℕ) → List (Bool × ℕ) → Option ℕ
+index_by m a rip [] = None
+index_by m a rip (e ∷ es) = elim e.0 [
+  | false ↦ index_by m (a + e.1) rip es
+  | true ↦ elim (a == rip) [ true ↦ Some m | false ↦ index_by (suc m) (a + e.1) rip es ]
+]
+
+index_is : (m a rip : ℕ) (ls : List Marked) → index_from m a rip ls ≡ index_by m a rip (shape ls)
+unfolding index_from index_by
+index_is m a rip [] = refl
+index_is m a rip (l ∷ ls) = λ i.
+    let o : Option ℕ = elim (position.is_counted l.stmt) [
+      | false ↦ index_is m (a + size l.stmt) rip ls i
+      | true ↦ elim (a == rip) [ true ↦ Some m | false ↦ index_is (suc m) (a + size l.stmt) rip ls i ]
+    ] in
+    o
+
+same_shape : (mode : Mode) (b : ℕ) (key : Key) (f g : ℕ → ℕ) (n : ℕ) (item : Item)
+    → shape (expansion mode b key f n item) ≡ shape (expansion mode b key g n item)
+unfolding expansion size spelling four_bytes
+same_shape mode b key f g n (Set d v) = refl
+same_shape mode b key f g n (Copy d s) = refl
+same_shape mode b key f g n (Alu o d s) = refl
+same_shape mode b key f g n (Jcc c i) = refl
+same_shape mode b key f g n (Goto i) = refl
+same_shape mode b key f g n Nop = refl
+same_shape mode b key f g n (Log s) = refl
+same_shape mode b key f g n (Cpu d) = refl
+same_shape mode b key f g n (Slot d k) = refl
+same_shape mode b key f g n (Put k s) = refl
+same_shape mode b key f g n (Cell d k) = refl
+same_shape mode b key f g n (SetCell k s) = refl
+same_shape mode b key f g n (AddCell k d) = refl
+same_shape mode b key f g n (SwapCell k d) = refl
+same_shape mode b key f g n (Uget d s) = refl
+same_shape mode b key f g n (Uput s t) = refl
+same_shape mode b key f g n (GetReg d r) = refl
+same_shape mode b key f g n (SetReg r s) = refl
+same_shape mode b key f g n (SetRip a) = refl
+same_shape mode b key f g n (Map s) = refl
+same_shape mode b key f g n (Unmap s) = refl
+same_shape mode b key f g n Resched = refl
+same_shape mode b key f g n Sti = refl
+same_shape mode b key f g n Cli = refl
+same_shape mode b key f g n Eoi = refl
+same_shape mode b key f g n (Send to k) = refl
+same_shape mode b key f g n Item.Bp = refl
+same_shape mode b key f g n (Kick to s) = refl
+same_shape mode b key f g n (Wait site) = refl
+same_shape mode b key f g n (Call site to func s) = refl
+same_shape mode b key f g n Take = refl
+same_shape mode b key f g n Finish = refl
+same_shape mode b key f g n Ret = refl
+
+pub same_index : (mode : Mode) (b : ℕ) (key : Key) (f g : ℕ → ℕ) (n m a rip : ℕ) (item : Item)
+    → index_from m a rip (expansion mode b key f n item) ≡ index_from m a rip (expansion mode b key g n item)
+same_index mode b key f g n m a rip item =
+    index_is m a rip (expansion mode b key f n item) ∙ ap (index_by m a rip) (same_shape mode b key f g n item)
+    ∙ sym (index_is m a rip (expansion mode b key g n item))
 
 module _ (mode : Mode) (b : ℕ) (key : Key) (n : ℕ) where
   counted : (l : ItemLine) → is_encoded (marked_of mode b key n l).stmt ≡ true → is_counted l ≡ true

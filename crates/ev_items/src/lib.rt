@@ -13,7 +13,7 @@ mod statement;
 
 pub use body::{all_items, body_sections};
 pub use expand::expansion;
-pub use function::function_addresses;
+pub use function::{function_addresses, item_size};
 pub use key::first_body;
 pub use line::{ItemLine, OwnLabel, Target};
 pub use statement::line_size;

@@ -6,7 +6,7 @@ use Rattle.ev_concrete.specs.ConcreteRun.{mark_at}
 use Rattle.ev_listing.specs.Marks as listed
 use Rattle.ev_layout.specs.declared.mark.Mark.{Mark}
 use Rattle.ev_layout.specs.Index.{first_mark, IsIndex}
-use Rattle.ev_layout.specs.Marks.{mark_of, marks_in}
+use Rattle.ev_layout.specs.Marks.{mark_of, listed}
 
 -- the first mark, or that of one more entry
 unfoldable or_last : Option Mark → ℕ → Mark → ℕ → Option Mark
@@ -62,7 +62,7 @@ unfoldable pub mark_by : Option Mark → listed.Mark
 mark_by None = listed.Never
 mark_by (Some m) = mark_of m
 
-pub at_first : (ms : List (ℕ × Mark)) (q : ℕ) → mark_at (marks_in ms) q ≡ mark_by (first_mark ms q)
+pub at_first : (ms : List (ℕ × Mark)) (q : ℕ) → mark_at (listed ms) q ≡ mark_by (first_mark ms q)
 unfolding first_mark mark_by
 at_first [] q = refl
 at_first (e ∷ es) q = pick (e.0 == q) (first_mark es q) (at_first es q)

@@ -12,3 +12,5 @@ pub mod Linkable
 pub mod Marked
 pub mod Descriptors
 pub mod Waiting
+pub mod PlacesOf
+pub mod ExactPlaces

@@ -1,5 +1,7 @@
 pub mod Index
+pub mod KeptCode
 pub mod Marks
+pub mod CodePlaces
 pub mod Placed
 pub mod Filled
 pub mod Fits

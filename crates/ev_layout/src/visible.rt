@@ -16,11 +16,11 @@ ghost use Rattle.ev_stub.specs.Blocks.{always};
 ghost use Rattle.ev_concrete.specs.Opening.{body_listings, kernel_listings};
 ghost use Rattle.ev_concrete.specs.ConcreteRun.{marks_of};
 ghost use Rattle.ev_items.specs.Lines.{marked_of, lines_of, keeps_slots};
-ghost use Rattle.ev_layout.specs.Marks.{mark_of, marks_in};
+ghost use Rattle.ev_layout.specs.Marks.{mark_of, listed};
 
 use crate::address::{BODIES, BODY_BYTES};
 use crate::mark::Mark;
-use crate::places::Places;
+use crate::mark_table::MarkTable;
 use ev_body::{Body, Image, Item};
 use ev_isa::{Many, Mode, NoMemory};
 use ev_items::{ItemLine, all_items, expansion, line_size};
@@ -29,8 +29,8 @@ use ev_stub_idt::idt_visible;
 use std::alloc::{AllocError, Global};
 
 /// The address is added with its mark, if it has one.
-fn note(places: &mut Places, address: u64, mark: Mark) -> Result<(), AllocError>
-    ensures { OnOk result (marks_in places.new ≡ marks_in places.old ++ with_mark
+fn note(places: &mut MarkTable, address: u64, mark: Mark) -> Result<(), AllocError>
+    ensures { OnOk result (listed places.new ≡ listed places.old ++ with_mark
         (mark_of mark) address []) }
 {
     match mark {
@@ -57,11 +57,11 @@ fn line_mark(line: &ItemLine) -> Mark
 
 /// The places in the code of an item, which begins at an address, are added. The address behind it
 /// is answered.
-fn append_item(places: &mut Places, address: u64, item: &Item) -> Result<u64, AllocError>
+fn append_item(places: &mut MarkTable, address: u64, item: &Item) -> Result<u64, AllocError>
     requires room { address + 480 < 2 ^ 64 }
     requires slots { breaks_slots 8 item.now ≡ false }
     ensures noted { OnOk result ((mode : Mode) (b : ℕ) (key : Key) (f : ℕ → ℕ) (n : ℕ)
-        → marks_in places.new ≡ marks_in places.old ++ marks address
+        → listed places.new ≡ listed places.old ++ marks address
         (expansion mode b key f n item.now)) }
     ensures behind { IfOk result (λ next. (mode : Mode) (b : ℕ) (key : Key) (f : ℕ → ℕ) (n : ℕ)
         → next ≡ address + total_size (stmts_of (expansion mode b key f n item.now))) }
@@ -77,11 +77,11 @@ fn append_item(places: &mut Places, address: u64, item: &Item) -> Result<u64, Al
 }
 
 /// The places in a body's code, which begins at an address.
-fn append_items(places: &mut Places, address: u64, items: &[Item]) -> Result<(), AllocError>
+fn append_items(places: &mut MarkTable, address: u64, items: &[Item]) -> Result<(), AllocError>
     requires room { address + 480 * length items.now < 2 ^ 64 }
     requires slots { list_all (λ item. not (breaks_slots 8 item)) items.now ≡ true }
     ensures { OnOk result ((mode : Mode) (b : ℕ) (key : Key) (f : ℕ → ℕ)
-        → marks_in places.new ≡ marks_in places.old ++ marks address
+        → listed places.new ≡ listed places.old ++ marks address
         (expansions mode b key f 0 items.now)) }
 {
     let mut at = address;
@@ -92,12 +92,17 @@ fn append_items(places: &mut Places, address: u64, items: &[Item]) -> Result<(),
 }
 
 /// The places in the code of body n.
-fn append_body(alloc: Global, places: &mut Places, n: usize, body: &Body) -> Result<(), AllocError>
+fn append_body(
+    alloc: Global,
+    places: &mut MarkTable,
+    n: usize,
+    body: &Body,
+) -> Result<(), AllocError>
     requires number { n < 64 }
     requires few { length (body_items body.now) ≤ 256 }
     requires slots { keeps_slots 8 body.now ≡ true }
     ensures { OnOk result ((mode : Mode) (image : Image)
-        → marks_in places.new ≡ marks_in places.old ++ marks (body_code n)
+        → listed places.new ≡ listed places.old ++ marks (body_code n)
         (body_stmts mode image n body.now)) }
 {
     let items = all_items(alloc, body)?;
@@ -105,9 +110,9 @@ fn append_body(alloc: Global, places: &mut Places, n: usize, body: &Body) -> Res
 }
 
 /// The places in the code of all bodies.
-fn append_bodies(alloc: Global, places: &mut Places, image: &Image) -> Result<(), AllocError>
+fn append_bodies(alloc: Global, places: &mut MarkTable, image: &Image) -> Result<(), AllocError>
     requires { list_all (keeps_slots image.now.processors) image.now.bodies ≡ true }
-    ensures { OnOk result ((mode : Mode) → marks_in places.new ≡ marks_in places.old ++ all_marks
+    ensures { OnOk result ((mode : Mode) → listed places.new ≡ listed places.old ++ all_marks
         (body_listings mode image.now 0 image.now.bodies)) }
 {
     for (b, body) in image.bodies.as_slice().iter().enumerate() {
@@ -117,8 +122,8 @@ fn append_bodies(alloc: Global, places: &mut Places, image: &Image) -> Result<()
 }
 
 /// The addresses are added, each with the mark of what is always seen.
-fn append_always(places: &mut Places, addresses: &[u64]) -> Result<(), AllocError>
-    ensures { OnOk result (marks_in places.new ≡ marks_in places.old ++ always addresses.now) }
+fn append_always(places: &mut MarkTable, addresses: &[u64]) -> Result<(), AllocError>
+    ensures { OnOk result (listed places.new ≡ listed places.old ++ always addresses.now) }
 {
     for address in addresses {
         places.push(*address, Mark::Always)?;
@@ -128,13 +133,13 @@ fn append_always(places: &mut Places, addresses: &[u64]) -> Result<(), AllocErro
 
 fn append_all(
     alloc: Global,
-    places: &mut Places,
+    places: &mut MarkTable,
     image: &Image,
     kernel: &[u64],
 ) -> Result<(), AllocError>
     requires { list_all (keeps_slots image.now.processors) image.now.bodies ≡ true }
-    ensures { OnOk result ((mode : Mode) → marks_in places.new
-        ≡ (marks_in places.old ++ all_marks (body_listings mode image.now 0 image.now.bodies))
+    ensures { OnOk result ((mode : Mode) → listed places.new
+        ≡ (listed places.old ++ all_marks (body_listings mode image.now 0 image.now.bodies))
         ++ always kernel.now) }
 {
     append_bodies(alloc, places, image)?;
@@ -151,13 +156,13 @@ fn kernel_visible(alloc: Global, mode: Mode) -> Result<Many<u64>, NoMemory>
     }
 }
 
-/// The places of visible instructions in all code.
-pub fn visible_places(alloc: Global, image: &Image, mode: Mode) -> Result<Places, NoMemory>
+/// The marks of visible instructions in all code.
+pub fn visible_marks(alloc: Global, image: &Image, mode: Mode) -> Result<MarkTable, NoMemory>
     requires { list_all (keeps_slots image.now.processors) image.now.bodies ≡ true }
-    ensures { IfOk result (λ places. marks_in places ≡ marks_of mode image.now) }
+    ensures { IfOk result (λ places. listed places ≡ marks_of mode image.now) }
 {
     let kernel = kernel_visible(alloc, mode)?;
-    let mut places = Places::new(alloc);
+    let mut places = MarkTable::new(alloc);
     match append_all(alloc, &mut places, image, kernel.as_slice()) {
         Ok(()) => Ok(places),
         Err(_) => Err(NoMemory),

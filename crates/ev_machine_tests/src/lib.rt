@@ -21,6 +21,8 @@ mod gate;
 #[cfg(test)]
 mod idt;
 #[cfg(test)]
+mod layout;
+#[cfg(test)]
 mod mem;
 #[cfg(test)]
 mod state;

@@ -7,7 +7,7 @@ use Rattle.ev_body.specs.declared.item.Item.{Item}
 use Rattle.ev_body.specs.declared.body.Body.{Body}
 use Rattle.ev_body.specs.declared.body.Part.{Part}
 use Rattle.ev_body.specs.declared.image.Image.{Image}
-use Rattle.ev_body.specs.WellFormed.{IsImage, has_no_parts, is_user_side}
+use Rattle.ev_body.specs.WellFormed.{IsImage, has_no_parts}
 use Rattle.ev_body.specs.Bodies.{key_number, body_items}
 use Rattle.ev_body.specs.declared.key.Key.{Key}
 use Rattle.ev_body.specs.declared.key.Key.TheVariants.{Sys, Db, Nmi, Bp, Ud, Ss, Gp, Pf, Ac, Irq}
@@ -53,7 +53,7 @@ not_nmi bs n b h k q = other b.key (all_at (λ (b : Body). is_built_key b.key) b
     other (Irq v) h q = absurd (cc)
 
 body_parts : (b : Body) → is_built_body b ≡ true → (has_no_parts b.parts ≡ true) × (list_all is_built_item b.items ≡ true)
-body_parts b h = let r = and_right (is_user_side b.side) _ h in (and_left (has_no_parts b.parts) _ r, and_right (has_no_parts b.parts) _ r)
+body_parts b h = (and_left (has_no_parts b.parts) _ h, and_right (has_no_parts b.parts) _ h)
 
 -- images of today have no `call`
 no_call : (item : Item) → is_built_item item ≡ true → not (is_call item) ≡ true

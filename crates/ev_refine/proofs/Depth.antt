@@ -25,7 +25,7 @@ use Rattle.ev_symbolic.specs.State.{SS, Block}
 use Rattle.ev_symbolic.specs.Run.{brun, every}
 use Rattle.ev_symbolic.specs.Agrees.{Env, addr, At}
 use Rattle.ev_symbolic.specs.Openings.{at_base}
-use Rattle.ev_symbolic.specs.Names.{stub_tag}
+use Rattle.ev_symbolic.specs.Names.{item_tag, stub_tag}
 use Rattle.ev_symbolic.proofs.Values.{and_left, and_right}
 use Rattle.ev_symbolic.proofs.Blocks.{unsome, every_ok}
 use Rattle.ev_activation.specs.Seat.{Kind, SystemCall, FromTask, FromBody, NmiFromTask, NmiFromBody, Seat}
@@ -34,14 +34,14 @@ use Rattle.ev_blocks.specs.Fred.{FromUser, FromKernel, FredToKernel, FredToTask,
 use Rattle.ev_blocks.specs.Fred as fred
 use Rattle.ev_blocks.specs.Idt.{Stub, Sys, Common, IdtToKernel, IdtToTask, idt_block}
 use Rattle.ev_blocks.specs.Idt as idt
-use Rattle.ev_blocks.specs.Items.{AtTable, AtJump, AtItem, body_block}
+use Rattle.ev_blocks.specs.Items.{AtTable, AtJump, AtItem, AtNumber, body_block}
 use Rattle.ev_blocks.specs.Blocks.{Spot, InFred, InIdt, InBody, block}
 use Rattle.ev_table.specs.Table.{code_table}
 use Rattle.ev_refine.specs.Nmi.{Frame}
 use Rattle.ev_refine.specs.Active.{address_of_item, item_place, OverTask, OverBody, Active}
 use Rattle.ev_refine.specs.Relation.{IsContext, body_edges, chained, Interrupted, Chain, StandsOn}
 use Rattle.ev_refine.proofs.Facts.{Facts}
-use Rattle.ev_refine.proofs.Spots.{is_elsewhere, entry_elsewhere, kernel_entry_elsewhere, kernel_exit_elsewhere, fred_exit_elsewhere, sys_elsewhere, common_elsewhere, idt_exit_elsewhere, idt_kernel_exit_elsewhere, is_in_stub, stub_inside}
+use Rattle.ev_refine.proofs.Spots.{is_elsewhere, entry_elsewhere, kernel_entry_elsewhere, kernel_exit_elsewhere, fred_exit_elsewhere, sys_elsewhere, common_elsewhere, idt_exit_elsewhere, idt_kernel_exit_elsewhere, is_in_stub, stub_inside, is_in_item, number_inside}
 use Rattle.ev_refine.proofs.Standing.{after_ran, Runs, ran_step}
 use Rattle.ev_refine.proofs.CallKinds.{over_any}
 use Rattle.ev_refine.proofs.After.{as_chain}
@@ -62,7 +62,7 @@ and_false true = refl
 and_false false = refl
 
 -- code of bodies stands behind it
-behind_repeat : (a : ℕ) → 0xffffffff82000000 ≤ a → is_in_repeat a ≡ false
+pub behind_repeat : (a : ℕ) → 0xffffffff82000000 ≤ a → is_in_repeat a ≡ false
 behind_repeat a h = pick (nat_lt a nbody_entry) refl
   where
     pick : (b : Bool) → nat_lt a nbody_entry ≡ b → (nat_le repeat_entry a && b) ≡ false
@@ -98,6 +98,22 @@ module _ (mode : Mode) (image : Image) (facts : Facts mode image) where
       let low = range.0 in let high = range.1 in
       behind_repeat c.rip (omega arith)
 
+  -- inside one
+  in_item_outside : (B : Block) (k : ℕ) (e : Env) (c : Processor) (m : Memory) (b : BodyContext) → IsContext mode image b
+      → At (code_table mode image) B k e c m → k ≤ B.steps → every is_in_item B ≡ true → e.base item_tag ≡ item_place mode image b.body b.place
+      → is_in_repeat c.rip ≡ false
+  in_item_outside B k e c m b ctx at l every place =
+      let found = body_at (slice_get image.bodies b.body) b.place ctx.item ctx.is in
+      let inside = every_ok is_in_item B every k l at.state at.is in
+      let n : ℕ = at.state.rip.off in
+      let tag : at.state.rip.tag ≡ item_tag = eqb-true at.state.rip.tag item_tag (and_left _ _ inside) in
+      let near : n < 0x40 = ltb-true n 0x40 (and_right (at.state.rip.tag == item_tag) _ inside) in
+      let is : c.rip ≡ (item_address mode b.body found.0 b.place + n) % M = at.agrees.rip ∙ ap (λ t. (e.base t + n) % M) tag
+      ∙ ap (λ y. (y + n) % M) (place ∙ ap (address_of_item mode b.body b.place) found.1) in
+      let range = facts.item_range b.body b.place found.0 found.1 in
+      let low = range.0 in let high = range.1 in
+      behind_repeat c.rip (omega arith)
+
   -- the entries of vectors stand before it
   at_stub_outside : (o : Origin) (has : Bool) (v k : ℕ) (e : Env) (c : Processor) (m : Memory) → At (code_table mode image) (idt_block (Stub o has v)) k e c m
       → v < 256 → e.base stub_tag ≡ vector_stub v → k ≤ (idt_block (Stub o has v)).steps → is_in_repeat c.rip ≡ false
@@ -119,6 +135,8 @@ module _ (mode : Mode) (image : Image) (facts : Facts mode image) where
   over_task_outside Fred (InBody FredFrame AtJump) k e w c mem b ctx z l at h = at_elsewhere (body_block true FredFrame AtJump) k e c mem at z l refl
   over_task_outside Fred (InBody FredFrame AtItem) k e w c mem b ctx z l at h =
       at_item_outside (body_block true FredFrame AtItem) k e c mem b ctx at l refl h.1
+  over_task_outside Fred (InBody FredFrame (AtNumber n)) k e w c mem b ctx z l at h =
+      in_item_outside (body_block true FredFrame (AtNumber n)) k e c mem b ctx at l (number_inside true FredFrame n) h.1
   over_task_outside Idt (InIdt Sys) k e w c mem b ctx z l at h = at_elsewhere (idt_block Sys) k e c mem at z l sys_elsewhere
   over_task_outside Idt (InIdt (Stub UserCode has v)) k e w c mem b ctx z l at h = at_stub_outside UserCode has v k e c mem at h.0.0 h.0.2 l
   over_task_outside Idt (InIdt (Common UserCode pf)) k e w c mem b ctx z l at h =
@@ -129,6 +147,8 @@ module _ (mode : Mode) (image : Image) (facts : Facts mode image) where
   over_task_outside Idt (InBody IdtFrame AtJump) k e w c mem b ctx z l at h = at_elsewhere (body_block false IdtFrame AtJump) k e c mem at z l refl
   over_task_outside Idt (InBody IdtFrame AtItem) k e w c mem b ctx z l at h =
       at_item_outside (body_block false IdtFrame AtItem) k e c mem b ctx at l refl h.1
+  over_task_outside Idt (InBody IdtFrame (AtNumber n)) k e w c mem b ctx z l at h =
+      in_item_outside (body_block false IdtFrame (AtNumber n)) k e c mem b ctx at l (number_inside false IdtFrame n) h.1
   over_task_outside m _ k e w c mem b ctx z l at h = absurd h
 
   over_body_outside : (m : Mode) (spot : Spot) (k : ℕ) (e : Env) (w c : Processor) (mem : Memory) (b : BodyContext) → IsContext mode image b
@@ -141,6 +161,8 @@ module _ (mode : Mode) (image : Image) (facts : Facts mode image) where
   over_body_outside Fred (InBody FredFrame AtJump) k e w c mem b ctx z l at h = at_elsewhere (body_block true FredFrame AtJump) k e c mem at z l refl
   over_body_outside Fred (InBody FredFrame AtItem) k e w c mem b ctx z l at h =
       at_item_outside (body_block true FredFrame AtItem) k e c mem b ctx at l refl h.1
+  over_body_outside Fred (InBody FredFrame (AtNumber n)) k e w c mem b ctx z l at h =
+      in_item_outside (body_block true FredFrame (AtNumber n)) k e c mem b ctx at l (number_inside true FredFrame n) h.1
   over_body_outside Idt (InIdt (Stub KernelCode has v)) k e w c mem b ctx z l at h = at_stub_outside KernelCode has v k e c mem at h.0.0 h.0.2 l
   over_body_outside Idt (InIdt (Common KernelCode pf)) k e w c mem b ctx z l at h =
       at_elsewhere (idt_block (Common KernelCode pf)) k e c mem at z l (common_elsewhere KernelCode pf)
@@ -150,6 +172,8 @@ module _ (mode : Mode) (image : Image) (facts : Facts mode image) where
   over_body_outside Idt (InBody IdtFrame AtJump) k e w c mem b ctx z l at h = at_elsewhere (body_block false IdtFrame AtJump) k e c mem at z l refl
   over_body_outside Idt (InBody IdtFrame AtItem) k e w c mem b ctx z l at h =
       at_item_outside (body_block false IdtFrame AtItem) k e c mem b ctx at l refl h.1
+  over_body_outside Idt (InBody IdtFrame (AtNumber n)) k e w c mem b ctx z l at h =
+      in_item_outside (body_block false IdtFrame (AtNumber n)) k e c mem b ctx at l (number_inside false IdtFrame n) h.1
   over_body_outside m _ k e w c mem b ctx z l at h = absurd h
 
   pub active_outside : (p left : ℕ) (κ : Kind) (σ : Seat) (f : Frame) (sw : Bool) (w : Processor) (b : BodyContext) (c : Processor) (m : Memory)

@@ -10,7 +10,7 @@ use Rattle.ev_state.specs.Processor.{Processor, selector}
 use Rattle.ev_listing.specs.AddressMap.{saved_rip}
 use Rattle.ev_listing.specs.Expansion.{saved_offset}
 use Rattle.ev_symbolic.specs.Value.{M, V, K, P, X, B, v_eq}
-use Rattle.ev_symbolic.specs.State.{Loc, Word, Win, in_win, loc_eq, find}
+use Rattle.ev_symbolic.specs.State.{Loc, Word, Win, top_tag, in_win, loc_eq, find}
 use Rattle.ev_symbolic.specs.Openings.{at_base}
 use Rattle.ev_symbolic.specs.Names.{top_less}
 use Rattle.ev_symbolic.specs.Agrees.{Env, eval, addr, Known, Apart}
@@ -29,19 +29,23 @@ is_other j (X i) = nat_le 16 i && not (i == j)
 is_other j (K n) = true
 is_other j v = false
 
--- the word at a place is this variable, and no other word is
+-- the words lie below the top of the frame; the one at a place is this variable, and no other one is
 abbrev pub is_alone : Loc → ℕ → List Word → Bool
 is_alone l j [] = true
-is_alone l j (w ∷ ws) = (if loc_eq w.at l then v_eq w.val (X j) else is_other j w.val) && is_alone l j ws
+is_alone l j (w ∷ ws) = ((w.at.tag == top_tag) && (if loc_eq w.at l then v_eq w.val (X j) else is_other j w.val)) && is_alone l j ws
 
 -- where the variable alone is another, and the word at its place with it
-pub known_anew : (e u : Env) (W : List Win) (l : Loc) (j : ℕ) (m : NatMap ℕ) → Apart e W W → in_win W l ≡ true → ((k : Loc) → addr u k ≡ addr e k)
+pub known_anew : (e u : Env) (W : List Win) (l : Loc) (j : ℕ) (m : NatMap ℕ) → Apart e W W → in_win W l ≡ true → u.base top_tag ≡ e.base top_tag
     → ((i : ℕ) → 16 ≤ i → (i ≡ j → ⊥) → u.var i ≡ e.var i) → (ws : List Word) → is_alone l j ws ≡ true → Known e W m ws
     → Known u W (put_at m (addr e l) (u.var j)) ws
 unfolding eval
 known_anew e u W l j m sep inside same others [] h k = tt
 known_anew e u W l j m sep inside same others (w ∷ ws) h k =
-    (k.0, one (loc_eq w.at l) refl (and_left _ (is_alone l j ws) h), known_anew e u W l j m sep inside same others ws (and_right _ (is_alone l j ws) h) k.2)
+    let here = and_left _ (is_alone l j ws) h in (
+      k.0,
+      one (loc_eq w.at l) refl (and_right (w.at.tag == top_tag) _ here),
+      known_anew e u W l j m sep inside same others ws (and_right _ (is_alone l j ws) h) k.2,
+    )
   where
     kept : (v : V) → is_other j v ≡ true → eval e v ≡ eval u v
     kept (X i) q = sym (others i (leb-true 16 i (and_left (nat_le 16 i) _ q)) (λ t. differs i t (and_right (nat_le 16 i) _ q)))
@@ -58,10 +62,15 @@ known_anew e u W l j m sep inside same others (w ∷ ws) h k =
     the_one (P t o) q = absurd (cc)
     the_one (B o a b) q = absurd (cc)
 
+    there : addr u w.at ≡ addr e w.at
+    there =
+        let tag : w.at.tag ≡ top_tag = eqb-true w.at.tag top_tag (and_left (w.at.tag == top_tag) _ (and_left _ (is_alone l j ws) h)) in
+        ap (λ t. (u.base t + w.at.off) % M) tag ∙ ap (λ a. (a + w.at.off) % M) same ∙ ap (λ t. (e.base t + w.at.off) % M) (sym tag)
+
     one : (b : Bool) → loc_eq w.at l ≡ b → (if b then v_eq w.val (X j) else is_other j w.val) ≡ true
         → put_at m (addr e l) (u.var j) (addr u w.at) ≡ eval u w.val
-    one true q r = ap (put_at m (addr e l) (u.var j)) (same w.at ∙ ap (addr e) (loc_same w.at l q)) ∙ put_same m (addr e l) (u.var j) ∙ the_one w.val r
-    one false q r = ap (put_at m (addr e l) (u.var j)) (same w.at) ∙ put_other m (addr e l) (u.var j) (addr e w.at) (sep w.at l k.0 inside q) ∙ k.1
+    one true q r = ap (put_at m (addr e l) (u.var j)) (there ∙ ap (addr e) (loc_same w.at l q)) ∙ put_same m (addr e l) (u.var j) ∙ the_one w.val r
+    one false q r = ap (put_at m (addr e l) (u.var j)) there ∙ put_other m (addr e l) (u.var j) (addr e w.at) (sep w.at l k.0 inside q) ∙ k.1
         ∙ kept w.val r
 
 -- ---- the saved area's words
@@ -179,7 +188,7 @@ saved_address Idt e rsp o h q = ap (λ a. displaced a (pos o)) q ∙ (let z : ((
 -- ---- what the activation returns to, behind a write
 
 -- a register's variable is none of the frame's other ones
-register_range : (r : ℕ) → r < 16 → (variable_of r ≡ 20) ⊎ ((30 ≤ variable_of r) × (variable_of r < 46))
+pub register_range : (r : ℕ) → r < 16 → (variable_of r ≡ 20) ⊎ ((30 ≤ variable_of r) × (variable_of r < 46))
 unfolding variable_of
 register_range r h = pick (r == 4)
   where
@@ -188,7 +197,7 @@ register_range r h = pick (r == 4)
     pick false = inr (omega arith, omega arith)
 
 -- the registers that the variables give
-abbrev saved_registers : (ℕ → ℕ) → List ℕ
+abbrev pub saved_registers : (ℕ → ℕ) → List ℕ
 saved_registers v =
     v 30 ∷ v 31 ∷ v 32 ∷ v 33 ∷ v 20 ∷ v 35 ∷ v 36 ∷ v 37 ∷ v 38 ∷ v 39 ∷ v 40 ∷ v 41 ∷ v 42 ∷ v 43 ∷ v 44 ∷ v 45 ∷ []
 

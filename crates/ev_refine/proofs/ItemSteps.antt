@@ -78,7 +78,7 @@ module _ (mode : Mode) (image : Image) (built : IsBuilt image) (good : IsImage i
     (o : step.Top mode image built good facts left s m h p hp) (body' : Body) (is : slice_get image.bodies o.b.body ≡ Some body')
     (ss : ℕ) (extra v : ℕ → ℕ) (f : Flags)
     (a : visible.AtVisible mode image built good facts left s m h p hp o body' is ss extra v f) where
-  abbrev code : Code
+  abbrev pub code : Code
   code = code_table mode image
 
   abbrev c : Processor
@@ -93,10 +93,10 @@ module _ (mode : Mode) (image : Image) (built : IsBuilt image) (good : IsImage i
   abbrev env : Env
   env = visible.env mode image built good facts left s m h p hp o body' is ss extra v f
 
-  abbrev at : ℕ → ℕ
+  abbrev pub at : ℕ → ℕ
   at i = visible.at mode image built good facts left s m h p hp o body' is i
 
-  abbrev behind : Write → ℕ → Option Status → BodyContext
+  abbrev pub behind : Write → ℕ → Option Status → BodyContext
   behind write place status = visible.behind mode image built good facts left s m h p hp o body' is write place status
 
   abbrev Does : Type 0
@@ -109,7 +109,7 @@ module _ (mode : Mode) (image : Image) (built : IsBuilt image) (good : IsImage i
   small = step.small mode image built good facts left s m h p hp
 
   -- where the instruction stands
-  rip_is : a.offset < 0x100 → c.rip ≡ at b.place + a.offset
+  pub rip_is : a.offset < 0x100 → c.rip ≡ at b.place + a.offset
   rip_is l =
       let r = facts.item_range b.body b.place body' is in
       let from : extra 20 ≡ at b.place = a.place ∙ ap (address_of_item mode b.body b.place) is in
@@ -117,11 +117,11 @@ module _ (mode : Mode) (image : Image) (built : IsBuilt image) (good : IsImage i
       a.state.rip ∙ (let z : (extra 20 + a.offset) % M ≡ at b.place + a.offset = omega arith in z)
 
   -- what holds of it
-  at_ins : (ins : Ins) (next : ℕ) → code c.rip ≡ Some (record { ins = ins; next = next; mark = true }) → IsAt c ins next
+  pub at_ins : (ins : Ins) (next : ℕ) → code c.rip ≡ Some (record { ins = ins; next = next; mark = true }) → IsAt c ins next
   at_ins ins next hc = record { kernel = a.kernel; flags = kept c.flags a.flags a.state.flags; ends = sym (facts.spaced c.rip _ hc) }
 
   -- the abstract machine's turn
-  turns : (item : Item) → item_at (Some body') b.place ≡ Some item → turn image m p ≡ item_step image m p b item
+  pub turns : (item : Item) → item_at (Some body') b.place ≡ Some item → turn image m p ≡ item_step image m p b item
   turns item hi = step.turns mode image built good facts left s m h p hp o item (ap (λ o. item_at o b.place) is ∙ hi)
 
   -- ---- the memory of a write
@@ -149,7 +149,7 @@ module _ (mode : Mode) (image : Image) (built : IsBuilt image) (good : IsImage i
 
   -- ---- an item that leads to the next one
 
-  does : (item : Item) → item_at (Some body') b.place ≡ Some item → (ins : Ins) → visible_of item ≡ Some ins → a.offset ≡ bytes_of (before item)
+  pub does : (item : Item) → item_at (Some body') b.place ≡ Some item → (ins : Ins) → visible_of item ≡ Some ins → a.offset ≡ bytes_of (before item)
       → a.offset < 0x100 → is_return (Some ins) ≡ false → (write : Write) → IsLocal write → (g : Flags) (status : Option Status)
       → FlagsAre mode image status g → (z : WordWrite) → IsFreeWord p z
       → (IsAt c ins (at (suc b.place)) → Leads c s.memory ins (gone c (regs_with c.regs write) g (at (suc b.place))) (words_with s.memory.words z))
@@ -191,22 +191,22 @@ module _ (mode : Mode) (image : Image) (built : IsBuilt image) (good : IsImage i
 
   -- ---- operands
 
-  ruled : IsRuled image body'
+  pub ruled : IsRuled image body'
   ruled = body_ruled image good built.accepted.1.kept b.body body' is
 
-  bounds : (r : ℕ) → is_local r ≡ true → (6 ≤ r) × (r < 14)
+  pub bounds : (r : ℕ) → is_local r ≡ true → (6 ≤ r) × (r < 14)
   bounds r q = (leb-true 6 r (and_left _ _ q), ltb-true r 14 (and_right (nat_le 6 r) _ q))
 
   -- a register is the local that it stands for
-  is_the_local : (r : ℕ) → is_local r ≡ true → register c r ≡ local b r
+  pub is_the_local : (r : ℕ) → is_local r ≡ true → register c r ≡ local b r
   is_the_local r q =
       let n = bounds r q in local_at mode image env c s.memory a.offset a.rax a.rcx a.rdx a.flags a.state b a.means.locals r n.0 n.1
 
-  nothing : Makes m s.memory.words x.slots
+  pub nothing : Makes m s.memory.words x.slots
   nothing = words.makes_nothing mode image built good facts left s m h p hp o [] (none_spares p).allowed s.memory.words (λ y off d. refl) refl refl refl refl
 
   -- the flags that the context knows
-  known_flags : a.flags ≡ f → FlagsAre mode image b.flags a.flags
+  pub known_flags : a.flags ≡ f → FlagsAre mode image b.flags a.flags
   known_flags same = subst (FlagsAre mode image b.flags) (sym same) a.means.flags
 
   one : (next : ℕ) → Singles c s.memory next

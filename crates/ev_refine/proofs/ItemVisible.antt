@@ -71,7 +71,7 @@ goes_with c m i g regs rip words s h l =
     (ap flags_of h ∙ flags_of-flags_word g) l
 
 -- a legal context is at an item
-legal_context : (image : Image) (known : CallId → Bool) (b : BodyContext) (below : List BodyContext) (mode : Mode) → AreLegal image known (b ∷ below)
+pub legal_context : (image : Image) (known : CallId → Bool) (b : BodyContext) (below : List BodyContext) (mode : Mode) → AreLegal image known (b ∷ below)
     → IsContext mode image b
 legal_context image known b below mode h =
     let l : IsLegalOn image known b below = h.0 in

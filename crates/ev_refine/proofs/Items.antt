@@ -34,10 +34,10 @@ module _ (image : Image) (built : IsBuilt image) (good : IsImage image) (n : ℕ
   built_body = all_at is_built_body image.bodies n b built.bodies hb
 
   items_are : body_items b ≡ b.items
-  items_are = main_items b (and_left (has_no_parts b.parts) _ (and_right _ _ built_body))
+  items_are = main_items b (and_left (has_no_parts b.parts) _ built_body)
 
   pub which : (i : ℕ) (x : Item) → item_at (Some b) i ≡ Some x → is_built_item x ≡ true
-  which i x h = all_at is_built_item b.items i x (and_right (has_no_parts b.parts) _ (and_right _ _ built_body))
+  which i x h = all_at is_built_item b.items i x (and_right (has_no_parts b.parts) _ built_body)
       (ap (λ xs. slice_get xs i) (sym items_are) ∙ h)
 
 -- ---- locals

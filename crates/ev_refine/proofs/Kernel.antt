@@ -39,7 +39,7 @@ use Rattle.ev_blocks.specs.Fred.{FromUser, FromKernel, FredToKernel, FredToTask,
 use Rattle.ev_blocks.specs.Fred as fred
 use Rattle.ev_blocks.specs.Idt.{Stub, Sys, Common, IdtToKernel, IdtToTask, idt_block, is_page_fault, table_of, stub_values, common_values, sys_values}
 use Rattle.ev_blocks.specs.Idt as idt
-use Rattle.ev_blocks.specs.Items.{BodySpot, AtTable, AtJump, AtItem}
+use Rattle.ev_blocks.specs.Items.{BodySpot, AtTable, AtJump, AtItem, AtNumber}
 use Rattle.ev_blocks.specs.Blocks.{Spot, InFred, InIdt, InBody, block, edges}
 use Rattle.ev_blocks.proofs.Falls.{edges_fall}
 use Rattle.ev_grounds.specs.Facts.{FactLaws}
@@ -57,7 +57,7 @@ use Rattle.ev_paths.specs.FredEnds.{fred_end}
 use Rattle.ev_paths.specs.IdtEnds.{idt_end}
 use Rattle.ev_paths.specs.Ends.{Enters}
 use Rattle.ev_refine.specs.Domain.{IsInDomain}
-use Rattle.ev_refine.specs.Active.{item_place, here, IsKernelSs, Saved, SavedBody, AtLoad, AtStart, FlagsAre, HasPlace, InSpot, Matches, OverTask, OverBody, Active}
+use Rattle.ev_refine.specs.Active.{item_place, number_of, here, IsKernelSs, Saved, SavedBody, AtLoad, AtStart, FlagsAre, HasPlace, InSpot, Matches, OverTask, OverBody, Active}
 use Rattle.ev_refine.specs.Relation.{IsContext, switches_at, body_edges, Chain, StandsOn, Stands}
 use Rattle.ev_refine.specs.Claims.{Simulated}
 use Rattle.ev_refine.proofs.Facts.{Facts}
@@ -71,6 +71,7 @@ use Rattle.ev_refine.proofs.Return.{Exits, fred_exits, idt_exits, fred_exits_to_
 use Rattle.ev_refine.proofs.BodyTables.{table_place, table_reads}
 use Rattle.ev_refine.proofs.Depth.{body_at, ends_a_body}
 use Rattle.ev_refine.proofs.Items.{which}
+use Rattle.ev_refine.proofs.ItemInside.{number_steps}
 use Rattle.ev_refine.proofs.KernelStep as step
 use Rattle.ev_refine.proofs.KernelItems as items
 
@@ -373,6 +374,10 @@ module _ (mode : Mode) (image : Image) (built : IsBuilt image) (good : IsImage i
           (subst (λ j. At code (block mode (body mode AtItem)) j (env ss extra v f) c s.memory) (n ∙ (at_the_item mode).steps) at) means.0 means.1 long
           (subst (λ j. edges mode (body mode AtItem) j ≤ on.own) (n ∙ (at_the_item mode).steps) enough)
           ctx.item (which image built good b.body body' is b.place ctx.item hi) hi
+      at_body act (AtNumber j) k ss ss_is extra v f n at means long enough hi =
+          items.by_number mode image built good facts left s m h p hp o body' is act ss ss_is extra v f j
+          (subst (λ i. At code (block mode (body mode (AtNumber j))) i (env ss extra v f) c s.memory) (n ∙ number_steps mode j) at) means.0 means.1 long
+          ctx.item (ap number_of (sym hi) ∙ ap (λ o. number_of (item_at o b.place)) (sym is) ∙ means.2) hi
       at_body act _ k ss ss_is extra v f n at means long enough hi = absurd means
 
       -- which of them, by what was interrupted and the mode

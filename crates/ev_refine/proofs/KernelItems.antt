@@ -1,25 +1,28 @@
 -- A step of a processor at an item: `log`, which the abstract machine sees, and `ret`, which leads to the exit.
-use Rattle.std.proofs.Common.{◌≡◌, ℕ, ◌+◌, ◌%◌, ◌^◌, ◌<◌, ◌≤◌, Bool, true, false, List, [], length, Some, refl, sym, ap, ◌∙◌, subst, arith}
-use Rattle.std.specs.Prelude.{if◌then◌else◌, slice_get}
+use Rattle.std.proofs.Common.{◌≡◌, ℕ, ◌+◌, ◌%◌, ◌^◌, ◌<◌, ◌≤◌, Bool, true, false, not, List, [], get_or, length, Some, refl, sym, ap, ◌∙◌, subst, arith}
+use Rattle.std.specs.Prelude.{pos, nat_lt, if◌then◌else◌, slice_get}
+use Rattle.std.proofs.lemmas.Bool.{ltb-true, not-false}
 use Rattle.ev_isa.specs.Word.{NatMap, is_canonical}
 use Rattle.ev_isa.specs.Flags.{Flags}
 use Rattle.ev_isa.specs.Spelling.{spelling}
 use Rattle.ev_isa.specs.declared.instruction.Ins.{Ins}
-use Rattle.ev_isa.specs.declared.instruction.Ins.TheVariants.{Jmp}
+use Rattle.ev_isa.specs.declared.instruction.Ins.TheVariants.{Load, Store, Xchg, Xadd, Jmp}
 use Rattle.ev_isa.specs.declared.mode.Mode.{Mode}
 use Rattle.ev_effect.specs.Task.{Task}
 use Rattle.ev_body.specs.declared.item.Item.{Item}
-use Rattle.ev_body.specs.declared.item.Item.TheVariants.{Set, Copy, Goto, Log, Cpu, Slot, Put, Ret}
+use Rattle.ev_body.specs.declared.item.Item.TheVariants.{Set, Copy, Goto, Log, Cpu, Slot, Put, SetCell, AddCell, SwapCell, GetReg, SetReg, SetRip, Ret}
 use Rattle.ev_body.specs.declared.body.Body.{Body}
 use Rattle.ev_body.specs.declared.image.Image.{Image}
 use Rattle.ev_body.specs.WellFormed.{IsImage}
+use Rattle.ev_listing.specs.AddressMap.{saved_rip}
 use Rattle.ev_listing.specs.Expansion.{item_address}
-use Rattle.ev_state.specs.Processor.{Processor, is_user}
+use Rattle.ev_state.specs.Processor.{Processor, register, is_user}
 use Rattle.ev_state.proofs.FlagLaws.{kept}
 use Rattle.ev_apic.specs.declared.apic.Apic.{Apic}
 use Rattle.ev_mem.specs.Memory.{Memory}
 use Rattle.ev_proc.specs.ProcessorStep.{has_fred, executed, ran}
 use Rattle.ev_abstract.specs.Context.{BodyContext}
+use Rattle.ev_abstract.specs.Rules.{breaks_slots}
 use Rattle.ev_abstract.specs.Machine.{Machine, processor, with_processor, task}
 use Rattle.ev_abstract.specs.Machine as abstract
 use Rattle.ev_abstract.specs.Run.{item_at}
@@ -27,19 +30,19 @@ use Rattle.ev_concrete.specs.ConcreteRun.{System, is_return}
 use Rattle.ev_built.specs.Built.{IsBuilt, is_built_item}
 use Rattle.ev_symbolic.specs.Value.{M, X}
 use Rattle.ev_symbolic.specs.State.{Block}
-use Rattle.ev_symbolic.specs.Agrees.{Env, eval_flags, addr, Code, Agrees, At}
+use Rattle.ev_symbolic.specs.Agrees.{Env, eval, eval_flags, addr, Code, Agrees, At}
 use Rattle.ev_symbolic.specs.Machine.{Fetches}
 use Rattle.ev_symbolic.specs.Single.{IsAt, onward}
 use Rattle.ev_symbolic.proofs.Single.{singles}
-use Rattle.ev_symbolic.proofs.Blocks.{begins, at_end}
-use Rattle.ev_blocks.specs.Items.{AtItem}
+use Rattle.ev_symbolic.proofs.Blocks.{unsome, begins, at_end}
+use Rattle.ev_blocks.specs.Items.{AtItem, AtNumber}
 use Rattle.ev_blocks.specs.Blocks.{Spot, InFred, InIdt, InBody, block, edges}
 use Rattle.ev_blocks.specs.Blocks as blocks
 use Rattle.ev_user.specs.Words.{AreWords}
 use Rattle.ev_activation.specs.Seat.{Kind, SystemCall, FromTask, FromBody, NmiFromTask, NmiFromBody, Seat}
 use Rattle.ev_table.specs.Table.{code_table, other_exit, RetCell}
 use Rattle.ev_refine.specs.Domain.{IsInDomain}
-use Rattle.ev_refine.specs.Active.{item_place, here, IsKernelSs, Saved, SavedOf, InItem, Active}
+use Rattle.ev_refine.specs.Active.{item_place, number_of, here, IsKernelSs, Saved, SavedOf, InItem, Active}
 use Rattle.ev_refine.specs.Relation.{IsContext, switches_at, StandsOn, Stands}
 use Rattle.ev_refine.specs.Claims.{Simulated}
 use Rattle.ev_refine.proofs.Facts.{Facts, word_of_flags, word_of_canonical}
@@ -51,7 +54,13 @@ use Rattle.ev_refine.proofs.CallKinds.{is_over_task, is_over_body, is_plain_kind
 use Rattle.ev_refine.proofs.ItemState.{item_state, item_comes, item_flags}
 use Rattle.ev_refine.proofs.ItemVisible as visible
 use Rattle.ev_refine.proofs.ItemSteps as steps
+use Rattle.ev_refine.proofs.ItemTask as task
+use Rattle.ev_refine.proofs.ItemNumbers as numbers
+use Rattle.ev_refine.proofs.ItemInside as inside
+use Rattle.ev_refine.proofs.ItemCells.{visible_of}
+use Rattle.ev_law.proofs.Ruled.{IsRuled}
 use Rattle.ev_refine.proofs.KernelStep as step
+use Rattle.ev_refine.proofs.BodyBreak as breaks
 
 -- ---- numbers
 
@@ -248,7 +257,7 @@ module _ (mode : Mode) (image : Image) (built : IsBuilt image) (good : IsImage i
           → At code (block mode (body mode AtItem)) 0 (env ss extra v f) c s.memory → InItem mode image (origin_of κ) (env ss extra v f) w b
           → extra 20 ≡ item_place mode image b.body b.place → length c.regs ≡ 16 → edges mode (body mode AtItem) 0 ≤ on.own
           → (i : Item) → is_built_item i ≡ true → item_at (Some body') b.place ≡ Some i → Result
-      unfolding is_built_item at_visible
+      unfolding is_built_item at_visible visible_of number_of
       by_item act ss ss_is extra v f at means place long enough i today hi = pick i today hi
         where
           a : visible.AtVisible mode image built good facts left s m h p hp o body' is ss extra v f
@@ -263,6 +272,11 @@ module _ (mode : Mode) (image : Image) (built : IsBuilt image) (good : IsImage i
           does : visible.Does mode image built good facts left s m h p hp o body' is ss extra v f a → Result
           does d = visible.visible mode image built good facts left s m h p hp o body' is ss extra v f a d
 
+          -- the number for RAX comes first
+          number : (i : Item) (ins : Ins) → visible_of i ≡ Some ins → item_at (Some body') b.place ≡ Some i → (n : ℕ) → number_of (Some i) ≡ Some n → Result
+          number i ins seen hi n q = inside.to_number mode image built good facts left s m h p hp o body' is act ss ss_is extra v f at means place long enough
+              i ins seen hi n q
+
           pick : (i : Item) → is_built_item i ≡ true → item_at (Some body') b.place ≡ Some i → Result
           pick (Set d n) today hi = does (steps.by_set mode image built good facts left s m h p hp o body' is ss extra v f a off same d n hi)
           pick (Copy d q) today hi = does (steps.by_copy mode image built good facts left s m h p hp o body' is ss extra v f a off same d q hi)
@@ -274,5 +288,52 @@ module _ (mode : Mode) (image : Image) (built : IsBuilt image) (good : IsImage i
           pick (Slot d k) today hi = does (steps.by_slot mode image built good facts left s m h p hp o body' is ss extra v f a off same d k hi)
           pick (Put k q) today hi = does (steps.by_put mode image built good facts left s m h p hp o body' is ss extra v f a off same k q hi)
           pick (Log q) today hi = does (steps.by_log mode image built good facts left s m h p hp o body' is ss extra v f a off same q hi)
+          pick (GetReg d r) today hi = does (task.by_getreg mode image built good facts left s m h p hp o body' is ss extra v f a off same d r hi)
+          pick (SetReg r q) today hi = does (task.by_setreg mode image built good facts left s m h p hp o body' is ss extra v f a off same r q hi)
+          pick (Item.Cell d k) today hi = number (Item.Cell d k) (Load d 0 (pos 0)) refl hi _ refl
+          pick (SetCell k q) today hi = number (SetCell k q) (Store 0 (pos 0) q) refl hi _ refl
+          pick (AddCell k d) today hi = number (AddCell k d) (Xadd 0 (pos 0) d) refl hi _ refl
+          pick (SwapCell k d) today hi = number (SwapCell k d) (Xchg 0 (pos 0) d) refl hi _ refl
+          pick (SetRip n) today hi = number (SetRip n) (Store 4 (pos saved_rip) 0) refl hi n refl
+          pick Item.Bp today hi = breaks.by_bp mode image built good facts left s m h p hp o body' is ss extra v f a off same hi
           pick Ret today hi = at_ret act ss ss_is extra v f at means place long enough hi
           pick _ today hi = absurd (cc)
+
+      -- behind the load of a number for RAX
+      pub by_number : (act : Stood on.own b c s.memory) (ss : ℕ) → IsKernelSs mode ss → (extra v : ℕ → ℕ) (f : Flags) (n : ℕ)
+          → At code (block mode (body mode (AtNumber n))) 1 (env ss extra v f) c s.memory → InItem mode image (origin_of κ) (env ss extra v f) w b
+          → extra 20 ≡ item_place mode image b.body b.place → length c.regs ≡ 16 → (i : Item) → number_of (Some i) ≡ Some n
+          → item_at (Some body') b.place ≡ Some i → Result
+      unfolding number_of inside.at_number eval breaks_slots
+      by_number act ss ss_is extra v f n at means place long i number hi = pick i number hi
+        where
+          a : visible.AtVisible mode image built good facts left s m h p hp o body' is ss extra v f
+          a = inside.at_number mode image built good facts left s m h p hp o body' is act ss ss_is extra v f n at means place long
+
+          off : a.offset ≡ 10
+          off = refl
+
+          rax : register c 0 ≡ n
+          rax = ap (λ (xs : List ℕ). get_or xs 0 0) a.state.regs
+
+          ruled : IsRuled image body'
+          ruled = steps.ruled mode image built good facts left s m h p hp o body' is ss extra v f a
+
+          does : visible.Does mode image built good facts left s m h p hp o body' is ss extra v f a → Result
+          does d = visible.visible mode image built good facts left s m h p hp o body' is ss extra v f a d
+
+          low : (k : ℕ) → not (nat_lt k 256) ≡ false → k < 256
+          low k q = ltb-true k 256 (not-false _ q)
+
+          pick : (i : Item) → number_of (Some i) ≡ Some n → item_at (Some body') b.place ≡ Some i → Result
+          pick (Item.Cell d k) q hi = does (numbers.by_cell mode image built good facts left s m h p hp o body' is ss extra v f a off refl k
+              (low k (ruled.slots b.place (Item.Cell d k) hi)) (rax ∙ sym (unsome _ _ q)) d hi)
+          pick (SetCell k r) q hi = does (numbers.by_setcell mode image built good facts left s m h p hp o body' is ss extra v f a off refl k
+              (low k (ruled.slots b.place (SetCell k r) hi)) (rax ∙ sym (unsome _ _ q)) r hi)
+          pick (AddCell k d) q hi = does (numbers.by_addcell mode image built good facts left s m h p hp o body' is ss extra v f a off refl k
+              (low k (ruled.slots b.place (AddCell k d) hi)) (rax ∙ sym (unsome _ _ q)) d hi)
+          pick (SwapCell k d) q hi = does (numbers.by_swapcell mode image built good facts left s m h p hp o body' is ss extra v f a off refl k
+              (low k (ruled.slots b.place (SwapCell k d) hi)) (rax ∙ sym (unsome _ _ q)) d hi)
+          pick (SetRip j) q hi = does (task.by_setrip mode image built good facts left s m h p hp o body' is ss extra v f a off refl j
+              (rax ∙ sym (unsome _ _ q)) hi)
+          pick _ q hi = absurd (cc)

@@ -16,6 +16,25 @@ use Rattle.ev_concrete.specs.Opening.{tasks_of}
 use Rattle.ev_concrete.specs.ConcreteRun.{System, Activation, interrupted, frame_size, acted}
 use Rattle.ev_concrete.specs.LiveWords.{stands_on, standing, lowest, is_homeless, is_from, is_open, is_in_use, area_bytes, is_kept, runs_task, is_live_on, is_live, overwrites}
 use Rattle.ev_symbolic.proofs.Values.{and_left, and_right}
+use Rattle.ev_isa.specs.declared.mode.Mode.TheVariants.{Idt, Fred}
+use Rattle.ev_effect.specs.Task.{Task}
+use Rattle.ev_state.specs.Processor.{Processor, rsp}
+use Rattle.ev_mem.specs.Memory.{Memory}
+use Rattle.ev_abstract.specs.Context.{BodyContext}
+use Rattle.ev_symbolic.specs.State.{top_tag}
+use Rattle.ev_symbolic.specs.Agrees.{Env}
+use Rattle.ev_blocks.specs.Shapes.{KernelCode, FredFrame, IdtFrame}
+use Rattle.ev_blocks.specs.Fred.{FromKernel, FredToKernel}
+use Rattle.ev_blocks.specs.Fred as fred
+use Rattle.ev_blocks.specs.Idt.{Stub, Common, IdtToKernel}
+use Rattle.ev_blocks.specs.Idt as idt
+use Rattle.ev_blocks.specs.Items.{BodySpot, AtTable, AtJump, AtNumber}
+use Rattle.ev_blocks.specs.Blocks.{Spot, InFred, InIdt, InBody}
+use Rattle.ev_activation.specs.Seat.{Kind, SystemCall, FromTask, FromBody, NmiFromTask, NmiFromBody, kind_of, seat_of, top_at}
+use Rattle.ev_refine.specs.Nmi.{Frame}
+use Rattle.ev_refine.specs.Active.{here, InSpot, OverBody, Means}
+use Rattle.ev_refine.specs.Relation.{body_edges, chained, Chain}
+use Rattle.ev_refine.proofs.CallKinds.{is_over_task, over_any, stands_alone, ArePlain, seat_under, plain_seat}
 use Rattle.ev_refine.proofs.Spots.{area_small}
 
 -- ---- lists
@@ -166,3 +185,63 @@ delivery_safe mode image s z p r top frame n e hp hr room above four lower upper
     count : (a k : ℕ) → length (addresses a k) ≡ k
     count a zero = refl
     count a (suc k) = ap suc (count (wrap (a + 8)) k)
+
+-- ---- the activations of a chain stand above the frame of the last one
+
+-- RSP of the processor to which an activation over a body returns is above its frame
+spot_above : (mode : Mode) (image : Image) (spot : BodySpot) (e : Env) (w : Processor) (b : BodyContext) → InSpot mode image KernelCode spot e w b
+    → e.base top_tag ≤ rsp w
+spot_above mode image AtTable e w b h = h.0.saved.above
+spot_above mode image AtJump e w b h = h.0.saved.above
+spot_above mode image BodySpot.AtItem e w b h = h.0.saved.above
+spot_above mode image (AtNumber n) e w b h = h.0.saved.above
+spot_above mode image _ e w b h = absurd h
+
+body_above : (mode : Mode) (image : Image) (m : Mode) (spot : Spot) (e : Env) (w : Processor) (b : BodyContext) → OverBody mode image m spot e w b
+    → e.base top_tag ≤ rsp w
+body_above mode image Fred (InFred FromKernel) e w b h = h.0.saved.above
+body_above mode image Fred (InFred (fred.Leaves FredToKernel)) e w b h = h.saved.above
+body_above mode image Fred (InBody FredFrame spot) e w b h = spot_above mode image spot e w b h
+body_above mode image Idt (InIdt (Stub KernelCode has v)) e w b h = h.1.saved.above
+body_above mode image Idt (InIdt (Common KernelCode pf)) e w b h = h.0.saved.above
+body_above mode image Idt (InIdt (idt.Leaves IdtToKernel)) e w b h = h.saved.above
+body_above mode image Idt (InBody IdtFrame spot) e w b h = spot_above mode image spot e w b h
+body_above mode image m _ e w b h = absurd h
+
+pub above_less : (low high : ℕ) → low ≤ high → (xs : List Activation) → AllAbove high xs → AllAbove low xs
+above_less low high l [] h = tt
+above_less low high l (x ∷ xs) h = (let z = h.0 in omega arith, above_less low high l xs h.1)
+
+pub deeper : (mode : Mode) (p r n : ℕ) → top_at p (seat_under mode r (suc n)) ≤ top_at p (seat_under mode r n)
+deeper Fred p r n = omega arith
+deeper Idt p r n = omega arith
+
+pub chain_above : (mode : Mode) (image : Image) (p left r : ℕ) (t : Task) (f : Frame) (sw : Bool) (b : BodyContext) (below : List BodyContext) (a : Activation)
+    (as' : List Activation) (c : Processor) (m : Memory) → ArePlain image (b ∷ below) → Chain mode image p left r t f sw (b ∷ below) (a ∷ as') c m
+    → AllAbove (top_at p (seat_under mode r (length below))) as'
+chain_above mode image p left r t f sw b [] a as' c m plain h =
+    let under : Chain mode image p (body_edges mode image) r t f (chained mode image sw []) [] as' h.0 m
+    = over_any mode image (λ v. Chain mode image p (body_edges mode image) r t f (chained mode image sw []) [] as' v m) _ h.0 h.4 in
+    subst (AllAbove (top_at p (seat_under mode r 0))) (sym under.2) tt
+chain_above mode image p left r t f sw b (d ∷ ds) a [] c m plain h = tt
+chain_above mode image p left r t f sw b (d ∷ ds) a (y ∷ ys) c m plain h =
+    let w : Processor = h.0 in
+    let under : Chain mode image p (body_edges mode image) r t f (chained mode image sw (d ∷ ds)) (d ∷ ds) (y ∷ ys) w m
+    = over_any mode image (λ v. Chain mode image p (body_edges mode image) r t f (chained mode image sw (d ∷ ds)) (d ∷ ds) (y ∷ ys) v m) _ w h.4 in
+    let seat : seat_of mode image r (b ∷ d ∷ ds) ≡ seat_under mode r (suc (length ds)) = plain_seat mode image r b (d ∷ ds) plain in
+    let this : top_at p (seat_of mode image r (b ∷ d ∷ ds)) ≤ rsp w
+    = frame_under (kind_of image b (d ∷ ds)) refl h.6.stands.spot (here mode p (kind_of image b (d ∷ ds)) (seat_of mode image r (b ∷ d ∷ ds)) h.6.stands.ss w
+    h.6.stands.extra h.6.stands.var h.6.stands.flags) refl h.6.means in
+    let low : top_at p (seat_under mode r (suc (length ds))) ≤ rsp w = subst (λ σ. top_at p σ ≤ rsp w) seat this in (
+      subst (λ n. top_at p (seat_under mode r (suc (length ds))) ≤ n) (sym h.3.0) low,
+      above_less (top_at p (seat_under mode r (suc (length ds)))) (top_at p (seat_under mode r (length ds))) (deeper mode p r (length ds)) ys
+          (chain_above mode image p (body_edges mode image) r t f (chained mode image sw (d ∷ ds)) d ds y ys w m plain.1 under),
+    )
+  where
+    frame_under : (κ : Kind) → kind_of image b (d ∷ ds) ≡ κ → (spot : Spot) (e : Env) → e.base top_tag ≡ top_at p (seat_of mode image r (b ∷ d ∷ ds))
+        → Means mode image κ spot e h.0 b m.words → top_at p (seat_of mode image r (b ∷ d ∷ ds)) ≤ rsp h.0
+    frame_under SystemCall q spot e at means = let z = ap length (stands_alone image b (d ∷ ds) (ap is_over_task q)) in absurd (omega arith)
+    frame_under FromTask q spot e at means = let z = ap length (stands_alone image b (d ∷ ds) (ap is_over_task q)) in absurd (omega arith)
+    frame_under FromBody q spot e at means = subst (λ n. n ≤ rsp h.0) at (body_above mode image mode spot e h.0 b means)
+    frame_under NmiFromTask q spot e at means = absurd means
+    frame_under NmiFromBody q spot e at means = absurd means

@@ -118,7 +118,7 @@ module _ (mode : Mode) (image : Image) (built : IsBuilt image) (good : IsImage i
   latch : s.latches p ≡ false
   latch = sym (latch_parts on.layer on.frame _ (s.latches p) c.nmi_blocked x.nmi on.latch).0 ∙ domain.nmi
 
-  first : next_of c (s.apics p) (s.latches p) ≡ Next.Instruction
+  pub first : next_of c (s.apics p) (s.latches p) ≡ Next.Instruction
   first = instruction_first c (s.apics p) (s.latches p) latch (λ v lt. on.pending v lt ∙ ap (λ q. q v) domain.pending)
 
   pub fetches : Fetches code s.memory
@@ -153,7 +153,7 @@ module _ (mode : Mode) (image : Image) (built : IsBuilt image) (good : IsImage i
   blocked = (latch_parts on.layer on.frame _ (s.latches p) c.nmi_blocked x.nmi on.latch).1 ∙ none_is_nmi
 
   -- no interrupt is in service
-  unserved : (class : ℕ) (ys : List BodyContext) → AreQuiet ys → list_any (λ (a : BodyContext). serves mode image class a.service) ys ≡ false
+  pub unserved : (class : ℕ) (ys : List BodyContext) → AreQuiet ys → list_any (λ (a : BodyContext). serves mode image class a.service) ys ≡ false
   unserved class [] q = refl
   unserved class (a ∷ ys) q = ap (λ o. serves mode image class o || list_any (λ (a : BodyContext). serves mode image class a.service) ys) q.0.service
       ∙ unserved class ys q.1
@@ -375,7 +375,7 @@ module _ (mode : Mode) (image : Image) (built : IsBuilt image) (good : IsImage i
         ∙ ap (next_step image m p) o.bodies ∙ ap (item_or_nothing image m p b) hi
 
     -- its numbers stay words
-    numbers_behind : (m' : Machine) (es : List Entry) → turn image m p ≡ (m', es) → HoldsNumbers m'
+    pub numbers_behind : (m' : Machine) (es : List Entry) → turn image m p ≡ (m', es) → HoldsNumbers m'
     numbers_behind m' es ht =
         let found = body_at (slice_get image.bodies b.body) b.place ctx.item ctx.is in
         let ops = (body_ruled image good built.accepted.1.kept b.body found.0 found.1).operands b.place ctx.item found.2 in

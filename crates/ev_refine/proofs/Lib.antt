@@ -28,7 +28,10 @@ pub mod Instructions
 pub mod KernelStep
 pub mod ItemWords
 pub mod ItemVisible
+pub mod ItemInside
 pub mod ItemSteps
+pub mod ItemTask
+pub mod ItemNumbers
 pub mod KernelItems
 pub mod BodyTables
 pub mod Kernel
@@ -47,6 +50,9 @@ pub mod BodyRaising
 pub mod BodyRaisingFred
 pub mod BodyRaisingIdt
 pub mod KernelSafe
+pub mod BodyTurn
+pub mod BodyBreak
+pub mod BodyFault
 pub mod CodeFacts
 pub mod Saved
 pub mod Visible

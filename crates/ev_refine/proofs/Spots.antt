@@ -13,16 +13,16 @@ use Rattle.ev_abstract.specs.Context.{BodyContext}
 use Rattle.ev_concrete.specs.Depth.{is_in_repeat}
 use Rattle.ev_symbolic.specs.Value.{M}
 use Rattle.ev_symbolic.specs.State.{SS, absolute_tag}
-use Rattle.ev_symbolic.specs.Names.{stub_tag}
+use Rattle.ev_symbolic.specs.Names.{item_tag, stub_tag}
 use Rattle.ev_symbolic.specs.Run.{brun, every}
 use Rattle.ev_symbolic.specs.Agrees.{Env, Code, Stands}
 use Rattle.ev_distances.specs.Form.{Form, OnStack, Stretch, InArea}
-use Rattle.ev_blocks.specs.Shapes.{Origin, UserCode, KernelCode, FredFrame, IdtFrame}
+use Rattle.ev_blocks.specs.Shapes.{Layout, Origin, UserCode, KernelCode, FredFrame, IdtFrame}
 use Rattle.ev_blocks.specs.Fred.{FredWay, ByCall, ByInt3, ByIntN, ByOther, FromUser, FromKernel, FredToKernel, FredToTask, fred_block, fred_lines}
 use Rattle.ev_blocks.specs.Fred as fred
 use Rattle.ev_blocks.specs.Idt.{IdtReturn, BySysret, ByOtherRip, ByOtherFlags, Stub, Sys, Common, IdtToKernel, IdtToTask, idt_block, idt_places, sys_lines, common_lines, exit_lines}
 use Rattle.ev_blocks.specs.Idt as idt
-use Rattle.ev_blocks.specs.Items.{AtTable, AtJump, AtItem}
+use Rattle.ev_blocks.specs.Items.{AtTable, AtJump, AtItem, AtNumber, body_block}
 use Rattle.ev_blocks.specs.Blocks.{Spot, InFred, InIdt, InBody, block, forms, edges}
 use Rattle.ev_blocks.specs.Blocks as blocks
 use Rattle.ev_paths.specs.Lines.{HasKernel, IsAtStub}
@@ -46,6 +46,7 @@ is_spot Fred (InFred (fred.Leaves FredToKernel)) = true
 is_spot Fred (InBody FredFrame AtTable) = true
 is_spot Fred (InBody FredFrame AtJump) = true
 is_spot Fred (InBody FredFrame AtItem) = true
+is_spot Fred (InBody FredFrame (AtNumber n)) = true
 is_spot Idt (InIdt Sys) = true
 is_spot Idt (InIdt (Stub UserCode has v)) = true
 is_spot Idt (InIdt (Common UserCode pf)) = true
@@ -56,6 +57,7 @@ is_spot Idt (InIdt (idt.Leaves IdtToKernel)) = true
 is_spot Idt (InBody IdtFrame AtTable) = true
 is_spot Idt (InBody IdtFrame AtJump) = true
 is_spot Idt (InBody IdtFrame AtItem) = true
+is_spot Idt (InBody IdtFrame (AtNumber n)) = true
 is_spot mode spot = false
 
 -- SYSCALL's entry alone writes the word for RSP
@@ -70,6 +72,7 @@ over_task mode image Fred (InFred (fred.Leaves FredToTask)) e w b h = refl
 over_task mode image Fred (InBody FredFrame AtTable) e w b h = refl
 over_task mode image Fred (InBody FredFrame AtJump) e w b h = refl
 over_task mode image Fred (InBody FredFrame AtItem) e w b h = refl
+over_task mode image Fred (InBody FredFrame (AtNumber n)) e w b h = refl
 over_task mode image Idt (InIdt Sys) e w b h = refl
 over_task mode image Idt (InIdt (Stub UserCode has v)) e w b h = refl
 over_task mode image Idt (InIdt (Common UserCode pf)) e w b h = refl
@@ -77,6 +80,7 @@ over_task mode image Idt (InIdt (idt.Leaves (IdtToTask by))) e w b h = refl
 over_task mode image Idt (InBody IdtFrame AtTable) e w b h = refl
 over_task mode image Idt (InBody IdtFrame AtJump) e w b h = refl
 over_task mode image Idt (InBody IdtFrame AtItem) e w b h = refl
+over_task mode image Idt (InBody IdtFrame (AtNumber n)) e w b h = refl
 over_task mode image m _ e w b h = absurd h
 
 -- none of those over a body is SYSCALL's entry
@@ -87,12 +91,14 @@ over_body mode image Fred (InFred (fred.Leaves FredToKernel)) e w b h = (refl, r
 over_body mode image Fred (InBody FredFrame AtTable) e w b h = (refl, refl)
 over_body mode image Fred (InBody FredFrame AtJump) e w b h = (refl, refl)
 over_body mode image Fred (InBody FredFrame AtItem) e w b h = (refl, refl)
+over_body mode image Fred (InBody FredFrame (AtNumber n)) e w b h = (refl, refl)
 over_body mode image Idt (InIdt (Stub KernelCode has v)) e w b h = (refl, refl)
 over_body mode image Idt (InIdt (Common KernelCode pf)) e w b h = (refl, refl)
 over_body mode image Idt (InIdt (idt.Leaves IdtToKernel)) e w b h = (refl, refl)
 over_body mode image Idt (InBody IdtFrame AtTable) e w b h = (refl, refl)
 over_body mode image Idt (InBody IdtFrame AtJump) e w b h = (refl, refl)
 over_body mode image Idt (InBody IdtFrame AtItem) e w b h = (refl, refl)
+over_body mode image Idt (InBody IdtFrame (AtNumber n)) e w b h = (refl, refl)
 over_body mode image m _ e w b h = absurd h
 
 pub means_over : (mode : Mode) (image : Image) (κ : Kind) (spot : Spot) (e : Env) (w : Processor) (b : BodyContext) (m : NatMap ℕ)
@@ -154,6 +160,7 @@ has_windows Fred (InFred (fred.Leaves FredToKernel)) h = record { known = refl; 
 has_windows Fred (InBody FredFrame AtTable) h = record { known = refl; own = refl; written = refl }
 has_windows Fred (InBody FredFrame AtJump) h = record { known = refl; own = refl; written = refl }
 has_windows Fred (InBody FredFrame AtItem) h = record { known = refl; own = refl; written = refl }
+has_windows Fred (InBody FredFrame (AtNumber n)) h = record { known = refl; own = refl; written = refl }
 has_windows Idt (InIdt Sys) h = record { known = refl; own = refl; written = refl }
 has_windows Idt (InIdt (Stub UserCode has v)) h = record { known = refl; own = refl; written = refl }
 has_windows Idt (InIdt (Common UserCode pf)) h = record { known = refl; own = refl; written = refl }
@@ -164,6 +171,7 @@ has_windows Idt (InIdt (idt.Leaves IdtToKernel)) h = record { known = refl; own 
 has_windows Idt (InBody IdtFrame AtTable) h = record { known = refl; own = refl; written = refl }
 has_windows Idt (InBody IdtFrame AtJump) h = record { known = refl; own = refl; written = refl }
 has_windows Idt (InBody IdtFrame AtItem) h = record { known = refl; own = refl; written = refl }
+has_windows Idt (InBody IdtFrame (AtNumber n)) h = record { known = refl; own = refl; written = refl }
 has_windows mode _ h = let clash : false ≡ true = h in absurd (cc)
 
 -- few edges are left at each
@@ -178,6 +186,7 @@ few_edges Fred image (InFred (fred.Leaves FredToKernel)) h k = omega arith
 few_edges Fred image (InBody FredFrame AtTable) h k = omega arith
 few_edges Fred image (InBody FredFrame AtJump) h k = omega arith
 few_edges Fred image (InBody FredFrame AtItem) h k = omega arith
+few_edges Fred image (InBody FredFrame (AtNumber n)) h k = omega arith
 few_edges Idt image (InIdt Sys) h k = omega arith
 few_edges Idt image (InIdt (Stub UserCode true v)) h k = omega arith
 few_edges Idt image (InIdt (Stub UserCode false v)) h k = omega arith
@@ -194,6 +203,7 @@ few_edges Idt image (InIdt (idt.Leaves IdtToKernel)) h k = omega arith
 few_edges Idt image (InBody IdtFrame AtTable) h k = omega arith
 few_edges Idt image (InBody IdtFrame AtJump) h k = omega arith
 few_edges Idt image (InBody IdtFrame AtItem) h k = omega arith
+few_edges Idt image (InBody IdtFrame (AtNumber n)) h k = omega arith
 few_edges mode image _ h k = let clash : false ≡ true = h in absurd (cc)
 
 -- ---- none switches to another task
@@ -206,6 +216,7 @@ never_switches Fred (InFred (fred.Leaves FredToKernel)) h = refl
 never_switches Fred (InBody FredFrame AtTable) h = refl
 never_switches Fred (InBody FredFrame AtJump) h = refl
 never_switches Fred (InBody FredFrame AtItem) h = refl
+never_switches Fred (InBody FredFrame (AtNumber n)) h = refl
 never_switches Idt (InIdt Sys) h = refl
 never_switches Idt (InIdt (Stub UserCode has v)) h = refl
 never_switches Idt (InIdt (Common UserCode pf)) h = refl
@@ -216,6 +227,7 @@ never_switches Idt (InIdt (idt.Leaves IdtToKernel)) h = refl
 never_switches Idt (InBody IdtFrame AtTable) h = refl
 never_switches Idt (InBody IdtFrame AtJump) h = refl
 never_switches Idt (InBody IdtFrame AtItem) h = refl
+never_switches Idt (InBody IdtFrame (AtNumber n)) h = refl
 never_switches mode _ h = let clash : false ≡ true = h in absurd (cc)
 
 -- ---- their grounds and lines
@@ -233,6 +245,7 @@ has_ground Fred (InFred (fred.Leaves FredToKernel)) h = record { fred = refl; de
 has_ground Fred (InBody FredFrame AtTable) h = record { fred = refl; descriptors = refl; tops = refl }
 has_ground Fred (InBody FredFrame AtJump) h = record { fred = refl; descriptors = refl; tops = refl }
 has_ground Fred (InBody FredFrame AtItem) h = record { fred = refl; descriptors = refl; tops = refl }
+has_ground Fred (InBody FredFrame (AtNumber n)) h = record { fred = refl; descriptors = refl; tops = refl }
 has_ground Idt (InIdt Sys) h = record { fred = refl; descriptors = refl; tops = refl }
 has_ground Idt (InIdt (Stub UserCode has v)) h = record { fred = refl; descriptors = refl; tops = refl }
 has_ground Idt (InIdt (Common UserCode pf)) h = record { fred = refl; descriptors = refl; tops = refl }
@@ -243,11 +256,13 @@ has_ground Idt (InIdt (idt.Leaves IdtToKernel)) h = record { fred = refl; descri
 has_ground Idt (InBody IdtFrame AtTable) h = record { fred = refl; descriptors = refl; tops = refl }
 has_ground Idt (InBody IdtFrame AtJump) h = record { fred = refl; descriptors = refl; tops = refl }
 has_ground Idt (InBody IdtFrame AtItem) h = record { fred = refl; descriptors = refl; tops = refl }
+has_ground Idt (InBody IdtFrame (AtNumber n)) h = record { fred = refl; descriptors = refl; tops = refl }
 has_ground mode _ h = let clash : false ≡ true = h in absurd (cc)
 
--- at the entry of a vector its base is that entry's address
+-- at the entry of a vector its base is that entry's address; inside an item, whose lines the image says, nothing begins
 abbrev pub IsAtEntry : Spot → Env → Type 0
 IsAtEntry (InIdt s) e = IsAtStub e s
+IsAtEntry (InBody layout (AtNumber n)) e = ⊥
 IsAtEntry s e = Unit {0}
 
 pub lines_stand : (mode : Mode) (code : Code) (e : Env) → e.base 1000 ≡ 0 → HasKernel mode code → (spot : Spot) → is_spot mode spot ≡ true
@@ -256,10 +271,12 @@ lines_stand Fred code e z k (InFred s) h at = fred_stand code e z k s
 lines_stand Fred code e z k (InBody FredFrame AtTable) h at = tt
 lines_stand Fred code e z k (InBody FredFrame AtJump) h at = tt
 lines_stand Fred code e z k (InBody FredFrame AtItem) h at = tt
+lines_stand Fred code e z k (InBody FredFrame (AtNumber n)) h at = absurd at
 lines_stand Idt code e z k (InIdt s) h at = idt_stand code e z k s at
 lines_stand Idt code e z k (InBody IdtFrame AtTable) h at = tt
 lines_stand Idt code e z k (InBody IdtFrame AtJump) h at = tt
 lines_stand Idt code e z k (InBody IdtFrame AtItem) h at = tt
+lines_stand Idt code e z k (InBody IdtFrame (AtNumber n)) h at = absurd at
 lines_stand mode code e z k _ h at = let clash : false ≡ true = h in absurd (cc)
 
 -- ---- where their blocks end
@@ -277,6 +294,7 @@ runs_to_end Fred (InFred (fred.Leaves FredToKernel)) h = (_, fred_returns.to_ker
 runs_to_end Fred (InBody FredFrame AtTable) h = (_, refl)
 runs_to_end Fred (InBody FredFrame AtJump) h = (_, refl)
 runs_to_end Fred (InBody FredFrame AtItem) h = (_, refl)
+runs_to_end Fred (InBody FredFrame (AtNumber n)) h = (_, refl)
 runs_to_end Idt (InIdt Sys) h = (_, idt_enters.call.runs)
 runs_to_end Idt (InIdt (Stub UserCode has v)) h = (_, (idt_enters.stub UserCode has v (v == 14) refl).runs)
 runs_to_end Idt (InIdt (Common UserCode pf)) h = (_, (idt_enters.common UserCode pf).runs)
@@ -287,6 +305,7 @@ runs_to_end Idt (InIdt (idt.Leaves IdtToKernel)) h = (_, idt_returns.to_kernel.r
 runs_to_end Idt (InBody IdtFrame AtTable) h = (_, refl)
 runs_to_end Idt (InBody IdtFrame AtJump) h = (_, refl)
 runs_to_end Idt (InBody IdtFrame AtItem) h = (_, refl)
+runs_to_end Idt (InBody IdtFrame (AtNumber n)) h = (_, refl)
 runs_to_end mode _ h = let clash : false ≡ true = h in absurd (cc)
 
 -- ---- no instruction of theirs lies in REPEAT
@@ -345,3 +364,11 @@ stub_inside UserCode true v = refl
 stub_inside UserCode false v = refl
 stub_inside KernelCode true v = refl
 stub_inside KernelCode false v = refl
+
+-- those inside an item lie in its first bytes
+abbrev pub is_in_item : SS → Bool
+is_in_item s = (s.rip.tag == item_tag) && nat_lt s.rip.off 0x40
+
+pub number_inside : (fred : Bool) (layout : Layout) (n : ℕ) → every is_in_item (body_block fred layout (AtNumber n)) ≡ true
+unfolding spelling four_bytes
+number_inside fred layout n = refl

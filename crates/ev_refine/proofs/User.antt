@@ -224,7 +224,7 @@ module _ (mode : Mode) (image : Image) (formed : IsImage image) (built : IsBuilt
       let n : ℕ = x.running in
       let next : ℕ = saved_at t cause in
       let κ : Kind = kind_at cause in
-      let holder : HasBody image (cause_key cause) body = has_body image formed (cause_key cause) body found in
+      let holder : HasBody image (cause_key cause) body = has_body image formed (cause_key cause) body User found in
       let st : Starts t cause = starts t cause u.rest.task.task next_good (word_of_canonical next next_good) in
       let small : p < 32 = let eight = formed.count.1 in omega arith in
       let first : n < 4 = let l = u.on.running in let four = four_tasks image formed p lt in omega arith in

@@ -81,9 +81,9 @@ pub record HasBody (image : Image) (key n : ℕ) : Type 0 where
   pub item : Item
   pub first : item_at (slice_get image.bodies n) 0 ≡ Some item
 
-pub has_body : (image : Image) → IsImage image → (key n : ℕ) → first_body 0 image.bodies key User ≡ Some n → HasBody image key n
-has_body image formed key n h =
-    let f : IsFound image.bodies key n = found image.bodies key User n h in
+pub has_body : (image : Image) → IsImage image → (key n : ℕ) (side : Side) → first_body 0 image.bodies key side ≡ Some n → HasBody image key n
+has_body image formed key n side h =
+    let f : IsFound image.bodies key n = found image.bodies key side n h in
     let b : Body = f.body in
     let well = all_get (is_body (length image.text)) image.bodies n b formed.bodies_given.1 f.is in
     let front = and_left (_ && ends_with is_ret b.items) _ (and_left _ _ (and_left _ _ (and_left _ _ well))) in

@@ -4,7 +4,8 @@ use Rattle.ev_isa.specs.Word.{NatMap, bit, is_canonical}
 use Rattle.ev_isa.specs.Flags.{Status, Flags, modelled}
 use Rattle.ev_isa.specs.declared.mode.Mode.{Mode}
 use Rattle.ev_isa.specs.declared.mode.Mode.TheVariants.{Idt, Fred}
-use Rattle.ev_body.specs.declared.item.Item.TheVariants.{Ret}
+use Rattle.ev_body.specs.declared.item.Item.{Item}
+use Rattle.ev_body.specs.declared.item.Item.TheVariants.{SetCell, AddCell, SwapCell, SetRip, Ret}
 use Rattle.ev_body.specs.declared.key.Side.{Side}
 use Rattle.ev_body.specs.declared.key.Side.TheVariants.{User, Kernel}
 use Rattle.ev_body.specs.declared.body.Body.{Body}
@@ -13,7 +14,7 @@ use Rattle.ev_body.specs.Bodies.{first_body}
 use Rattle.ev_state.specs.Processor.{Processor, rsp, selector}
 use Rattle.ev_symbolic.specs.State.{top_tag}
 use Rattle.ev_mem.specs.Memory.{Memory}
-use Rattle.ev_listing.specs.AddressMap.{pcpu, body_code}
+use Rattle.ev_listing.specs.AddressMap.{pcpu, cells_base, body_code}
 use Rattle.ev_listing.specs.Expansion.{item_address}
 use Rattle.ev_abstract.specs.Context.{BodyContext}
 use Rattle.ev_abstract.specs.Run.{item_at}
@@ -27,7 +28,7 @@ use Rattle.ev_blocks.specs.Fred.{FromUser, FromKernel, FredToKernel, FredToTask,
 use Rattle.ev_blocks.specs.Fred as fred
 use Rattle.ev_blocks.specs.Idt.{IdtReturn, BySysret, Stub, Sys, Common, IdtToKernel, IdtToTask, table_of, stub_values, common_values, sys_values}
 use Rattle.ev_blocks.specs.Idt as idt
-use Rattle.ev_blocks.specs.Items.{BodySpot, AtTable, AtJump, AtItem}
+use Rattle.ev_blocks.specs.Items.{BodySpot, AtTable, AtJump, AtItem, AtNumber}
 use Rattle.ev_blocks.specs.Blocks.{Spot, InFred, InIdt, InBody, block, edges}
 use Rattle.ev_blocks.specs.Blocks as blocks
 use Rattle.ev_paths.specs.Lines.{IsAtStub}
@@ -71,6 +72,15 @@ address_of_item mode n i (Some b) = item_address mode n b i
 -- the same by the body's number in the image
 abbrev pub item_place : Mode → Image → ℕ → ℕ → ℕ
 item_place mode image n i = address_of_item mode n i (slice_get image.bodies n)
+
+-- the number that an item's code puts into RAX first
+unfoldable pub number_of : Option Item → Option ℕ
+number_of (Some (Item.Cell d k)) = Some (cells_base + 8 * k)
+number_of (Some (SetCell k s)) = Some (cells_base + 8 * k)
+number_of (Some (AddCell k d)) = Some (cells_base + 8 * k)
+number_of (Some (SwapCell k d)) = Some (cells_base + 8 * k)
+number_of (Some (SetRip a)) = Some a
+number_of _ = None
 
 module _ (mode : Mode) (image : Image) where
   -- ---- at an instruction of a block
@@ -189,6 +199,7 @@ module _ (mode : Mode) (image : Image) where
   InSpot o AtTable e w b = AtLoad o e w b × HasPlace e b
   InSpot o AtJump e w b = AtStart o e w b × HasPlace e b
   InSpot o AtItem e w b = InItem o e w b × HasPlace e b
+  InSpot o (AtNumber n) e w b = InItem o e w b × HasPlace e b × (number_of (item_at (slice_get image.bodies b.body) b.place) ≡ Some n)
   InSpot o s e w b = ⊥
 
   -- of an activation over a task, by its spot; in an entry the variables are told by those of the block behind it

@@ -71,7 +71,7 @@ events_are_deliverable c Call h = record { short = omega arith; kind = λ k e. h
 
 -- ---- tries
 
-arrives : (c d : Processor) (a : Apic) (m : Memory) (nmi : Bool) (words : NatMap ℕ) (frame : ℕ) (e : Event) (rip : ℕ)
+pub arrives : (c d : Processor) (a : Apic) (m : Memory) (nmi : Bool) (words : NatMap ℕ) (frame : ℕ) (e : Event) (rip : ℕ)
     → try (record c { rip = rip }) m e false ≡ Went d words frame → delivering c a m nmi e rip ≡ after_arrival a nmi (d, words, Some (e, frame))
 arrives c d a m nmi words frame e rip h = ap (after_arrival a nmi) (sym (went 3 4 (record c { rip = rip }) d c.rip frame m words e false refl (sym h)))
 

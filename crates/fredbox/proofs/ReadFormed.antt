@@ -1,8 +1,7 @@
 -- What is read is well formed: the image of a document, and the script behind it.
-use Rattle.std.proofs.Common.{◌≡◌, ℕ, ◌+◌, Bool, true, false, List, [], ◌∷◌, ◌++◌, length, map, Option, Some, None, Result, Ok, Err, refl, sym, ap, ◌∙◌, subst}
+use Rattle.std.proofs.Common.{◌≡◌, ℕ, ◌+◌, Bool, true, false, List, [], ◌∷◌, ◌++◌, length, map, Option, Some, None, Result, Ok, Err, refl, ap, ◌∙◌, subst}
 use Rattle.std.specs.Prelude.{nat_le, ◌==◌, ◌||◌}
 use Rattle.std.specs.List.{list_any}
-use Rattle.std.proofs.lemmas.Bool.{lt-ltb}
 use Rattle.ev_body.specs.declared.body.Body.{Body}
 use Rattle.ev_body.specs.Bodies.{key_number}
 use Rattle.ev_body.specs.KernelImage.{KernelImage}
@@ -10,7 +9,6 @@ use Rattle.ev_body.specs.WellFormed.{IsImage}
 use Rattle.ev_abstract.specs.Script.{IsScript, is_line}
 use Rattle.ev_abstract.specs.declared.script_line.Line.{Line}
 use Rattle.ev_image.specs.declared.head.Head.{Head}
-use Rattle.ev_image.specs.declared.head.Head.TheVariants as Head
 use Rattle.ev_image.specs.Head.{head_follows}
 use Rattle.ev_image.specs.Reads.{Opened, opened, image_in, Reached}
 use Rattle.ev_image.proofs.HeadKept.{image_kept}
@@ -21,7 +19,7 @@ use Rattle.ev_io.specs.InputLines.{ByteFault, line_fault, text_of}
 use Rattle.ev_io.specs.Tokens.{Token, tokens_of, is_passed_over}
 use Rattle.ev_line.specs.Operands.{among}
 use Rattle.ev_script.specs.declared.line.Word.{Word}
-use Rattle.ev_script.specs.Script.{Ended, Open, Standing, ends, follows, one_more, read_script, said, said_by, stands, then_stands, whole}
+use Rattle.ev_script.specs.Script.{Ended, Open, Standing, ends, follows, one_more, read_script, said, said_by, then_stands, whole}
 use Rattle.ev_script.specs.ScriptLine.{forms_of_word, keys_with_bodies, line_of_tokens, script_forms, word_of}
 use Rattle.ev_script.proofs.LineLaws.{arrive_formed, edge_formed, processor_formed}
 use Rattle.ev_script.proofs.ScriptLaws.{more_formed}
@@ -48,20 +46,24 @@ followed {S} rule before s line next h P here there = by (line_fault before line
 reached_more : (head : Head) (ts : List Token) (next : Head) → Reached head → head_follows head ts ≡ Ok next → Reached next
 reached_more head ts next r h = (ts ∷ r.0, (head, r.1, h))
 
+-- what is shown of the lines from one on, whatever state is reached there
+abbrev OpensReached : (n before : ℕ) → List (List ℕ) → Opened → Type 0
+OpensReached n before lines o = (next : Head) → Reached next → opened n before next lines ≡ Ok o → Reached (Head.Opened o.image)
+
 opened_reached : (n before : ℕ) (head : Head) (lines : List (List ℕ)) (o : Opened) → Reached head → opened n before head lines ≡ Ok o
     → Reached (Head.Opened o.image)
 unfolding opened
 opened_reached n before head [] o r h = absurd cc
 opened_reached n before head (line ∷ lines) o r h =
-    by (line_follows head_follows before head line) refl h
+    by (line_follows head_follows before head line) refl h (λ next k. opened_reached (n + 1) (before + length line) next lines o k)
   where
-    at : (next : Head) → Reached next
+    at : (next : Head) → Reached next → OpensReached (n + 1) (before + length line) lines o
         → (let q : Result Opened (ℕ × Cause) = elim (image_in next) [
           | Some image ↦ Ok (record { image = image; lines = n + 1; bytes = before + length line; behind = lines })
           | None ↦ opened (n + 1) (before + length line) next lines
         ] in q) ≡ Ok o → Reached (Head.Opened o.image)
-    at (Head.Opened image) r e = let g : image ≡ o.image = cc in subst (λ i. Reached (Head.Opened i)) g r
-    at next r e = opened_reached (n + 1) (before + length line) next lines o r e
+    at (Head.Opened image) r rest e = let g : image ≡ o.image = cc in subst (λ i. Reached (Head.Opened i)) g r
+    at next r rest e = rest next r e
 
     by : (f : Result Head Cause) → line_follows head_follows before head line ≡ f
         → (let q : Result Opened (ℕ × Cause) = elim f [
@@ -70,9 +72,9 @@ opened_reached n before head (line ∷ lines) o r h =
             | Some image ↦ Ok (record { image = image; lines = n + 1; bytes = before + length line; behind = lines })
             | None ↦ opened (n + 1) (before + length line) next lines
           ]
-        ] in q) ≡ Ok o → Reached (Head.Opened o.image)
-    by (Err cause) k e = absurd cc
-    by (Ok next) k e = at next (followed head_follows before head line next k Reached r (λ ts j. reached_more head ts next r j)) e
+        ] in q) ≡ Ok o → OpensReached (n + 1) (before + length line) lines o → Reached (Head.Opened o.image)
+    by (Err cause) k e rest = absurd cc
+    by (Ok next) k e rest = at next (followed head_follows before head line next k Reached r (λ ts j. reached_more head ts next r j)) rest e
 
 pub opened_is_image : (lines : List (List ℕ)) (o : Opened) → opened 0 0 Head.Image lines ≡ Ok o → IsImage o.image
 opened_is_image lines o h = image_kept o.image (opened_reached 0 0 Head.Image lines o ([], refl) h)
@@ -125,20 +127,24 @@ follows_formed image (Open script) ts next f h = by (ends ts) (line_of_tokens im
     by (Ok false) (Err cause) k e = absurd cc
     by (Ok false) (Ok line) k e = more line (nat_le 200000 (length script)) k e
 
+-- the same of lines that are read
+abbrev ReadsFormed : KernelImage → (n before : ℕ) → List (List ℕ) → Standing → Type 0
+ReadsFormed image n before lines last = (next : Standing) → Formed image next → read (follows image) n before next lines ≡ Ok last → Formed image last
+
 read_formed : (image : KernelImage) (n before : ℕ) (s : Standing) (lines : List (List ℕ)) (last : Standing) → Formed image s
     → read (follows image) n before s lines ≡ Ok last → Formed image last
 unfolding read
 read_formed image n before s [] last f h = let g : s ≡ last = cc in subst (Formed image) g f
-read_formed image n before s (line ∷ lines) last f h = by (line_follows (follows image) before s line) refl h
+read_formed image n before s (line ∷ lines) last f h =
+    by (line_follows (follows image) before s line) refl h (λ next k. read_formed image (n + 1) (before + length line) next lines last k)
   where
     by : (r : Result Standing Cause) → line_follows (follows image) before s line ≡ r
         → (let q : Result Standing (ℕ × Cause) = elim r [
           | Err cause ↦ Err (n + 1, cause)
           | Ok next ↦ read (follows image) (n + 1) (before + length line) next lines
-        ] in q) ≡ Ok last → Formed image last
-    by (Err cause) k e = absurd cc
-    by (Ok next) k e = read_formed image (n + 1) (before + length line) next lines last
-        (followed (follows image) before s line next k (Formed image) f (λ ts j. follows_formed image s ts next f j)) e
+        ] in q) ≡ Ok last → ReadsFormed image (n + 1) (before + length line) lines last → Formed image last
+    by (Err cause) k e rest = absurd cc
+    by (Ok next) k e rest = rest next (followed (follows image) before s line next k (Formed image) f (λ ts j. follows_formed image s ts next f j)) e
 
 pub script_is_formed : (image : KernelImage) (n before : ℕ) (lines : List (List ℕ)) (script : List Line) → read_script image n before lines ≡ Ok script
     → IsScript image script

@@ -1,5 +1,5 @@
 -- What a sink takes, from one part of a command's answer to the whole.
-use Rattle.std.proofs.Common.{◌≡◌, ◌⊎◌, inl, inr, ℕ, true, Bool, List, [], Option, Some, refl, sym, subst, ap}
+use Rattle.std.proofs.Common.{◌≡◌, inl, inr, ℕ, true, Bool, List, Option, Some, refl, sym, subst, ap}
 use Rattle.std.specs.Prelude.{Result, Ok, Err}
 use Rattle.std.specs.List.{list_all}
 use Rattle.ev_isa.specs.declared.mode.Mode.{Mode}

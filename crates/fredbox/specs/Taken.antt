@@ -4,7 +4,7 @@ use Rattle.std.specs.Io.KnownBytes.{append_known}
 use Rattle.ev_abstract.specs.EntryText.{Text}
 use Rattle.ev_io.specs.Transfer.{TookPrefix}
 use Rattle.ev_status.specs.declared.status.Status.{Status}
-use Rattle.ev_status.specs.declared.status.Status.TheVariants.{Done, Usage, ReadFault, WriteFault, BadDocument, Refused, NotBuilt, NoMemory}
+use Rattle.ev_status.specs.declared.status.Status.TheVariants.{Done, ReadFault, WriteFault, NoMemory}
 use Rattle.fredbox.specs.Comes.{Comes}
 
 -- At Done the text of the answer was taken, and at a refusal nothing. What ended early took nothing, or a prefix of the text.

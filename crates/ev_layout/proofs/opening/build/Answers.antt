@@ -8,19 +8,28 @@ use Rattle.ev_mem.specs.Memory.{Memory}
 use Rattle.ev_concrete.specs.Opening.{regions, opening_word, opening_memory}
 use Rattle.ev_fetch.specs.Spelled.{has_spelling}
 use Rattle.ev_fetch.proofs.Ruled.{accepted_spelling}
+use Rattle.ev_layout.specs.KeptCode.{are_code}
 use Rattle.ev_layout.specs.Placed.{placed}
-use Rattle.ev_layout.proofs.Slots.{all_keep}
+use Rattle.ev_layout.proofs.Slots.{all_keep, all_code}
 use Rattle.ev_layout.proofs.opening.build.Goals as goal
 
 spelled : (image given : Image) (bound : ℕ) → image ≡ given → IsImage image → IsAcceptedWith given bound
     → list_all (has_spelling image.processors) image.bodies ≡ true
 spelled image given bound same is accepted = accepted_spelling image is (bound, subst (λ (i : Image). IsAcceptedWith i bound) (sym same) accepted)
 
-pub visible_places-requires : goal.visible_places-requires
-visible_places-requires c =
+pub visible_marks-requires : goal.visible_marks-requires
+visible_marks-requires c =
     let image = c.image-image.result.now in
     all_keep image.processors image.bodies (spelled image c.args.accepted.now.image c.args.accepted.now.bound c.image-image.ensures.image
     (subst IsImage c.image.view_is c.image.invariant) c.image-image.ensures.accepted)
+
+pub new-places-requires : goal.new-places-requires
+new-places-requires c =
+    let image = c.image-image.result.now in
+    let is = subst IsImage c.image.view_is c.image.invariant in
+    ap are_code c.in_ok-bodies.ensures
+    ∙ all_code image is (all_keep image.processors image.bodies (spelled image c.args.accepted.now.image c.args.accepted.now.bound c.image-image.ensures.image
+    is c.image-image.ensures.accepted))
 
 pub code-requires : goal.code-requires
 code-requires c = spelled c.image-image.result.now c.args.accepted.now.image c.args.accepted.now.bound c.image-image.ensures.image

@@ -5,7 +5,7 @@ use Rattle.ev_asm.specs.Assembly.{total_size}
 use Rattle.ev_listing.specs.Marks.{Marked, stmts_of, marks}
 use Rattle.ev_items.specs.Lines.{lines_of}
 use Rattle.ev_items.proofs.Counts.{counted_at, lines_step, lines_end, no_addresses, same_size, same_marks}
-use Rattle.ev_layout.specs.Marks.{marks_in}
+use Rattle.ev_layout.specs.Marks.{listed}
 use Rattle.ev_layout.proofs.Marked.{Found, line_step, line_end}
 use Rattle.ev_layout.proofs.visible.append_item.Goals as goal
 
@@ -30,9 +30,9 @@ pub returns-clause-noted : goal.returns-clause-noted
 returns-clause-noted c = λ mode b key f n.
     line_end mode b key n c.as_slice-line-items.result.now c.loop-line.line-index c.loop-line.at _ _ c.loop-line-test.false
     (c.loop-line.invariant.noted mode b key n)
-    ∙ ap (λ (ls : List Marked). marks_in c.args.places.now ++ marks c.args.address ls)
+    ∙ ap (λ (ls : List Marked). listed c.args.places.now ++ marks c.args.address ls)
     (ap (lines_of mode b key n) c.as_slice-line-items.ensures.value ∙ c.expansion-lines.ensures mode b key (λ f. 0) n no_addresses)
-    ∙ ap (λ (x : Found). marks_in c.args.places.now ++ x) (same_marks mode b key (λ f. 0) f n c.args.address c.args.item.now)
+    ∙ ap (λ (x : Found). listed c.args.places.now ++ x) (same_marks mode b key (λ f. 0) f n c.args.address c.args.item.now)
 
 pub returns-clause-behind : goal.returns-clause-behind
 returns-clause-behind c = λ mode b key f n.

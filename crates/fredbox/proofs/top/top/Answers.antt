@@ -1,7 +1,8 @@
-use Rattle.std.proofs.Common.{sym, subst}
+use Rattle.std.proofs.Common.{subst}
 use Rattle.ev_command.specs.declared.command.Command.{Command}
 use Rattle.fredbox.specs.Answer.{comes_of}
 use Rattle.fredbox.proofs.AnswerLaws.{answered, same_command}
+use Rattle.fredbox.proofs.Safe.{frames_are_safe}
 use Rattle.fredbox.proofs.top.top.Goals as goal
 
 pub returns-in-Ok-Some-clause-usage : goal.returns-in-Ok-Some-clause-usage
@@ -15,3 +16,12 @@ returns-in-Ok-Some-clause-answers g c = λ said says bytes e status text comes n
     _ _ c.in-Ok-Some.command bytes _ status text (c.answer.ensures.took bytes e)
     (subst (λ (x : Command). comes_of x bytes status text) same comes)
     (λ r. no_read (c.answer.ensures.read r)) (λ w. no_write (c.answer.ensures.write w)) enough
+
+pub returns-in-Ok-Some-clause-safe : goal.returns-in-Ok-Some-clause-safe
+returns-in-Ok-Some-clause-safe g c = frames_are_safe
+
+pub returns-in-Ok-None-clause-safe : goal.returns-in-Ok-None-clause-safe
+returns-in-Ok-None-clause-safe g c = frames_are_safe
+
+pub returns-in-Err-clause-safe : goal.returns-in-Err-clause-safe
+returns-in-Err-clause-safe g c = frames_are_safe

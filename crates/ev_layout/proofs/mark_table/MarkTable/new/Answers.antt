@@ -3,7 +3,7 @@ use Rattle.std.proofs.Common.{nat_eq, ℕ, List, ap, sym, ◌∙◌}
 use Rattle.std.specs.Map.{lookup}
 use Rattle.ev_layout.specs.declared.mark.Mark.{Mark}
 use Rattle.ev_layout.specs.Index.{first_mark}
-use Rattle.ev_layout.proofs.places.Places.new.Goals as goal
+use Rattle.ev_layout.proofs.mark_table.MarkTable.new.Goals as goal
 
 pub invariant_of-result : goal.invariant_of-result
 unfolding first_mark

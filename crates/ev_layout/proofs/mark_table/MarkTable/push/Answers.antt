@@ -2,7 +2,7 @@
 use Rattle.std.proofs.Common.{sym, subst}
 use Rattle.ev_layout.specs.Index.{IsIndex}
 use Rattle.ev_layout.proofs.Index.{grows, stays}
-use Rattle.ev_layout.proofs.places.Places.push.Goals as goal
+use Rattle.ev_layout.proofs.mark_table.MarkTable.push.Goals as goal
 
 pub invariant_of-self-then-contains_key : goal.invariant_of-self-then-contains_key
 invariant_of-self-then-contains_key c =
