@@ -6,7 +6,7 @@ use Rattle.ev_isa.specs.declared.mode.Mode.TheVariants.{Idt, Fred}
 use Rattle.ev_body.specs.declared.key.Key.{Key}
 use Rattle.ev_body.specs.declared.key.Key.TheVariants.{Nmi, Irq}
 use Rattle.ev_body.specs.declared.item.Item.{Item}
-use Rattle.ev_body.specs.declared.item.Item.TheVariants.{Set, Copy, Alu, Jcc, Goto, Nop, Log, Cpu, Slot, Put, Cell, SetCell, AddCell, SwapCell, GetReg, SetReg, SetRip, Ret}
+use Rattle.ev_body.specs.declared.item.Item.TheVariants.{Set, Copy, Alu, Jcc, Goto, Nop, Log, Cpu, Slot, Put, Cell, SetCell, AddCell, SwapCell, Uget, Uput, GetReg, SetReg, SetRip, Map, Unmap, Ret}
 use Rattle.ev_body.specs.declared.body.Body.{Body}
 use Rattle.ev_body.specs.declared.image.Image.{Image}
 use Rattle.ev_body.specs.WellFormed.{has_no_parts}
@@ -30,9 +30,13 @@ is_built_item (Cell d k) = true
 is_built_item (SetCell k s) = true
 is_built_item (AddCell k d) = true
 is_built_item (SwapCell k d) = true
+is_built_item (Uget d s) = true
+is_built_item (Uput s t) = true
 is_built_item (GetReg d r) = true
 is_built_item (SetReg r s) = true
 is_built_item (SetRip a) = true
+is_built_item (Map s) = true
+is_built_item (Unmap s) = true
 is_built_item Item.Bp = true
 is_built_item Ret = true
 is_built_item _ = false
@@ -47,7 +51,7 @@ is_built_key _ = true
 abbrev pub is_built_body : Body → Bool
 is_built_body b = has_no_parts b.parts && list_all is_built_item b.items
 
--- an accepted image, of any number of processors and tasks whose user code is any
+-- an accepted image, of any number of processors and tasks, whose user code is any
 pub record IsBuilt (image : Image) : Type 0 where
   pub accepted : IsAccepted image
   pub bodies : list_all is_built_body image.bodies ≡ true

@@ -28,9 +28,13 @@ fn is_built_item(item: &Item) -> bool
             | Item::SetCell(..)
             | Item::AddCell(..)
             | Item::SwapCell(..)
+            | Item::Uget(..)
+            | Item::Uput(..)
             | Item::GetReg(..)
             | Item::SetReg(..)
             | Item::SetRip(_)
+            | Item::Map(_)
+            | Item::Unmap(_)
             | Item::Bp
             | Item::Ret
     )
@@ -76,7 +80,7 @@ fn all_bodies_built(bodies: &[Body]) -> bool
 }
 
 /// Whether `run` takes the image today, once it is accepted: any processors and tasks, whose user
-/// code and pages are any; and bodies of the keys that `fill` names, of either side, without parts
+/// code and pages are any, and bodies of the keys that `fill` names, of either side, without parts
 /// and of the items that `is_built_item` names. Own.
 pub fn is_built(image: &Image) -> bool
     ensures { result ≡ is_built image.now }

@@ -9,10 +9,10 @@ use std::test::Fail;
 #[test]
 fn bodies(rt: HostRuntime) -> Result<(), Fail> {
     let cases: [(&str, bool); 4] = [
-        ("body sys user\nlog rdi\nret\nendbody\nfill\n", true),
-        ("body sys user\nnop\nret\nendbody\nfill\n", false),
+        ("body sys user\nlog rdi\nnop\nret\nendbody\nfill\n", true),
+        ("body bp both\nret\nendbody\nfill\n", true),
+        ("body sys user\nresched\nret\nendbody\nfill\n", false),
         ("body nmi user\nret\nendbody\nfill\n", false),
-        ("body bp both\nret\nendbody\nfill\n", false),
     ];
     for (bodies, taken) in cases {
         let image = image_of(rt.alloc(), 1, "jmp start\n", bodies)?;
@@ -23,9 +23,8 @@ fn bodies(rt: HostRuntime) -> Result<(), Fail> {
 
 #[test]
 fn lines(rt: HostRuntime) {
-    assert!(rt; line_is_built(&Line::Turn(0)));
+    assert!(rt; line_is_built(&Line::Turn(7)));
     for line in [
-        Line::Turn(1),
         Line::Edge(0, 1),
         Line::Arrive(0, Key::Irq(0x31)),
         Line::Accept(0),

@@ -8,7 +8,12 @@ use Rattle.ev_body.specs.declared.key.Key.TheVariants.{Irq, Bp, Pf, Nmi}
 use Rattle.ev_body.specs.declared.key.Side.TheVariants.{Kernel}
 use Rattle.ev_body.specs.declared.body.Body.{Body}
 use Rattle.ev_body.specs.declared.image.Image.{Image}
-use Rattle.ev_body.specs.Bodies.{covers}
+use Rattle.ev_body.specs.Bodies.{body_items, covers}
+use Rattle.ev_body.specs.WellFormed.{IsImage}
+use Rattle.ev_body.specs.declared.item.Item.TheVariants.{Ret}
+use Rattle.ev_abstract.specs.Accepted.{IsAccepted}
+use Rattle.ev_abstract.specs.CrossCall.{take_place}
+use Rattle.ev_abstract.specs.Rules.{is_irq}
 use Rattle.ev_abstract.specs.Context.{CallId, BodyContext}
 use Rattle.ev_abstract.specs.Machine.{Machine}
 use Rattle.ev_abstract.specs.Run.{run}
@@ -78,6 +83,29 @@ served_is b i class h = pick (is_eoi_behind b i) h
     pick : (t : Bool) → (if t then None else class_of b.key) ≡ Some class → class_of b.key ≡ Some class
     pick true q = absurd (cc)
     pick false q = q
+
+-- at `ret`, behind its `eoi`, a context has no interrupt in service
+no_class : (k : Key) → is_irq k ≡ false → class_of k ≡ None
+unfolding is_irq class_of
+no_class (Irq v) h = absurd (cc)
+no_class _ h = refl
+
+pub ret_serves_none : (image : Image) → IsImage image → IsAccepted image → (known : CallId → Bool) (c : BodyContext) (below : List BodyContext)
+    → (l : IsLegalOn image known c below) → slice_get (body_items l.body) c.place ≡ Some Ret → c.service ≡ None
+ret_serves_none image is accepted known c below l h =
+    let r = (body_ruled image is accepted.1.kept c.body l.body l.is_body).ret c.place h in
+    l.at.service ∙ ap (λ (t : Bool). served l.body (if t then take_place 0 (body_items l.body) else c.place)) r.0 ∙ by_key (is_irq l.body.key) refl r.1
+  where
+    by_key : (t : Bool) → is_irq l.body.key ≡ t → (is_irq l.body.key ≡ true → is_eoi_behind l.body c.place ≡ true) → served l.body c.place ≡ None
+    by_key true q behind = ap (λ (t : Bool). if t then None else class_of l.body.key) (behind q)
+    by_key false q behind = ap (λ o. if is_eoi_behind l.body c.place then None else o) (no_class l.body.key q) ∙ either (is_eoi_behind l.body c.place)
+      where
+        none : Option ℕ
+        none = None
+
+        either : (t : Bool) → (if t then none else none) ≡ none
+        either true = refl
+        either false = refl
 
 -- ---- a context
 

@@ -9,7 +9,7 @@ use Rattle.ev_body.specs.declared.body.Part.{Part}
 use Rattle.ev_body.specs.Bodies.{first_item}
 use Rattle.ev_body.specs.WellFormed.{are_parts, has_operands, ends_with, is_ret, is_finish, is_body_cond}
 use Rattle.ev_abstract.specs.CrossCall.{take_place}
-use Rattle.ev_abstract.specs.Rules.{jump_target, leaves_flags, is_take}
+use Rattle.ev_abstract.specs.Rules.{jump_target, leaves_flags, is_take, is_eoi}
 use Rattle.ev_law.proofs.Lists.{all_at}
 
 abbrev pub items_of : List Part → List Item
@@ -107,6 +107,46 @@ unfolding is_ret leaves_flags
 ret_leaves Ret h = refl
 ret_leaves _ h = absurd (cc)
 
+-- a part that ends with `finish` has no `ret`
+ret_no_finish : is_finish Ret ≡ true → ⊥
+unfolding is_finish
+ret_no_finish h = cc
+
+pub no_ret_in : (items : List Item) (i : ℕ) → ends_with is_finish items ≡ true → slice_get items i ≡ Some Ret → ⊥
+unfolding ends_with is_ret
+no_ret_in [] i h e = cc
+no_ret_in (x ∷ []) zero h e = let same : x ≡ Ret = cc in ret_no_finish (subst (λ y. is_finish y ≡ true) same h)
+no_ret_in (x ∷ []) (suc i) h e = absurd (cc)
+no_ret_in (x ∷ y ∷ ys) zero h e = let same : x ≡ Ret = cc in
+    let z = subst (λ q. not (is_ret q) && not (is_finish q) && ends_with is_finish (y ∷ ys) ≡ true) same h in absurd (cc)
+no_ret_in (x ∷ y ∷ ys) (suc i) h e = no_ret_in (y ∷ ys) i (and_parts (not (is_ret x) && not (is_finish x)) _ h).1 e
+
+-- before the `ret` that ends a part stand all its other items
+no_eoi : is_eoi Ret ≡ true → ⊥
+unfolding is_eoi
+no_eoi h = cc
+
+pub eoi_before_ret : (items : List Item) (i : ℕ) → ends_with is_ret items ≡ true → slice_get items i ≡ Some Ret → list_any is_eoi items ≡ true
+    → list_any is_eoi (take i items) ≡ true
+unfolding ends_with is_ret
+eoi_before_ret [] i h e k = absurd (cc)
+eoi_before_ret (x ∷ []) zero h e k = let same : x ≡ Ret = cc in
+    absurd (no_eoi (subst (λ y. is_eoi y ≡ true) same (sym (or_false (is_eoi x)) ∙ k)))
+  where
+    or_false : (b : Bool) → (b || false) ≡ b
+    or_false true = refl
+    or_false false = refl
+eoi_before_ret (x ∷ []) (suc i) h e k = absurd (cc)
+eoi_before_ret (x ∷ y ∷ ys) zero h e k = let same : x ≡ Ret = cc in
+    let z = subst (λ q. not (is_ret q) && not (is_finish q) && ends_with is_ret (y ∷ ys) ≡ true) same h in absurd (cc)
+eoi_before_ret (x ∷ y ∷ ys) (suc i) h e k =
+    pick (is_eoi x) k (λ q. eoi_before_ret (y ∷ ys) i (and_parts (not (is_ret x) && not (is_finish x)) _ h).1 e q)
+  where
+    pick : (t : Bool) → (t || list_any is_eoi (y ∷ ys)) ≡ true → (list_any is_eoi (y ∷ ys) ≡ true → list_any is_eoi (take i (y ∷ ys)) ≡ true)
+        → (t || list_any is_eoi (take i (y ∷ ys))) ≡ true
+    pick true q later = refl
+    pick false q later = later q
+
 -- ---- function parts, from number n on
 
 module _ (bytes : ℕ) where
@@ -174,6 +214,19 @@ module _ (bytes : ℕ) where
       step (inl a) ops next =
           (n, n + length part.items, all_at (has_operands bytes n (n + length part.items)) part.items j item ops a.1)
       step (inr a) ops next = next a.0 a.2
+
+  -- no function part has a `ret`
+  pub parts_no_ret : (n : ℕ) (parts : List Part) (j : ℕ) → are_parts bytes n parts ≡ true → slice_get (items_of parts) j ≡ Some Ret → ⊥
+  parts_no_ret n [] j h e = cc
+  parts_no_ret n (part ∷ rest) j h e =
+      let p = part_ends n part rest h in
+      step (get_split part.items (items_of rest) j Ret e) p.0 (λ k q. parts_no_ret (n + length part.items) rest k p.2 q)
+    where
+      step : ((j < length part.items) × (slice_get part.items j ≡ Some Ret))
+          ⊎ ((k : ℕ) × (j ≡ length part.items + k) × (slice_get (items_of rest) k ≡ Some Ret))
+          → ends_with is_finish part.items ≡ true → ((k : ℕ) → slice_get (items_of rest) k ≡ Some Ret → ⊥) → ⊥
+      step (inl a) ends next = no_ret_in part.items j ends a.1
+      step (inr a) ends next = next a.0 a.2
 
   -- whether a function is among the parts
   pub parts_start : (n : ℕ) (parts : List Part) (func : ℕ) → are_parts bytes n parts ≡ true

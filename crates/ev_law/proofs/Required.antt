@@ -110,7 +110,7 @@ before_interrupts image =
     ++ (if some_body_has image is_user_access then (Pf, Kernel) ∷ [] else [])
     ++ (if is_used image Nmi then both_sides Nmi else [])
 
-interrupt_has_bodies : (image : Image) (v : ℕ) → rules image ≡ None → IsInterrupt image v
+pub interrupt_has_bodies : (image : Image) (v : ℕ) → rules image ≡ None → IsInterrupt image v
     → (is_some (first_body 0 image.bodies v User) ≡ true) × (is_some (first_body 0 image.bodies v Kernel) ≡ true)
 unfolding key_number
 interrupt_has_bodies image v kept i =

@@ -7,19 +7,19 @@ use Rattle.std.proofs.lemmas.List.{take-append-le}
 use Rattle.ev_body.specs.declared.key.Key.{Key}
 use Rattle.ev_body.specs.declared.key.Side.TheVariants.{User, Kernel}
 use Rattle.ev_body.specs.declared.item.Item.{Item}
-use Rattle.ev_body.specs.declared.item.Item.TheVariants.{Send, Call, Take, Finish}
+use Rattle.ev_body.specs.declared.item.Item.TheVariants.{Send, Call, Take, Finish, Ret}
 use Rattle.ev_body.specs.declared.body.Part.{Part}
 use Rattle.ev_body.specs.declared.body.Body.{Body}
 use Rattle.ev_body.specs.declared.image.Image.{Image}
 use Rattle.ev_body.specs.Bodies.{body_items, key_number, covers, function_start}
 use Rattle.ev_body.specs.WellFormed.{IsImage, is_body, is_key, are_parts, has_operands, is_sendable, is_word, has_no_parts, ends_with, is_ret, is_finish, is_apart, are_apart}
 use Rattle.ev_abstract.specs.CrossCall.{take_place}
-use Rattle.ev_abstract.specs.Rules.{first_item_from, refusal_at, first_refused, first_some, rules, missing_body, slot_rule, register_rule, flag_rule, if_rule, eoi_rule, fault_rule, nmi_rule, call_rule, breaks_slots, breaks_registers, breaks_flags, breaks_if, breaks_eoi, breaks_calls, failing_eoi, failing_call, or_first, jump_target, in_function, item_before, leaves_flags, is_take, is_call_handler, is_function}
+use Rattle.ev_abstract.specs.Rules.{first_item_from, refusal_at, first_refused, first_some, rules, missing_body, slot_rule, register_rule, flag_rule, if_rule, eoi_rule, fault_rule, nmi_rule, call_rule, breaks_slots, breaks_registers, breaks_flags, breaks_if, breaks_eoi, breaks_calls, failing_eoi, failing_call, or_first, jump_target, in_function, item_before, leaves_flags, is_take, is_eoi, is_irq, is_call_handler, is_function}
 use Rattle.ev_abstract.specs.declared.refusal.Refusal.{Refusal}
 use Rattle.ev_abstract.specs.declared.refusal.Refusal.TheVariants.{SlotRule, RegisterRule, FlagRule, IfRule, EoiRule, CallRule}
-use Rattle.ev_law.specs.Legal.{has_function, declares}
+use Rattle.ev_law.specs.Legal.{has_function, declares, is_eoi_behind}
 use Rattle.ev_law.proofs.Lists.{all_at}
-use Rattle.ev_law.proofs.Parts.{items_of, get_split, total, goes_in, starts_in, no_finish_in, leads_in, part_ends, parts_go_on, parts_lead, parts_operands, parts_start, before, start_leaves, take_first, take_found}
+use Rattle.ev_law.proofs.Parts.{items_of, get_split, total, goes_in, starts_in, no_finish_in, leads_in, part_ends, parts_go_on, parts_no_ret, eoi_before_ret, parts_lead, parts_operands, parts_start, before, start_leaves, take_first, take_found}
 
 -- a body of an accepted image
 pub record IsRuled (image : Image) (b : Body) : Type 0 where
@@ -37,6 +37,9 @@ pub record IsRuled (image : Image) (b : Body) : Type 0 where
   pub take : (i : ℕ) → slice_get (body_items b) i ≡ Some Take
       → (take_place 0 (body_items b) ≡ i) × (in_function b i ≡ false) × (is_call_handler b ≡ true)
   pub finish : (i : ℕ) → slice_get (body_items b) i ≡ Some Finish → in_function b i ≡ true
+  -- before the `ret` of an interrupt's body stands its `eoi`
+  pub ret : (i : ℕ) → slice_get (body_items b) i ≡ Some Ret
+      → (in_function b i ≡ false) × (is_irq b.key ≡ true → is_eoi_behind b i ≡ true)
   pub func : (func : ℕ) → list_any (λ (part : Part). part.func == func) b.parts ≡ true
       → (function_start b func < length (body_items b)) × (in_function b (function_start b func) ≡ true)
       × (leaves_flags (item_before b (function_start b func)) ≡ false)
@@ -99,6 +102,11 @@ none_of (Some r ∷ rs) h = absurd (cc)
 eoi_items : (o : Option ℕ) (t : Bool) → or_first o t ≡ None → o ≡ None
 eoi_items None t h = refl
 eoi_items (Some i) t h = absurd (cc)
+
+eoi_there : (o : Option ℕ) (t : Bool) → or_first o t ≡ None → t ≡ false
+eoi_there None true h = absurd (cc)
+eoi_there None false h = refl
+eoi_there (Some i) t h = absurd (cc)
 
 -- ---- items of the main part and of functions
 
@@ -221,6 +229,25 @@ module _ (image : Image) (bytes n : ℕ) (b : Body) (ends : ends_with is_ret b.i
           → in_function b i ≡ true
       step (inl a) = absurd (no_finish_in b.items i ends a.1)
       step (inr a) = let q : i ≡ length b.items + a.0 = a.1 in inside b i (omega (arith, q))
+
+  ret_at : (is_irq b.key && not (list_any is_eoi b.items)) ≡ false → (i : ℕ) → slice_get (body_items b) i ≡ Some Ret
+      → (in_function b i ≡ false) × (is_irq b.key ≡ true → list_any is_eoi (take i (body_items b)) ≡ true)
+  ret_at rule i k = step (split i Ret k)
+    where
+      has_one : (t e : Bool) → (t && not e) ≡ false → t ≡ true → e ≡ true
+      has_one true true h q = refl
+      has_one true false h q = absurd (cc)
+      has_one false e h q = absurd (cc)
+
+      step : ((i < length b.items) × (slice_get b.items i ≡ Some Ret))
+          ⊎ ((k : ℕ) × (i ≡ length b.items + k) × (slice_get (items_of b.parts) k ≡ Some Ret))
+          → (in_function b i ≡ false) × (is_irq b.key ≡ true → list_any is_eoi (take i (body_items b)) ≡ true)
+      step (inl a) = let l : i < length b.items = a.0 in (
+        outside b i a.0,
+        λ q. ap (list_any is_eoi) (take-append-le i b.items (items_of b.parts) (omega (arith, l)))
+            ∙ eoi_before_ret b.items i ends a.1 (has_one (is_irq b.key) (list_any is_eoi b.items) rule q),
+      )
+      step (inr a) = absurd (parts_no_ret bytes (length b.items) b.parts a.0 parts a.2)
 
   part_at : (has_no_parts b.parts || (key_number b.key == 0xfb)) ≡ true → (is_call_handler b ≡ true → list_any is_take b.items ≡ true) → (i : ℕ)
       → i < length (body_items b) → in_function b i ≡ true
@@ -362,6 +389,8 @@ module _ (image : Image) (is : IsImage image) (kept : rules image ≡ None) wher
         part = λ i l f. part_at image bytes n b h2.1 h3.1 h5.1 h4.1 (λ q. (call.0 q).0) i l f;
         take = λ i k. take_at image bytes n b h2.1 h3.1 h5.1 i (take_rule image n b i (no_item_of (breaks_calls image n b) i Take (body_items b) call.1 k)) k;
         finish = λ i k. finish_at image bytes n b h2.1 h3.1 h5.1 i k;
+        ret = λ i k. ret_at image bytes n b h2.1 h3.1 h5.1
+            (eoi_there _ _ (nowhere EoiRule (λ n b. failing_eoi b) 0 n b image.bodies all_rules.1.1.1.1.1.0 e)) i k;
         func = λ func k. func_at image bytes n b h2.1 h3.1 h5.1 func k;
         sends = λ i to key k. sends_at image bytes n b h2.1 h3.1 h5.1 i to key k;
         calls = λ i site to func s k. declared func

@@ -1,10 +1,10 @@
 -- The relation after a step of one processor: of that processor, of the others, and of the words that all share.
 use Rattle.std.proofs.Common.{◌≡◌, ◌⊎◌, inl, inr, ⊎_elim, ℕ, ◌+◌, ◌*◌, ◌%◌, ◌<◌, ◌≤◌, Bool, true, false, not, List, [], ◌∷◌, length, map, get_or, Option, Some, None, refl, sym, ap, ◌∙◌, subst, arith}
-use Rattle.std.specs.Prelude.{if◌then◌else◌, ◌==◌, ◌&&◌, ◌/◌, reverse}
+use Rattle.std.specs.Prelude.{if◌then◌else◌, ◌==◌, reverse}
 use Rattle.std.specs.List.{list_any}
 use Rattle.std.proofs.lemmas.Bool.Decides.{eqb_tells}
 use Rattle.std.proofs.lemmas.Nat.{mod_below}
-use Rattle.ev_isa.specs.Word.{NatMap, NatSet, put_at, numbers_from}
+use Rattle.ev_isa.specs.Word.{NatMap, NatSet, put_at}
 use Rattle.ev_isa.specs.declared.mode.Mode.{Mode}
 use Rattle.ev_isa.specs.declared.mode.Mode.TheVariants.{Idt, Fred}
 use Rattle.ev_body.specs.declared.image.Image.{Image}
@@ -33,7 +33,7 @@ use Rattle.ev_user.specs.Numbers.{HoldsNumbers}
 use Rattle.ev_user.specs.Sees.{IsUserWord, IsWrite}
 use Rattle.ev_refine.specs.Named.{Named, UserRsp, Top, Current, Mark, Port, Head, TssTop, Slot, RecordWord, CellAt, PageBit, UserWord, address_of, is_kernel_word, is_slot, is_cell, is_page_bit, is_user_word, have_none, IsWritten, Outside, NotNamed, AreWritten, NoneOf, Changes}
 use Rattle.ev_refine.specs.Domain.{IsInDomain}
-use Rattle.ev_refine.specs.Relation.{Chain, Runs, serves, StandsOn, RecordIs, Linked, Shares, Stands, most_edges}
+use Rattle.ev_refine.specs.Relation.{ApicIs, Chain, Runs, serves, StandsOn, RecordIs, Linked, Shares, Stands, most_edges}
 use Rattle.ev_refine.proofs.Maps.{at_same}
 use Rattle.ev_refine.proofs.Words.{area_word, fixed_stays, stack_stays, stacks_stay, area_stays, saved_stays}
 use Rattle.ev_symbolic.proofs.Values.{and_left, and_right}
@@ -297,19 +297,32 @@ module _ (mode : Mode) (image : Image) where
   few_inner true = omega arith
   few_inner false = omega arith
 
-  -- Its tasks, slots and bodies may be others; of the rest the step leaves all.
+  -- the local APIC by contexts that have the same classes in service
+  pub apic_again : (a b : Apic) (set : NatSet) (bs ds : List BodyContext) → b ≡ a
+      → ((class : ℕ) → list_any (λ (d : BodyContext). serves mode image class d.service) ds
+      ≡ list_any (λ (d : BodyContext). serves mode image class d.service) bs)
+      → ApicIs mode image a set bs → ApicIs mode image b set ds
+  apic_again a b set bs ds same serving h = subst (λ y. ApicIs mode image y set ds) (sym same) (record {
+    tpr = h.tpr;
+    irr = h.irr;
+    isr = h.isr;
+    pending = h.pending;
+    service = λ class. h.service class ∙ sym (serving class);
+    single = h.single;
+  })
+
+  -- Its tasks, slots, bodies and pending vectors may be others; of the rest the step leaves all.
   pub own_becomes : (p left : ℕ) (s s' : System) (x : abstract.Processor) (σ : Seat) (cpu : Processor) (as' : List Activation) (words : NatMap ℕ)
       (ts : NatMap Task) (slots : NatMap ℕ) (bs : List BodyContext) (own : ℕ) (on : StandsOn mode image p left s x) → p < 32
       → length (tasks_of image p) ≤ 4 → Moves p s s' cpu as' words → σ.stack ≡ on.returning → σ.stack < 7 → (names : List Named) → AreNames p names
       → Changes p σ names s.memory.words words → ((k : ℕ) → k < 64 → words (pcpu p + slot_offset k) ≡ slots k)
       → ((i : ℕ) → (i ≡ on.returning → ⊥) → ts i ≡ x.tasks i) → ((i : ℕ) → i < length (tasks_of image p) → IsTask (ts i))
       → cpu.nmi_blocked ≡ list_any (is_nmi_body image) bs
-      → ((class : ℕ) → list_any (λ (b : BodyContext). serves mode image class b.service) bs
-      ≡ list_any (λ (b : BodyContext). serves mode image class b.service) x.bodies)
+      → (set : NatSet) → ApicIs mode image (s'.apics p) set bs
       → own + inner_edges (s.latches p) ≤ most_edges mode image
       → Chain mode image p own on.returning (ts on.returning) on.frame on.switching bs as' cpu (with_words s.memory words)
-      → StandsOn mode image p (own + inner_edges (s.latches p)) s' (record x { tasks = ts; slots = slots; bodies = bs })
-  own_becomes p left s s' x σ cpu as' words ts slots bs own on hp four mv at hs names good_names changes slots_are same good blocked serving few chain =
+      → StandsOn mode image p (own + inner_edges (s.latches p)) s' (record x { tasks = ts; slots = slots; bodies = bs; pending = set })
+  own_becomes p left s s' x σ cpu as' words ts slots bs own on hp four mv at hs names good_names changes slots_are same good blocked set apic few chain =
       let written = good_names.written in let spared = good_names.kernel in record {
         few = few;
         own = own;
@@ -333,9 +346,7 @@ module _ (mode : Mode) (image : Image) where
         tasks = good;
         latch = latch_again on.layer on.frame (list_any (is_nmi_body image) x.bodies) (list_any (is_nmi_body image) bs) (s.latches p) (s'.latches p)
             (s.cpus p).nmi_blocked (s'.cpus p).nmi_blocked x.nmi mv.latch (ap (λ (c : Processor). c.nmi_blocked) mv.cpu_is ∙ blocked) on.latch;
-        pending = λ v lt. ap (λ (a : Apic). vectors_of a.irr v) mv.apic ∙ on.pending v lt;
-        service = λ class. ap (λ (a : Apic). list_any (λ v. vectors_of a.isr v && (v / 16 == class)) (numbers_from 0 256)) mv.apic
-            ∙ on.service class ∙ sym (serving class);
+        apic = apic;
         slots = λ k lt. ap (λ w. w (pcpu p + slot_offset k)) mv.words_are ∙ slots_are k lt;
         runs = as_runs on.layer p own 0 on.returning (ts on.returning) on.frame on.switching bs (s'.activations p) (s'.cpus p) s'.memory
             (moved (λ a c w r. Chain mode image p own on.returning (ts on.returning) on.frame on.switching bs a c (record { regions = r; words = w })) chain);
@@ -357,15 +368,14 @@ module _ (mode : Mode) (image : Image) where
       → Changes p σ names s.memory.words words
       → ((i : ℕ) → (i ≡ on.returning → ⊥) → ts i ≡ x.tasks i) → ((i : ℕ) → i < length (tasks_of image p) → IsTask (ts i))
       → cpu.nmi_blocked ≡ list_any (is_nmi_body image) bs
-      → ((class : ℕ) → list_any (λ (b : BodyContext). serves mode image class b.service) bs
-      ≡ list_any (λ (b : BodyContext). serves mode image class b.service) x.bodies)
+      → (set : NatSet) → ApicIs mode image (s'.apics p) set bs
       → own + inner_edges (s.latches p) ≤ most_edges mode image
       → Chain mode image p own on.returning (ts on.returning) on.frame on.switching bs as' cpu (with_words s.memory words)
-      → StandsOn mode image p (own + inner_edges (s.latches p)) s' (record x { tasks = ts; bodies = bs })
-  own_after p left s s' x σ cpu as' words ts bs own on hp four mv at hs names sparing changes same good blocked serving few chain =
+      → StandsOn mode image p (own + inner_edges (s.latches p)) s' (record x { tasks = ts; bodies = bs; pending = set })
+  own_after p left s s' x σ cpu as' words ts bs own on hp four mv at hs names sparing changes same good blocked set apic few chain =
       own_becomes p left s s' x σ cpu as' words ts x.slots bs own on hp four mv at hs names sparing.allowed changes
       (λ k lt. slot_same p σ names hp hs s.memory.words words sparing.allowed.written changes sparing.slots p k hp lt ∙ on.slots k lt)
-      same good blocked serving few chain
+      same good blocked set apic few chain
 
   -- ---- another processor
 
@@ -396,9 +406,7 @@ module _ (mode : Mode) (image : Image) where
         latch = subst (λ b. LatchIs on.layer on.frame (list_any (is_nmi_body image) x.bodies) (s'.latches q) b x.nmi)
             (sym (ap (λ (c : Processor). c.nmi_blocked) (mv.other_cpu q e)))
             (subst (λ b. LatchIs on.layer on.frame (list_any (is_nmi_body image) x.bodies) b (s.cpus q).nmi_blocked x.nmi) (sym (mv.other_latch q e)) on.latch);
-        pending = λ v lt. ap (λ (a : Apic). vectors_of a.irr v) (mv.other_apic q e) ∙ on.pending v lt;
-        service = λ class. ap (λ (a : Apic). list_any (λ v. vectors_of a.isr v && (v / 16 == class)) (numbers_from 0 256)) (mv.other_apic q e)
-            ∙ on.service class;
+        apic = subst (λ a. ApicIs mode image a x.pending x.bodies) (sym (mv.other_apic q e)) on.apic;
         slots = λ k lt. ap (λ w. w (pcpu q + slot_offset k)) mv.words_are
             ∙ area_stays p σ names s.memory.words words hp hs written changes q hq (good_names.own q d) (pcpu q + slot_offset k) (omega arith) (omega arith)
             ∙ on.slots k lt;

@@ -142,6 +142,7 @@ module _ (mode : Mode) (image : Image) (built : IsBuilt image) (good : IsImage i
             flags = a.flags;
             ss = ss;
             ss_is = a.ss_is;
+            masked = step.masks_flags mode image built good facts left s m h p hp o a.flags a.state.flags;
             within = omega arith;
             enough = few_edges mode image (body mode spots.AtItem) way.over 0;
             at = begins code (block mode (body mode spots.AtItem)) u (record c { rip = next; cr2 = n }) s.memory fit
@@ -197,7 +198,8 @@ module _ (mode : Mode) (image : Image) (built : IsBuilt image) (good : IsImage i
           event = break_event;
           found = found.1;
           same_body = refl;
-          quiet = record { interrupts = quiet.interrupts; service = quiet.service; calls = quiet.calls };
+          same_service = refl;
+          quiet = record { interrupts = quiet.interrupts; calls = quiet.calls };
           canonical = (facts.item_small o.b.body (suc o.b.place) body' is).0;
           outside = step.outside mode image built good facts left s m h p hp o a.act ∙ sym (behind_repeat next spread.0);
           stood = stood;

@@ -69,6 +69,7 @@ module _ (mode : Mode) (image : Image) (built : IsBuilt image) (good : IsImage i
         event = fault_event code address;
         found = found.1;
         same_body = refl;
+        same_service = refl;
         quiet = step.quiet mode image built good facts left s m h p hp o;
         canonical = canonical;
         outside = refl;

@@ -192,6 +192,7 @@ module _ (image : Image) (p r n : ℕ) (c : Processor) (e : Event) (body : ℕ) 
         flags = no_flags;
         ss = 0x18;
         ss_is = refl;
+        masked = refl;
         within = omega arith;
         enough = few_edges Fred image (InFred FromKernel) refl 0;
         at = here_at;

@@ -1,5 +1,6 @@
 -- The delivery of an event to a body that runs, through the IDT: the frame that it writes, and the activation that it begins.
 use Rattle.std.proofs.Common.{◌≡◌, inl, inr, ℕ, suc, ◌+◌, ◌-◌, ◌*◌, ◌/◌, ◌%◌, ◌^◌, ◌<◌, ◌≤◌, Bool, true, false, ◌&&◌, ◌||◌, List, [], ◌∷◌, length, map, refl, sym, ap, ◌∙◌, subst, arith, length-set}
+use Rattle.std.proofs.Math.Bool.{and-false}
 use Rattle.std.specs.Prelude.{◌==◌, if◌then◌else◌, nat_lt}
 use Rattle.ev_isa.specs.Word.{NatMap, bit}
 use Rattle.ev_isa.specs.Flags.{Flags, flags_of}
@@ -214,6 +215,7 @@ module _ (image : Image) (p r n : ℕ) (c : Processor) (e : Event) (body : ℕ) 
         flags = off_flags;
         ss = c.ss;
         ss_is = at.ss;
+        masked = and-false (interrupts_on c);
         within = omega arith;
         enough = few_edges Idt image (InIdt (Stub KernelCode has v)) refl 0;
         at = here_at;

@@ -1,6 +1,7 @@
 -- A turn in which an item of a body raises an event: the activation that begins on it, what the abstract machine enters, and what is shown.
-use Rattle.std.proofs.Common.{◌≡◌, inr, ℕ, suc, ◌+◌, ◌-◌, ◌*◌, ◌%◌, ◌<◌, ◌≤◌, Bool, true, false, not, ◌&&◌, List, [], ◌∷◌, get_or, length, Option, Some, None, refl, sym, ap, ◌∙◌, subst, arith}
+use Rattle.std.proofs.Common.{◌≡◌, inr, ℕ, suc, ◌+◌, ◌-◌, ◌*◌, ◌%◌, ◌<◌, ◌≤◌, Bool, true, false, not, ◌&&◌, List, [], ◌∷◌, get_or, length, Option, Some, None, refl, sym, ap, ◌∙◌, subst, arith, ◌||◌}
 use Rattle.std.specs.Prelude.{◌==◌, if◌then◌else◌, slice_get}
+use Rattle.std.specs.List.{list_any}
 use Rattle.ev_isa.specs.Word.{NatMap, put_at, is_canonical}
 use Rattle.ev_isa.specs.Flags.{Flags}
 use Rattle.ev_isa.specs.declared.mode.Mode.{Mode}
@@ -49,17 +50,17 @@ use Rattle.ev_refine.specs.Nmi.{Frame, Leads, inner_edges}
 use Rattle.ev_refine.specs.Named.{Changes}
 use Rattle.ev_refine.specs.Domain.{IsQuiet, AreQuiet}
 use Rattle.ev_refine.specs.Active.{here, IsKernelSs, Active}
-use Rattle.ev_refine.specs.Relation.{IsContext, Beneath, keeps_cr2, chained, body_edges, switches_at, Chain, StandsOn, Stands}
+use Rattle.ev_refine.specs.Relation.{IsContext, Beneath, keeps_cr2, chained, body_edges, switches_at, Chain, StandsOn, Stands, serves}
 use Rattle.ev_refine.specs.Claims.{Simulated}
 use Rattle.ev_refine.proofs.Facts.{Facts}
 use Rattle.ev_refine.proofs.Maps.{at_same, at_other}
 use Rattle.ev_refine.proofs.CallKinds.{is_plain_kind, ArePlain, none_nmi, seat_under, plain_seat}
 use Rattle.ev_refine.proofs.Chains.{Kept, chain_kept}
 use Rattle.ev_refine.proofs.Domains.{four_tasks}
-use Rattle.ev_refine.proofs.Legality.{turn_legal, turn_bases, legal_few}
+use Rattle.ev_refine.proofs.Legality.{turn_legal, legal_few, turn_bases}
 use Rattle.ev_refine.proofs.Standing.{seen, Moves, step_moves, delivery_moves}
 use Rattle.ev_refine.proofs.Stays.{AreSpared, chain_stays, below_spared}
-use Rattle.ev_refine.proofs.After.{none_spares, slot_same, cell_same, page_same, user_same, few_inner, own_becomes, stands_become}
+use Rattle.ev_refine.proofs.After.{none_spares, slot_same, cell_same, page_same, user_same, few_inner, apic_again, own_becomes, stands_become}
 use Rattle.ev_refine.proofs.Depth.{stands_depth}
 use Rattle.ev_refine.proofs.UserState.{TurnsTo, makes_turn, is_safe, tells_bodies}
 use Rattle.ev_refine.proofs.UserBody.{HasBody, has_body}
@@ -195,6 +196,7 @@ module _ (mode : Mode) (image : Image) where
       flags = act.stands.flags;
       ss = act.stands.ss;
       ss_is = act.stands.ss_is;
+      masked = act.stands.masked;
       within = act.stands.within;
       enough = few_edges mode image act.stands.spot (means_over mode image κ act.stands.spot _ w b m.words act.means) act.stands.k;
       at = at_any_cr2 (block mode act.stands.spot) act.stands.k _ c m a none act.stands.within act.stands.at;
@@ -273,6 +275,7 @@ module _ (mode : Mode) (image : Image) (built : IsBuilt image) (good : IsImage i
     pub event : IsBodyEvent e
     pub found : first_body 0 image.bodies (event_key e.kind e.vector) Kernel ≡ Some body
     pub same_body : b.body ≡ o.b.body
+    pub same_service : b.service ≡ o.b.service
     pub quiet : IsQuiet b
     pub canonical : is_canonical saved ≡ true
     pub outside : is_in_repeat c.rip ≡ is_in_repeat saved
@@ -393,7 +396,7 @@ module _ (mode : Mode) (image : Image) (built : IsBuilt image) (good : IsImage i
     as' = activations_by s p (s.activations p) d after.step
 
     mv : Moves p s s' d as' words'
-    mv = delivery_moves image.processors p s middle d as' words' e (Some begun.frame) (step_moves s p after refl refl)
+    mv = delivery_moves image.processors p s middle d as' words' e (Some begun.frame) (step_moves s p after refl)
 
     -- ---- the activations
 
@@ -404,7 +407,7 @@ module _ (mode : Mode) (image : Image) (built : IsBuilt image) (good : IsImage i
     under_now = record (o.last) { rsp = rsp c; rip = c.rip }
 
     acts_are : as' ≡ last_now ∷ under_now ∷ o.others
-    acts_are = (λ i. record { rsp = 0; rip = 0; inner = ap (starts_inner s p) (step.first mode image built good facts left s m h p hp) i }
+    acts_are = (λ i. record { rsp = 0; rip = 0; inner = ap (starts_inner s p) (step.first mode image built good facts left s m h p hp o) i }
         ∷ ap (interrupted c) o.acts i)
 
     above : AllAbove (top_at p (seat_under mode r (suc n))) (interrupted c (s.activations p))
@@ -460,20 +463,27 @@ module _ (mode : Mode) (image : Image) (built : IsBuilt image) (good : IsImage i
 
     quiet : AreQuiet now_bodies
     quiet = (
-      record { interrupts = refl; service = y.event.service; calls = refl },
+      record { interrupts = refl; calls = refl },
       (y.quiet, (step.are_quiet mode image built good facts left s m h p hp o).1),
     )
 
     abbrev now : ℕ
     now = body_edges mode image + inner_edges (s.latches p)
 
+    -- the local APIC stays
+    same_apic : s'.apics p ≡ s.apics p
+    same_apic = at_same s.apics p p (s.apics p) refl
+
     there : StandsOn mode image p now s' z
     there = own_becomes mode image p (left p) s s' x (seat_under mode r (suc n)) d as' words' x.tasks x.slots now_bodies (body_edges mode image) on small
         (four_tasks image good p hp) mv refl narrow [] (none_spares p).allowed changes
         (λ k l. slot_same p (seat_under mode r (suc n)) [] small narrow s.memory.words words' tt changes refl p k small l ∙ on.slots k l)
         (λ i f. refl) on.tasks (begun.blocking ∙ sym (none_nmi image now_bodies plain_now))
-        (λ class. step.unserved mode image built good facts left s m h p hp class now_bodies quiet
-        ∙ sym (step.unserved mode image built good facts left s m h p hp class x.bodies (step.domain mode image built good facts left s m h p hp).bodies))
+        x.pending (apic_again mode image (s.apics p) _ x.pending x.bodies now_bodies same_apic
+        (λ class. ap (λ q. serves mode image class q || list_any (λ (a : BodyContext). serves mode image class a.service) (b ∷ o.below)) y.event.service
+        ∙ ap (λ q. serves mode image class q || list_any (λ (a : BodyContext). serves mode image class a.service) o.below) y.same_service
+        ∙ sym (ap (list_any (λ (a : BodyContext). serves mode image class a.service)) o.bodies))
+        on.apic)
         (let f = few_inner mode image (s.latches p) in omega arith)
         (subst (λ ys. Chain mode image p (body_edges mode image) r (x.tasks r) on.frame on.switching now_bodies ys d mem) (sym acts_are) chain)
 
@@ -499,7 +509,7 @@ module _ (mode : Mode) (image : Image) (built : IsBuilt image) (good : IsImage i
         })
         legal (turn_bases image m p h.bases (m', entry_of p e (suc (suc n)) ∷ []) turned)
         (step.numbers_behind mode image built good facts left s m h p hp o m' (entry_of p e (suc (suc n)) ∷ []) turned)
-        (record { pending = domain.pending; nmi = domain.nmi; resched = domain.resched; bodies = quiet }) there
+        (record { nmi = domain.nmi; resched = domain.resched; bodies = quiet }) there
 
     -- the frame's words are as many as before
     frame_fits : begun.frame + 8 * frame_size (middle.cpus p) e ≤ top_at p (seat_under mode r (suc n))
@@ -515,7 +525,7 @@ module _ (mode : Mode) (image : Image) (built : IsBuilt image) (good : IsImage i
     pub raise_turns : TurnsTo mode image left s m p
     raise_turns =
         let hu : is_user c ≡ false = at.kernel in
-        let first = step.first mode image built good facts left s m h p hp in
+        let first = step.first mode image built good facts left s m h p hp o in
         let depth : bodies_on s p ≡ suc n = stands_depth mode image facts p (left p) s x on ∙ ap length o.bodies in
         let room = frame_room mode p r n small narrow deep in
         let size = size_small w e in

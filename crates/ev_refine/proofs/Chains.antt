@@ -4,7 +4,7 @@ use Rattle.ev_isa.specs.declared.mode.Mode.{Mode}
 use Rattle.ev_isa.specs.declared.mode.Mode.TheVariants.{Idt, Fred}
 use Rattle.ev_body.specs.declared.image.Image.{Image}
 use Rattle.ev_effect.specs.Task.{Task}
-use Rattle.ev_state.specs.Processor.{Processor}
+use Rattle.ev_state.specs.Processor.{Processor, interrupts_on}
 use Rattle.ev_mem.specs.Memory.{Memory}
 use Rattle.ev_abstract.specs.Context.{BodyContext}
 use Rattle.ev_concrete.specs.ConcreteRun.{Activation}
@@ -12,16 +12,33 @@ use Rattle.ev_concrete.specs.Opening.{opening_cpu}
 use Rattle.ev_proc.specs.ProcessorStep.{has_fred}
 use Rattle.ev_listing.specs.AddressMap.{pcpu, idt_base}
 use Rattle.ev_symbolic.specs.State.{Block}
-use Rattle.ev_symbolic.specs.Agrees.{Env, untracked, At}
+use Rattle.ev_isa.specs.Flags.{Flags, flags_word, flags_of}
+use Rattle.ev_symbolic.specs.Value.{F, FVar, FOp}
+use Rattle.ev_symbolic.proofs.FlagBits.{flags_back}
+use Rattle.ev_symbolic.specs.Agrees.{Env, Code, eval_flags, untracked, At}
 use Rattle.ev_blocks.specs.Blocks.{block}
 use Rattle.ev_table.specs.Table.{code_table}
-use Rattle.ev_activation.specs.Seat.{Kind, kind_of}
+use Rattle.ev_activation.specs.Seat.{Kind, Seat, kind_of}
 use Rattle.ev_refine.specs.Nmi.{Frame}
-use Rattle.ev_refine.specs.Active.{rest_in}
+use Rattle.ev_refine.specs.Active.{rest_in, Active}
 use Rattle.ev_refine.specs.Relation.{body_edges, keeps_cr2, chained, Chain}
 use Rattle.ev_user.specs.Tasks.{RunsTask}
 use Rattle.ev_refine.proofs.ModeFacts.{is_fred}
 use Rattle.ev_refine.proofs.CallKinds.{is_plain_kind, over_any, means_plain, ArePlain, plain_level}
+
+-- ---- IF of a processor
+
+pub word_interrupts : (c : Processor) (f : Flags) → c.flags ≡ flags_word f → interrupts_on c ≡ f.interrupts
+word_interrupts c f is = ap (λ n. (flags_of n).interrupts) is ∙ ap (λ (g : Flags). g.interrupts) (flags_back f)
+
+-- no block changes it
+keeps_interrupts : (e : Env) (f : F) → (eval_flags e f).interrupts ≡ e.flags.interrupts
+unfolding eval_flags
+keeps_interrupts e FVar = refl
+keeps_interrupts e (FOp o a b) = refl
+
+pub at_interrupts : (code : Code) (b : Block) (k : ℕ) (e : Env) (c : Processor) (m : Memory) → At code b k e c m → interrupts_on c ≡ e.flags.interrupts
+at_interrupts code b k e c m at = word_interrupts c (eval_flags e at.state.flags) at.agrees.flags ∙ keeps_interrupts e at.state.flags
 
 module _ (mode : Mode) (image : Image) where
   -- What no activation that is no NMI's changes of the processor: whether FRED is on, where the tables stand, the stack level, and the registers that say how
@@ -84,6 +101,17 @@ module _ (mode : Mode) (image : Image) where
         (keeps_cr2 mode image (kind_of image b below)) h.0 h.4),
   )
 
+  -- ---- an activation runs with IF off
+
+  pub active_masked : (p left : ℕ) (κ : Kind) (σ : Seat) (f : Frame) (sw : Bool) (w : Processor) (b : BodyContext) (c : Processor) (m : Memory)
+      → Active mode image p left κ σ f sw w b c m → interrupts_on c ≡ false
+  active_masked p left κ σ f sw w b c m a = at_interrupts (code_table mode image) (block mode a.stands.spot) a.stands.k _ c m a.stands.at ∙ a.stands.masked
+
+  pub chain_masked : (p left r : ℕ) (t : Task) (f : Frame) (sw : Bool) (b : BodyContext) (below : List BodyContext) (as' : List Activation) (c : Processor)
+      (m : Memory) → Chain mode image p left r t f sw (b ∷ below) as' c m → interrupts_on c ≡ false
+  chain_masked p left r t f sw b below [] c m h = absurd h
+  chain_masked p left r t f sw b below (a ∷ as') c m h = active_masked p left _ _ f _ h.0 b c m h.6
+
   -- ---- a chain says nothing of the blocking of NMIs, which the relation does
 
   pub at_open : (b : Block) (k : ℕ) (e : Env) (c : Processor) (m : Memory) → At (code_table mode image) b k e c m
@@ -130,6 +158,7 @@ module _ (mode : Mode) (image : Image) where
         flags = h.6.stands.flags;
         ss = h.6.stands.ss;
         ss_is = h.6.stands.ss_is;
+        masked = h.6.stands.masked;
         within = h.6.stands.within;
         enough = h.6.stands.enough;
         at = at_open (block mode h.6.stands.spot) h.6.stands.k _ c m h.6.stands.at;

@@ -25,6 +25,7 @@ use Rattle.ev_table.proofs.Kernel as kernel
 use Rattle.ev_paths.specs.Lines.{HasKernel}
 use Rattle.ev_table.proofs.Whole as whole
 use Rattle.ev_table.proofs.LabelPlaces.{labels_placed}
+use Rattle.ev_table.proofs.OwnPlaces.{own_labels_placed}
 use Rattle.ev_fetch.proofs.Kernel.{kernel_fetches}
 use Rattle.ev_fetch.proofs.InCode.{stays_in_code}
 use Rattle.ev_fetch.proofs.Ruled.{accepted_are_spelled}
@@ -116,6 +117,7 @@ module _ (mode : Mode) (image : Image) (given : IsImage image) (built : IsBuilt 
     items = λ n i b item h k. whole.item_stands mode image given n i b item h k;
     follow = λ n i b item k. whole.next_address mode image n i b item k;
     labels = labels_placed mode image given;
+    own_labels = λ n i b item c cs off high h l found. own_labels_placed mode image i c cs high item off given n b h l found;
     ret_cell = ret;
     first_item = λ n b. whole.first_item mode n b;
     item_small = λ n i b h. whole.canonical_items mode image given n i b h;

@@ -1,5 +1,6 @@
 -- How many bodies stand: as many as contexts, and as a step tells it.
 use Rattle.std.proofs.Common.{◌≡◌, ℕ, suc, ◌+◌, ◌-◌, ◌%◌, ◌<◌, ◌≤◌, Bool, true, false, not, ◌&&◌, List, [], ◌∷◌, length, Option, Some, None, refl, sym, ap, ◌∙◌, arith}
+use Rattle.std.proofs.Math.Bool.{and-false}
 use Rattle.std.specs.Prelude.{if◌then◌else◌, ◌==◌, nat_lt, nat_le, filter, slice_get}
 use Rattle.std.proofs.lemmas.Bool.{eqb-true, ltb-true, lt-leb}
 use Rattle.ev_isa.specs.Word.{NatMap}
@@ -34,14 +35,14 @@ use Rattle.ev_blocks.specs.Fred.{FromUser, FromKernel, FredToKernel, FredToTask,
 use Rattle.ev_blocks.specs.Fred as fred
 use Rattle.ev_blocks.specs.Idt.{Stub, Sys, Common, IdtToKernel, IdtToTask, idt_block}
 use Rattle.ev_blocks.specs.Idt as idt
-use Rattle.ev_blocks.specs.Items.{AtTable, AtJump, AtItem, AtNumber, body_block}
+use Rattle.ev_blocks.specs.Items.{AtTable, AtJump, AtItem, AtNumber, AtUserWord, AtPageWord, body_block}
 use Rattle.ev_blocks.specs.Blocks.{Spot, InFred, InIdt, InBody, block}
 use Rattle.ev_table.specs.Table.{code_table}
 use Rattle.ev_refine.specs.Nmi.{Frame}
 use Rattle.ev_refine.specs.Active.{address_of_item, item_place, OverTask, OverBody, Active}
 use Rattle.ev_refine.specs.Relation.{IsContext, body_edges, chained, Interrupted, Chain, StandsOn}
 use Rattle.ev_refine.proofs.Facts.{Facts}
-use Rattle.ev_refine.proofs.Spots.{is_elsewhere, entry_elsewhere, kernel_entry_elsewhere, kernel_exit_elsewhere, fred_exit_elsewhere, sys_elsewhere, common_elsewhere, idt_exit_elsewhere, idt_kernel_exit_elsewhere, is_in_stub, stub_inside, is_in_item, number_inside}
+use Rattle.ev_refine.proofs.Spots.{is_elsewhere, entry_elsewhere, kernel_entry_elsewhere, kernel_exit_elsewhere, fred_exit_elsewhere, sys_elsewhere, common_elsewhere, idt_exit_elsewhere, idt_kernel_exit_elsewhere, is_in_stub, stub_inside, is_in_item, number_inside, address_inside, page_inside}
 use Rattle.ev_refine.proofs.Standing.{after_ran, Runs, ran_step}
 use Rattle.ev_refine.proofs.CallKinds.{over_any}
 use Rattle.ev_refine.proofs.After.{as_chain}
@@ -57,17 +58,13 @@ not_true : (b : Bool) → not b ≡ true → b ≡ false
 not_true true h = absurd (cc)
 not_true false h = refl
 
-and_false : (a : Bool) → (a && false) ≡ false
-and_false true = refl
-and_false false = refl
-
 -- code of bodies stands behind it
 pub behind_repeat : (a : ℕ) → 0xffffffff82000000 ≤ a → is_in_repeat a ≡ false
 behind_repeat a h = pick (nat_lt a nbody_entry) refl
   where
     pick : (b : Bool) → nat_lt a nbody_entry ≡ b → (nat_le repeat_entry a && b) ≡ false
     pick true q = let z = ltb-true a nbody_entry q in absurd (omega arith)
-    pick false q = and_false (nat_le repeat_entry a)
+    pick false q = and-false (nat_le repeat_entry a)
 
 elsewhere : (e : Env) → e.base 1000 ≡ 0 → (s : SS) → is_elsewhere s ≡ true → is_in_repeat (addr e s.rip) ≡ false
 elsewhere e z s h =
@@ -137,6 +134,10 @@ module _ (mode : Mode) (image : Image) (facts : Facts mode image) where
       at_item_outside (body_block true FredFrame AtItem) k e c mem b ctx at l refl h.1
   over_task_outside Fred (InBody FredFrame (AtNumber n)) k e w c mem b ctx z l at h =
       in_item_outside (body_block true FredFrame (AtNumber n)) k e c mem b ctx at l (number_inside true FredFrame n) h.1
+  over_task_outside Fred (InBody FredFrame AtUserWord) k e w c mem b ctx z l at h =
+      in_item_outside (body_block true FredFrame AtUserWord) k e c mem b ctx at l (address_inside true FredFrame) h.1
+  over_task_outside Fred (InBody FredFrame (AtPageWord is_page)) k e w c mem b ctx z l at h =
+      in_item_outside (body_block true FredFrame (AtPageWord is_page)) k e c mem b ctx at l (page_inside true FredFrame is_page) h.1
   over_task_outside Idt (InIdt Sys) k e w c mem b ctx z l at h = at_elsewhere (idt_block Sys) k e c mem at z l sys_elsewhere
   over_task_outside Idt (InIdt (Stub UserCode has v)) k e w c mem b ctx z l at h = at_stub_outside UserCode has v k e c mem at h.0.0 h.0.2 l
   over_task_outside Idt (InIdt (Common UserCode pf)) k e w c mem b ctx z l at h =
@@ -149,6 +150,10 @@ module _ (mode : Mode) (image : Image) (facts : Facts mode image) where
       at_item_outside (body_block false IdtFrame AtItem) k e c mem b ctx at l refl h.1
   over_task_outside Idt (InBody IdtFrame (AtNumber n)) k e w c mem b ctx z l at h =
       in_item_outside (body_block false IdtFrame (AtNumber n)) k e c mem b ctx at l (number_inside false IdtFrame n) h.1
+  over_task_outside Idt (InBody IdtFrame AtUserWord) k e w c mem b ctx z l at h =
+      in_item_outside (body_block false IdtFrame AtUserWord) k e c mem b ctx at l (address_inside false IdtFrame) h.1
+  over_task_outside Idt (InBody IdtFrame (AtPageWord is_page)) k e w c mem b ctx z l at h =
+      in_item_outside (body_block false IdtFrame (AtPageWord is_page)) k e c mem b ctx at l (page_inside false IdtFrame is_page) h.1
   over_task_outside m _ k e w c mem b ctx z l at h = absurd h
 
   over_body_outside : (m : Mode) (spot : Spot) (k : ℕ) (e : Env) (w c : Processor) (mem : Memory) (b : BodyContext) → IsContext mode image b
@@ -163,6 +168,10 @@ module _ (mode : Mode) (image : Image) (facts : Facts mode image) where
       at_item_outside (body_block true FredFrame AtItem) k e c mem b ctx at l refl h.1
   over_body_outside Fred (InBody FredFrame (AtNumber n)) k e w c mem b ctx z l at h =
       in_item_outside (body_block true FredFrame (AtNumber n)) k e c mem b ctx at l (number_inside true FredFrame n) h.1
+  over_body_outside Fred (InBody FredFrame AtUserWord) k e w c mem b ctx z l at h =
+      in_item_outside (body_block true FredFrame AtUserWord) k e c mem b ctx at l (address_inside true FredFrame) h.1
+  over_body_outside Fred (InBody FredFrame (AtPageWord is_page)) k e w c mem b ctx z l at h =
+      in_item_outside (body_block true FredFrame (AtPageWord is_page)) k e c mem b ctx at l (page_inside true FredFrame is_page) h.1
   over_body_outside Idt (InIdt (Stub KernelCode has v)) k e w c mem b ctx z l at h = at_stub_outside KernelCode has v k e c mem at h.0.0 h.0.2 l
   over_body_outside Idt (InIdt (Common KernelCode pf)) k e w c mem b ctx z l at h =
       at_elsewhere (idt_block (Common KernelCode pf)) k e c mem at z l (common_elsewhere KernelCode pf)
@@ -174,6 +183,10 @@ module _ (mode : Mode) (image : Image) (facts : Facts mode image) where
       at_item_outside (body_block false IdtFrame AtItem) k e c mem b ctx at l refl h.1
   over_body_outside Idt (InBody IdtFrame (AtNumber n)) k e w c mem b ctx z l at h =
       in_item_outside (body_block false IdtFrame (AtNumber n)) k e c mem b ctx at l (number_inside false IdtFrame n) h.1
+  over_body_outside Idt (InBody IdtFrame AtUserWord) k e w c mem b ctx z l at h =
+      in_item_outside (body_block false IdtFrame AtUserWord) k e c mem b ctx at l (address_inside false IdtFrame) h.1
+  over_body_outside Idt (InBody IdtFrame (AtPageWord is_page)) k e w c mem b ctx z l at h =
+      in_item_outside (body_block false IdtFrame (AtPageWord is_page)) k e c mem b ctx at l (page_inside false IdtFrame is_page) h.1
   over_body_outside m _ k e w c mem b ctx z l at h = absurd h
 
   pub active_outside : (p left : ℕ) (κ : Kind) (σ : Seat) (f : Frame) (sw : Bool) (w : Processor) (b : BodyContext) (c : Processor) (m : Memory)

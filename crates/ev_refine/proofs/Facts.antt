@@ -1,5 +1,5 @@
 -- What the proofs of steps use of an image's code: what stands where, its marks, and that memory holds its bytes.
-use Rattle.std.proofs.Common.{◌≡◌, ℕ, ◌+◌, ◌<◌, ◌≤◌, ◌^◌, Bool, true, false, length, Some, arith}
+use Rattle.std.proofs.Common.{◌≡◌, ℕ, ◌+◌, ◌<◌, ◌≤◌, ◌^◌, Bool, true, false, ◌∷◌, length, Some, arith}
 use Rattle.std.specs.Prelude.{suc, slice_get}
 use Rattle.ev_isa.specs.Word.{is_canonical, bit_if}
 use Rattle.ev_isa.specs.Flags.{Flags, flags_word}
@@ -12,8 +12,8 @@ use Rattle.ev_body.specs.Bodies.{body_items}
 use Rattle.ev_mem.specs.Memory.{Memory}
 use Rattle.ev_state.specs.Processor.{Processor}
 use Rattle.ev_listing.specs.AddressMap.{body_code}
-use Rattle.ev_asm.specs.Assembly.{place, total_size}
-use Rattle.ev_listing.specs.Expansion.{item_label, item_address}
+use Rattle.ev_asm.specs.Assembly.{Name, place, total_size}
+use Rattle.ev_listing.specs.Expansion.{item_label, own_label, item_address, function_address}
 use Rattle.ev_listing.specs.Marks.{Never, Always, stmts_of}
 use Rattle.ev_abstract.specs.Run.{item_at}
 use Rattle.ev_concrete.specs.Opening.{regions}
@@ -24,7 +24,7 @@ use Rattle.ev_symbolic.specs.Listed.{AllFound}
 use Rattle.ev_symbolic.specs.Machine.{Fetches}
 pub use Rattle.ev_user.proofs.KeepsNumbers.{word_of_canonical}
 use Rattle.ev_paths.specs.Lines.{HasKernel}
-use Rattle.ev_table.specs.Table.{code_table, other_exit, RetCell, places_of, item_lines, item_cells}
+use Rattle.ev_table.specs.Table.{code_table, other_exit, RetCell, places_of, item_lines, item_cells, IsPlacedIn}
 use Rattle.ev_table.proofs.Expanded.{is_plain}
 use Rattle.ev_fetch.specs.Claims.{HoldsText}
 use Rattle.ev_refine.specs.Relation.{first_word, IsFixed}
@@ -42,6 +42,9 @@ pub record Facts (mode : Mode) (image : Image) : Type 0 where
       → item_address mode n b (suc i) ≡ item_address mode n b i + total_size (stmts_of (item_lines mode image n b i item))
   pub labels : (n i : ℕ) (b : Body) → slice_get image.bodies n ≡ Some b → i < length (body_items b)
       → place (places_of mode image) (item_label n i) ≡ item_address mode n b i
+  pub own_labels : (n i : ℕ) (b : Body) (item : Item) (c : ℕ) (cs : Name) (off : ℕ) → 58 ≤ c → slice_get image.bodies n ≡ Some b
+      → item_at (Some b) i ≡ Some item → IsPlacedIn mode n b.key (function_address mode image) i item (c ∷ cs) off
+      → place (places_of mode image) (own_label n i (c ∷ cs)) ≡ item_address mode n b i + off
   pub ret_cell : (n i : ℕ) (b : Body) → slice_get image.bodies n ≡ Some b → item_at (Some b) i ≡ Some Ret
       → RetCell (code_table mode image) (item_address mode n b i) (other_exit mode)
   pub first_item : (n : ℕ) (b : Body) → item_address mode n b 0 ≡ body_code n

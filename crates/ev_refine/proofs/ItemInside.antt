@@ -155,6 +155,7 @@ module _ (mode : Mode) (image : Image) (built : IsBuilt image) (good : IsImage i
           flags = f;
           ss = ss;
           ss_is = ss_is;
+          masked = step.masks mode image built good facts left s m h p hp o (block mode (body mode AtItem)) 0 e at;
           within = omega arith;
           enough = omega arith;
           at = begins_number mode code e c s.memory n at stand;

@@ -28,14 +28,13 @@ use Rattle.ev_symbolic.specs.Single.{onward, in_status, Leads, Singles}
 use Rattle.ev_symbolic.proofs.Single.{singles}
 use Rattle.ev_symbolic.proofs.Values.{and_left, and_right}
 use Rattle.ev_refine.specs.Named.{CellAt}
-use Rattle.ev_refine.specs.Active.{FlagsAre}
 use Rattle.ev_refine.specs.Relation.{Stands}
 use Rattle.ev_refine.proofs.Facts.{Facts}
 use Rattle.ev_refine.proofs.ItemCells.{before, visible_of}
 use Rattle.ev_refine.proofs.ItemAddresses.{cell_open, displaced_zero}
 use Rattle.ev_refine.proofs.ItemWords.{IsFree, are_names, is_unknown}
 use Rattle.ev_refine.proofs.ItemWords as words
-use Rattle.ev_refine.proofs.ItemVisible.{goes_onward, goes_with}
+use Rattle.ev_refine.proofs.ItemVisible.{FlagsBehind, goes_onward, goes_with}
 use Rattle.ev_refine.proofs.ItemVisible as visible
 use Rattle.ev_refine.proofs.KernelStep as step
 use Rattle.ev_refine.proofs.ItemSteps.{WordWrite}
@@ -68,7 +67,7 @@ module _ (mode : Mode) (image : Image) (built : IsBuilt image) (good : IsImage i
   ruled = steps.ruled mode image built good facts left s m h p hp o body' is ss extra v f a
 
   -- the flags that the context knows
-  abbrev known : a.flags ≡ f → FlagsAre mode image b.flags a.flags
+  abbrev known : a.flags ≡ f → FlagsBehind mode image a.flags b.flags a.flags
   known same = steps.known_flags mode image built good facts left s m h p hp o body' is ss extra v f a same
 
   abbrev is_the_local : (r : ℕ) → is_local r ≡ true → register c r ≡ local b r
@@ -141,7 +140,7 @@ module _ (mode : Mode) (image : Image) (built : IsBuilt image) (good : IsImage i
         let ins : Ins = Xadd 0 (pos 0) d in
         let z : ℕ × Status = sum (m.cells k) (local b d) in
         steps.does mode image built good facts left s m h p hp o body' is ss extra v f a (AddCell k d) hi ins refl off (omega arith) refl
-        (Some (d, m.cells k)) fits (record a.flags { status = z.1 }) None tt (Some (CellAt k, z.0)) free
+        (Some (d, m.cells k)) fits (record a.flags { status = z.1 }) None (tt, refl) (Some (CellAt k, z.0)) free
         (λ i. goes_with c s.memory ins a.flags _ next _ z.1 a.state.flags
         (subst (λ (z : ℕ × ℕ). Leads c s.memory ins (in_status (onward c (set c.regs d z.0) next) (sum z.0 z.1).1)
         (put_at s.memory.words (cells_base + 8 * k) (sum z.0 z.1).0))

@@ -52,7 +52,7 @@ use Rattle.ev_refine.proofs.ItemLocals.{Write, IsLocal, regs_with, local_at}
 use Rattle.ev_refine.proofs.ItemAddresses.{area_open, displaced_area}
 use Rattle.ev_refine.proofs.ItemWords.{IsFree, are_names, is_unknown}
 use Rattle.ev_refine.proofs.ItemWords as words
-use Rattle.ev_refine.proofs.ItemVisible.{goes_onward, goes_with}
+use Rattle.ev_refine.proofs.ItemVisible.{FlagsBehind, goes_onward, goes_with}
 use Rattle.ev_refine.proofs.ItemVisible as visible
 use Rattle.ev_refine.proofs.KernelStep as step
 
@@ -151,7 +151,7 @@ module _ (mode : Mode) (image : Image) (built : IsBuilt image) (good : IsImage i
 
   pub does : (item : Item) → item_at (Some body') b.place ≡ Some item → (ins : Ins) → visible_of item ≡ Some ins → a.offset ≡ bytes_of (before item)
       → a.offset < 0x100 → is_return (Some ins) ≡ false → (write : Write) → IsLocal write → (g : Flags) (status : Option Status)
-      → FlagsAre mode image status g → (z : WordWrite) → IsFreeWord p z
+      → FlagsBehind mode image a.flags status g → (z : WordWrite) → IsFreeWord p z
       → (IsAt c ins (at (suc b.place)) → Leads c s.memory ins (gone c (regs_with c.regs write) g (at (suc b.place))) (words_with s.memory.words z))
       → (m1 : Machine) (slots : NatMap ℕ) → Makes m1 (words_with s.memory.words z) slots → (es : List Entry)
       → item_step image m p b item ≡ (with_context m1 p (behind write (suc b.place) status), es)
@@ -206,8 +206,8 @@ module _ (mode : Mode) (image : Image) (built : IsBuilt image) (good : IsImage i
   nothing = words.makes_nothing mode image built good facts left s m h p hp o [] (none_spares p).allowed s.memory.words (λ y off d. refl) refl refl refl refl
 
   -- the flags that the context knows
-  pub known_flags : a.flags ≡ f → FlagsAre mode image b.flags a.flags
-  known_flags same = subst (FlagsAre mode image b.flags) (sym same) a.means.flags
+  pub known_flags : a.flags ≡ f → FlagsBehind mode image a.flags b.flags a.flags
+  known_flags same = (subst (FlagsAre mode image b.flags) (sym same) a.means.flags, refl)
 
   one : (next : ℕ) → Singles c s.memory next
   one next = singles c s.memory next
@@ -249,7 +249,7 @@ module _ (mode : Mode) (image : Image) (built : IsBuilt image) (good : IsImage i
         let right_is : register c r ≡ local b r = is_the_local r (and_right (is_local d) _ ops) in
         let z : ℕ × Status = alu op (local b d) (local b r) in
         let same_z : alu op (register c d) (register c r) ≡ z = (λ i. alu op (left_is i) (right_is i)) in
-        does (Item.Alu op d r) hi (Ins.Alu op d r) refl off near refl (Some (d, z.0)) fits (record a.flags { status = z.1 }) (Some z.1) refl None tt
+        does (Item.Alu op d r) hi (Ins.Alu op d r) refl off near refl (Some (d, z.0)) fits (record a.flags { status = z.1 }) (Some z.1) (refl, refl) None tt
         (λ i. goes_with c s.memory (Ins.Alu op d r) a.flags _ _ _ z.1 a.state.flags
         (subst (λ (y : ℕ × Status). Leads c s.memory (Ins.Alu op d r) (in_status (onward c (set c.regs d y.0) (at (suc b.place))) y.1) s.memory.words) same_z
         ((one (at (suc b.place))).computes op d r i))) m x.slots nothing [] refl refl

@@ -3,6 +3,7 @@
 use Rattle.std.proofs.Common.{◌≡◌, ℕ, ◌+◌, ◌<◌, ◌≤◌, Bool, true, false, not, ◌&&◌, List, ◌∷◌, get_or, length, Option, Some, refl, sym, ap, ◌∙◌, subst, arith}
 use Rattle.std.specs.Prelude.{slice_get, nat_le, nat_lt}
 use Rattle.std.proofs.lemmas.Option.{slice_get-get_or}
+use Rattle.std.specs.List.{list_any}
 use Rattle.ev_isa.specs.Word.{NatMap}
 use Rattle.ev_isa.specs.Flags.{Status, Flags, flags_word, flags_of}
 use Rattle.ev_isa.specs.declared.instruction.Ins.{Ins}
@@ -41,7 +42,7 @@ use Rattle.ev_activation.specs.Seat.{kind_of}
 use Rattle.ev_table.specs.Table.{code_table}
 use Rattle.ev_refine.specs.Named.{Named, UnknownTo, Changes}
 use Rattle.ev_refine.specs.Active.{item_place, address_of_item, here, rest_in, IsKernelSs, SavedOf, FlagsAre, InItem, Active}
-use Rattle.ev_refine.specs.Relation.{IsContext, switches_at, Chain, StandsOn, Stands}
+use Rattle.ev_refine.specs.Relation.{IsContext, switches_at, Chain, StandsOn, Stands, serves}
 use Rattle.ev_refine.specs.Claims.{Simulated}
 use Rattle.ev_refine.proofs.Facts.{Facts}
 use Rattle.ev_refine.proofs.Legality.{turn_legal}
@@ -79,6 +80,10 @@ legal_context image known b below mode h =
       item = get_or (body_items l.body) b.place Ret;
       is = ap (λ o. item_at o b.place) l.is_body ∙ slice_get-get_or (body_items l.body) b.place Ret l.at.place;
     }
+
+-- the status flags are those that are told, and IF is what it was
+abbrev pub FlagsBehind : (mode : Mode) (image : Image) → Flags → Option Status → Flags → Type 0
+FlagsBehind mode image was status g = FlagsAre mode image status g × (g.interrupts ≡ was.interrupts)
 
 module _ (mode : Mode) (image : Image) (built : IsBuilt image) (good : IsImage image) (facts : Facts mode image)
     (left : NatMap ℕ) (s : System) (m : Machine) (h : Stands mode image left s m) (p : ℕ) (hp : p < image.processors)
@@ -166,7 +171,7 @@ module _ (mode : Mode) (image : Image) (built : IsBuilt image) (good : IsImage i
     pub place : ℕ
     pub flags : Flags
     pub status : Option Status
-    pub flags_are : FlagsAre mode image status flags
+    pub flags_are : FlagsBehind mode image a.flags status flags
     pub words : NatMap ℕ
     pub runs : Leads c s.memory cell.ins (gone c (regs_with c.regs write) flags (at place)) words
     pub names : List Named
@@ -215,7 +220,7 @@ module _ (mode : Mode) (image : Image) (built : IsBuilt image) (good : IsImage i
       let item : InItem mode image (origin_of o.κ) u w b' = record {
         saved = d.over.saved regs further d.flags;
         locals = locals_behind mode image (env ss extra v f) c s.memory a.offset a.rax a.rcx a.rdx a.flags a.state o.b a.means.locals d.write d.local;
-        flags = d.flags_are;
+        flags = d.flags_are.0;
       } in
       let act' : Active mode image p (edges mode (body mode AtItem) 0) o.κ o.σ on.frame (switches_at mode image on.switching o.below) w b' cpu mem = record {
         stands = record {
@@ -226,6 +231,7 @@ module _ (mode : Mode) (image : Image) (built : IsBuilt image) (good : IsImage i
           flags = d.flags;
           ss = ss;
           ss_is = a.ss_is;
+          masked = d.flags_are.1 ∙ step.masks_flags mode image built good facts left s m h p hp o a.flags a.state.flags;
           within = omega arith;
           enough = omega arith;
           at = begins code (block mode (body mode AtItem)) u cpu mem fit agrees;
@@ -241,7 +247,8 @@ module _ (mode : Mode) (image : Image) (built : IsBuilt image) (good : IsImage i
       step.visible mode image built good facts left s m h p hp o d.cell d.found d.marked a.kernel cpu d.words d.runs
       (step.blocked mode image built good facts left s m h p hp) d.names d.allowed d.changes d.machine d.entries d.turns d.tasks d.slots (b' ∷ o.below)
       d.makes
-      (record { interrupts = quiet.0.interrupts; service = quiet.0.service; calls = quiet.0.calls }, quiet.1)
+      (record { interrupts = quiet.0.interrupts; calls = quiet.0.calls }, quiet.1)
+      (λ class. sym (ap (list_any (λ (a : BodyContext). serves mode image class a.service)) o.bodies))
       (goes_on_inside (is_return (Some d.cell.ins)) (not (is_user c)) (not (nat_le nmi_entry c.rip && nat_lt c.rip repeat_entry)) (is_jump (Some d.cell.ins))
       (is_in_repeat c.rip) (length x.bodies) d.no_return (step.outside mode image built good facts left s m h p hp o a.act) ∙ ap length o.bodies)
       (edges mode (body mode AtItem) 0) (omega arith)

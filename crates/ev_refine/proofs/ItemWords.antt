@@ -1,7 +1,9 @@
 -- The word with a name that a visible item writes, if any: what its step changes, what stays known, and what it makes of the abstract machine.
-use Rattle.std.proofs.Common.{◌≡◌, ◌≢◌, inl, inr, ⊎_elim, ℕ, ◌+◌, ◌*◌, ◌<◌, true, false, not, ◌&&◌, List, [], ◌∷◌, Some, refl, sym, ap, ◌∙◌, subst, arith}
+use Rattle.std.proofs.Common.{◌≡◌, ◌≢◌, inl, inr, ⊎_elim, ℕ, ◌+◌, ◌*◌, ◌^◌, ◌<◌, ◌≤◌, Bool, true, false, not, ◌&&◌, List, [], ◌∷◌, Some, refl, sym, ap, ◌∙◌, subst, arith}
 use Rattle.std.proofs.lemmas.Bool.Decides.{eqb_tells}
-use Rattle.ev_isa.specs.Word.{NatMap, put_at}
+use Rattle.std.specs.Prelude.{◌==◌, if◌then◌else◌}
+use Rattle.ev_isa.specs.Word.{NatMap, NatSet, put_at}
+use Rattle.ev_mem.specs.Memory.{page_map}
 use Rattle.ev_isa.specs.Flags.{Flags}
 use Rattle.ev_isa.specs.declared.mode.Mode.{Mode}
 use Rattle.ev_effect.specs.Task.{Task}
@@ -22,6 +24,8 @@ use Rattle.ev_distances.specs.Form.{OnStack}
 use Rattle.ev_blocks.specs.Shapes.{body_bytes}
 use Rattle.ev_blocks.specs.Items.{AtItem}
 use Rattle.ev_refine.specs.Named.{Named, UserRsp, Top, Current, Mark, Port, Head, TssTop, Slot, RecordWord, CellAt, PageBit, UserWord, address_of, owner, IsName, IsWritten, is_kernel_word, is_private, is_slot, is_cell, is_page_bit, is_user_word, have_none, Outside, UnknownTo, Changes}
+use Rattle.ev_user.specs.Sees.{IsPageWord, IsUserWord}
+use Rattle.ev_user.proofs.Words.{put_words}
 use Rattle.ev_refine.specs.Active.{here}
 use Rattle.ev_refine.specs.Relation.{StandsOn, Stands}
 use Rattle.ev_refine.proofs.Facts.{Facts}
@@ -39,6 +43,17 @@ put_through : (f : ℕ → ℕ) (words n : NatMap ℕ) (k v i : ℕ) → (f i �
 put_through f words n k v i one h = ⊎_elim
     (λ e. ap (λ j. put_at words (f k) v (f j)) e.1 ∙ put_same words (f k) v ∙ sym (put_same n k v) ∙ ap (put_at n k v) (sym e.1))
     (λ e. put_other words (f k) v (f i) (λ q. e.1 (one q)) ∙ h ∙ sym (put_other n k v i e.1)) (eqb_tells i k)
+
+-- a flag as a word
+abbrev pub word_of : Bool → ℕ
+word_of t = if t then 1 else 0
+
+bit_of : (f : NatSet) (k : ℕ) (t : Bool) (i : ℕ) → put_at (λ j. word_of (f j)) k (word_of t) i ≡ word_of (put_at f k t i)
+bit_of f k t i = by_same (i == k)
+  where
+    by_same : (b : Bool) → elim b [ true ↦ word_of t | false ↦ word_of (f i) ] ≡ word_of (elim b [ true ↦ t | false ↦ f i ])
+    by_same true = refl
+    by_same false = refl
 
 -- an address outside a word isn't the word's
 apart_from : (a y : ℕ) → Outside a (a + 8) y → y ≡ a → ⊥
@@ -171,6 +186,64 @@ module _ (mode : Mode) (image : Image) (built : IsBuilt image) (good : IsImage i
         held = h.shares.held;
         pages = step.same_pages mode image built good facts left s m h p hp o (z ∷ []) allowed _ changes refl;
         cells = λ i b. put_through (λ i. cells_base + 8 * i) s.memory.words m.cells k v i (λ e. omega arith) (h.shares.cells i b);
+      }
+
+  -- the presence of a page, and the word behind those of pages
+  pub page_free : (i : ℕ) → i ≤ 256 → IsFree p (PageBit i)
+  page_free i l = record { name = l; written = l; own = λ q d f. absurd (cc); kernel = refl; private = refl }
+
+  pub makes_page : (i : ℕ) (t : Bool) → i < 256
+      → Makes (record m { present = put_at m.present i t }) (put_at s.memory.words (address_of (PageBit i)) (word_of t)) x.tasks x.slots x.bodies
+  makes_page i t l =
+      let z : Named = PageBit i in
+      let allowed = are_names p z (page_free i (omega arith)) in
+      let changes = writes_name z (word_of t) in record {
+        own = refl;
+        others = λ q e. refl;
+        same_tasks = λ i d. refl;
+        good_tasks = on.tasks;
+        slots_are = step.same_slots mode image built good facts left s m h p hp o (z ∷ []) allowed _ changes refl;
+        user = step.same_user mode image built good facts left s m h p hp o (z ∷ []) allowed _ changes refl;
+        held = h.shares.held;
+        pages = λ j b. put_through (λ j. page_map + 8 * j) s.memory.words (λ j. word_of (m.present j)) i (word_of t) j (λ e. omega arith)
+            (h.shares.pages j b) ∙ bit_of m.present i t j;
+        cells = step.same_cells mode image built good facts left s m h p hp o (z ∷ []) allowed _ changes refl;
+      }
+
+  pub makes_behind_pages : (v : ℕ) → Makes m (put_at s.memory.words (address_of (PageBit 256)) v) x.tasks x.slots x.bodies
+  makes_behind_pages v =
+      let z : Named = PageBit 256 in
+      let allowed = are_names p z (page_free 256 (omega arith)) in
+      let changes = writes_name z v in record {
+        own = refl;
+        others = λ q e. refl;
+        same_tasks = λ i d. refl;
+        good_tasks = on.tasks;
+        slots_are = step.same_slots mode image built good facts left s m h p hp o (z ∷ []) allowed _ changes refl;
+        user = step.same_user mode image built good facts left s m h p hp o (z ∷ []) allowed _ changes refl;
+        held = h.shares.held;
+        pages = λ j b. put_other s.memory.words (page_map + 8 * 256) v (page_map + 8 * j) (λ e. let z : ⊥ = omega arith in z) ∙ h.shares.pages j b;
+        cells = step.same_cells mode image built good facts left s m h p hp o (z ∷ []) allowed _ changes refl;
+      }
+
+  pub user_free : (a : ℕ) → IsUserWord a → IsPageWord a → IsFree p (UserWord a)
+  user_free a u w = record { name = u; written = w; own = λ q d f. absurd (cc); kernel = refl; private = refl }
+
+  pub makes_user : (a v : ℕ) → IsUserWord a → IsPageWord a → v < 2 ^ 64
+      → Makes (record m { words = put_at m.words a v }) (put_at s.memory.words (address_of (UserWord a)) v) x.tasks x.slots x.bodies
+  makes_user a v u w l =
+      let z : Named = UserWord a in
+      let allowed = are_names p z (user_free a u w) in
+      let changes = writes_name z v in record {
+        own = refl;
+        others = λ q e. refl;
+        same_tasks = λ i d. refl;
+        good_tasks = on.tasks;
+        slots_are = step.same_slots mode image built good facts left s m h p hp o (z ∷ []) allowed _ changes refl;
+        user = λ i b. put_through (λ i. i) s.memory.words m.words a v i (λ e. e) (h.shares.user i b);
+        held = put_words m.words a v h.shares.held l;
+        pages = step.same_pages mode image built good facts left s m h p hp o (z ∷ []) allowed _ changes refl;
+        cells = step.same_cells mode image built good facts left s m h p hp o (z ∷ []) allowed _ changes refl;
       }
 
   -- with another last context

@@ -1,7 +1,8 @@
 -- A step of a processor on which a body stands: an instruction of the kernel's code, an item, or the return.
-use Rattle.std.proofs.Common.{◌≡◌, ℕ, suc, ◌+◌, ◌-◌, ◌*◌, ◌<◌, ◌≤◌, Bool, true, false, not, ◌&&◌, List, [], ◌∷◌, length, Some, refl, sym, ap, ◌∙◌, subst, arith}
+use Rattle.std.proofs.Common.{◌≡◌, ℕ, suc, ◌+◌, ◌-◌, ◌*◌, ◌<◌, ◌≤◌, Bool, true, false, not, ◌&&◌, List, [], ◌∷◌, length, Some, refl, sym, ap, ◌∙◌, subst, arith, ◌||◌}
 use Rattle.std.specs.Prelude.{ℤ, pos, ◌==◌, if◌then◌else◌, slice_get, nat_le}
 use Rattle.std.proofs.lemmas.Bool.{eqb-true, ne_eqb, leb-true, leb-false}
+use Rattle.std.specs.List.{list_any}
 use Rattle.ev_isa.specs.Word.{NatMap, is_canonical, displaced}
 use Rattle.ev_isa.specs.Flags.{Flags, flags_of}
 use Rattle.ev_isa.specs.declared.instruction.Ins.{Ins}
@@ -39,7 +40,7 @@ use Rattle.ev_blocks.specs.Fred.{FromUser, FromKernel, FredToKernel, FredToTask,
 use Rattle.ev_blocks.specs.Fred as fred
 use Rattle.ev_blocks.specs.Idt.{Stub, Sys, Common, IdtToKernel, IdtToTask, idt_block, is_page_fault, table_of, stub_values, common_values, sys_values}
 use Rattle.ev_blocks.specs.Idt as idt
-use Rattle.ev_blocks.specs.Items.{BodySpot, AtTable, AtJump, AtItem, AtNumber}
+use Rattle.ev_blocks.specs.Items.{BodySpot, AtTable, AtJump, AtItem, AtNumber, AtUserWord, AtPageWord, page_steps}
 use Rattle.ev_blocks.specs.Blocks.{Spot, InFred, InIdt, InBody, block, edges}
 use Rattle.ev_blocks.proofs.Falls.{edges_fall}
 use Rattle.ev_grounds.specs.Facts.{FactLaws}
@@ -58,7 +59,7 @@ use Rattle.ev_paths.specs.IdtEnds.{idt_end}
 use Rattle.ev_paths.specs.Ends.{Enters}
 use Rattle.ev_refine.specs.Domain.{IsInDomain}
 use Rattle.ev_refine.specs.Active.{item_place, number_of, here, IsKernelSs, Saved, SavedBody, AtLoad, AtStart, FlagsAre, HasPlace, InSpot, Matches, OverTask, OverBody, Active}
-use Rattle.ev_refine.specs.Relation.{IsContext, switches_at, body_edges, Chain, StandsOn, Stands}
+use Rattle.ev_refine.specs.Relation.{IsContext, switches_at, body_edges, Chain, StandsOn, Stands, serves}
 use Rattle.ev_refine.specs.Claims.{Simulated}
 use Rattle.ev_refine.proofs.Facts.{Facts}
 use Rattle.ev_refine.proofs.Spots.{is_spot}
@@ -72,6 +73,8 @@ use Rattle.ev_refine.proofs.BodyTables.{table_place, table_reads}
 use Rattle.ev_refine.proofs.Depth.{body_at, ends_a_body}
 use Rattle.ev_refine.proofs.Items.{which}
 use Rattle.ev_refine.proofs.ItemInside.{number_steps}
+use Rattle.ev_refine.proofs.ItemAddress.{address_steps}
+use Rattle.ev_refine.proofs.ItemPage.{page_block_steps}
 use Rattle.ev_refine.proofs.KernelStep as step
 use Rattle.ev_refine.proofs.KernelItems as items
 
@@ -209,7 +212,8 @@ module _ (mode : Mode) (image : Image) (built : IsBuilt image) (good : IsImage i
           let found = table_reads mode image good (origin_of κ) l.key l.small b.body l.found s.memory h.regions_are h.fixed in
           let way = at_the_jump mode in
           let falls = table_falls mode in
-          step.goes mode image built good facts left s m h p hp o body' is act (body mode AtJump) ss ss_is extra u f (ap is_user g.rest)
+          step.goes mode image built good facts left s m h p hp o body' is act (body mode AtJump) ss ss_is extra u f
+          (step.masks mode image built good facts left s m h p hp o B 0 e at) (ap is_user g.rest)
           (loads mode code e c s.memory a (body_code b.body) facts.kernel at at_a found.0 found.1
           (step.fits mode image built good facts left s m h p hp o body' is (body mode AtJump) way.over ss extra u f place tt (way.told (env ss extra u f)))
           (step.windows mode image built good facts left s m h p hp o body' is (body mode AtJump) way.over ss extra u f))
@@ -255,7 +259,8 @@ module _ (mode : Mode) (image : Image) (built : IsBuilt image) (good : IsImage i
           let item : with_item e (v 0) ≡ e = same_base e (v 0) (place ∙ step.place_is mode image built good facts left s m h p hp o body' is ∙ sym target) in
           let way = at_the_item mode in
           let falls = jump_falls mode in
-          step.goes mode image built good facts left s m h p hp o body' is act (body mode AtItem) ss ss_is extra v f (ap is_user g.rest)
+          step.goes mode image built good facts left s m h p hp o body' is act (body mode AtItem) ss ss_is extra v f
+          (step.masks mode image built good facts left s m h p hp o B 0 e at) (ap is_user g.rest)
           (subst (Goes code c s.memory (block mode (body mode AtItem))) item
           (jumps mode code e c s.memory facts.kernel at (ap is_canonical target ∙ fine.0) (let upper = fine.1 in omega arith)
           (subst (λ y. Fits code y (block mode (body mode AtItem))) (sym item)
@@ -284,6 +289,8 @@ module _ (mode : Mode) (image : Image) (built : IsBuilt image) (good : IsImage i
           (step.bodies_alone mode image built good facts left s m h p hp o [] (none_spares p).allowed s.memory.words (λ y far far'. refl) (none_spares p) refl
           below)
           (step.are_quiet mode image built good facts left s m h p hp o).1
+          (λ class. sym (ap (list_any (λ (a : BodyContext). serves mode image class a.service)) o.bodies
+          ∙ ap (λ q. serves mode image class q || list_any (λ (a : BodyContext). serves mode image class a.service) below) (step.ret_serves mode image built good facts left s m h p hp o ret)))
           (ap (λ e. if e then length (processor m p).bodies - 1 else
           (if begins_body c (Some cell.ins) then suc (length (processor m p).bodies) else length (processor m p).bodies))
           (ends_a_body (Some cell.ins) c x.place x.rip x.outside hu x.is) ∙ ap (λ (bs : List BodyContext). length bs - 1) o.bodies
@@ -339,7 +346,8 @@ module _ (mode : Mode) (image : Image) (built : IsBuilt image) (good : IsImage i
           (subst (λ m. FactsHold (env ss extra u' g) (block m spot).ground.facts) q told)))
           (subst (λ m. Open (env ss extra u' g) (block m spot).ground.known s.memory.regions) (sym q)
           (step.windows mode image built good facts left s m h p hp o body' is spot fine ss extra u' g)) in
-          step.goes mode image built good facts left s m h p hp o body' is act spot ss ss_is extra u' g (ap is_user there.agrees.rest)
+          step.goes mode image built good facts left s m h p hp o body' is act spot ss ss_is extra u' g
+          (step.masked mode image built good facts left s m h p hp o) (ap is_user there.agrees.rest)
           (subst (λ m. Goes code c s.memory (block m spot) (env ss extra u' g)) q
           (goes_by code c s.memory _ _ (Jmp j.distance) _ _ on_way
           (stub_rip code og has v e c s.memory small_vector stub_at.2 there) j.is (jump_stays j.distance)))
@@ -378,6 +386,15 @@ module _ (mode : Mode) (image : Image) (built : IsBuilt image) (good : IsImage i
           items.by_number mode image built good facts left s m h p hp o body' is act ss ss_is extra v f j
           (subst (λ i. At code (block mode (body mode (AtNumber j))) i (env ss extra v f) c s.memory) (n ∙ number_steps mode j) at) means.0 means.1 long
           ctx.item (ap number_of (sym hi) ∙ ap (λ o. number_of (item_at o b.place)) (sym is) ∙ means.2) hi
+      at_body act AtUserWord k ss ss_is extra v f n at means long enough hi =
+          items.by_address mode image built good facts left s m h p hp o body' is ss ss_is extra v f
+          (subst (λ i. At code (block mode (body mode AtUserWord)) i (env ss extra v f) c s.memory) (n ∙ address_steps mode) at) means.0 means.1 means.2 long
+          (subst (λ i. edges mode (body mode AtUserWord) i ≤ on.own) (n ∙ address_steps mode) enough)
+          (step.still mode image built good facts left s m h p hp o act) ctx.item hi
+      at_body act (AtPageWord is_page) k ss ss_is extra v f n at means long enough hi =
+          items.by_page mode image built good facts left s m h p hp o body' is act ss ss_is extra v f is_page
+          (subst (λ i. At code (block mode (body mode (AtPageWord is_page))) i (env ss extra v f) c s.memory) (n ∙ page_block_steps mode is_page) at)
+          means.0 means.1 means.2 long ctx.item hi
       at_body act _ k ss ss_is extra v f n at means long enough hi = absurd means
 
       -- which of them, by what was interrupted and the mode

@@ -6,14 +6,14 @@ use Rattle.ev_isa.specs.Word.{NatMap, is_canonical}
 use Rattle.ev_isa.specs.Flags.{Flags}
 use Rattle.ev_isa.specs.Spelling.{spelling}
 use Rattle.ev_isa.specs.declared.instruction.Ins.{Ins}
-use Rattle.ev_isa.specs.declared.instruction.Ins.TheVariants.{Load, Store, Xchg, Xadd, Jmp}
+use Rattle.ev_isa.specs.declared.instruction.Ins.TheVariants.{Load, Store, StoreImm, Xchg, Xadd, Jmp}
 use Rattle.ev_isa.specs.declared.mode.Mode.{Mode}
 use Rattle.ev_effect.specs.Task.{Task}
 use Rattle.ev_body.specs.declared.item.Item.{Item}
-use Rattle.ev_body.specs.declared.item.Item.TheVariants.{Set, Copy, Goto, Log, Cpu, Slot, Put, SetCell, AddCell, SwapCell, GetReg, SetReg, SetRip, Ret}
+use Rattle.ev_body.specs.declared.item.Item.TheVariants.{Set, Copy, Goto, Log, Cpu, Slot, Put, SetCell, AddCell, SwapCell, Uget, Uput, GetReg, SetReg, SetRip, Map, Unmap, Ret}
 use Rattle.ev_body.specs.declared.body.Body.{Body}
 use Rattle.ev_body.specs.declared.image.Image.{Image}
-use Rattle.ev_body.specs.WellFormed.{IsImage}
+use Rattle.ev_body.specs.WellFormed.{IsImage, is_local, has_operands}
 use Rattle.ev_listing.specs.AddressMap.{saved_rip}
 use Rattle.ev_listing.specs.Expansion.{item_address}
 use Rattle.ev_state.specs.Processor.{Processor, register, is_user}
@@ -21,8 +21,10 @@ use Rattle.ev_state.proofs.FlagLaws.{kept}
 use Rattle.ev_apic.specs.declared.apic.Apic.{Apic}
 use Rattle.ev_mem.specs.Memory.{Memory}
 use Rattle.ev_proc.specs.ProcessorStep.{has_fred, executed, ran}
-use Rattle.ev_abstract.specs.Context.{BodyContext}
+use Rattle.ev_abstract.specs.Context.{BodyContext, local}
+use Rattle.ev_abstract.specs.ItemMeaning.{user_address}
 use Rattle.ev_abstract.specs.Rules.{breaks_slots}
+use Rattle.ev_symbolic.proofs.Values.{and_left, and_right}
 use Rattle.ev_abstract.specs.Machine.{Machine, processor, with_processor, task}
 use Rattle.ev_abstract.specs.Machine as abstract
 use Rattle.ev_abstract.specs.Run.{item_at}
@@ -35,20 +37,20 @@ use Rattle.ev_symbolic.specs.Machine.{Fetches}
 use Rattle.ev_symbolic.specs.Single.{IsAt, onward}
 use Rattle.ev_symbolic.proofs.Single.{singles}
 use Rattle.ev_symbolic.proofs.Blocks.{unsome, begins, at_end}
-use Rattle.ev_blocks.specs.Items.{AtItem, AtNumber}
+use Rattle.ev_blocks.specs.Items.{AtItem, AtNumber, AtUserWord, AtPageWord, page_steps}
 use Rattle.ev_blocks.specs.Blocks.{Spot, InFred, InIdt, InBody, block, edges}
 use Rattle.ev_blocks.specs.Blocks as blocks
 use Rattle.ev_user.specs.Words.{AreWords}
 use Rattle.ev_activation.specs.Seat.{Kind, SystemCall, FromTask, FromBody, NmiFromTask, NmiFromBody, Seat}
 use Rattle.ev_table.specs.Table.{code_table, other_exit, RetCell}
 use Rattle.ev_refine.specs.Domain.{IsInDomain}
-use Rattle.ev_refine.specs.Active.{item_place, number_of, here, IsKernelSs, Saved, SavedOf, InItem, Active}
+use Rattle.ev_refine.specs.Active.{item_place, number_of, address_local, page_local, LocalInRax, here, IsKernelSs, Saved, SavedOf, InItem, Active}
 use Rattle.ev_refine.specs.Relation.{IsContext, switches_at, StandsOn, Stands}
 use Rattle.ev_refine.specs.Claims.{Simulated}
 use Rattle.ev_refine.proofs.Facts.{Facts, word_of_flags, word_of_canonical}
 use Rattle.ev_refine.proofs.ModeFacts.{is_fred}
 use Rattle.ev_refine.proofs.Fits.{IsSeat}
-use Rattle.ev_refine.proofs.Bodies.{body, exit_canonical, item_opening, OpensExit, exits, kernel_exits}
+use Rattle.ev_refine.proofs.Bodies.{body, means_at, exit_canonical, item_opening, OpensExit, exits, kernel_exits}
 use Rattle.ev_refine.proofs.After.{none_spares}
 use Rattle.ev_refine.proofs.CallKinds.{is_over_task, is_over_body, is_plain_kind, origin_of, plain_knows, saved_task, saved_body}
 use Rattle.ev_refine.proofs.ItemState.{item_state, item_comes, item_flags}
@@ -57,6 +59,10 @@ use Rattle.ev_refine.proofs.ItemSteps as steps
 use Rattle.ev_refine.proofs.ItemTask as task
 use Rattle.ev_refine.proofs.ItemNumbers as numbers
 use Rattle.ev_refine.proofs.ItemInside as inside
+use Rattle.ev_refine.proofs.ItemAddress as addresses
+use Rattle.ev_refine.proofs.ItemUser as user
+use Rattle.ev_refine.proofs.ItemPage as pages
+use Rattle.ev_refine.proofs.ItemPages as page_items
 use Rattle.ev_refine.proofs.ItemCells.{visible_of}
 use Rattle.ev_law.proofs.Ruled.{IsRuled}
 use Rattle.ev_refine.proofs.KernelStep as step
@@ -241,6 +247,7 @@ module _ (mode : Mode) (image : Image) (built : IsBuilt image) (good : IsImage i
               flags = f;
               ss = ss;
               ss_is = ss_is;
+              masked = step.masks mode image built good facts left s m h p hp o B 0 e at;
               within = omega arith;
               enough = omega arith;
               at = begins code (block mode x.spot) e cpu s.memory
@@ -257,7 +264,7 @@ module _ (mode : Mode) (image : Image) (built : IsBuilt image) (good : IsImage i
           → At code (block mode (body mode AtItem)) 0 (env ss extra v f) c s.memory → InItem mode image (origin_of κ) (env ss extra v f) w b
           → extra 20 ≡ item_place mode image b.body b.place → length c.regs ≡ 16 → edges mode (body mode AtItem) 0 ≤ on.own
           → (i : Item) → is_built_item i ≡ true → item_at (Some body') b.place ≡ Some i → Result
-      unfolding is_built_item at_visible visible_of number_of
+      unfolding is_built_item at_visible visible_of number_of address_local page_local has_operands
       by_item act ss ss_is extra v f at means place long enough i today hi = pick i today hi
         where
           a : visible.AtVisible mode image built good facts left s m h p hp o body' is ss extra v f
@@ -277,6 +284,29 @@ module _ (mode : Mode) (image : Image) (built : IsBuilt image) (good : IsImage i
           number i ins seen hi n q = inside.to_number mode image built good facts left s m h p hp o body' is act ss ss_is extra v f at means place long enough
               i ins seen hi n q
 
+          ruled : IsRuled image body'
+          ruled = steps.ruled mode image built good facts left s m h p hp o body' is ss extra v f a
+
+          -- the move of a local to RAX comes first
+          address : (i : Item) (ins : Ins) → visible_of i ≡ Some ins → item_at (Some body') b.place ≡ Some i → (r : ℕ) → address_local (Some i) ≡ Some r
+              → is_local r ≡ true → Result
+          address i ins seen hi r q ok =
+              let g : Agrees (env ss extra v f) (block mode (body mode AtItem)).ground (block mode (body mode AtItem)).opening c s.memory
+              = at_end code (block mode (body mode AtItem)) 0 _ refl (env ss extra v f) c s.memory at in
+              addresses.to_address mode image built good facts left s m h p hp o body' is act ss ss_is extra v f at means place long enough a.kernel
+              i ins seen hi r q (steps.is_the_local mode image built good facts left s m h p hp o body' is ss extra v f a r ok)
+              (kept c.flags a.flags a.state.flags) (at_item ss extra v f g place)
+
+          -- and that of a local to RAX, of which the page is told
+          page : (i : Item) (ins : Ins) → visible_of i ≡ Some ins → item_at (Some body') b.place ≡ Some i → (r : ℕ) → page_local (Some i) ≡ Some r
+              → is_local r ≡ true → Result
+          page i ins seen hi r q ok =
+              let g : Agrees (env ss extra v f) (block mode (body mode AtItem)).ground (block mode (body mode AtItem)).opening c s.memory
+              = at_end code (block mode (body mode AtItem)) 0 _ refl (env ss extra v f) c s.memory at in
+              pages.to_page mode image built good facts left s m h p hp o body' is act ss ss_is extra v f at means place long enough a.kernel
+              i ins seen hi r q (steps.is_the_local mode image built good facts left s m h p hp o body' is ss extra v f a r ok)
+              (kept c.flags a.flags a.state.flags) (at_item ss extra v f g place)
+
           pick : (i : Item) → is_built_item i ≡ true → item_at (Some body') b.place ≡ Some i → Result
           pick (Set d n) today hi = does (steps.by_set mode image built good facts left s m h p hp o body' is ss extra v f a off same d n hi)
           pick (Copy d q) today hi = does (steps.by_copy mode image built good facts left s m h p hp o body' is ss extra v f a off same d q hi)
@@ -295,6 +325,10 @@ module _ (mode : Mode) (image : Image) (built : IsBuilt image) (good : IsImage i
           pick (AddCell k d) today hi = number (AddCell k d) (Xadd 0 (pos 0) d) refl hi _ refl
           pick (SwapCell k d) today hi = number (SwapCell k d) (Xchg 0 (pos 0) d) refl hi _ refl
           pick (SetRip n) today hi = number (SetRip n) (Store 4 (pos saved_rip) 0) refl hi n refl
+          pick (Uget d q) today hi = address (Uget d q) (Load d 0 (pos 0)) refl hi q refl (and_right (is_local d) _ (ruled.operands b.place (Uget d q) hi).2)
+          pick (Uput q r) today hi = address (Uput q r) (Store 0 (pos 0) r) refl hi q refl (and_left (is_local q) _ (ruled.operands b.place (Uput q r) hi).2)
+          pick (Map q) today hi = page (Map q) (StoreImm 0 (pos 0) (pos 1)) refl hi q refl (ruled.operands b.place (Map q) hi).2
+          pick (Unmap q) today hi = page (Unmap q) (StoreImm 0 (pos 0) (pos 0)) refl hi q refl (ruled.operands b.place (Unmap q) hi).2
           pick Item.Bp today hi = breaks.by_bp mode image built good facts left s m h p hp o body' is ss extra v f a off same hi
           pick Ret today hi = at_ret act ss ss_is extra v f at means place long enough hi
           pick _ today hi = absurd (cc)
@@ -336,4 +370,76 @@ module _ (mode : Mode) (image : Image) (built : IsBuilt image) (good : IsImage i
               (low k (ruled.slots b.place (SwapCell k d) hi)) (rax ∙ sym (unsome _ _ q)) d hi)
           pick (SetRip j) q hi = does (task.by_setrip mode image built good facts left s m h p hp o body' is ss extra v f a off refl j
               (rax ∙ sym (unsome _ _ q)) hi)
+          pick _ q hi = absurd (cc)
+
+      -- behind the block that comes to the address of the page's word
+      pub by_page : (act : Stood on.own b c s.memory) (ss : ℕ) → IsKernelSs mode ss → (extra v : ℕ → ℕ) (f : Flags) (is_page : Bool)
+          → At code (block mode (body mode (AtPageWord is_page))) (page_steps is_page) (env ss extra v f) c s.memory
+          → InItem mode image (origin_of κ) (env ss extra v f) w b → extra 20 ≡ item_place mode image b.body b.place
+          → LocalInRax mode image page_local (env ss extra v f) b → length c.regs ≡ 16 → (i : Item) → item_at (Some body') b.place ≡ Some i → Result
+      unfolding page_local
+      by_page act ss ss_is extra v f is_page at means place page long i hi =
+          pick i (ap page_local (sym hi) ∙ ap (λ o. page_local (item_at o b.place)) (sym is) ∙ page.is) hi
+        where
+          z : pages.AtThePage mode image built good facts left s m h p hp o body' is ss extra v f is_page
+          z = pages.at_page mode image built good facts left s m h p hp o body' is act ss ss_is extra v f is_page at means place long
+
+          does : visible.Does mode image built good facts left s m h p hp o body' is ss extra v f z.visible → Result
+          does d = visible.visible mode image built good facts left s m h p hp o body' is ss extra v f z.visible d
+
+          asked : (r : ℕ) → Some r ≡ Some page.register → v 0 ≡ local b r
+          asked r q = page.rax ∙ ap (local b) (sym (unsome _ _ q))
+
+          pick : (i : Item) → page_local (Some i) ≡ Some page.register → item_at (Some body') b.place ≡ Some i → Result
+          pick (Map r) q hi = does (page_items.by_map mode image built good facts left s m h p hp o body' is ss extra v f z.visible z.offset is_page
+              r (asked r q) z.told z.rax hi)
+          pick (Unmap r) q hi = does (page_items.by_unmap mode image built good facts left s m h p hp o body' is ss extra v f z.visible z.offset is_page
+              r (asked r q) z.told z.rax hi)
+          pick _ q hi = absurd (cc)
+
+      -- behind the block that cuts the address in RAX
+      pub by_address : (ss : ℕ) → IsKernelSs mode ss → (extra v : ℕ → ℕ) (f : Flags)
+          → At code (block mode (body mode AtUserWord)) 2 (env ss extra v f) c s.memory → InItem mode image (origin_of κ) (env ss extra v f) w b
+          → extra 20 ≡ item_place mode image b.body b.place → LocalInRax mode image address_local (env ss extra v f) b → length c.regs ≡ 16
+          → edges mode (body mode AtUserWord) 2 ≤ on.own → switches_at mode image on.switching below ≡ false
+          → (i : Item) → item_at (Some body') b.place ≡ Some i → Result
+      unfolding address_local
+      by_address ss ss_is extra v f at means place address long enough still i hi =
+          pick i (ap address_local (sym hi) ∙ ap (λ o. address_local (item_at o b.place)) (sym is) ∙ address.is) hi
+        where
+          last : (block mode (body mode AtUserWord)).steps ≡ 2
+          last = addresses.address_steps mode
+
+          act : Stood on.own b c s.memory
+          act = record {
+            stands = record {
+              spot = body mode AtUserWord;
+              k = 2;
+              extra = extra;
+              var = v;
+              flags = f;
+              ss = ss;
+              ss_is = ss_is;
+              masked = step.masks mode image built good facts left s m h p hp o (block mode (body mode AtUserWord)) 2 (env ss extra v f) at;
+              within = subst (λ y. 2 ≤ y) (sym last) (omega arith);
+              enough = enough;
+              at = at;
+              long = long;
+            };
+            switches = addresses.address_plain mode ∙ sym still;
+            knows = plain_knows mode κ on.frame plain_kind (blocks.holds (body mode AtUserWord));
+            means = means_at mode image κ plain_kind AtUserWord (env ss extra v f) w b s.memory.words (means, place, address);
+          }
+
+          z : addresses.AtTheWord mode image built good facts left s m h p hp o body' is ss extra v f
+          z = addresses.at_address mode image built good facts left s m h p hp o body' is act ss ss_is extra v f at means place long
+
+          rax : (r : ℕ) → Some r ≡ Some address.register → register c 0 ≡ user_address (local b r)
+          rax r q = z.rax ∙ ap user_address (address.rax ∙ ap (local b) (sym (unsome _ _ q)))
+
+          pick : (i : Item) → address_local (Some i) ≡ Some address.register → item_at (Some body') b.place ≡ Some i → Result
+          pick (Uget d j) q hi = user.by_uget mode image built good facts left s m h p hp o body' is ss extra v f z.visible z.offset j (rax j q) act
+              (addresses.address_untold mode) d hi
+          pick (Uput j y) q hi = user.by_uput mode image built good facts left s m h p hp o body' is ss extra v f z.visible z.offset j (rax j q) act
+              (addresses.address_untold mode) y hi
           pick _ q hi = absurd (cc)

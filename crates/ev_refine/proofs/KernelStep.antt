@@ -1,9 +1,9 @@
 -- What a step of kernel code gives: an edge, or a turn of the abstract machine; and steps inside blocks.
-use Rattle.std.proofs.Common.{◌≡◌, inl, inr, ℕ, suc, ◌+◌, ◌-◌, ◌*◌, ◌<◌, ◌≤◌, Bool, true, false, not, ◌&&◌, ◌||◌, List, [], ◌∷◌, length, Some, refl, sym, ap, ◌∙◌, subst, arith}
+use Rattle.std.proofs.Common.{◌≡◌, inl, inr, ℕ, suc, ◌+◌, ◌-◌, ◌*◌, ◌<◌, ◌≤◌, Bool, true, false, not, ◌&&◌, List, [], ◌∷◌, length, Some, refl, sym, ap, ◌∙◌, subst, arith, None}
 use Rattle.std.specs.Prelude.{if◌then◌else◌, ◌==◌, slice_get, nat_le, nat_lt}
 use Rattle.std.specs.List.{list_any}
 use Rattle.ev_isa.specs.Word.{NatMap, put_at, greatest_below}
-use Rattle.ev_isa.specs.Flags.{Flags}
+use Rattle.ev_isa.specs.Flags.{Flags, flags_word}
 use Rattle.ev_isa.specs.declared.instruction.Ins.{Ins}
 use Rattle.ev_isa.specs.declared.mode.Mode.{Mode}
 use Rattle.ev_effect.specs.Task.{Task}
@@ -15,7 +15,7 @@ use Rattle.ev_body.specs.declared.image.Image.{Image}
 use Rattle.ev_body.specs.WellFormed.{IsImage}
 use Rattle.ev_listing.specs.AddressMap.{pcpu, slot_offset, cells_base, nmi_entry, repeat_entry}
 use Rattle.ev_listing.specs.Expansion.{item_address}
-use Rattle.ev_state.specs.Processor.{Processor, is_user}
+use Rattle.ev_state.specs.Processor.{Processor, is_user, interrupts_on}
 use Rattle.ev_apic.specs.declared.apic.Apic.{Apic}
 use Rattle.ev_mem.specs.Memory.{Memory, page_map}
 use Rattle.ev_proc.specs.ProcessorStep.{has_fred, next_of, executed, ran}
@@ -32,8 +32,9 @@ use Rattle.ev_concrete.specs.ConcreteRun.{System, Activation, marks_of, is_retur
 use Rattle.ev_concrete.specs.Depth.{is_in_repeat, bodies_on, is_jump, ends_body, begins_body}
 use Rattle.ev_built.specs.Built.{IsBuilt}
 use Rattle.ev_symbolic.specs.Value.{M}
+use Rattle.ev_symbolic.specs.State.{Block}
 use Rattle.ev_symbolic.specs.Run.{brun}
-use Rattle.ev_symbolic.specs.Agrees.{Env, Cell, Code, edge_cell, FactsHold, Open, Fits, with_words}
+use Rattle.ev_symbolic.specs.Agrees.{Env, Cell, Code, edge_cell, FactsHold, Open, Fits, At, with_words}
 use Rattle.ev_symbolic.specs.Machine.{Fetches, Inside}
 use Rattle.ev_symbolic.proofs.Blocks.{earlier, goes_on, cell_step}
 use Rattle.ev_blocks.specs.Blocks.{Spot, InFred, InIdt, InBody, block, edges}
@@ -58,16 +59,16 @@ use Rattle.ev_refine.proofs.Spots.{is_spot, IsAtEntry, keeps_rsp, names_if, name
 use Rattle.ev_refine.proofs.Fits.{IsSeat, InBodies, fits_at, opens_at, kernel_changes}
 use Rattle.ev_refine.proofs.Bodies.{Goes}
 use Rattle.ev_refine.proofs.Instructions.{stays_inside}
-use Rattle.ev_refine.proofs.Standing.{instruction_first, hidden, seen, after_ran, Runs, ran_step, ran_writes, ran_safe, ran_shown, ran_stays, Moves, step_moves}
+use Rattle.ev_refine.proofs.Standing.{masked_first, hidden, seen, after_ran, Runs, ran_step, ran_writes, ran_safe, ran_shown, ran_stays, Moves, step_moves}
 use Rattle.ev_refine.proofs.Stays.{means_again, leads_again, AreSpared, chain_stays, seat_fits, below_spared}
-use Rattle.ev_refine.proofs.Chains.{Kept, chain_kept, chain_plain, chain_open}
-use Rattle.ev_refine.proofs.After.{AreNames, AreSparing, own_word, none_spares, slot_same, cell_same, page_same, user_same, few_inner, latch_parts, as_chain, returns_to, own_becomes, own_after, stands_become, stands_after}
+use Rattle.ev_refine.proofs.Chains.{Kept, chain_kept, chain_plain, chain_open, chain_masked, word_interrupts, at_interrupts}
+use Rattle.ev_refine.proofs.After.{AreNames, AreSparing, own_word, none_spares, slot_same, cell_same, page_same, user_same, few_inner, latch_parts, as_chain, returns_to, apic_again, own_becomes, own_after, stands_become, stands_after}
 use Rattle.ev_refine.proofs.CallKinds.{is_over_task, is_plain_kind, over_any, beneath_as, stands_alone, ArePlain, none_nmi, seat_under, plain_seat, plain_knows}
 use Rattle.ev_refine.proofs.Domains.{four_tasks}
 use Rattle.ev_law.proofs.Ruled.{body_ruled}
 use Rattle.ev_user.specs.Numbers.{AreOfWords, HoldsNumbers}
 use Rattle.ev_user.proofs.KeepsNumbers.{items_keep_numbers}
-use Rattle.ev_refine.proofs.Legality.{turn_legal, turn_bases, legal_few}
+use Rattle.ev_refine.proofs.Legality.{turn_legal, turn_bases, legal_few, context_serves}
 use Rattle.ev_refine.proofs.Depth.{body_at, active_outside, stands_depth, goes_on_inside, ran_counts}
 
 -- the names of a block's writes
@@ -118,9 +119,6 @@ module _ (mode : Mode) (image : Image) (built : IsBuilt image) (good : IsImage i
   latch : s.latches p ≡ false
   latch = sym (latch_parts on.layer on.frame _ (s.latches p) c.nmi_blocked x.nmi on.latch).0 ∙ domain.nmi
 
-  pub first : next_of c (s.apics p) (s.latches p) ≡ Next.Instruction
-  first = instruction_first c (s.apics p) (s.latches p) latch (λ v lt. on.pending v lt ∙ ap (λ q. q v) domain.pending)
-
   pub fetches : Fetches code s.memory
   fetches = facts.fetches s.memory h.regions_are h.fixed
 
@@ -152,20 +150,16 @@ module _ (mode : Mode) (image : Image) (built : IsBuilt image) (good : IsImage i
   pub blocked : c.nmi_blocked ≡ false
   blocked = (latch_parts on.layer on.frame _ (s.latches p) c.nmi_blocked x.nmi on.latch).1 ∙ none_is_nmi
 
-  -- no interrupt is in service
-  pub unserved : (class : ℕ) (ys : List BodyContext) → AreQuiet ys → list_any (λ (a : BodyContext). serves mode image class a.service) ys ≡ false
-  unserved class [] q = refl
-  unserved class (a ∷ ys) q = ap (λ o. serves mode image class o || list_any (λ (a : BodyContext). serves mode image class a.service) ys) q.0.service
-      ∙ unserved class ys q.1
+  -- the classes in service are those of the contexts
+  abbrev pub ServesAlike : List BodyContext → Type 0
+  ServesAlike bs = (class : ℕ) → list_any (λ (a : BodyContext). serves mode image class a.service) bs
+      ≡ list_any (λ (a : BodyContext). serves mode image class a.service) x.bodies
 
   abbrev pub Executes : Ins → Processor → NatMap ℕ → Type 0
   Executes i cpu words = (a : Apic) (nmi : Bool) → executed c a s.memory nmi (Some i) ≡ ran cpu a words nmi
 
-  runs : (cell : Cell) → code c.rip ≡ Some cell → is_user c ≡ false → (cpu : Processor) (words : NatMap ℕ) → Executes cell.ins cpu words → Runs s p cpu words
-  runs cell hc hu cpu words he = cell_step code c (s.apics p) s.memory (s.latches p) cell fetches hc first hu ∙ he (s.apics p) (s.latches p)
-
   moves : (cpu : Processor) (words : NatMap ℕ) → Moves p s (after_ran s p cpu words) cpu (activations_by s p (s.activations p) cpu Stepped.Ran) words
-  moves cpu words = step_moves s p (ran cpu (s.apics p) words (s.latches p)) refl refl
+  moves cpu words = step_moves s p (ran cpu (s.apics p) words (s.latches p)) refl
 
   -- ---- the last context, on any contexts below
 
@@ -209,6 +203,25 @@ module _ (mode : Mode) (image : Image) (built : IsBuilt image) (good : IsImage i
 
     abbrev pub env : ℕ → (extra v : ℕ → ℕ) → Flags → Env
     env ss extra v f = here mode p κ σ ss w extra v f
+
+    -- ---- IF is off, so an instruction comes first
+
+    pub masked : interrupts_on c ≡ false
+    masked = chain_masked mode image p on.own r t on.frame on.switching b below (s.activations p) c s.memory
+        (subst (λ bs. Chained on.own t bs (s.activations p) c s.memory) o.bodies chain)
+
+    -- so it is off in the flags of each block where the processor is
+    pub masks : (B : Block) (k : ℕ) (e : Env) → At code B k e c s.memory → e.flags.interrupts ≡ false
+    masks B k e at = sym (at_interrupts code B k e c s.memory at) ∙ masked
+
+    pub masks_flags : (f : Flags) → c.flags ≡ flags_word f → f.interrupts ≡ false
+    masks_flags f is = sym (word_interrupts c f is) ∙ masked
+
+    pub first : next_of c (s.apics p) (s.latches p) ≡ Next.Instruction
+    first = masked_first c (s.apics p) (s.latches p) latch masked
+
+    runs : (cell : Cell) → code c.rip ≡ Some cell → is_user c ≡ false → (cpu : Processor) (words : NatMap ℕ) → Executes cell.ins cpu words → Runs s p cpu words
+    runs cell hc hu cpu words he = cell_step code c (s.apics p) s.memory (s.latches p) cell fetches hc first hu ∙ he (s.apics p) (s.latches p)
 
     abbrev pub Stood : ℕ → BodyContext → Processor → Memory → Type 0
     Stood now b' cpu mem = Active mode image p now κ σ on.frame (switches_at mode image on.switching below) w b' cpu mem
@@ -335,7 +348,8 @@ module _ (mode : Mode) (image : Image) (built : IsBuilt image) (good : IsImage i
         let there : StandsOn mode image p (now + inner_edges (s.latches p)) (after_ran s p cpu words) x
         = own_after mode image p (left p) s (after_ran s p cpu words) x σ cpu _ words x.tasks x.bodies now on small (four_tasks image good p hp)
         (moves cpu words) on_stack narrow names sparing changes (λ i d. refl) on.tasks
-        (hb ∙ sym none_is_nmi) (λ class. refl) (let l = on.enough in let f = on.few in omega arith) goes_on in
+        (hb ∙ sym none_is_nmi) x.pending
+        (apic_again mode image (s.apics p) _ x.pending x.bodies x.bodies (at_same s.apics p p (s.apics p) refl) (λ class. refl) on.apic) (let l = on.enough in let f = on.few in omega arith) goes_on in
         let all : Stands mode image (put_at left p (now + inner_edges (s.latches p))) (after_ran s p cpu words) m
         = stands_after mode image left s (after_ran s p cpu words) m m p (now + inner_edges (s.latches p)) x σ cpu _ words good built.accepted
         (four_tasks image good) h hp (moves cpu words) narrow names sparing changes
@@ -374,6 +388,10 @@ module _ (mode : Mode) (image : Image) (built : IsBuilt image) (good : IsImage i
         ∙ ap (λ z. if z then interrupt_or_next (greatest_below 256 (deliverable x)) else Choice.Next) quiet.interrupts)
         ∙ ap (next_step image m p) o.bodies ∙ ap (item_or_nothing image m p b) hi
 
+    -- at `ret` it has no interrupt in service
+    pub ret_serves : item_at (slice_get image.bodies b.body) b.place ≡ Some Ret → b.service ≡ None
+    ret_serves hi = context_serves image good built.accepted m p h.legal b below o.bodies hi
+
     -- its numbers stay words
     pub numbers_behind : (m' : Machine) (es : List Entry) → turn image m p ≡ (m', es) → HoldsNumbers m'
     numbers_behind m' es ht =
@@ -400,13 +418,13 @@ module _ (mode : Mode) (image : Image) (built : IsBuilt image) (good : IsImage i
         → (cpu : Processor) (words : NatMap ℕ) → Executes cell.ins cpu words → cpu.nmi_blocked ≡ false
         → (names : List Named) → AreNames p names → Changes p σ names s.memory.words words
         → (m' : Machine) (es : List Entry) → turn image m p ≡ (m', es) → (tasks : NatMap Task) (slots : NatMap ℕ) (bs : List BodyContext)
-        → Makes m' words tasks slots bs → AreQuiet bs
+        → Makes m' words tasks slots bs → AreQuiet bs → ServesAlike bs
         → (if ends_body c (Some cell.ins) then length x.bodies - 1
         else (if begins_body c (Some cell.ins) then suc (length x.bodies) else length x.bodies)) ≡ length bs
         → (now : ℕ) → now ≤ body_edges mode image
         → Chained now (tasks r) bs (activations_by s p (s.activations p) cpu Stepped.Ran) cpu (with_words s.memory words)
         → shown_always p (bodies_on s p) c s.memory.words (Some cell.ins) ≡ es → Result
-    visible cell hc hm hu cpu words he hb names allowed changes m' es ht tasks slots bs y quiet told now few goes_on hes =
+    visible cell hc hm hu cpu words he hb names allowed changes m' es ht tasks slots bs y quiet serving told now few goes_on hes =
         let run : Runs s p cpu words = runs cell hc hu cpu words he in
         let x' : abstract.Processor = record x { tasks = tasks; slots = slots; bodies = bs } in
         let none : list_any (is_nmi_body image) bs ≡ false
@@ -414,9 +432,10 @@ module _ (mode : Mode) (image : Image) (built : IsBuilt image) (good : IsImage i
         let there : StandsOn mode image p (now + inner_edges (s.latches p)) (after_ran s p cpu words) x'
         = own_becomes mode image p (left p) s (after_ran s p cpu words) x σ cpu _ words tasks slots bs now on small (four_tasks image good p hp)
         (moves cpu words) on_stack narrow names allowed changes y.slots_are y.same_tasks y.good_tasks (hb ∙ sym none)
-        (λ class. unserved class bs quiet ∙ sym (unserved class x.bodies domain.bodies))
+        x.pending (apic_again mode image (s.apics p) _ x.pending x.bodies bs (at_same s.apics p p (s.apics p) refl)
+        serving on.apic)
         (let f = few_inner mode image (s.latches p) in omega arith) goes_on in
-        let inside : IsInDomain x' = record { pending = domain.pending; nmi = domain.nmi; resched = domain.resched; bodies = quiet } in
+        let inside : IsInDomain x' = record { nmi = domain.nmi; resched = domain.resched; bodies = quiet } in
         let all : Stands mode image (put_at left p (now + inner_edges (s.latches p))) (after_ran s p cpu words) m'
         = stands_become mode image left s (after_ran s p cpu words) m m' p (now + inner_edges (s.latches p)) x' σ cpu _ words
         good built.accepted (four_tasks image good) h hp (moves cpu words) narrow names allowed changes
@@ -540,6 +559,7 @@ module _ (mode : Mode) (image : Image) (built : IsBuilt image) (good : IsImage i
             flags = a.flags;
             ss = a.ss;
             ss_is = a.ss_is;
+            masked = a.masked;
             within = lt;
             enough = omega arith;
             at = i.there;
@@ -577,10 +597,10 @@ module _ (mode : Mode) (image : Image) (built : IsBuilt image) (good : IsImage i
       windows spot over ss extra v f = opens_at mode image p σ in_seat hp good.count.1 κ ss w extra v f spot over s.memory h.regions_are
 
       -- an edge to the opening of a block
-      pub goes : (act : Stood on.own b c s.memory) (spot : Spot) (ss : ℕ) → IsKernelSs mode ss → (extra v : ℕ → ℕ) (f : Flags) → is_user c ≡ false
+      pub goes : (act : Stood on.own b c s.memory) (spot : Spot) (ss : ℕ) → IsKernelSs mode ss → (extra v : ℕ → ℕ) (f : Flags) → f.interrupts ≡ false → is_user c ≡ false
           → Goes code c s.memory (block mode spot) (env ss extra v f) → edges mode spot 0 < on.own → length c.regs ≡ 16 → blocks.switches spot ≡ false
           → Means mode image κ spot (env ss extra v f) w b s.memory.words → Result
-      goes act spot ss ss_is extra v f hu g fewer long off means =
+      goes act spot ss ss_is extra v f masked_by hu g fewer long off means =
           edge (edge_cell g.step.ins g.step.next) g.step.cell refl g.inner hu (outside act) g.step.cpu s.memory.words g.step.leads (g.step.blocking ∙ blocked)
           [] (none_spares p) refl (unknown_none below) (λ a far far'. refl) (edges mode spot 0) fewer
           (record {
@@ -592,6 +612,7 @@ module _ (mode : Mode) (image : Image) (built : IsBuilt image) (good : IsImage i
               flags = f;
               ss = ss;
               ss_is = ss_is;
+              masked = masked_by;
               within = omega arith;
               enough = omega arith;
               at = g.step.at;

@@ -1,6 +1,7 @@
 pub mod Facts
 pub mod Maps
 pub mod Runs
+pub mod Arrivals
 pub mod Opens
 pub mod Tells
 pub mod ModeFacts
@@ -11,6 +12,7 @@ pub mod CallKinds
 pub mod Domains
 pub mod Chains
 pub mod Legality
+pub mod Vectors
 pub mod Standing
 pub mod Stays
 pub mod After
@@ -29,9 +31,13 @@ pub mod KernelStep
 pub mod ItemWords
 pub mod ItemVisible
 pub mod ItemInside
+pub mod ItemAddress
 pub mod ItemSteps
 pub mod ItemTask
 pub mod ItemNumbers
+pub mod ItemUser
+pub mod ItemPage
+pub mod ItemPages
 pub mod KernelItems
 pub mod BodyTables
 pub mod Kernel

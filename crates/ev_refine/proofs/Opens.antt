@@ -220,6 +220,9 @@ zeros (suc (suc zero)) = refl
 zeros (suc (suc (suc zero))) = refl
 zeros (suc (suc (suc (suc n)))) = refl
 
+zero_words : (i : ℕ) → get_or no_words i 0 < 2 ^ 64
+zero_words i = let z = zeros i in omega arith
+
 no_vector : (v : ℕ) → vectors_of no_words v ≡ false
 no_vector v = ap (bit (v % 64)) (zeros (v / 64)) ∙ ap (λ q. q % 2 == 1) (zero-div (2 ^ (v % 64)))
 
@@ -374,8 +377,14 @@ module _ (mode : Mode) (image : Image) (given : IsImage image) where
           saved = λ i lt d. task_saved mode image p i few hp (above_zero i d) lt (omega arith);
           tasks = task_good;
           latch = (refl, refl);
-          pending = λ v lt. no_vector v;
-          service = λ class. none_served class (numbers_from 0 256);
+          apic = record {
+            tpr = refl;
+            irr = record { four = refl; small = zero_words };
+            isr = record { four = refl; small = zero_words };
+            pending = λ v lt. no_vector v;
+            service = λ class. none_served class (numbers_from 0 256);
+            single = λ u v lu lv hu hv e. let clash : false ≡ true = sym (no_vector u) ∙ hu in absurd (cc);
+          };
           slots = λ k lt. ap (first_word mode image) (let e : pcpu p + slot_offset k ≡ pcpu p + (0x200 + 8 * k) = omega arith in e)
               ∙ word (0x200 + 8 * k) (omega arith) (omega arith) ∙ pcpu_zero p (0x200 + 8 * k) (inr (inr (omega arith, omega arith)));
           runs = (
@@ -422,7 +431,6 @@ module _ (mode : Mode) (image : Image) (given : IsImage image) where
   domain : (p : ℕ) → IsInDomain (processor (opening image) p)
   unfolding opening
   domain p = record {
-    pending = refl;
     nmi = refl;
     resched = refl;
     bodies = tt;

@@ -1,6 +1,7 @@
 -- The delivery of what a task raises: what it owes for the activation that it begins, in either mode.
 use Rattle.std.proofs.Common.{◌≡◌, ℕ, ◌+◌, ◌*◌, ◌^◌, ◌<◌, ◌≤◌, Bool, true, false, [], ◌∷◌, length, Option, Some, refl, sym, ap, subst, arith}
 use Rattle.std.specs.Prelude.{slice_get}
+use Rattle.std.proofs.lemmas.Bool.{ne_eqb}
 use Rattle.std.specs.List.{list_any}
 use Rattle.ev_isa.specs.Word.{NatMap, bit}
 use Rattle.ev_isa.specs.Flags.{flags_word}
@@ -25,9 +26,9 @@ use Rattle.ev_concrete.specs.ConcreteRun.{System, acted}
 use Rattle.ev_concrete.specs.LiveWords.{overwrites}
 use Rattle.ev_concrete.specs.Shown.{is_refused, told_rip, told_event, saved_rip}
 use Rattle.ev_symbolic.specs.Agrees.{with_words}
-use Rattle.ev_activation.specs.Seat.{Kind, Seat, kind_from}
+use Rattle.ev_activation.specs.Seat.{Kind, FromTask, Seat, kind_from}
 use Rattle.ev_user.specs.Tasks.{level_zero, task_processor}
-use Rattle.ev_user.specs.Causes.{Fault, Undefined, Protection, Page, Cause, Faulted, Debug, Breakpoint, Three, Refused, Call, IsCause, own_event, raised_event, raising}
+use Rattle.ev_user.specs.Causes.{Fault, Undefined, Protection, Page, Cause, Faulted, Debug, Breakpoint, Three, Refused, Call, Arrived, IsCause, own_event, raised_event, raising}
 use Rattle.ev_refine.specs.Active.{address_of_item, item_place, Active}
 use Rattle.ev_refine.specs.Nmi.{Frame}
 use Rattle.ev_refine.specs.Tasks.{TssIs}
@@ -48,29 +49,37 @@ abbrev pub kind_at : Cause → Kind
 kind_at cause = kind_from (cause_key cause) []
 
 -- each has a table's word, and an activation over a task
-pub key_small : (cause : Cause) → cause_key cause ≤ 0x100
-key_small (Faulted Undefined) = omega arith
-key_small (Faulted Fault.Stack) = omega arith
-key_small (Faulted Protection) = omega arith
-key_small (Faulted (Page code address)) = omega arith
-key_small (Faulted Fault.Alignment) = omega arith
-key_small Debug = omega arith
-key_small Breakpoint = omega arith
-key_small Three = omega arith
-key_small (Refused n) = omega arith
-key_small Call = omega arith
+pub key_small : (cause : Cause) → IsCause cause → cause_key cause ≤ 0x100
+key_small (Faulted Undefined) h = omega arith
+key_small (Faulted Fault.Stack) h = omega arith
+key_small (Faulted Protection) h = omega arith
+key_small (Faulted (Page code address)) h = omega arith
+key_small (Faulted Fault.Alignment) h = omega arith
+key_small Debug h = omega arith
+key_small Breakpoint h = omega arith
+key_small Three h = omega arith
+key_small (Refused n) h = omega arith
+key_small Call h = omega arith
+key_small (Arrived v) h = let l = h.1 in omega arith
 
-pub over_one : (cause : Cause) → is_over_task (kind_at cause) ≡ true
-over_one (Faulted Undefined) = refl
-over_one (Faulted Fault.Stack) = refl
-over_one (Faulted Protection) = refl
-over_one (Faulted (Page code address)) = refl
-over_one (Faulted Fault.Alignment) = refl
-over_one Debug = refl
-over_one Breakpoint = refl
-over_one Three = refl
-over_one (Refused n) = refl
-over_one Call = refl
+-- that of an interrupt is one of an event
+pub arrived_kind : (v : ℕ) → IsCause (Arrived v) → kind_at (Arrived v) ≡ FromTask
+arrived_kind v h =
+    let l = h.0 in
+    let u = h.1 in rw (ne_eqb v 0x100 (λ e. let z : ⊥ = omega arith in z), ne_eqb v 2 (λ e. let z : ⊥ = omega arith in z)) refl
+
+pub over_one : (cause : Cause) → IsCause cause → is_over_task (kind_at cause) ≡ true
+over_one (Faulted Undefined) h = refl
+over_one (Faulted Fault.Stack) h = refl
+over_one (Faulted Protection) h = refl
+over_one (Faulted (Page code address)) h = refl
+over_one (Faulted Fault.Alignment) h = refl
+over_one Debug h = refl
+over_one Breakpoint h = refl
+over_one Three h = refl
+over_one (Refused n) h = refl
+over_one Call h = refl
+over_one (Arrived v) h = ap is_over_task (arrived_kind v h)
 
 -- the RIP that the task goes on at
 abbrev pub saved_at : Task → Cause → ℕ

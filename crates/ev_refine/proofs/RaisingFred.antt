@@ -17,7 +17,7 @@ use Rattle.ev_mem.specs.Memory.{Memory}
 use Rattle.ev_apic.specs.declared.apic.Apic.{Apic}
 use Rattle.ev_fred.specs.FredDelivery.{ss_word}
 use Rattle.ev_proc.specs.ProcessorStep.{has_fred, try}
-use Rattle.ev_listing.specs.AddressMap.{stack_top, stack_bytes}
+use Rattle.ev_listing.specs.AddressMap.{user_table, stack_top, stack_bytes}
 use Rattle.ev_concrete.specs.ConcreteRun.{frame_size}
 use Rattle.ev_concrete.specs.Shown.{is_refused, told_event, told_rip}
 use Rattle.ev_built.specs.Built.{IsBuilt}
@@ -34,10 +34,10 @@ use Rattle.ev_deliver.proofs.FredDelivers.{listed_is, fred_delivers, fred_facts,
 use Rattle.ev_deliver.proofs.Tops.{fred_from_task}
 use Rattle.ev_activation.specs.Seat.{Seat, top_at}
 use Rattle.ev_table.specs.Table.{code_table}
-use Rattle.ev_user.specs.Causes.{Fault, Undefined, Protection, Page, Cause, Faulted, Debug, Breakpoint, Three, Refused, Call, IsCause, own_event, raised_event, raising}
+use Rattle.ev_user.specs.Causes.{Fault, Undefined, Protection, Page, Cause, Faulted, Debug, Breakpoint, Three, Refused, Call, Arrived, IsCause, own_event, raised_event, raising}
 use Rattle.ev_user.specs.Deliveries.{saving}
 use Rattle.ev_user.proofs.Deliver.{events_are_own, arrives_at_once, call_arrives}
-use Rattle.ev_refine.specs.Active.{here, AtLoad}
+use Rattle.ev_refine.specs.Active.{here, rest_in, AtLoad}
 use Rattle.ev_refine.specs.Named.{Outside, Changes}
 use Rattle.ev_refine.proofs.CallKinds.{knows_nothing, means_by}
 use Rattle.ev_refine.proofs.Fits.{fits_at, opens_at}
@@ -45,7 +45,7 @@ use Rattle.ev_refine.proofs.After.{kernel_names}
 use Rattle.ev_refine.proofs.Domains.{four_tasks}
 use Rattle.ev_refine.proofs.UserSafe.{frame_is_safe}
 use Rattle.ev_refine.proofs.Raising as raise
-use Rattle.ev_refine.proofs.Raising.{cause_key, kind_at, saved_at, returning, arrival, entry_edges, key_small, over_one, Finds, Ready, Begins}
+use Rattle.ev_refine.proofs.Raising.{cause_key, kind_at, saved_at, returning, arrival, entry_edges, key_small, arrived_kind, over_one, Finds, Ready, Begins}
 
 -- the frame lies on the task's stack, at its top
 on_stack : (p n : ℕ) → n < 4 → p < 32 → (vs : List ℕ) → length vs ≡ 8 → (words : NatMap ℕ) → Changes p (record { stack = n; used = 0 }) (kernel_names p) words
@@ -100,6 +100,13 @@ module _ (image : Image) (p n : ℕ) (t : Task) (cr2 body : ℕ) where
   comes Breakpoint h l = record { rest = refl; single = refl; blocking = refl; told = refl; saved = refl }
   comes Three h l = record { rest = refl; single = refl; blocking = refl; told = refl; saved = refl }
   comes Call h l = record { rest = refl; single = refl; blocking = refl; told = refl; saved = refl }
+  comes (Arrived v) h l = record {
+    rest = ap (λ κ. rest_in Fred κ 0x18 (over image p n t cr2 (Arrived v) body)) (arrived_kind v h);
+    single = refl;
+    blocking = refl;
+    told = refl;
+    saved = refl;
+  }
   comes (Refused k) h l =
       let other : (k == 3) ≡ false = ne_eqb k 3 h.1 in
       let short = l refl in
@@ -114,6 +121,10 @@ module _ (image : Image) (p n : ℕ) (t : Task) (cr2 body : ℕ) where
   -- the number of a byte n, times eight, and two
   error_is : (v k : ℕ) → v ≡ k → k < 2 ^ 8 → ((v * 2 ^ 3) % 2 ^ 64 + 2) % 2 ^ 64 ≡ 8 * k + 2
   error_is v k h l = omega arith
+
+  -- the place of a byte's word in the table
+  place_is : (v k : ℕ) → v ≡ k → k < 2 ^ 8 → ((v * 2 ^ 3) % 2 ^ 64 + user_table) % 2 ^ 64 ≡ user_table + 8 * k
+  place_is v k h l = omega arith
 
   finds : (cause : Cause) → IsCause cause → length t.regs ≡ 16 → ((own_event cause).length ≡ 2 → t.rip + 2 < 2 ^ 64)
       → Finds Fred p n t body cause (behind cause (way_of (own_event cause)))
@@ -243,6 +254,22 @@ module _ (image : Image) (p n : ℕ) (t : Task) (cr2 body : ℕ) where
     level = refl;
     locals = refl;
   }
+  finds (Arrived v) h l s =
+      let tells : FrameTells (from image p n t cr2 (Arrived v) body) (own_event (Arrived v)) (env image p n t cr2 (Arrived v) body)
+      = frames_tell (from image p n t cr2 (Arrived v) body) (own_event (Arrived v)) (env image p n t cr2 (Arrived v) body) refl (omega arith) (omega arith)
+      (omega arith) h.1 in record {
+        place = place_is _ v tells.vector h.1;
+        regs = listed_is t.regs l;
+        rip = refl;
+        cs = refl;
+        flags = refl;
+        ss = tells.ss;
+        sti = tells.sti;
+        gs = refl;
+        chosen = refl;
+        level = refl;
+        locals = λ i. 0 ∷ sym tells.vector i ∷ 0 ∷ 0 ∷ 0 ∷ 0 ∷ 0 ∷ 0 ∷ [];
+      }
   finds (Refused k) h l s =
       let short = s refl in
       let by_n : way_of (own_event (Refused k)) ≡ ByIntN = ap (λ b. if b then ByInt3 else ByIntN) (ne_eqb k 3 h.1) in
@@ -280,6 +307,7 @@ arrives (Faulted x) c d a m nmi words frame f h = arrives_at_once c d a m nmi wo
 arrives Debug c d a m nmi words frame f h = arrives_at_once c d a m nmi words frame Debug (λ e. cc) h
 arrives Breakpoint c d a m nmi words frame f h = arrives_at_once c d a m nmi words frame Breakpoint (λ e. cc) h
 arrives Three c d a m nmi words frame f h = arrives_at_once c d a m nmi words frame Three (λ e. cc) h
+arrives (Arrived v) c d a m nmi words frame f h = arrives_at_once c d a m nmi words frame (Arrived v) (λ e. cc) h
 arrives (Refused k) c d a m nmi words frame f h = arrives_at_once c d a m nmi words frame (Refused k) (λ e. cc) h
 
 module _ (image : Image) (built : IsBuilt image) (p n : ℕ) (t : Task) (cr2 : ℕ) (cause : Cause) (body : ℕ) (m : Memory)
@@ -349,7 +377,7 @@ module _ (image : Image) (built : IsBuilt image) (p n : ℕ) (t : Task) (cr2 : �
       (raise.context Fred image p n t cr2 cause body)
   loads = record {
     key = cause_key cause;
-    small = key_small cause;
+    small = key_small cause ready.is_cause;
     place = found.place;
     found = ready.found;
     begins = refl;
@@ -386,14 +414,15 @@ module _ (image : Image) (built : IsBuilt image) (p n : ℕ) (t : Task) (cr2 : �
         flags = no_flags;
         ss = 0x18;
         ss_is = refl;
+        masked = refl;
         within = omega arith;
         enough = few_edges (way_of e);
         at = begun.at;
         long = length-set t.regs 4 (frame_at at) ∙ ready.long;
       };
       switches = refl;
-      knows = knows_nothing Fred (kind_at cause) f (over_one cause) false;
-      means = means_by Fred image (kind_at cause) (over_one cause) (InFred (FromUser (way_of e))) at (over image p n t cr2 cause body)
+      knows = knows_nothing Fred (kind_at cause) f (over_one cause ready.is_cause) false;
+      means = means_by Fred image (kind_at cause) (over_one cause ready.is_cause) (InFred (FromUser (way_of e))) at (over image p n t cr2 cause body)
           (raise.context Fred image p n t cr2 cause body) (fred_words at m.words) (loads, refl);
     };
     changes = on_stack p n ready.running small (map (eval at) fred_frame) refl m.words;

@@ -1,5 +1,7 @@
 -- The delivery through the IDT of what a task raises but for system calls: the frame that it writes, and the activation that it begins.
-use Rattle.std.proofs.Common.{◌≡◌, ◌≢◌, ℕ, ◌+◌, ◌-◌, ◌*◌, ◌%◌, ◌^◌, ◌<◌, ◌≤◌, Bool, true, false, ◌&&◌, List, length, map, Some, refl, sym, ap, ◌∙◌, arith, inl, inr}
+use Rattle.std.proofs.Common.{◌≡◌, ◌≢◌, ℕ, ◌+◌, ◌-◌, ◌*◌, ◌%◌, ◌^◌, ◌<◌, ◌≤◌, Bool, true, false, ◌&&◌, List, length, map, Some, refl, sym, ap, ◌∙◌, arith, inl, inr, subst}
+use Rattle.std.proofs.lemmas.Bool.{ne_eqb}
+use Rattle.std.proofs.Math.Bool.{and-false}
 use Rattle.std.specs.Prelude.{◌==◌, if◌then◌else◌}
 use Rattle.std.proofs.lemmas.List.{length-set}
 use Rattle.ev_isa.specs.Word.{NatMap, wrap}
@@ -18,7 +20,7 @@ use Rattle.ev_apic.specs.declared.apic.Apic.{Apic}
 use Rattle.ev_fred.specs.FredDelivery.{fred_delivery}
 use Rattle.ev_idt.specs.IdtDelivery.{idt_delivery}
 use Rattle.ev_proc.specs.ProcessorStep.{has_fred, try}
-use Rattle.ev_listing.specs.AddressMap.{pcpu, idt_base, vector_stub, stack_top, stack_bytes}
+use Rattle.ev_listing.specs.AddressMap.{pcpu, user_table, idt_base, vector_stub, stack_top, stack_bytes}
 use Rattle.ev_concrete.specs.Opening.{gate}
 use Rattle.ev_concrete.specs.ConcreteRun.{frame_size}
 use Rattle.ev_concrete.specs.Shown.{is_refused, told_event, told_rip}
@@ -38,10 +40,10 @@ use Rattle.ev_deliver.proofs.Tops.{idt_from_task}
 use Rattle.ev_activation.specs.Seat.{Seat, top_at}
 use Rattle.ev_table.specs.Table.{code_table}
 use Rattle.ev_tables.proofs.Stand.{gates_stand}
-use Rattle.ev_user.specs.Causes.{Fault, Undefined, Protection, Page, Cause, Faulted, Debug, Breakpoint, Three, Refused, Call, IsCause, own_event, raised_event, raising}
+use Rattle.ev_user.specs.Causes.{Fault, Undefined, Protection, Page, Cause, Faulted, Debug, Breakpoint, Three, Refused, Call, Arrived, IsCause, own_event, raised_event, raising}
 use Rattle.ev_user.specs.Deliveries.{Passes, saving}
-use Rattle.ev_user.proofs.Deliver.{events_are_own, events_pass, arrives_at_once, refusal_arrives}
-use Rattle.ev_refine.specs.Active.{here, AtLoad}
+use Rattle.ev_user.proofs.Deliver.{interrupts_have_none, events_are_own, events_pass, arrives_at_once, refusal_arrives}
+use Rattle.ev_refine.specs.Active.{here, rest_in, AtLoad}
 use Rattle.ev_refine.specs.Relation.{InTables}
 use Rattle.ev_refine.specs.Named.{Outside, Changes}
 use Rattle.ev_refine.proofs.CallKinds.{knows_nothing, means_by}
@@ -50,7 +52,7 @@ use Rattle.ev_refine.proofs.After.{kernel_names}
 use Rattle.ev_refine.proofs.Domains.{four_tasks}
 use Rattle.ev_refine.proofs.UserSafe.{frame_is_safe}
 use Rattle.ev_refine.proofs.Raising as raise
-use Rattle.ev_refine.proofs.Raising.{cause_key, kind_at, saved_at, returning, arrival, entry_edges, key_small, over_one, Finds, Ready, Begins}
+use Rattle.ev_refine.proofs.Raising.{cause_key, kind_at, saved_at, returning, arrival, entry_edges, key_small, arrived_kind, over_one, Finds, Ready, Begins}
 
 -- the frame lies on the task's stack, at its top
 on_stack : (p n bytes : ℕ) → n < 4 → p < 32 → (vs : List ℕ) → 8 * length vs ≡ bytes → bytes ≤ 0x30 → (words : NatMap ℕ)
@@ -110,9 +112,36 @@ module _ (image : Image) (p n : ℕ) (t : Task) (cr2 body : ℕ) where
     other : (raised_event cause).vector ≢ 8
     finds : length t.regs ≡ 16 → Finds Idt p n t body cause (behind cause)
 
-  comes : (cause : Cause) → cause ≢ Call → Comes cause
+  -- an interrupt has no error code, and is no page fault
+  place_is : (k : ℕ) → k < 2 ^ 8 → ((k * 2 ^ 3) % 2 ^ 64 + user_table) % 2 ^ 64 ≡ user_table + 8 * k
+  place_is k l = omega arith
+
+  arrived_finds : (v : ℕ) → IsCause (Arrived v) → length t.regs ≡ 16 → Finds Idt p n t body (Arrived v) (behind (Arrived v))
   unfolding eval
-  comes (Faulted Undefined) h = record {
+  arrived_finds v is l =
+      let E : Env = env image p n t cr2 (Arrived v) body in
+      let off : Flags = off_flags image p n t cr2 (Arrived v) body in
+      let low = is.0 in
+      subst (λ e. Finds Idt p n t body (Arrived v) (env_after (env_after E (stub_values e v) off) (common_values UserCode (v == 14)) off).var)
+      (sym (interrupts_have_none v is.0))
+      (subst (λ q. Finds Idt p n t body (Arrived v) (env_after (env_after E (stub_values false v) off) (common_values UserCode q) off).var)
+      (sym (ne_eqb v 14 (λ e. let z : ⊥ = omega arith in z))) (record {
+        place = place_is v is.1;
+        regs = listed_is t.regs l;
+        rip = refl;
+        cs = refl;
+        flags = refl;
+        ss = refl;
+        sti = refl;
+        gs = refl;
+        chosen = refl;
+        level = refl;
+        locals = refl;
+      }))
+
+  comes : (cause : Cause) → cause ≢ Call → IsCause cause → Comes cause
+  unfolding eval
+  comes (Faulted Undefined) h is = record {
     rest = refl;
     blocking = refl;
     told = refl;
@@ -133,7 +162,7 @@ module _ (image : Image) (p n : ℕ) (t : Task) (cr2 body : ℕ) where
           refl;
     };
   }
-  comes (Faulted Fault.Stack) h = record {
+  comes (Faulted Fault.Stack) h is = record {
     rest = refl;
     blocking = refl;
     told = refl;
@@ -154,7 +183,7 @@ module _ (image : Image) (p n : ℕ) (t : Task) (cr2 body : ℕ) where
           refl;
     };
   }
-  comes (Faulted Protection) h = record {
+  comes (Faulted Protection) h is = record {
     rest = refl;
     blocking = refl;
     told = refl;
@@ -175,7 +204,7 @@ module _ (image : Image) (p n : ℕ) (t : Task) (cr2 body : ℕ) where
           refl;
     };
   }
-  comes (Faulted (Page code address)) h = record {
+  comes (Faulted (Page code address)) h is = record {
     rest = refl;
     blocking = refl;
     told = refl;
@@ -196,7 +225,7 @@ module _ (image : Image) (p n : ℕ) (t : Task) (cr2 body : ℕ) where
           refl;
     };
   }
-  comes (Faulted Fault.Alignment) h = record {
+  comes (Faulted Fault.Alignment) h is = record {
     rest = refl;
     blocking = refl;
     told = refl;
@@ -217,7 +246,7 @@ module _ (image : Image) (p n : ℕ) (t : Task) (cr2 body : ℕ) where
           refl;
     };
   }
-  comes Debug h = record {
+  comes Debug h is = record {
     rest = refl;
     blocking = refl;
     told = refl;
@@ -238,7 +267,7 @@ module _ (image : Image) (p n : ℕ) (t : Task) (cr2 body : ℕ) where
           refl;
     };
   }
-  comes Breakpoint h = record {
+  comes Breakpoint h is = record {
     rest = refl;
     blocking = refl;
     told = refl;
@@ -259,7 +288,7 @@ module _ (image : Image) (p n : ℕ) (t : Task) (cr2 body : ℕ) where
           refl;
     };
   }
-  comes Three h = record {
+  comes Three h is = record {
     rest = refl;
     blocking = refl;
     told = refl;
@@ -280,7 +309,7 @@ module _ (image : Image) (p n : ℕ) (t : Task) (cr2 body : ℕ) where
           refl;
     };
   }
-  comes (Refused k) h = record {
+  comes (Refused k) h is = record {
     rest = refl;
     blocking = refl;
     told = refl;
@@ -301,7 +330,15 @@ module _ (image : Image) (p n : ℕ) (t : Task) (cr2 body : ℕ) where
           refl;
     };
   }
-  comes Call h = absurd (h refl)
+  comes Call h is = absurd (h refl)
+  comes (Arrived v) h is = record {
+    rest = ap (λ κ. rest_in Idt κ 0 (over image p n t cr2 (Arrived v) body)) (arrived_kind v is);
+    blocking = refl;
+    told = refl;
+    saved = λ rip. refl;
+    other = λ q. let l = is.0 in let z : ⊥ = omega arith in z;
+    finds = λ l. arrived_finds v is l;
+  }
 
 -- ---- the delivery
 
@@ -312,6 +349,7 @@ arrives : (cause : Cause) → cause ≢ Call → IsCause cause → (c d : Proces
     → raising c a m nmi cause ≡ arrival d words (raised_event cause) (Some frame) a nmi
 arrives Call o i c d a m nmi words frame f g u h = absurd (o refl)
 arrives (Faulted x) o i c d a m nmi words frame f g u h = arrives_at_once c d a m nmi words frame (Faulted x) o h
+arrives (Arrived v) o i c d a m nmi words frame f g u h = arrives_at_once c d a m nmi words frame (Arrived v) o h
 arrives Debug o i c d a m nmi words frame f g u h = arrives_at_once c d a m nmi words frame Debug o h
 arrives Breakpoint o i c d a m nmi words frame f g u h = arrives_at_once c d a m nmi words frame Breakpoint o h
 arrives Three o i c d a m nmi words frame f g u h = arrives_at_once c d a m nmi words frame Three o h
@@ -351,7 +389,7 @@ module _ (image : Image) (built : IsBuilt image) (p n : ℕ) (t : Task) (cr2 : �
   small = let a = ready.within in let b = ready.few in omega arith
 
   does : Comes image p n t cr2 body cause
-  does = comes image p n t cr2 body cause event
+  does = comes image p n t cr2 body cause event ready.is_cause
 
   found : Finds Idt p n t body cause (behind image p n t cr2 body cause)
   found = does.finds ready.long
@@ -426,7 +464,7 @@ module _ (image : Image) (built : IsBuilt image) (p n : ℕ) (t : Task) (cr2 : �
       (over image p n t cr2 cause body) (raise.context Idt image p n t cr2 cause body)
   loads = record {
     key = cause_key cause;
-    small = key_small cause;
+    small = key_small cause ready.is_cause;
     place = found.place;
     found = ready.found;
     begins = refl;
@@ -471,14 +509,15 @@ module _ (image : Image) (built : IsBuilt image) (p n : ℕ) (t : Task) (cr2 : �
         flags = off_flags image p n t cr2 cause body;
         ss = 0;
         ss_is = inl refl;
+        masked = and-false (interrupts_on c);
         within = omega arith;
         enough = few_edges with_error;
         at = begun.at;
         long = length-set t.regs 4 frame ∙ ready.long;
       };
       switches = refl;
-      knows = knows_nothing Idt (kind_at cause) f (over_one cause) false;
-      means = means_by Idt image (kind_at cause) (over_one cause) (InIdt (Stub UserCode with_error v)) at (over image p n t cr2 cause body)
+      knows = knows_nothing Idt (kind_at cause) f (over_one cause ready.is_cause) false;
+      means = means_by Idt image (kind_at cause) (over_one cause ready.is_cause) (InIdt (Stub UserCode with_error v)) at (over image p n t cr2 cause body)
           (raise.context Idt image p n t cr2 cause body) words ((vector_small, refl, refl), loads, refl);
     };
     changes = frame_changes with_error;

@@ -22,11 +22,12 @@ use Rattle.ev_blocks.specs.Fred.{FredWay, ByCall, ByInt3, ByIntN, ByOther, FromU
 use Rattle.ev_blocks.specs.Fred as fred
 use Rattle.ev_blocks.specs.Idt.{IdtReturn, BySysret, ByOtherRip, ByOtherFlags, Stub, Sys, Common, IdtToKernel, IdtToTask, idt_block, idt_places, sys_lines, common_lines, exit_lines}
 use Rattle.ev_blocks.specs.Idt as idt
-use Rattle.ev_blocks.specs.Items.{AtTable, AtJump, AtItem, AtNumber, body_block}
+use Rattle.ev_blocks.specs.Items.{AtTable, AtJump, AtItem, AtNumber, AtUserWord, AtPageWord, body_block}
 use Rattle.ev_blocks.specs.Blocks.{Spot, InFred, InIdt, InBody, block, forms, edges}
 use Rattle.ev_blocks.specs.Blocks as blocks
 use Rattle.ev_paths.specs.Lines.{HasKernel, IsAtStub}
 use Rattle.ev_paths.proofs.Lines.{fred_stand, idt_stand}
+use Rattle.ev_paths.proofs.BodyEnds.{body_ends}
 use Rattle.ev_paths.proofs.FredEnds.{fred_enters, fred_returns}
 use Rattle.ev_paths.proofs.IdtEnds.{idt_enters, idt_returns}
 use Rattle.ev_concrete.specs.LiveWords.{area_bytes}
@@ -47,6 +48,8 @@ is_spot Fred (InBody FredFrame AtTable) = true
 is_spot Fred (InBody FredFrame AtJump) = true
 is_spot Fred (InBody FredFrame AtItem) = true
 is_spot Fred (InBody FredFrame (AtNumber n)) = true
+is_spot Fred (InBody FredFrame AtUserWord) = true
+is_spot Fred (InBody FredFrame (AtPageWord is_page)) = true
 is_spot Idt (InIdt Sys) = true
 is_spot Idt (InIdt (Stub UserCode has v)) = true
 is_spot Idt (InIdt (Common UserCode pf)) = true
@@ -58,6 +61,8 @@ is_spot Idt (InBody IdtFrame AtTable) = true
 is_spot Idt (InBody IdtFrame AtJump) = true
 is_spot Idt (InBody IdtFrame AtItem) = true
 is_spot Idt (InBody IdtFrame (AtNumber n)) = true
+is_spot Idt (InBody IdtFrame AtUserWord) = true
+is_spot Idt (InBody IdtFrame (AtPageWord is_page)) = true
 is_spot mode spot = false
 
 -- SYSCALL's entry alone writes the word for RSP
@@ -73,6 +78,8 @@ over_task mode image Fred (InBody FredFrame AtTable) e w b h = refl
 over_task mode image Fred (InBody FredFrame AtJump) e w b h = refl
 over_task mode image Fred (InBody FredFrame AtItem) e w b h = refl
 over_task mode image Fred (InBody FredFrame (AtNumber n)) e w b h = refl
+over_task mode image Fred (InBody FredFrame AtUserWord) e w b h = refl
+over_task mode image Fred (InBody FredFrame (AtPageWord is_page)) e w b h = refl
 over_task mode image Idt (InIdt Sys) e w b h = refl
 over_task mode image Idt (InIdt (Stub UserCode has v)) e w b h = refl
 over_task mode image Idt (InIdt (Common UserCode pf)) e w b h = refl
@@ -81,6 +88,8 @@ over_task mode image Idt (InBody IdtFrame AtTable) e w b h = refl
 over_task mode image Idt (InBody IdtFrame AtJump) e w b h = refl
 over_task mode image Idt (InBody IdtFrame AtItem) e w b h = refl
 over_task mode image Idt (InBody IdtFrame (AtNumber n)) e w b h = refl
+over_task mode image Idt (InBody IdtFrame AtUserWord) e w b h = refl
+over_task mode image Idt (InBody IdtFrame (AtPageWord is_page)) e w b h = refl
 over_task mode image m _ e w b h = absurd h
 
 -- none of those over a body is SYSCALL's entry
@@ -92,6 +101,8 @@ over_body mode image Fred (InBody FredFrame AtTable) e w b h = (refl, refl)
 over_body mode image Fred (InBody FredFrame AtJump) e w b h = (refl, refl)
 over_body mode image Fred (InBody FredFrame AtItem) e w b h = (refl, refl)
 over_body mode image Fred (InBody FredFrame (AtNumber n)) e w b h = (refl, refl)
+over_body mode image Fred (InBody FredFrame AtUserWord) e w b h = (refl, refl)
+over_body mode image Fred (InBody FredFrame (AtPageWord is_page)) e w b h = (refl, refl)
 over_body mode image Idt (InIdt (Stub KernelCode has v)) e w b h = (refl, refl)
 over_body mode image Idt (InIdt (Common KernelCode pf)) e w b h = (refl, refl)
 over_body mode image Idt (InIdt (idt.Leaves IdtToKernel)) e w b h = (refl, refl)
@@ -99,6 +110,8 @@ over_body mode image Idt (InBody IdtFrame AtTable) e w b h = (refl, refl)
 over_body mode image Idt (InBody IdtFrame AtJump) e w b h = (refl, refl)
 over_body mode image Idt (InBody IdtFrame AtItem) e w b h = (refl, refl)
 over_body mode image Idt (InBody IdtFrame (AtNumber n)) e w b h = (refl, refl)
+over_body mode image Idt (InBody IdtFrame AtUserWord) e w b h = (refl, refl)
+over_body mode image Idt (InBody IdtFrame (AtPageWord is_page)) e w b h = (refl, refl)
 over_body mode image m _ e w b h = absurd h
 
 pub means_over : (mode : Mode) (image : Image) (κ : Kind) (spot : Spot) (e : Env) (w : Processor) (b : BodyContext) (m : NatMap ℕ)
@@ -161,6 +174,8 @@ has_windows Fred (InBody FredFrame AtTable) h = record { known = refl; own = ref
 has_windows Fred (InBody FredFrame AtJump) h = record { known = refl; own = refl; written = refl }
 has_windows Fred (InBody FredFrame AtItem) h = record { known = refl; own = refl; written = refl }
 has_windows Fred (InBody FredFrame (AtNumber n)) h = record { known = refl; own = refl; written = refl }
+has_windows Fred (InBody FredFrame AtUserWord) h = record { known = refl; own = refl; written = refl }
+has_windows Fred (InBody FredFrame (AtPageWord is_page)) h = record { known = refl; own = refl; written = refl }
 has_windows Idt (InIdt Sys) h = record { known = refl; own = refl; written = refl }
 has_windows Idt (InIdt (Stub UserCode has v)) h = record { known = refl; own = refl; written = refl }
 has_windows Idt (InIdt (Common UserCode pf)) h = record { known = refl; own = refl; written = refl }
@@ -172,6 +187,8 @@ has_windows Idt (InBody IdtFrame AtTable) h = record { known = refl; own = refl;
 has_windows Idt (InBody IdtFrame AtJump) h = record { known = refl; own = refl; written = refl }
 has_windows Idt (InBody IdtFrame AtItem) h = record { known = refl; own = refl; written = refl }
 has_windows Idt (InBody IdtFrame (AtNumber n)) h = record { known = refl; own = refl; written = refl }
+has_windows Idt (InBody IdtFrame AtUserWord) h = record { known = refl; own = refl; written = refl }
+has_windows Idt (InBody IdtFrame (AtPageWord is_page)) h = record { known = refl; own = refl; written = refl }
 has_windows mode _ h = let clash : false ≡ true = h in absurd (cc)
 
 -- few edges are left at each
@@ -187,6 +204,9 @@ few_edges Fred image (InBody FredFrame AtTable) h k = omega arith
 few_edges Fred image (InBody FredFrame AtJump) h k = omega arith
 few_edges Fred image (InBody FredFrame AtItem) h k = omega arith
 few_edges Fred image (InBody FredFrame (AtNumber n)) h k = omega arith
+few_edges Fred image (InBody FredFrame AtUserWord) h k = omega arith
+few_edges Fred image (InBody FredFrame (AtPageWord true)) h k = omega arith
+few_edges Fred image (InBody FredFrame (AtPageWord false)) h k = omega arith
 few_edges Idt image (InIdt Sys) h k = omega arith
 few_edges Idt image (InIdt (Stub UserCode true v)) h k = omega arith
 few_edges Idt image (InIdt (Stub UserCode false v)) h k = omega arith
@@ -204,6 +224,9 @@ few_edges Idt image (InBody IdtFrame AtTable) h k = omega arith
 few_edges Idt image (InBody IdtFrame AtJump) h k = omega arith
 few_edges Idt image (InBody IdtFrame AtItem) h k = omega arith
 few_edges Idt image (InBody IdtFrame (AtNumber n)) h k = omega arith
+few_edges Idt image (InBody IdtFrame AtUserWord) h k = omega arith
+few_edges Idt image (InBody IdtFrame (AtPageWord true)) h k = omega arith
+few_edges Idt image (InBody IdtFrame (AtPageWord false)) h k = omega arith
 few_edges mode image _ h k = let clash : false ≡ true = h in absurd (cc)
 
 -- ---- none switches to another task
@@ -217,6 +240,8 @@ never_switches Fred (InBody FredFrame AtTable) h = refl
 never_switches Fred (InBody FredFrame AtJump) h = refl
 never_switches Fred (InBody FredFrame AtItem) h = refl
 never_switches Fred (InBody FredFrame (AtNumber n)) h = refl
+never_switches Fred (InBody FredFrame AtUserWord) h = refl
+never_switches Fred (InBody FredFrame (AtPageWord is_page)) h = refl
 never_switches Idt (InIdt Sys) h = refl
 never_switches Idt (InIdt (Stub UserCode has v)) h = refl
 never_switches Idt (InIdt (Common UserCode pf)) h = refl
@@ -228,6 +253,8 @@ never_switches Idt (InBody IdtFrame AtTable) h = refl
 never_switches Idt (InBody IdtFrame AtJump) h = refl
 never_switches Idt (InBody IdtFrame AtItem) h = refl
 never_switches Idt (InBody IdtFrame (AtNumber n)) h = refl
+never_switches Idt (InBody IdtFrame AtUserWord) h = refl
+never_switches Idt (InBody IdtFrame (AtPageWord is_page)) h = refl
 never_switches mode _ h = let clash : false ≡ true = h in absurd (cc)
 
 -- ---- their grounds and lines
@@ -246,6 +273,8 @@ has_ground Fred (InBody FredFrame AtTable) h = record { fred = refl; descriptors
 has_ground Fred (InBody FredFrame AtJump) h = record { fred = refl; descriptors = refl; tops = refl }
 has_ground Fred (InBody FredFrame AtItem) h = record { fred = refl; descriptors = refl; tops = refl }
 has_ground Fred (InBody FredFrame (AtNumber n)) h = record { fred = refl; descriptors = refl; tops = refl }
+has_ground Fred (InBody FredFrame AtUserWord) h = record { fred = refl; descriptors = refl; tops = refl }
+has_ground Fred (InBody FredFrame (AtPageWord is_page)) h = record { fred = refl; descriptors = refl; tops = refl }
 has_ground Idt (InIdt Sys) h = record { fred = refl; descriptors = refl; tops = refl }
 has_ground Idt (InIdt (Stub UserCode has v)) h = record { fred = refl; descriptors = refl; tops = refl }
 has_ground Idt (InIdt (Common UserCode pf)) h = record { fred = refl; descriptors = refl; tops = refl }
@@ -257,12 +286,16 @@ has_ground Idt (InBody IdtFrame AtTable) h = record { fred = refl; descriptors =
 has_ground Idt (InBody IdtFrame AtJump) h = record { fred = refl; descriptors = refl; tops = refl }
 has_ground Idt (InBody IdtFrame AtItem) h = record { fred = refl; descriptors = refl; tops = refl }
 has_ground Idt (InBody IdtFrame (AtNumber n)) h = record { fred = refl; descriptors = refl; tops = refl }
+has_ground Idt (InBody IdtFrame AtUserWord) h = record { fred = refl; descriptors = refl; tops = refl }
+has_ground Idt (InBody IdtFrame (AtPageWord is_page)) h = record { fred = refl; descriptors = refl; tops = refl }
 has_ground mode _ h = let clash : false ≡ true = h in absurd (cc)
 
 -- at the entry of a vector its base is that entry's address; inside an item, whose lines the image says, nothing begins
 abbrev pub IsAtEntry : Spot → Env → Type 0
 IsAtEntry (InIdt s) e = IsAtStub e s
 IsAtEntry (InBody layout (AtNumber n)) e = ⊥
+IsAtEntry (InBody layout AtUserWord) e = ⊥
+IsAtEntry (InBody layout (AtPageWord is_page)) e = ⊥
 IsAtEntry s e = Unit {0}
 
 pub lines_stand : (mode : Mode) (code : Code) (e : Env) → e.base 1000 ≡ 0 → HasKernel mode code → (spot : Spot) → is_spot mode spot ≡ true
@@ -272,11 +305,15 @@ lines_stand Fred code e z k (InBody FredFrame AtTable) h at = tt
 lines_stand Fred code e z k (InBody FredFrame AtJump) h at = tt
 lines_stand Fred code e z k (InBody FredFrame AtItem) h at = tt
 lines_stand Fred code e z k (InBody FredFrame (AtNumber n)) h at = absurd at
+lines_stand Fred code e z k (InBody FredFrame AtUserWord) h at = absurd at
+lines_stand Fred code e z k (InBody FredFrame (AtPageWord is_page)) h at = absurd at
 lines_stand Idt code e z k (InIdt s) h at = idt_stand code e z k s at
 lines_stand Idt code e z k (InBody IdtFrame AtTable) h at = tt
 lines_stand Idt code e z k (InBody IdtFrame AtJump) h at = tt
 lines_stand Idt code e z k (InBody IdtFrame AtItem) h at = tt
 lines_stand Idt code e z k (InBody IdtFrame (AtNumber n)) h at = absurd at
+lines_stand Idt code e z k (InBody IdtFrame AtUserWord) h at = absurd at
+lines_stand Idt code e z k (InBody IdtFrame (AtPageWord is_page)) h at = absurd at
 lines_stand mode code e z k _ h at = let clash : false ≡ true = h in absurd (cc)
 
 -- ---- where their blocks end
@@ -295,6 +332,8 @@ runs_to_end Fred (InBody FredFrame AtTable) h = (_, refl)
 runs_to_end Fred (InBody FredFrame AtJump) h = (_, refl)
 runs_to_end Fred (InBody FredFrame AtItem) h = (_, refl)
 runs_to_end Fred (InBody FredFrame (AtNumber n)) h = (_, refl)
+runs_to_end Fred (InBody FredFrame AtUserWord) h = (_, (body_ends true FredFrame).user_word.runs)
+runs_to_end Fred (InBody FredFrame (AtPageWord is_page)) h = (_, ((body_ends true FredFrame).page_word is_page).runs)
 runs_to_end Idt (InIdt Sys) h = (_, idt_enters.call.runs)
 runs_to_end Idt (InIdt (Stub UserCode has v)) h = (_, (idt_enters.stub UserCode has v (v == 14) refl).runs)
 runs_to_end Idt (InIdt (Common UserCode pf)) h = (_, (idt_enters.common UserCode pf).runs)
@@ -306,6 +345,8 @@ runs_to_end Idt (InBody IdtFrame AtTable) h = (_, refl)
 runs_to_end Idt (InBody IdtFrame AtJump) h = (_, refl)
 runs_to_end Idt (InBody IdtFrame AtItem) h = (_, refl)
 runs_to_end Idt (InBody IdtFrame (AtNumber n)) h = (_, refl)
+runs_to_end Idt (InBody IdtFrame AtUserWord) h = (_, (body_ends false IdtFrame).user_word.runs)
+runs_to_end Idt (InBody IdtFrame (AtPageWord is_page)) h = (_, ((body_ends false IdtFrame).page_word is_page).runs)
 runs_to_end mode _ h = let clash : false ≡ true = h in absurd (cc)
 
 -- ---- no instruction of theirs lies in REPEAT
@@ -372,3 +413,12 @@ is_in_item s = (s.rip.tag == item_tag) && nat_lt s.rip.off 0x40
 pub number_inside : (fred : Bool) (layout : Layout) (n : ℕ) → every is_in_item (body_block fred layout (AtNumber n)) ≡ true
 unfolding spelling four_bytes
 number_inside fred layout n = refl
+
+pub address_inside : (fred : Bool) (layout : Layout) → every is_in_item (body_block fred layout AtUserWord) ≡ true
+unfolding spelling four_bytes
+address_inside fred layout = refl
+
+pub page_inside : (fred : Bool) (layout : Layout) (is_page : Bool) → every is_in_item (body_block fred layout (AtPageWord is_page)) ≡ true
+unfolding spelling four_bytes
+page_inside fred layout true = refl
+page_inside fred layout false = refl

@@ -1,20 +1,19 @@
 -- Steps of a processor as steps of the whole machine: the choice at the boundary, what a step shows, and what it leaves of the system.
-use Rattle.std.proofs.Common.{◌≡◌, ℕ, zero, suc, ◌<◌, Bool, true, false, not, ◌&&◌, ◌||◌, List, [], Option, Some, None, refl, sym, ap, ◌∙◌, subst, arith, inl}
-use Rattle.std.specs.Prelude.{if◌then◌else◌, ◌==◌, nat_lt, ◌/◌}
+use Rattle.std.proofs.Common.{◌≡◌, ℕ, Bool, true, false, not, ◌&&◌, ◌||◌, List, [], Option, Some, None, refl, sym, ap, ◌∙◌, subst, inl}
+use Rattle.std.specs.Prelude.{if◌then◌else◌, ◌==◌}
 use Rattle.std.specs.List.{list_any}
-use Rattle.ev_isa.specs.Word.{NatMap, NatSet, greatest_below}
+use Rattle.ev_isa.specs.Word.{NatMap}
 use Rattle.ev_isa.specs.declared.instruction.Ins.{Ins}
 use Rattle.ev_isa.specs.declared.mode.Mode.{Mode}
 use Rattle.ev_event.specs.declared.boundary.Next.{Next}
 use Rattle.ev_event.specs.declared.event.Event.{Event}
-use Rattle.ev_event.specs.Boundary.{first_of}
+use Rattle.ev_event.specs.Boundary.{first_of, interrupt_or_instruction}
 use Rattle.ev_event.specs.declared.frame_note.FrameNote.{FrameNote}
 use Rattle.ev_body.specs.declared.image.Image.{Image}
 use Rattle.ev_listing.specs.Marks.{Never, Always}
 use Rattle.ev_state.specs.Processor.{Processor, is_user, interrupts_on}
 use Rattle.ev_apic.specs.declared.apic.Apic.{Apic}
-use Rattle.ev_apic.specs.Apic.{priority_class, next_vector}
-use Rattle.ev_apic.specs.Vectors.{vectors_of}
+use Rattle.ev_apic.specs.Apic.{next_vector}
 use Rattle.ev_proc.specs.ProcessorStep.{After, ran, next_of, step, has_fred, instruction_at}
 use Rattle.ev_proc.specs.declared.stepped.Stepped.{Stepped}
 use Rattle.ev_concrete.specs.ConcreteRun.{System, Activation, Marks, mark_at, is_seen, is_visible, is_visible_by, is_return, is_repeated, without_last, acted, activations_by, after_step, concrete_step}
@@ -26,36 +25,48 @@ use Rattle.ev_refine.proofs.Maps.{at_same, at_other}
 
 -- ---- the boundary
 
-none_below : (n : ℕ) (set : NatSet) → ((v : ℕ) → v < n → set v ≡ false) → greatest_below n set ≡ None
-none_below zero set h = refl
-none_below (suc n) set h = ap (λ b. elim b [ true ↦ Some n | false ↦ greatest_below n set ]) (h n (omega arith)) ∙ none_below n set
-    (λ v lt. h v (omega arith))
-
--- an APIC that no vector came to
-idle : (a : Apic) → ((v : ℕ) → v < 256 → vectors_of a.irr v ≡ false) → next_vector a ≡ None
-unfolding next_vector
-idle a h = none_below 256 _ (λ v lt. ap (λ b. b && nat_lt (priority_class a) (v / 16)) (h v lt))
-
--- with no NMI and no vector that waits, an instruction comes first
-pub instruction_first : (c : Processor) (a : Apic) (nmi : Bool) → nmi ≡ false → ((v : ℕ) → v < 256 → vectors_of a.irr v ≡ false)
-    → next_of c a nmi ≡ Next.Instruction
+-- with IF off no vector comes
+pub masked_first : (c : Processor) (a : Apic) (nmi : Bool) → nmi ≡ false → interrupts_on c ≡ false → next_of c a nmi ≡ Next.Instruction
 unfolding next_of first_of
-instruction_first c a nmi hn ha =
-    ap (λ x. next_of c a x) hn
-    ∙ ap (λ v. first_of (record {
+masked_first c a nmi hn hi =
+    ap (next_of c a) hn
+    ∙ ap (λ b. first_of (record {
       debug = false;
       nmi = false;
       nmi_blocked = c.nmi_blocked;
       sti_blocked = c.sti_blocked;
-      if_set =
-          interrupts_on c;
-      vector = v;
-    })) (idle a ha)
-    ∙ either (interrupts_on c && not c.sti_blocked)
-  where
-    either : (b : Bool) → (if b then Next.Instruction else Next.Instruction) ≡ Next.Instruction
-    either true = refl
-    either false = refl
+      if_set = b;
+      vector = next_vector a;
+    })) hi
+
+-- an instruction, or where they may come the next vector of the APIC
+pub open_first : (c : Processor) (a : Apic) (nmi : Bool) → nmi ≡ false
+    → next_of c a nmi ≡ (if interrupts_on c && not c.sti_blocked then interrupt_or_instruction (next_vector a) else Next.Instruction)
+unfolding next_of first_of
+open_first c a nmi hn = ap (next_of c a) hn
+
+-- with IF on and nothing blocked the next vector of the APIC comes, or an instruction
+pub vector_first : (c : Processor) (a : Apic) (nmi : Bool) → nmi ≡ false → c.sti_blocked ≡ false → interrupts_on c ≡ true
+    → next_of c a nmi ≡ interrupt_or_instruction (next_vector a)
+unfolding next_of first_of
+vector_first c a nmi hn hs hi =
+    ap (next_of c a) hn
+    ∙ ap (λ b. first_of (record {
+      debug = false;
+      nmi = false;
+      nmi_blocked = c.nmi_blocked;
+      sti_blocked = b;
+      if_set = interrupts_on c;
+      vector = next_vector a;
+    })) hs
+    ∙ ap (λ b. first_of (record {
+      debug = false;
+      nmi = false;
+      nmi_blocked = c.nmi_blocked;
+      sti_blocked = false;
+      if_set = b;
+      vector = next_vector a;
+    })) hi
 
 -- ---- whether the step is visible
 
@@ -121,7 +132,6 @@ ran_returns s p cpu i hi hr hu hl =
 pub record Moves (p : ℕ) (s s' : System) (cpu : Processor) (as' : List Activation) (words : NatMap ℕ) : Type 0 where
   pub cpu_is : s'.cpus p ≡ cpu
   pub activations_are : s'.activations p ≡ as'
-  pub apic : s'.apics p ≡ s.apics p
   pub latch : s'.latches p ≡ s.latches p
   pub inboxes : s'.inboxes ≡ s.inboxes
   pub regions : s'.memory.regions ≡ s.memory.regions
@@ -131,13 +141,12 @@ pub record Moves (p : ℕ) (s s' : System) (cpu : Processor) (as' : List Activat
   pub other_apic : (q : ℕ) → (q == p) ≡ false → s'.apics q ≡ s.apics q
   pub other_latch : (q : ℕ) → (q == p) ≡ false → s'.latches q ≡ s.latches q
 
--- a step that takes nothing from the APIC and no NMI
-pub step_moves : (s : System) (p : ℕ) (r : After) → r.apic ≡ s.apics p → r.nmi ≡ s.latches p
+-- a step that takes no NMI
+pub step_moves : (s : System) (p : ℕ) (r : After) → r.nmi ≡ s.latches p
     → Moves p s (after_step s p r) r.cpu (activations_by s p (s.activations p) r.cpu r.step) r.words
-step_moves s p r ha hn = record {
+step_moves s p r hn = record {
   cpu_is = at_same s.cpus p p r.cpu refl;
   activations_are = at_same s.activations p p _ refl;
-  apic = at_same s.apics p p r.apic refl ∙ ha;
   latch = at_same s.latches p p r.nmi refl ∙ hn;
   inboxes = refl;
   regions = refl;
@@ -155,7 +164,6 @@ delivery_moves n p s s' cpu as' words e None h = h
 delivery_moves n p s s' cpu as' words e (Some a) h = record {
   cpu_is = h.cpu_is;
   activations_are = h.activations_are;
-  apic = h.apic;
   latch = h.latch;
   inboxes = h.inboxes;
   regions = h.regions;
@@ -165,3 +173,8 @@ delivery_moves n p s s' cpu as' words e (Some a) h = record {
   other_apic = h.other_apic;
   other_latch = h.other_latch;
 }
+
+-- the count leaves the local APICs
+pub delivery_apic : (n p q : ℕ) (s' : System) (e : Event) (frame : Option ℕ) → (acted n s' p (Stepped.Delivered e frame)).0.apics q ≡ s'.apics q
+delivery_apic n p q s' e None = refl
+delivery_apic n p q s' e (Some a) = refl

@@ -111,6 +111,7 @@ module _ (mode : Mode) (image : Image) where
       flags = a.stands.flags;
       ss = a.stands.ss;
       ss_is = a.stands.ss_is;
+      masked = a.stands.masked;
       within = a.stands.within;
       enough = a.stands.enough;
       at = at_stays q κ σ a.stands.ss w a.stands.extra a.stands.var a.stands.flags a.stands.spot a.stands.k c m words

@@ -1,7 +1,9 @@
 -- The delivery of a system call under IDT: SYSCALL writes no word, and leaves RIP and the flags in RCX and R11; and the activation that it begins.
-use Rattle.std.proofs.Common.{◌≡◌, ℕ, ◌+◌, ◌-◌, ◌<◌, Bool, List, get_or, set, length, None, refl, ap, ◌∙◌, arith, inr}
+use Rattle.std.proofs.Common.{◌≡◌, ℕ, ◌+◌, ◌-◌, ◌<◌, Bool, true, false, not, ◌&&◌, List, get_or, set, length, None, refl, ap, ◌∙◌, arith, inr}
 use Rattle.std.specs.Prelude.{bit_and}
+use Rattle.std.proofs.lemmas.Bool.{not-true}
 use Rattle.std.proofs.lemmas.List.{length-set}
+use Rattle.ev_isa.specs.Word.{bit, bit_if}
 use Rattle.ev_isa.specs.Flags.{Flags, flags_word, flags_of}
 use Rattle.ev_isa.specs.declared.mode.Mode.TheVariants.{Idt}
 use Rattle.ev_body.specs.declared.image.Image.{Image}
@@ -16,6 +18,7 @@ use Rattle.ev_blocks.specs.Idt.{Sys, idt_block, sys_values}
 use Rattle.ev_symbolic.specs.Join.{env_after}
 use Rattle.ev_blocks.specs.Shapes.{UserCode}
 use Rattle.ev_blocks.specs.Blocks.{InIdt}
+use Rattle.ev_symbolic.proofs.Values.{and_left, and_right}
 use Rattle.ev_deliver.specs.IdtDelivers.{call_variables, CallSite}
 use Rattle.ev_deliver.proofs.FredDelivers.{listed_is}
 use Rattle.ev_deliver.proofs.IdtDelivers.{call_delivers}
@@ -30,6 +33,48 @@ use Rattle.ev_refine.proofs.Raising.{arrival, Ready, Begins}
 -- FMASK takes IF and AC from the flags
 abbrev masked_flags : Flags → Flags
 masked_flags f = flags_of (flags_word f - bit_and (flags_word f) 0x40200)
+
+-- IF is off in them: a test over each bit
+abbrev every : (Bool → Bool) → Bool
+every test = test true && test false
+
+each : (test : Bool → Bool) → every test ≡ true → (b : Bool) → test b ≡ true
+each test h true = and_left (test true) (test false) h
+each test h false = and_right (test true) (test false) h
+
+-- of these bits
+abbrev word_of : (carry zero sign interrupts overflow alignment : Bool) → ℕ
+word_of c z s i o a = 2 + bit_if 0 c + bit_if 6 z + bit_if 7 s + bit_if 9 i + bit_if 11 o + bit_if 18 a
+
+abbrev is_off : (carry zero sign interrupts overflow alignment : Bool) → Bool
+is_off c z s i o a = not (bit 9 (word_of c z s i o a - bit_and (word_of c z s i o a) 0x40200))
+
+abbrev any_alignment : (carry zero sign interrupts overflow : Bool) → Bool
+any_alignment c z s i o = every (is_off c z s i o)
+
+abbrev any_overflow : (carry zero sign interrupts : Bool) → Bool
+any_overflow c z s i = every (any_alignment c z s i)
+
+abbrev any_interrupts : (carry zero sign : Bool) → Bool
+any_interrupts c z s = every (any_overflow c z s)
+
+abbrev any_sign : (carry zero : Bool) → Bool
+any_sign c z = every (any_interrupts c z)
+
+abbrev any_zero : Bool → Bool
+any_zero c = every (any_sign c)
+
+are_masked : (f : Flags) → (masked_flags f).interrupts ≡ false
+unfolding flags_word flags_of
+are_masked f =
+    let s = f.status in
+    let all : every any_zero ≡ true = refl in
+    let carry = each any_zero all s.carry in
+    let zero = each (any_sign s.carry) carry s.zero in
+    let sign = each (any_interrupts s.carry s.zero) zero s.sign in
+    let interrupts = each (any_overflow s.carry s.zero s.sign) sign f.interrupts in
+    let overflow = each (any_alignment s.carry s.zero s.sign f.interrupts) interrupts s.overflow in
+    not-true _ (each (is_off s.carry s.zero s.sign f.interrupts s.overflow) overflow f.alignment)
 
 module _ (image : Image) (p n : ℕ) (t : Task) (cr2 body : ℕ) where
   -- the next instruction, and the task's processor there
@@ -134,6 +179,7 @@ module _ (image : Image) (p n : ℕ) (t : Task) (cr2 body : ℕ) where
           flags = masked_flags t.flags;
           ss = 0x18;
           ss_is = inr refl;
+          masked = are_masked t.flags;
           within = omega arith;
           enough = omega arith;
           at = at;

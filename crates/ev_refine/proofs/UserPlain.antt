@@ -3,26 +3,29 @@ use Rattle.std.proofs.Common.{◌≡◌, ℕ, suc, ◌+◌, ◌-◌, ◌<◌, �
 use Rattle.std.specs.List.{list_any}
 use Rattle.std.proofs.lemmas.Bool.Decides.{eqb_tells}
 use Rattle.std.specs.Prelude.{◌||◌, if◌then◌else◌, nat_le, nat_lt}
-use Rattle.ev_isa.specs.Word.{NatMap, put_at}
+use Rattle.ev_event.specs.Boundary.{interrupt_or_instruction}
+use Rattle.ev_apic.specs.Apic.{next_vector}
+use Rattle.ev_refine.proofs.Chains.{word_interrupts}
+use Rattle.ev_refine.proofs.Vectors.{next_is}
+use Rattle.ev_isa.specs.Word.{NatMap, put_at, NatSet}
 use Rattle.ev_isa.specs.declared.mode.Mode.{Mode}
 use Rattle.ev_body.specs.declared.image.Image.{Image}
 use Rattle.ev_body.specs.WellFormed.{IsImage}
 use Rattle.ev_effect.specs.Task.{Task}
 use Rattle.ev_state.specs.Processor.{Processor, is_user}
-use Rattle.ev_event.specs.declared.boundary.Next.TheVariants.{Instruction}
 use Rattle.ev_proc.specs.declared.stepped.Stepped.{Stepped}
 use Rattle.ev_proc.specs.ProcessorStep.{After, step, ran, next_of, instruction_at}
 use Rattle.ev_abstract.specs.Machine.{Machine, processor, with_processor, task, with_task, user_memory}
 use Rattle.ev_abstract.specs.Machine as abstract
 use Rattle.ev_law.specs.Legal.{Legal}
 use Rattle.ev_law.specs.Bases.{HasBases}
-use Rattle.ev_abstract.specs.Boundary.{is_nmi_body}
+use Rattle.ev_abstract.specs.Boundary.{is_nmi_body, choice, interrupt_or_next}
 use Rattle.ev_abstract.specs.Context.{BodyContext}
 use Rattle.ev_symbolic.specs.Agrees.{with_words}
 use Rattle.ev_abstract.specs.UserCode.{Goes, user_step}
 use Rattle.ev_abstract.specs.Run.{turn, task_step}
 use Rattle.ev_concrete.specs.Opening.{tasks_of}
-use Rattle.ev_concrete.specs.ConcreteRun.{System, marks_of, mark_at, is_visible, is_visible_by, is_seen, after_step, activations_by, is_return, is_repeated, without_last, Activation}
+use Rattle.ev_concrete.specs.ConcreteRun.{System, marks_of, mark_at, is_visible, is_visible_by, is_seen, after_step, activations_by, is_return, is_repeated, without_last, Activation, starts_inner}
 use Rattle.ev_built.specs.Built.{IsBuilt}
 use Rattle.ev_concrete.specs.Depth.{is_in_repeat, bodies_on, is_jump}
 use Rattle.ev_listing.specs.AddressMap.{nmi_entry, repeat_entry}
@@ -38,17 +41,17 @@ use Rattle.ev_user.proofs.Follows.{user_goes_on}
 use Rattle.ev_symbolic.proofs.Words.{put_other}
 use Rattle.ev_activation.specs.Seat.{Seat}
 use Rattle.ev_refine.specs.Domain.{AreQuiet, IsInDomain}
-use Rattle.ev_refine.specs.Relation.{Chain, serves, StandsOn, Stands}
+use Rattle.ev_refine.specs.Relation.{ApicIs, Chain, serves, StandsOn, Stands}
 use Rattle.ev_refine.proofs.Maps.{at_same, at_other}
-use Rattle.ev_refine.proofs.Standing.{instruction_first, Moves, step_moves}
-use Rattle.ev_refine.proofs.After.{AreSparing, word_names, word_spares, latch_parts, own_after, stands_after, few_inner}
+use Rattle.ev_refine.proofs.Standing.{vector_first, Moves, step_moves}
+use Rattle.ev_refine.proofs.After.{AreSparing, word_names, word_spares, latch_parts, apic_again, own_after, stands_after, few_inner}
 use Rattle.ev_refine.proofs.Domains.{four_tasks}
 use Rattle.ev_refine.proofs.Legality.{turn_legal, turn_bases}
 use Rattle.ev_refine.proofs.Depth.{stands_depth}
 use Rattle.ev_refine.proofs.Tells.{AtRest, at_rest}
 use Rattle.ev_refine.proofs.Facts.{Facts}
 use Rattle.ev_refine.proofs.UserState.{TurnsTo}
-use Rattle.ev_refine.proofs.UserStep.{task_turns}
+use Rattle.ev_refine.proofs.UserStep.{task_turns, task_choice}
 
 module _ (mode : Mode) (image : Image) (formed : IsImage image) (built : IsBuilt image) (facts : Facts mode image) where
   -- the task that runs, and what it sees of memory, on both sides
@@ -59,9 +62,9 @@ module _ (mode : Mode) (image : Image) (formed : IsImage image) (built : IsBuilt
     pub latch : s.latches p ≡ false
     pub open_to : (s.cpus p).nmi_blocked ≡ false
     pub at_cpl3 : is_user (s.cpus p) ≡ true
-    pub next : next_of (s.cpus p) (s.apics p) (s.latches p) ≡ Instruction
-    pub site : Site mode image p (processor m p).running (task (processor m p)) (user_memory image m) (s.cpus p) (s.apics p) s.memory (s.latches p)
-    pub turns : turn image m p ≡ task_step image m p (user_step (user_memory image m) (task (processor m p)))
+    pub next : next_of (s.cpus p) (s.apics p) (s.latches p) ≡ interrupt_or_instruction (next_vector (s.apics p))
+    pub chosen : choice image (processor m p) ≡ interrupt_or_next (next_vector (s.apics p))
+    pub not_inner : starts_inner s p (next_of (s.cpus p) (s.apics p) (s.latches p)) ≡ false
     pub seen : is_visible (marks_of mode image) s p ≡ true
 
   pub at_user : (left : NatMap ℕ) (s : System) (m : Machine) → Stands mode image left s m → (p : ℕ) → p < image.processors → (processor m p).bodies ≡ []
@@ -76,8 +79,9 @@ module _ (mode : Mode) (image : Image) (formed : IsImage image) (built : IsBuilt
       let latches = latch_parts on.layer on.frame _ (s.latches p) c.nmi_blocked x.nmi on.latch in
       let latch : s.latches p ≡ false = sym latches.0 ∙ domain.nmi in
       let is_it : is_user c ≡ true = ap is_user rest.task.is in
-      let next : next_of c (s.apics p) (s.latches p) ≡ Instruction
-      = instruction_first c (s.apics p) (s.latches p) latch (λ v l. on.pending v l ∙ ap (λ q. q v) domain.pending) in
+      let next : next_of c (s.apics p) (s.latches p) ≡ interrupt_or_instruction (next_vector (s.apics p))
+      = vector_first c (s.apics p) (s.latches p) latch (ap (λ (y : Processor). y.sti_blocked) rest.task.is)
+      (word_interrupts c (task x).flags (ap (λ (y : Processor). y.flags) rest.task.is) ∙ rest.task.task.interrupts) in
       record {
         on = on;
         rest = rest;
@@ -86,56 +90,76 @@ module _ (mode : Mode) (image : Image) (formed : IsImage image) (built : IsBuilt
         open_to = latches.1 ∙ ap (list_any (is_nmi_body image)) hb;
         at_cpl3 = is_it;
         next = next;
-        site = record {
-          formed = formed;
-          runs = rest.task;
-          sees = record {
-            regions_are = h.regions_are;
-            text_is = refl;
-            holds = facts.holds s.memory h.fixed;
-            words = h.shares.user;
-            held = h.shares.held;
-            pages = h.shares.pages;
-          };
-          chosen = next;
-        };
-        turns = task_turns image m p domain.nmi domain.pending hb;
-        seen = ap (is_visible_by (marks_of mode image) s p c) next ∙ ap (λ b. b || is_seen (mark_at (marks_of mode image) c.rip) s c) is_it;
+        chosen = task_choice image x domain.nmi hb ∙ ap interrupt_or_next (sym (next_is mode image (s.apics p) x on.apic (λ v e.
+            ((h.legal.each p).pending.each v e).from)));
+        not_inner = ap (starts_inner s p) next ∙ never_inner s p (next_vector (s.apics p));
+        seen = ap (is_visible_by (marks_of mode image) s p c) next ∙ always_seen s p c is_it (next_vector (s.apics p));
       }
+    where
+      never_inner : (s : System) (p : ℕ) (o : Option ℕ) → starts_inner s p (interrupt_or_instruction o) ≡ false
+      never_inner s p None = refl
+      never_inner s p (Some v) = refl
+
+      always_seen : (s : System) (p : ℕ) (c : Processor) → is_user c ≡ true → (o : Option ℕ)
+          → is_visible_by (marks_of mode image) s p c (interrupt_or_instruction o) ≡ true
+      always_seen s p c e None = ap (λ b. b || is_seen (mark_at (marks_of mode image) c.rip) s c) e
+      always_seen s p c e (Some v) = refl
+
+  -- no interrupt comes, so the task runs
+  pub record AtInstruction (left : NatMap ℕ) (s : System) (m : Machine) (p : ℕ) : Type 0 where
+    pub site : Site mode image p (processor m p).running (task (processor m p)) (user_memory image m) (s.cpus p) (s.apics p) s.memory (s.latches p)
+    pub turns : turn image m p ≡ task_step image m p (user_step (user_memory image m) (task (processor m p)))
+
+  pub at_instruction : (left : NatMap ℕ) (s : System) (m : Machine) → Stands mode image left s m → (p : ℕ) → (processor m p).bodies ≡ [] → AtUser left s m p
+      → next_vector (s.apics p) ≡ None → AtInstruction left s m p
+  at_instruction left s m h p hb u none = record {
+    site = record {
+      formed = formed;
+      runs = u.rest.task;
+      sees = record {
+        regions_are = h.regions_are;
+        text_is = refl;
+        holds = facts.holds s.memory h.fixed;
+        words = h.shares.user;
+        held = h.shares.held;
+        pages = h.shares.pages;
+      };
+      chosen = u.next ∙ ap interrupt_or_instruction none;
+    };
+    turns = task_turns image m p (u.chosen ∙ ap interrupt_or_next none) hb;
+  }
 
   -- ---- the relation after a step of the task
 
   -- The task is another, and these bodies stand on it, of which the last one's activation was begun; all else is as it was.
   pub user_after : (left : NatMap ℕ) (s s' : System) (m : Machine) (p : ℕ) (lt : p < image.processors) (h : Stands mode image left s m)
-      (u : AtUser left s m p) (cpu : Processor) (as' : List Activation) (words : NatMap ℕ) (t : Task) (bs : List BodyContext) (own : ℕ)
+      (u : AtUser left s m p) (cpu : Processor) (as' : List Activation) (words : NatMap ℕ) (t : Task) (bs : List BodyContext) (set : NatSet) (own : ℕ)
       → (processor m p).bodies ≡ []
       → Moves p s s' cpu as' words → (names : List Named) → AreSparing p names
       → Changes p (record { stack = (processor m p).running; used = 0 }) names s.memory.words words
       → (memory : NatMap ℕ) → ((a : ℕ) → IsUserWord a → words a ≡ memory a) → HoldsWords memory
-      → Legal image (with_processor (record m { words = memory }) p (record (with_task (processor m p) t) { bodies = bs }))
-      → HasBases image (with_processor (record m { words = memory }) p (record (with_task (processor m p) t) { bodies = bs }))
+      → Legal image (with_processor (record m { words = memory }) p (record (with_task (processor m p) t) { bodies = bs; pending = set }))
+      → HasBases image (with_processor (record m { words = memory }) p (record (with_task (processor m p) t) { bodies = bs; pending = set }))
       → AreOfWords bs → IsTask t → cpu.nmi_blocked ≡ list_any (is_nmi_body image) bs → AreQuiet bs
-      → ((class : ℕ) → list_any (λ (b : BodyContext). serves mode image class b.service) bs ≡ false) → own ≤ 500
+      → ApicIs mode image (s'.apics p) set bs → own ≤ 500
       → ((r : ℕ) → r ≡ (processor m p).running → Chain mode image p own r t u.on.frame u.on.switching bs as' cpu (with_words s.memory words))
-      → (StandsOn mode image p (own + inner_edges (s.latches p)) s' (record (with_task (processor m p) t) { bodies = bs }))
+      → (StandsOn mode image p (own + inner_edges (s.latches p)) s' (record (with_task (processor m p) t) { bodies = bs; pending = set }))
       × Stands mode image (put_at left p (own + inner_edges (s.latches p))) s'
-      (with_processor (record m { words = memory }) p (record (with_task (processor m p) t) { bodies = bs }))
-  user_after left s s' m p lt h u cpu as' words t bs own hb mv names sparing changes memory user held legal bases of_words good blocked quiet serving few
-      chain =
+      (with_processor (record m { words = memory }) p (record (with_task (processor m p) t) { bodies = bs; pending = set }))
+  user_after left s s' m p lt h u cpu as' words t bs set own hb mv names sparing changes memory user held legal bases of_words good blocked quiet apic few chain =
       let x : abstract.Processor = processor m p in
-      let y : abstract.Processor = record (with_task x t) { bodies = bs } in
+      let y : abstract.Processor = record (with_task x t) { bodies = bs; pending = set } in
       let small : p < 32 = let eight = formed.count.1 in omega arith in
       let four = four_tasks image formed p lt in
       let narrow : x.running < 7 = let l = u.on.running in omega arith in
       let there : StandsOn mode image p (own + inner_edges (s.latches p)) s' y
       = own_after mode image p (left p) s s' x (record { stack = x.running; used = 0 }) cpu as' words (put_at x.tasks x.running t) bs own u.on small four mv
       (sym u.rest.returning) narrow names sparing changes (λ i d. others i (λ e. d (e ∙ sym u.rest.returning))) tasks blocked
-      (λ class. serving class ∙ sym (ap (list_any (λ (b : BodyContext). serves mode image class b.service)) hb))
+      set apic
       (let f = few_inner mode image (s.latches p) in omega arith)
       (subst (λ k. Chain mode image p own u.on.returning k u.on.frame u.on.switching bs as' cpu (with_words s.memory words))
       (sym (at_same x.tasks x.running u.on.returning t u.rest.returning)) (chain u.on.returning u.rest.returning)) in
       let inside : IsInDomain y = record {
-        pending = u.domain.pending;
         nmi = u.domain.nmi;
         resched = u.domain.resched;
         bodies = quiet;
@@ -199,30 +223,32 @@ module _ (mode : Mode) (image : Image) (formed : IsImage image) (built : IsBuilt
       apart (inr l) q = omega arith
 
   pub goes_turn : (left : NatMap ℕ) (s : System) (m : Machine) → Stands mode image left s m → (p : ℕ) → p < image.processors → (processor m p).bodies ≡ []
-      → (u : AtUser left s m p) (t : Task) (memory : NatMap ℕ) → user_step (user_memory image m) (task (processor m p)) ≡ Goes t memory
+      → (u : AtUser left s m p) → AtInstruction left s m p → (t : Task) (memory : NatMap ℕ) → user_step (user_memory image m) (task (processor m p)) ≡ Goes t memory
       → TurnsTo mode image left s m p
-  goes_turn left s m h p lt hb u t memory goes =
+  goes_turn left s m h p lt hb u i t memory goes =
       let x : abstract.Processor = processor m p in
       let c : Processor = s.cpus p in
       let g : GoesOn mode image p x.running (task x) (user_memory image m) c (s.apics p) s.memory (s.latches p) t memory
       (step c (s.apics p) s.memory (s.latches p))
-      = user_goes_on mode image p x.running (task x) (user_memory image m) c (s.apics p) s.memory (s.latches p) u.site t memory goes in
+      = user_goes_on mode image p x.running (task x) (user_memory image m) c (s.apics p) s.memory (s.latches p) i.site t memory goes in
       let d : Processor = task_processor mode image p x.running t c.cr2 c.nmi_blocked in
       let words : NatMap ℕ = with_write s.memory.words g.write in
       let r : After = ran d (s.apics p) words (s.latches p) in
       let s' : System = after_step s p r in
       let as' : List Activation = activations_by s p (s.activations p) d Stepped.Ran in
       let none : as' ≡ [] = same_activations s p (s.activations p) d u.at_cpl3 ∙ u.rest.none in
-      let mv : Moves p s s' d as' words = step_moves s p r refl refl in
+      let mv : Moves p s s' d as' words = step_moves s p r refl in
       let same : record (with_task x t) { bodies = [] } ≡ with_task x t = ap (λ (bs : List BodyContext). record (with_task x t) { bodies = bs }) (sym hb) in
       let turned : turn image m p ≡ (with_processor (record m { words = memory }) p (record (with_task x t) { bodies = [] }), [])
-      = u.turns ∙ ap (task_step image m p) goes ∙ ap (λ z. (with_processor (record m { words = memory }) p z, [])) (sym same) in
-      let after = user_after left s s' m p lt h u d as' words t [] 0 hb mv (word_names g.write) (word_spares p m.present g.write g.place)
+      = i.turns ∙ ap (task_step image m p) goes ∙ ap (λ z. (with_processor (record m { words = memory }) p z, [])) (sym same) in
+      let after = user_after left s s' m p lt h u d as' words t [] x.pending 0 hb mv (word_names g.write) (word_spares p m.present g.write g.place)
       (writes p (record { stack = x.running; used = 0 }) g.write s.memory.words) memory g.sees.words g.sees.held
       (turn_legal image formed built.accepted m p lt h.legal (with_processor (record m { words = memory }) p (record (with_task x t) { bodies = [] }), [])
       turned)
       (turn_bases image m p h.bases (with_processor (record m { words = memory }) p (record (with_task x t) { bodies = [] }), []) turned)
-      tt g.runs.task u.open_to tt (λ class. refl)
+      tt g.runs.task u.open_to tt
+      (apic_again mode image (s.apics p) _ x.pending x.bodies [] (at_same s.apics p p (s.apics p) refl)
+      (λ class. sym (ap (list_any (λ (b : BodyContext). serves mode image class b.service)) hb)) u.on.apic)
       (omega arith)
       (λ r e. (subst (λ z. RunsTask mode image p z t d) (sym e) g.runs, u.rest.still, none)) in
       record {
@@ -230,7 +256,7 @@ module _ (mode : Mode) (image : Image) (formed : IsImage image) (built : IsBuilt
         steps = g.step_is;
         machine = with_processor (record m { words = memory }) p (with_task x t);
         entries = [];
-        turns = u.turns ∙ ap (task_step image m p) goes;
+        turns = i.turns ∙ ap (task_step image m p) goes;
         seen = u.seen;
         now_left = 0 + inner_edges (s.latches p);
         stands = subst (λ z. Stands mode image (put_at left p (0 + inner_edges (s.latches p))) s' (with_processor (record m { words = memory }) p z)) same

@@ -1,30 +1,25 @@
--- The boundary at which a task runs: the abstract machine chooses its next instruction.
-use Rattle.std.proofs.Common.{◌≡◌, ℕ, Bool, true, false, ◌&&◌, not, [], None, refl, ap, ◌∙◌}
+-- The boundary at which a task runs: what the abstract machine chooses.
+use Rattle.std.proofs.Common.{◌≡◌, ℕ, false, ◌&&◌, not, [], ap, ◌∙◌}
 use Rattle.std.specs.Prelude.{if◌then◌else◌}
-use Rattle.std.specs.List.{list_any, list_all}
-use Rattle.ev_isa.specs.Word.{no_numbers, greatest_below}
+use Rattle.std.specs.List.{list_any}
+use Rattle.ev_isa.specs.Word.{greatest_below}
 use Rattle.ev_body.specs.declared.image.Image.{Image}
 use Rattle.ev_abstract.specs.Machine.{Machine, processor, task, user_memory}
 use Rattle.ev_abstract.specs.Machine as abstract
 use Rattle.ev_abstract.specs.UserCode.{user_step}
-use Rattle.ev_abstract.specs.Boundary.{Choice, Next as NextItem, choice, maskable, interrupt_or_next, is_nmi_body, open_to_interrupts, outranks}
+use Rattle.ev_abstract.specs.Boundary.{Choice, Next as NextItem, choice, maskable, interrupt_or_next, is_nmi_body, open_to_interrupts, deliverable}
 use Rattle.ev_abstract.specs.Run.{turn, chosen_step, next_step, task_step}
 
--- where nothing waits
-next_item : (image : Image) (x : abstract.Processor) → x.nmi ≡ false → x.pending ≡ no_numbers → choice image x ≡ NextItem
+-- no NMI comes, and it is open to interrupts
+pub task_choice : (image : Image) (x : abstract.Processor) → x.nmi ≡ false → x.bodies ≡ []
+    → choice image x ≡ interrupt_or_next (greatest_below 256 (deliverable x))
 unfolding choice
-next_item image x hn hp =
+task_choice image x hn hb =
     ap (λ b. if b && not (list_any (is_nmi_body image) x.bodies) then Choice.Nmi else maskable x) hn
-    ∙ ap (λ (q : ℕ → Bool). if open_to_interrupts x.bodies then interrupt_or_next
-    (greatest_below 256 (λ v. q v && list_all (λ c. outranks v c.service) x.bodies)) else NextItem) hp
-    ∙ pick (open_to_interrupts x.bodies)
-  where
-    pick : (b : Bool) → (if b then interrupt_or_next None else NextItem) ≡ NextItem
-    pick true = refl
-    pick false = refl
+    ∙ ap (λ bs. if open_to_interrupts bs then interrupt_or_next (greatest_below 256 (deliverable x)) else NextItem) hb
 
--- so a turn is the step of its user code
-pub task_turns : (image : Image) (m : Machine) (p : ℕ) → (processor m p).nmi ≡ false → (processor m p).pending ≡ no_numbers → (processor m p).bodies ≡ []
+-- with none of these a turn is the step of its user code
+pub task_turns : (image : Image) (m : Machine) (p : ℕ) → choice image (processor m p) ≡ NextItem → (processor m p).bodies ≡ []
     → turn image m p ≡ task_step image m p (user_step (user_memory image m) (task (processor m p)))
 unfolding turn
-task_turns image m p hn hp hb = ap (chosen_step image m p) (next_item image (processor m p) hn hp) ∙ ap (next_step image m p) hb
+task_turns image m p hc hb = ap (chosen_step image m p) hc ∙ ap (next_step image m p) hb

@@ -1,12 +1,14 @@
 -- A step of one processor leaves it as it is whether the next step of another is visible: that is told by the other one's own state, and by marks that
 -- depend on no memory.
-use Rattle.std.proofs.Common.{◌≡◌, ℕ, ◌<◌, true, false, ◌||◌, List, [], ◌∷◌, Some, None, refl, sym, ap, ◌∙◌}
+use Rattle.std.proofs.Common.{◌≡◌, ℕ, ◌<◌, true, false, ◌||◌, List, [], ◌∷◌, Some, None, refl, sym, ap, ◌∙◌, Bool, not, ◌&&◌, if◌then◌else◌, Option}
 use Rattle.std.specs.Prelude.{◌==◌}
+use Rattle.ev_event.specs.Boundary.{interrupt_or_instruction}
+use Rattle.ev_apic.specs.Apic.{next_vector}
 use Rattle.ev_isa.specs.Word.{NatMap, put_at}
 use Rattle.ev_isa.specs.declared.mode.Mode.{Mode}
 use Rattle.ev_event.specs.declared.boundary.Next.{Next}
 use Rattle.ev_body.specs.declared.image.Image.{Image}
-use Rattle.ev_state.specs.Processor.{Processor, is_user}
+use Rattle.ev_state.specs.Processor.{Processor, is_user, interrupts_on}
 use Rattle.ev_apic.specs.declared.send.SendKey.{SendKey}
 use Rattle.ev_apic.specs.Inbox.{mailed}
 use Rattle.ev_proc.specs.declared.stepped.Stepped.{Stepped}
@@ -19,7 +21,7 @@ use Rattle.ev_refine.specs.Relation.{Stands, StandsOn}
 use Rattle.ev_refine.specs.Domain.{IsInDomain}
 use Rattle.ev_refine.proofs.Facts.{Facts}
 use Rattle.ev_refine.proofs.Maps.{at_other}
-use Rattle.ev_refine.proofs.Standing.{instruction_first}
+use Rattle.ev_refine.proofs.Standing.{open_first}
 use Rattle.ev_refine.proofs.After.{latch_parts}
 
 -- ---- what a step of another processor leaves
@@ -61,14 +63,14 @@ plain_seen IfNonzero s s' c h = absurd (cc)
 plain_seen IfEqual s s' c h = absurd (cc)
 
 module _ (mode : Mode) (image : Image) (facts : Facts mode image) (left : NatMap ℕ) (s : System) (m : Machine) (h : Stands mode image left s m) where
-  -- nothing but an instruction comes next
-  instruction_next : (q : ℕ) → q < image.processors → next_of (s.cpus q) (s.apics q) (s.latches q) ≡ Next.Instruction
-  instruction_next q lt =
+  -- no NMI comes next
+  next_is : (q : ℕ) → q < image.processors → next_of (s.cpus q) (s.apics q) (s.latches q)
+      ≡ (if interrupts_on (s.cpus q) && not (s.cpus q).sti_blocked then interrupt_or_instruction (next_vector (s.apics q)) else Next.Instruction)
+  next_is q lt =
       let on : StandsOn mode image q (left q) s (processor m q) = h.each q lt in
       let domain : IsInDomain (processor m q) = h.domain q lt in
-      instruction_first (s.cpus q) (s.apics q) (s.latches q)
+      open_first (s.cpus q) (s.apics q) (s.latches q)
       (sym (latch_parts on.layer on.frame _ (s.latches q) (s.cpus q).nmi_blocked (processor m q).nmi on.latch).0 ∙ domain.nmi)
-      (λ v l. on.pending v l ∙ ap (λ set. set v) domain.pending)
 
   pub stays_visible : (n p q : ℕ) → q < image.processors → (q == p) ≡ false
       → is_visible (marks_of mode image) (concrete_step n s p).0 q ≡ is_visible (marks_of mode image) s q
@@ -78,8 +80,16 @@ module _ (mode : Mode) (image : Image) (facts : Facts mode image) (left : NatMap
       let same : SameOn s s' q = step_leaves n s p q d in
       let marks : Marks = marks_of mode image in
       let c : Processor = s.cpus q in
-      let next = instruction_next q lt in
+      let next = next_is q lt in
       (λ i. is_visible_by marks s' q (same.cpu i) (next_of (same.cpu i) (same.apic i) (same.latch i)))
       ∙ ap (is_visible_by marks s' q c) next
-      ∙ ap (λ b. is_user c || b) (plain_seen (mark_at marks c.rip) s s' c (facts.plain c.rip))
+      ∙ pick marks s' q c (interrupts_on c && not c.sti_blocked) (next_vector (s.apics q)) (plain_seen (mark_at marks c.rip) s s' c (facts.plain c.rip))
       ∙ sym (ap (is_visible_by marks s q c) next)
+    where
+      pick : (marks : Marks) (s' : System) (q : ℕ) (c : Processor) (b : Bool) (o : Option ℕ)
+          → is_seen (mark_at marks c.rip) s' c ≡ is_seen (mark_at marks c.rip) s c
+          → is_visible_by marks s' q c (if b then interrupt_or_instruction o else Next.Instruction)
+          ≡ is_visible_by marks s q c (if b then interrupt_or_instruction o else Next.Instruction)
+      pick marks s' q c true None e = ap (λ b. is_user c || b) e
+      pick marks s' q c true (Some v) e = refl
+      pick marks s' q c false o e = ap (λ b. is_user c || b) e

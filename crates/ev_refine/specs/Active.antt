@@ -5,7 +5,7 @@ use Rattle.ev_isa.specs.Flags.{Status, Flags, modelled}
 use Rattle.ev_isa.specs.declared.mode.Mode.{Mode}
 use Rattle.ev_isa.specs.declared.mode.Mode.TheVariants.{Idt, Fred}
 use Rattle.ev_body.specs.declared.item.Item.{Item}
-use Rattle.ev_body.specs.declared.item.Item.TheVariants.{SetCell, AddCell, SwapCell, SetRip, Ret}
+use Rattle.ev_body.specs.declared.item.Item.TheVariants.{SetCell, AddCell, SwapCell, Uget, Uput, SetRip, Map, Unmap, Ret}
 use Rattle.ev_body.specs.declared.key.Side.{Side}
 use Rattle.ev_body.specs.declared.key.Side.TheVariants.{User, Kernel}
 use Rattle.ev_body.specs.declared.body.Body.{Body}
@@ -16,7 +16,7 @@ use Rattle.ev_symbolic.specs.State.{top_tag}
 use Rattle.ev_mem.specs.Memory.{Memory}
 use Rattle.ev_listing.specs.AddressMap.{pcpu, cells_base, body_code}
 use Rattle.ev_listing.specs.Expansion.{item_address}
-use Rattle.ev_abstract.specs.Context.{BodyContext}
+use Rattle.ev_abstract.specs.Context.{BodyContext, local}
 use Rattle.ev_abstract.specs.Run.{item_at}
 use Rattle.ev_symbolic.specs.Agrees.{Env, untracked, At}
 use Rattle.ev_symbolic.specs.Join.{env_after}
@@ -28,7 +28,7 @@ use Rattle.ev_blocks.specs.Fred.{FromUser, FromKernel, FredToKernel, FredToTask,
 use Rattle.ev_blocks.specs.Fred as fred
 use Rattle.ev_blocks.specs.Idt.{IdtReturn, BySysret, Stub, Sys, Common, IdtToKernel, IdtToTask, table_of, stub_values, common_values, sys_values}
 use Rattle.ev_blocks.specs.Idt as idt
-use Rattle.ev_blocks.specs.Items.{BodySpot, AtTable, AtJump, AtItem, AtNumber}
+use Rattle.ev_blocks.specs.Items.{BodySpot, AtTable, AtJump, AtItem, AtNumber, AtUserWord, AtPageWord}
 use Rattle.ev_blocks.specs.Blocks.{Spot, InFred, InIdt, InBody, block, edges}
 use Rattle.ev_blocks.specs.Blocks as blocks
 use Rattle.ev_paths.specs.Lines.{IsAtStub}
@@ -82,6 +82,18 @@ number_of (Some (SwapCell k d)) = Some (cells_base + 8 * k)
 number_of (Some (SetRip a)) = Some a
 number_of _ = None
 
+-- the local that has its user address
+unfoldable pub address_local : Option Item → Option ℕ
+address_local (Some (Uget d s)) = Some s
+address_local (Some (Uput s t)) = Some s
+address_local _ = None
+
+-- the local that has the address of its page
+unfoldable pub page_local : Option Item → Option ℕ
+page_local (Some (Map s)) = Some s
+page_local (Some (Unmap s)) = Some s
+page_local _ = None
+
 module _ (mode : Mode) (image : Image) where
   -- ---- at an instruction of a block
 
@@ -96,6 +108,7 @@ module _ (mode : Mode) (image : Image) where
     pub ss_is : IsKernelSs mode ss
     pub within : k ≤ (block mode spot).steps
     pub enough : edges mode spot k ≤ left
+    pub masked : flags.interrupts ≡ false  -- no interrupt comes
     pub at : At (code_table mode image) (block mode spot) k (here mode p κ σ ss w extra var flags) c m
     pub long : length c.regs ≡ 16
 
@@ -190,6 +203,12 @@ module _ (mode : Mode) (image : Image) where
   Matches BySysret v = (v 31 ≡ v 17) × (v 41 ≡ v 19)
   Matches by v = Unit {0}
 
+  -- the local that the item moves there first is in RAX
+  pub record LocalInRax (first : Option Item → Option ℕ) (e : Env) (b : BodyContext) : Type 0 where
+    pub register : ℕ
+    pub is : first (item_at (slice_get image.bodies b.body) b.place) ≡ Some register
+    pub rax : e.var 0 ≡ local b register
+
   -- the item of the context is at its place
   abbrev pub HasPlace : Env → BodyContext → Type 0
   HasPlace e b = e.base item_tag ≡ item_place mode image b.body b.place
@@ -200,6 +219,8 @@ module _ (mode : Mode) (image : Image) where
   InSpot o AtJump e w b = AtStart o e w b × HasPlace e b
   InSpot o AtItem e w b = InItem o e w b × HasPlace e b
   InSpot o (AtNumber n) e w b = InItem o e w b × HasPlace e b × (number_of (item_at (slice_get image.bodies b.body) b.place) ≡ Some n)
+  InSpot o AtUserWord e w b = InItem o e w b × HasPlace e b × LocalInRax address_local e b
+  InSpot o (AtPageWord is_page) e w b = InItem o e w b × HasPlace e b × LocalInRax page_local e b
   InSpot o s e w b = ⊥
 
   -- of an activation over a task, by its spot; in an entry the variables are told by those of the block behind it

@@ -1,14 +1,12 @@
 -- What holds of the abstract machine as long as only images and script lines of today run. It is no part of what it means that states stand for each other:
 -- with more lines and items its fields go, one by one. Own.
-use Rattle.std.specs.Prelude.{◌≡◌, false, List, [], ◌∷◌, None}
-use Rattle.ev_isa.specs.Word.{no_numbers}
+use Rattle.std.specs.Prelude.{◌≡◌, false, List, [], ◌∷◌}
 use Rattle.ev_abstract.specs.Context.{BodyContext}
 use Rattle.ev_abstract.specs.Machine.{Processor}
 
--- bodies keep IF off, and have no interrupt in service and no call
+-- bodies keep IF off, and have no call
 pub record IsQuiet (b : BodyContext) : Type 0 where
   pub interrupts : b.interrupts ≡ false
-  pub service : b.service ≡ None
   pub calls : b.calls ≡ []
 
 -- each of them
@@ -16,9 +14,8 @@ abbrev pub AreQuiet : List BodyContext → Type 0
 AreQuiet [] = Unit {0}
 AreQuiet (b ∷ below) = IsQuiet b × AreQuiet below
 
--- nothing arrives, and nothing asks for another task
+-- no NMI arrives, and nothing asks for another task
 pub record IsInDomain (x : Processor) : Type 0 where
-  pub pending : x.pending ≡ no_numbers
   pub nmi : x.nmi ≡ false
   pub resched : x.resched ≡ false
   pub bodies : AreQuiet x.bodies

@@ -8,7 +8,8 @@ use Rattle.ev_activation.specs.Seat.{Seat, top_at}
 use Rattle.ev_user.specs.Sees.{IsPageWord, IsUserWord}
 
 -- The words of a processor's area: SYSCALL's RSP, the top of the running task's stack and its words, the reschedule mark, the port of `log`, the head of the
--- queue of calls, the stack's top in the TSS, slots, and a word of a call record, at an offset. Then shared cells, presence of pages, and words of user code.
+-- queue of calls, the stack's top in the TSS, slots, and a word of a call record, at an offset. Then shared cells, presence of pages, behind which comes
+-- a word that is no page's, and words of user code.
 pub data Named : Type 0 where
   UserRsp Top Current Mark Port Head TssTop : (p : ℕ) → Named
   Slot : (p k : ℕ) → Named
@@ -57,7 +58,7 @@ IsName (TssTop p) = p < 32
 IsName (Slot p k) = (p < 32) × (k < 64)
 IsName (RecordWord p k o) = (p < 32) × (k < 8) × (o < 0x40) × (o % 8 ≡ 0)
 IsName (CellAt k) = k < 256
-IsName (PageBit i) = i < 256
+IsName (PageBit i) = i ≤ 256
 IsName (UserWord a) = IsUserWord a
 
 -- those that are ever written: all but the text

@@ -2,9 +2,9 @@
 -- The abstract machine's contexts are matched from the last down: an activation stands over the processor that its return restores. What several activations
 -- or
 -- processors read or write stands beside, word by word.
-use Rattle.std.specs.Prelude.{◌≡◌, ◌≢◌, ◌⊎◌, ℕ, suc, ◌+◌, ◌*◌, ◌-◌, ◌/◌, ◌%◌, ◌<◌, ◌≤◌, Bool, true, false, ◌&&◌, ◌==◌, if◌then◌else◌, List, [], ◌∷◌, length, map, reverse, get_or, slice_get, Option, Some, None}
+use Rattle.std.specs.Prelude.{◌≡◌, ◌≢◌, ◌⊎◌, ℕ, suc, ◌+◌, ◌*◌, ◌-◌, ◌/◌, ◌%◌, ◌^◌, ◌<◌, ◌≤◌, Bool, true, false, ◌&&◌, ◌==◌, if◌then◌else◌, List, [], ◌∷◌, length, map, reverse, get_or, slice_get, Option, Some, None}
 use Rattle.std.specs.List.{list_any}
-use Rattle.ev_isa.specs.Word.{NatMap, numbers_from}
+use Rattle.ev_isa.specs.Word.{NatMap, NatSet, numbers_from}
 use Rattle.ev_isa.specs.Pages.{text_base}
 use Rattle.ev_isa.specs.declared.mode.Mode.{Mode}
 use Rattle.ev_isa.specs.declared.mode.Mode.TheVariants.{Idt, Fred}
@@ -13,6 +13,7 @@ use Rattle.ev_body.specs.declared.image.Image.{Image}
 use Rattle.ev_effect.specs.Task.{Task}
 use Rattle.ev_state.specs.Processor.{Processor, rsp}
 use Rattle.ev_mem.specs.Memory.{Memory, page_map}
+use Rattle.ev_apic.specs.declared.apic.Apic.{Apic}
 use Rattle.ev_apic.specs.Vectors.{vectors_of}
 use Rattle.ev_listing.specs.AddressMap.{pcpu, slot_offset, record_address, user_table, idt_base, cells_base, task_words, fred_page}
 use Rattle.ev_abstract.specs.Boundary.{is_nmi_body}
@@ -133,6 +134,22 @@ module _ (mode : Mode) (image : Image) where
   serves class None = false
   serves class (Some k) = k == class
 
+  -- the words of a set of vectors
+  pub record AreVectorWords (ws : List ℕ) : Type 0 where
+    pub four : length ws ≡ 4
+    pub small : (i : ℕ) → get_or ws i 0 < 2 ^ 64
+
+  -- The local APIC by the abstract machine: the pending vectors are requested, the classes in service are those that contexts have, and TPR holds none back.
+  pub record ApicIs (a : Apic) (set : NatSet) (bs : List BodyContext) : Type 0 where
+    pub tpr : a.tpr ≡ 0
+    pub irr : AreVectorWords a.irr
+    pub isr : AreVectorWords a.isr
+    pub pending : (v : ℕ) → v < 256 → vectors_of a.irr v ≡ set v
+    pub service : (class : ℕ) → list_any (λ v. vectors_of a.isr v && (v / 16 == class)) (numbers_from 0 256)
+        ≡ list_any (λ (b : BodyContext). serves class b.service) bs
+    -- one vector of a class, so that the end of an interrupt ends its class
+    pub single : (u v : ℕ) → u < 256 → v < 256 → vectors_of a.isr u ≡ true → vectors_of a.isr v ≡ true → u / 16 ≡ v / 16 → u ≡ v
+
   -- Processor p of the one stands for processor p of the other; at most `left` edges come before a visible step.
   pub record StandsOn (p left : ℕ) (s : System) (x : abstract.Processor) : Type 0 where
     pub few : left ≤ most_edges
@@ -152,9 +169,7 @@ module _ (mode : Mode) (image : Image) where
     pub saved : (i : ℕ) → i < length (tasks_of image p) → i ≢ returning → IsSaved mode p i (x.tasks i) s.memory.words
     pub tasks : (i : ℕ) → i < length (tasks_of image p) → IsTask (x.tasks i)
     pub latch : LatchIs layer frame (list_any (is_nmi_body image) x.bodies) (s.latches p) (s.cpus p).nmi_blocked x.nmi
-    pub pending : (v : ℕ) → v < 256 → vectors_of (s.apics p).irr v ≡ x.pending v
-    pub service : (class : ℕ) → list_any (λ v. vectors_of (s.apics p).isr v && (v / 16 == class)) (numbers_from 0 256)
-        ≡ list_any (λ (b : BodyContext). serves class b.service) x.bodies
+    pub apic : ApicIs (s.apics p) x.pending x.bodies
     pub slots : (k : ℕ) → k < 64 → s.memory.words (pcpu p + slot_offset k) ≡ x.slots k
     pub runs : Runs p own more returning (x.tasks returning) layer frame switching x.bodies (s.activations p) (s.cpus p) s.memory
 

@@ -1,5 +1,5 @@
 -- Single instructions of the kernel at words to which it has access.
-use Rattle.std.proofs.Common.{◌≡◌, ℕ, Bool, true, false, List, set, Option, None, Ok, refl, sym, ap, ◌∙◌}
+use Rattle.std.proofs.Common.{◌≡◌, ℕ, Bool, true, false, List, set, Option, Some, None, Ok, refl, sym, ap, ◌∙◌}
 use Rattle.std.specs.Prelude.{◌==◌, if◌then◌else◌}
 use Rattle.ev_isa.specs.Word.{NatMap, put_at, sign_extend, displaced}
 use Rattle.ev_isa.specs.Flags.{Status, flags_of, alu, sum, difference, holds}
@@ -11,10 +11,10 @@ use Rattle.ev_effect.specs.Task.{Task, with_reg}
 use Rattle.ev_effect.specs.Effect.{◌>>=◌, access_event, unless, bad_address, effect, in_flags}
 use Rattle.ev_state.specs.Processor.{Processor, is_user, register, with_effect}
 use Rattle.ev_mem.specs.Memory.{Memory, view}
-use Rattle.ev_exec.specs.Exec.{Executed, Done, completed, changed, exec}
+use Rattle.ev_exec.specs.Exec.{Executed, Done, Raise, completed, changed, exec}
 use Rattle.ev_proc.specs.ProcessorStep.{ran}
 use Rattle.ev_symbolic.specs.Agrees.{IsOpen}
-use Rattle.ev_symbolic.specs.Single.{IsAt, onward, in_status, Leads, Loads, Stores, LoadsAllowed, StoresAllowed, StoresNumber, LoadsFromGs, StoresToGs, pushed_at, Pushes, PushesNumber, Exchanges, Adds, Compares, Moves, MovesNumber, Computes, ComputesNumber, Rests, Jumps, JumpsTo, Branches, SinglesAreSteps}
+use Rattle.ev_symbolic.specs.Single.{IsAt, onward, in_status, Leads, Loads, Stores, LoadsAllowed, StoresAllowed, Raises, LoadsRaise, StoresRaise, StoresNumber, LoadsFromGs, StoresToGs, pushed_at, Pushes, PushesNumber, Exchanges, Adds, Compares, Moves, MovesNumber, Computes, ComputesNumber, Rests, Jumps, JumpsTo, Branches, SinglesAreSteps}
 use Rattle.ev_symbolic.proofs.Words.{accessible}
 use Rattle.ev_symbolic.proofs.Effects.{task, loaded, jumped_if, branched, executes}
 
@@ -79,6 +79,28 @@ module _ (c : Processor) (m : Memory) (next : ℕ) where
   unfolding exec effect
   stores_allowed b n s a h q o = finish (Store b n s) h c.regs next (put_at m.words a (register c s))
       (wrote (λ y. task c next) (λ y. register c s) (displaced (register c b) n) a (bad_address b) q (allowed true (bad_address b) a h.kernel o))
+
+  -- the event of an access
+  raised : (i : Ins) (e : Event) → IsAt c i next → exec c m i next ≡ Raise e → Raises c m i e
+  raised i e h hx a nmi = executes c m i next (Raise e) h.kernel h.ends hx a nmi
+
+  met : (write : Bool) (bad e : Event) (a : ℕ) → is_user c ≡ false → access_event (view m false) write bad a ≡ Some e
+      → access_event (view m (is_user c)) write bad a ≡ Some e
+  met write bad e a hu o = ap (λ b. access_event (view m b) write bad a) hu ∙ o
+
+  pub loads_raise : LoadsRaise c m next
+  unfolding exec effect
+  loads_raise d b n a e h q o =
+      raised (Load d b n) e h
+      (ap (λ y. loaded c next m.words c.regs d y (access_event (view m (is_user c)) false (bad_address b) y)) q
+      ∙ ap (loaded c next m.words c.regs d a) (met false (bad_address b) e a h.kernel o))
+
+  pub stores_raise : StoresRaise c m next
+  unfolding exec effect
+  stores_raise b n s a e h q o =
+      raised (Store b n s) e h
+      (ap (λ y. written c (task c next) m.words y (register c s) (access_event (view m (is_user c)) true (bad_address b) y)) q
+      ∙ ap (written c (task c next) m.words a (register c s)) (met true (bad_address b) e a h.kernel o))
 
   pub stores_number : StoresNumber c m next
   unfolding exec effect
@@ -190,6 +212,8 @@ singles c m next = record {
   stores = stores c m next;
   loads_allowed = loads_allowed c m next;
   stores_allowed = stores_allowed c m next;
+  loads_raise = loads_raise c m next;
+  stores_raise = stores_raise c m next;
   stores_number = stores_number c m next;
   loads_from_gs = loads_from_gs c m next;
   stores_to_gs = stores_to_gs c m next;

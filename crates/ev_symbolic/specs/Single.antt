@@ -8,10 +8,11 @@ use Rattle.ev_isa.specs.declared.instruction.Cond.{Cond}
 use Rattle.ev_isa.specs.declared.instruction.Ins.{Ins}
 use Rattle.ev_isa.specs.declared.instruction.Ins.TheVariants.{MovImm, MovReg, Load, Store, StoreImm, GsLoad, GsStore, Xchg, Xadd, CmpXchg, Alu, AluImm, Nop, Jmp, Jcc, JmpReg, Push, PushImm}
 use Rattle.ev_state.specs.Processor.{Processor, is_user, register, with_status}
+use Rattle.ev_event.specs.declared.event.Event.{Event}
 use Rattle.ev_effect.specs.Effect.{access_event, bad_address}
 use Rattle.ev_mem.specs.Memory.{Memory, view}
 use Rattle.ev_apic.specs.declared.apic.Apic.{Apic}
-use Rattle.ev_proc.specs.ProcessorStep.{executed, ran}
+use Rattle.ev_proc.specs.ProcessorStep.{executed, ran, delivering}
 use Rattle.ev_symbolic.specs.Agrees.{IsOpen}
 
 -- the kernel is at an instruction, behind which stands the address `next`
@@ -52,6 +53,18 @@ LoadsAllowed c m next = (d b : ℕ) (n : ℤ) (a : ℕ) → IsAt c (Load d b n) 
 abbrev pub StoresAllowed : Processor → Memory → ℕ → Type 0
 StoresAllowed c m next = (b : ℕ) (n : ℤ) (s a : ℕ) → IsAt c (Store b n s) next → displaced (register c b) n ≡ a
     → access_event (view m false) true (bad_address b) a ≡ None → Leads c m (Store b n s) (onward c c.regs next) (put_at m.words a (register c s))
+
+-- where memory doesn't, the event of the access is delivered
+abbrev pub Raises : Processor → Memory → Ins → Event → Type 0
+Raises c m i e = (a : Apic) (nmi : Bool) → executed c a m nmi (Some i) ≡ delivering c a m nmi e c.rip
+
+abbrev pub LoadsRaise : Processor → Memory → ℕ → Type 0
+LoadsRaise c m next = (d b : ℕ) (n : ℤ) (a : ℕ) (e : Event) → IsAt c (Load d b n) next → displaced (register c b) n ≡ a
+    → access_event (view m false) false (bad_address b) a ≡ Some e → Raises c m (Load d b n) e
+
+abbrev pub StoresRaise : Processor → Memory → ℕ → Type 0
+StoresRaise c m next = (b : ℕ) (n : ℤ) (s a : ℕ) (e : Event) → IsAt c (Store b n s) next → displaced (register c b) n ≡ a
+    → access_event (view m false) true (bad_address b) a ≡ Some e → Raises c m (Store b n s) e
 
 -- a store of a number
 abbrev pub StoresNumber : Processor → Memory → ℕ → Type 0
@@ -156,6 +169,8 @@ pub record Singles (c : Processor) (m : Memory) (next : ℕ) : Type 0 where
   pub stores : Stores c m next
   pub loads_allowed : LoadsAllowed c m next
   pub stores_allowed : StoresAllowed c m next
+  pub loads_raise : LoadsRaise c m next
+  pub stores_raise : StoresRaise c m next
   pub stores_number : StoresNumber c m next
   pub loads_from_gs : LoadsFromGs c m next
   pub stores_to_gs : StoresToGs c m next

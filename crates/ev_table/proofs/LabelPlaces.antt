@@ -1,6 +1,6 @@
 -- Where the labels of items are placed: each at its item, in the code of every image.
-use Rattle.std.proofs.Common.{◌≡◌, ℕ, zero, suc, ◌+◌, ◌*◌, ◌^◌, ◌<◌, ◌≤◌, inl, inr, Bool, true, false, not, ◌&&◌, List, [], ◌∷◌, ◌++◌, length, take, Some, refl, sym, ap, ◌∙◌, subst, arith, append_assoc, eq-eqb}
-use Rattle.std.specs.Prelude.{◌==◌, ◌||◌, if◌then◌else◌, codes, slice_get, None}
+use Rattle.std.proofs.Common.{◌≡◌, ℕ, zero, suc, ◌+◌, ◌^◌, ◌<◌, ◌≤◌, inl, inr, Bool, true, false, ◌&&◌, List, [], ◌∷◌, ◌++◌, length, take, Some, refl, sym, ap, ◌∙◌, subst, arith, append_assoc, eq-eqb}
+use Rattle.std.specs.Prelude.{◌||◌, if◌then◌else◌, codes, slice_get, None}
 use Rattle.std.specs.List.{list_all}
 use Rattle.std.proofs.lemmas.Option.{slice_get_within}
 use Rattle.ev_isa.specs.declared.mode.Mode.{Mode}
@@ -15,9 +15,8 @@ use Rattle.ev_asm.specs.declared.statement.Stmt.{Stmt}
 use Rattle.ev_asm.specs.declared.statement.Stmt.TheVariants.{Label, Plain, Jump}
 use Rattle.ev_asm.specs.Assembly.{Name, Places, is_name, place, places, size, total_size}
 use Rattle.ev_listing.specs.AddressMap.{body_code}
-use Rattle.ev_listing.specs.Expansion.{item_label, own_label, taken_label, expansion, expansions, item_address, function_address, body_stmts}
+use Rattle.ev_listing.specs.Expansion.{item_label, own_label, expansion, expansions, item_address, function_address, body_stmts}
 use Rattle.ev_listing.specs.Marks.{Marked, stmts_of, all_places}
-use Rattle.ev_listing.specs.Statements.{label}
 use Rattle.ev_concrete.specs.Opening.{body_listings, kernel_listings}
 use Rattle.ev_symbolic.proofs.Values.{and_left, and_right}
 use Rattle.ev_fetch.proofs.Regions.{Each, each_append}
@@ -29,7 +28,7 @@ use Rattle.ev_table.proofs.Whole.{places_split, address}
 
 -- ---- the labels of an item
 
-abbrev Owns : ℕ → ℕ → Stmt → Type 0
+abbrev pub Owns : ℕ → ℕ → Stmt → Type 0
 Owns m k (Label name) = IsOwn m k name
 Owns m k s = Unit {0}
 
@@ -61,7 +60,7 @@ past x = (tt, x)
 past4 : {X : Type 0} → X → Unit {0} × (Unit {0} × (Unit {0} × (Unit {0} × X)))
 past4 x = past (past (past (past x)))
 
-item_owns : (mode : Mode) (m : ℕ) (key : Key) (f : ℕ → ℕ) (k : ℕ) (item : Item) → Each (λ (l : Marked). Owns m k l.stmt) (expansion mode m key f k item)
+pub item_owns : (mode : Mode) (m : ℕ) (key : Key) (f : ℕ → ℕ) (k : ℕ) (item : Item) → Each (λ (l : Marked). Owns m k l.stmt) (expansion mode m key f k item)
 unfolding expansion
 item_owns mode m key f k (Set d v) = no_labels m k (expansion mode m key f k (Set d v)) refl
 item_owns mode m key f k (Copy d s) = no_labels m k (expansion mode m key f k (Copy d s)) refl
@@ -115,14 +114,14 @@ item_owns mode m key f k Ret = no_labels m k (expansion mode m key f k Ret) refl
 -- ---- places of other names
 
 -- no label of the lines has this name
-abbrev Other : Name → Stmt → Type 0
+abbrev pub Other : Name → Stmt → Type 0
 Other name (Label other) = is_name other name ≡ false
 Other name s = Unit {0}
 
-abbrev Lack : Name → List Marked → Type 0
+abbrev pub Lack : Name → List Marked → Type 0
 Lack name ls = Each (λ (l : Marked). Other name l.stmt) ls
 
-place_behind : (a : ℕ) (ls : List Marked) (rest : Places) (name : Name) → Lack name ls → place (places a (stmts_of ls) ++ rest) name ≡ place rest name
+pub place_behind : (a : ℕ) (ls : List Marked) (rest : Places) (name : Name) → Lack name ls → place (places a (stmts_of ls) ++ rest) name ≡ place rest name
 unfolding places
 place_behind a [] rest name h = refl
 place_behind a (l ∷ ls) rest name h = one l.stmt h.0 (λ b. place_behind b ls rest name h.1)
@@ -133,7 +132,7 @@ place_behind a (l ∷ ls) rest name h = one l.stmt h.0 (λ b. place_behind b ls 
     one (Plain i) q f = f (a + size (Plain i))
     one (Jump c other) q f = f (a + size (Jump c other))
 
-places_append : (a : ℕ) (xs ys : List Marked) (rest : Places) → places a (stmts_of (xs ++ ys)) ++ rest
+pub places_append : (a : ℕ) (xs ys : List Marked) (rest : Places) → places a (stmts_of (xs ++ ys)) ++ rest
     ≡ places a (stmts_of xs) ++ (places (a + total_size (stmts_of xs)) (stmts_of ys) ++ rest)
 unfolding places size
 places_append a [] ys rest = ap (λ (x : ℕ). places x (stmts_of ys) ++ rest) (let e : a ≡ a + 0 = omega arith in e)
@@ -162,7 +161,7 @@ places_append a (l ∷ ls) ys rest = one l.stmt (λ b. places_append b ls ys res
 
 -- ---- items
 
-abbrev Small : ℕ → Type 0
+abbrev pub Small : ℕ → Type 0
 Small n = n < 2 ^ 64
 
 module _ (mode : Mode) (m : ℕ) (key : Key) (f : ℕ → ℕ) (hm : Small m) (n i : ℕ) (hn : Small n) (hi : Small i) where
@@ -184,7 +183,7 @@ module _ (mode : Mode) (m : ℕ) (key : Key) (f : ℕ → ℕ) (hm : Small m) (n
         (item_lacks k (omega arith) (expansion mode m key f k item) (item_owns mode m key f k item)) (items_lack h (suc k) items (omega arith)),
   )
 
-same_name : (name : Name) → is_name name name ≡ true
+pub same_name : (name : Name) → is_name name name ≡ true
 same_name [] = refl
 same_name (x ∷ xs) = ap (λ t. t && is_name xs xs) (eq-eqb x x refl) ∙ same_name xs
 

@@ -9,3 +9,4 @@ pub mod Bodies
 pub mod Whole
 pub mod Names
 pub mod LabelPlaces
+pub mod OwnPlaces

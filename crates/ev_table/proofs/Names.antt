@@ -1,7 +1,6 @@
 -- Labels of bodies: each names its body and its item, so that an item's label is given once.
-use Rattle.std.proofs.Common.{◌≡◌, ◌≢◌, ℕ, zero, suc, ◌+◌, ◌%◌, ◌^◌, ◌<◌, ◌≤◌, ◌⊎◌, inl, inr, ⊎_elim, Bool, true, false, ◌&&◌, List, [], ◌∷◌, ◌++◌, length, drop, get_or, refl, sym, ap, ◌∙◌, subst, arith, append_assoc, eqb-true}
-use Rattle.std.specs.Prelude.{◌==◌, ◌||◌, if◌then◌else◌, codes, decimal}
-use Rattle.std.specs.List.{list_any}
+use Rattle.std.proofs.Common.{◌≡◌, ℕ, ◌+◌, ◌%◌, ◌^◌, ◌<◌, ◌≤◌, ◌⊎◌, inl, inr, Bool, true, false, List, [], ◌∷◌, ◌++◌, length, refl, sym, ap, ◌∙◌, subst, arith, append_assoc, eqb-true}
+use Rattle.std.specs.Prelude.{◌==◌, decimal}
 use Rattle.std.proofs.lemmas.Fmt.{decimal_by_steps, decimal_injective}
 use Rattle.ev_asm.specs.Assembly.{Name, is_name}
 use Rattle.ev_listing.specs.Expansion.{item_label, own_label, taken_label}
@@ -119,3 +118,27 @@ not_own m k n i name hm hk hn hi own = other_name name (item_label n i) (own_dif
 pub not_other : (m k n i : ℕ) → m < 2 ^ 64 → k < 2 ^ 64 → n < 2 ^ 64 → i < 2 ^ 64 → ((m ≡ n) → (k ≡ i) → ⊥) → is_name (item_label m k) (item_label n i) ≡ false
 not_other m k n i hm hk hn hi h =
     other_name (item_label m k) (item_label n i) (λ e. let t = item_differs m k n i hm hk hn hi e in h t.0 t.1)
+
+-- a label that an item has of its own is no other item's, and no label of an item
+pub own_apart : (m k n i : ℕ) (name x : Name) → m < 2 ^ 64 → k < 2 ^ 64 → n < 2 ^ 64 → i < 2 ^ 64 → NoDigit x → 0 < length x
+    → ((m ≡ n) → (k ≡ i) → ⊥) → IsOwn m k name → is_name name (own_label n i x) ≡ false
+own_apart m k n i name x hm hk hn hi nd some h own = other_name name (own_label n i x) (differs own)
+  where
+    differs : IsOwn m k name → name ≡ own_label n i x → ⊥
+    differs (inl o) e =
+        let t = own_tells m k n i o.0 x hm hk hn hi o.2 nd (sym (item_form m k o.0) ∙ sym o.1 ∙ e ∙ item_form n i x) in h t.0 t.1
+    differs (inr o) e =
+        let r = same_body m n (0x54 ∷ 0x32 ∷ []) (0x69 ∷ (decimal i ++ x)) hm hn (not_digit 0x54 (omega arith)) (not_digit 0x69 (omega arith))
+        (sym o ∙ e ∙ item_form n i x) in
+        let z : 0x54 ≡ 0x69 = head_same 0x54 0x69 (0x32 ∷ []) (decimal i ++ x) r.1 in
+        omega (arith, z)
+
+pub item_apart : (m k n i : ℕ) (x : Name) → m < 2 ^ 64 → k < 2 ^ 64 → n < 2 ^ 64 → i < 2 ^ 64 → NoDigit x → 0 < length x
+    → is_name (item_label m k) (own_label n i x) ≡ false
+item_apart m k n i x hm hk hn hi nd some = other_name (item_label m k) (own_label n i x) differs
+  where
+    differs : item_label m k ≡ own_label n i x → ⊥
+    differs e =
+        let t = own_tells m k n i [] x hm hk hn hi tt nd (sym (plain_form m k) ∙ e ∙ item_form n i x) in
+        let none : length x ≡ 0 = sym (ap (λ (y : Name). length y) t.2) in
+        omega (arith, none, some)

@@ -1,5 +1,5 @@
 -- The code of an image in a mode as a table.
-use Rattle.std.specs.Prelude.{◌≡◌, ℤ, ℕ, pos, suc, ◌+◌, ◌^◌, ◌<◌, Bool, true, false, not, List, [], ◌∷◌, length, Some, slice_get}
+use Rattle.std.specs.Prelude.{◌≡◌, ℤ, ℕ, pos, suc, ◌+◌, ◌^◌, ◌≤◌, ◌<◌, Bool, true, false, not, List, [], ◌∷◌, ◌++◌, length, Some, slice_get}
 use Rattle.std.specs.List.{list_all}
 use Rattle.ev_isa.specs.Word.{displaced, is_canonical}
 use Rattle.ev_isa.specs.declared.instruction.Ins.TheVariants.{GsStore, Jmp}
@@ -17,8 +17,8 @@ use Rattle.ev_abstract.specs.Run.{item_at}
 use Rattle.ev_listing.specs.AddressMap.{exit_entry, exitn_entry, body_code}
 use Rattle.ev_asm.specs.declared.statement.Stmt.{Stmt}
 use Rattle.ev_asm.specs.declared.statement.Stmt.TheVariants.{Label}
-use Rattle.ev_asm.specs.Assembly.{Places, place, size, total_size}
-use Rattle.ev_listing.specs.Expansion.{item_label, exit_of, item_address, expansion, function_address}
+use Rattle.ev_asm.specs.Assembly.{Name, Places, place, places, size, total_size}
+use Rattle.ev_listing.specs.Expansion.{item_label, own_label, exit_of, item_address, expansion, function_address}
 use Rattle.ev_listing.specs.Marks.{Mark, Always, Marked, stmts_of, all_places}
 use Rattle.ev_concrete.specs.Opening.{kernel_listings, listings}
 use Rattle.ev_concrete.specs.ConcreteRun.{Marks, marks_of, mark_at}
@@ -105,6 +105,18 @@ ItemsFollow = (mode : Mode) (image : Image) (n i : ℕ) (b : Body) (item : Item)
 abbrev pub ItemLabelsArePlaced : Type 0
 ItemLabelsArePlaced = (mode : Mode) (image : Image) → IsImage image → (n i : ℕ) (b : Body) → slice_get image.bodies n ≡ Some b
     → i < length (body_items b) → place (places_of mode image) (item_label n i) ≡ item_address mode n b i
+
+-- a label of an item's own stands so many bytes behind the beginning of the item's lines, whatever comes behind them
+abbrev pub IsPlacedIn : Mode → ℕ → Key → (ℕ → ℕ) → ℕ → Item → Name → ℕ → Type 0
+IsPlacedIn mode n key f i item x off = (a : ℕ) (rest : Places)
+    → place (places a (stmts_of (expansion mode n key f i item)) ++ rest) (own_label n i x) ≡ a + off
+
+-- and so many bytes behind the item's address: no other has its name. It begins with no digit.
+abbrev pub OwnLabelsArePlaced : Type 0
+OwnLabelsArePlaced = (mode : Mode) (image : Image) → IsImage image → (n i : ℕ) (b : Body) (item : Item) (c : ℕ) (cs : Name) (off : ℕ) → 58 ≤ c
+    → slice_get image.bodies n ≡ Some b → item_at (Some b) i ≡ Some item
+    → IsPlacedIn mode n b.key (function_address mode image) i item (c ∷ cs) off
+    → place (places_of mode image) (own_label n i (c ∷ cs)) ≡ item_address mode n b i + off
 
 -- the exits stand where they stand without bodies
 abbrev pub ExitsArePlaced : Type 0

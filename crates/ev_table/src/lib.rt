@@ -2,7 +2,7 @@
 //! the items of bodies, and which cells the abstract machine sees.
 #![tactic(auto)]
 
-ghost use Rattle.ev_table.specs.Table.{KernelStands, CellsAreSpaced, ItemsStand, ItemsAreMarked, ItemsFollow, ItemLabelsArePlaced, ExitsArePlaced, LogStands, RetStands, OthersHaveOneExit, BodiesBeginWithItems, ItemsAreCanonical, CellsAreMarked, MarkedCellsAreSeen};
+ghost use Rattle.ev_table.specs.Table.{KernelStands, CellsAreSpaced, ItemsStand, ItemsAreMarked, ItemsFollow, ItemLabelsArePlaced, OwnLabelsArePlaced, ExitsArePlaced, LogStands, RetStands, OthersHaveOneExit, BodiesBeginWithItems, ItemsAreCanonical, CellsAreMarked, MarkedCellsAreSeen};
 
 /// In both modes, for every image: the kernel's cells stand in the table, the cells of each item
 /// stand at its address with its marks, and an address is marked where its cell is. Own.
@@ -13,6 +13,7 @@ pub fn table()
     ensures item_marks { ItemsAreMarked }
     ensures follow { ItemsFollow }
     ensures labels { ItemLabelsArePlaced }
+    ensures own_labels { OwnLabelsArePlaced }
     ensures placed { ExitsArePlaced }
     ensures logs { LogStands }
     ensures rets { RetStands }

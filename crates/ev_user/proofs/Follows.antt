@@ -75,6 +75,7 @@ module _ (mode : Mode) (image : Image) (p r : ℕ) (t : Task) (u : UserMemory) (
         is = h;
         event = refl;
         saved_is = at_rip;
+        own = refl;
         canonical = is_task.canonical;
         behind = λ e. let z : ⊥ = omega (arith, e, no_length f) in absurd z;
         step_is = ap (delivering c a m nmi (fault_event f)) at_rip;
@@ -144,6 +145,7 @@ module _ (mode : Mode) (image : Image) (p r : ℕ) (t : Task) (u : UserMemory) (
         is = tt;
         event = refl;
         saved_is = refl;
+        own = refl;
         canonical = next;
         behind = λ e. short;
         step_is = ap (λ k. delivering c a m nmi (software SoftInt k 2) (t.rip + 2)) (eqb-true n 3 q);
@@ -153,6 +155,7 @@ module _ (mode : Mode) (image : Image) (p r : ℕ) (t : Task) (u : UserMemory) (
         is = (small, eqb-false n 3 q);
         event = refl;
         saved_is = omega arith;
+        own = refl;
         canonical = is_task.canonical;
         behind = λ e. short;
         step_is = refl;
@@ -163,9 +166,9 @@ module _ (mode : Mode) (image : Image) (p r : ℕ) (t : Task) (u : UserMemory) (
       → Follows (user.executed (user_view u) t (t.rip + length (spelling i)) i)
       (executed c a m nmi (Some i))
   unfolding user.executed exec special user_may spelling
-  instruction Int1 n h short fit = record { cause = Debug; is = tt; event = refl; saved_is = refl; canonical = h; behind = λ e. short; step_is = refl }
-  instruction Int3 n h short fit = record { cause = Breakpoint; is = tt; event = refl; saved_is = refl; canonical = h; behind = λ e. short; step_is = refl }
-  instruction Syscall n h short fit = record { cause = Call; is = tt; event = refl; saved_is = refl; canonical = h; behind = λ e. short; step_is = refl }
+  instruction Int1 n h short fit = record { cause = Debug; is = tt; event = refl; saved_is = refl; own = refl; canonical = h; behind = λ e. short; step_is = refl }
+  instruction Int3 n h short fit = record { cause = Breakpoint; is = tt; event = refl; saved_is = refl; own = refl; canonical = h; behind = λ e. short; step_is = refl }
+  instruction Syscall n h short fit = record { cause = Call; is = tt; event = refl; saved_is = refl; own = refl; canonical = h; behind = λ e. short; step_is = refl }
   instruction (IntN k) n h short fit = numbered k (n k refl) h short
   instruction Sti n h short fit = faulted Protection tt
   instruction Cli n h short fit = faulted Protection tt

@@ -27,7 +27,7 @@ use Rattle.ev_abstract.specs.Machine.{CallState, Free, Queued, Taken, CallRecord
 use Rattle.ev_abstract.specs.Delivery.{event_key, body_at_start, side_of, entered, delivered, switched, rescheduled, dropped}
 use Rattle.ev_abstract.specs.CrossCall.{record_of, with_record, in_state, with_queue, queued, new_record, queue_answer, all_taken, at_first_call}
 use Rattle.ev_abstract.specs.ItemMeaning.{replace_last, below_last, with_context, unknown_flags, arithmetic, taken, with_cell, user_address, with_page, mailed, with_mail, raised, kernel_access, kernel_fault, guarded, called, waited, finished, item_step}
-use Rattle.ev_user.specs.Causes.{Fault, Undefined, Stack, Protection, Alignment, Cause, Faulted, Debug, Breakpoint, Three, Refused, IsCause, raised_event}
+use Rattle.ev_user.specs.Causes.{Fault, Undefined, Stack, Protection, Alignment, Cause, Faulted, Debug, Breakpoint, Three, Refused, Arrived, IsCause, raised_event}
 use Rattle.ev_user.specs.Words.{AreWords, HoldsWords}
 use Rattle.ev_user.specs.Numbers.{AreCallers, IsOfWords, AreOfWords, HasWords, HoldsNumbers, OpeningHoldsNumbers, ItemsKeepNumbers}
 use Rattle.ev_user.proofs.Words.{alu_small, put_words, set_words}
@@ -152,6 +152,7 @@ causes_small Breakpoint h = record { error = omega arith; key = omega arith; inf
 causes_small Three h = record { error = omega arith; key = omega arith; info = omega arith }
 causes_small (Refused n) h = let c = h.0 in record { error = omega arith; key = omega arith; info = omega arith }
 causes_small Cause.Call h = record { error = omega arith; key = omega arith; info = omega arith }
+causes_small (Arrived v) h = let l = h.1 in record { error = omega arith; key = omega arith; info = omega arith }
 
 entered_words : (p : ℕ) (x : Processor) (e : Event) (side : Side) (o : Option ℕ) (bodies : List Body) → IsSmallEvent e → HasWords x
     → HasWords (entered p x e side o bodies).0

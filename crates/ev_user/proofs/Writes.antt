@@ -15,21 +15,24 @@ use Rattle.ev_user.specs.Sees.{Sees, IsPageWord, IsUserWord, IsWrite, with_write
 use Rattle.ev_user.proofs.Alike.{AreAlike, IsOpenTo}
 use Rattle.ev_user.proofs.Places.{pages_fault_alike}
 
+abbrev pub access_of : (user write : Bool) → Access
+access_of user write = record { user = user; write = write; fetch = false }
+
 abbrev access : Bool → Access
-access write = record { user = true; write = write; fetch = false }
+access write = access_of true write
 
 -- a word to which there is access: of the text, which isn't written, or of a page that is present
-abbrev IsIn : Bool → ℕ → Bool → Type 0
+abbrev pub IsIn : Bool → ℕ → Bool → Type 0
 IsIn write a present = (((text_base ≤ a) × (a < text_base + 0x10000)) × (write ≡ false)) ⊎ (IsPageWord a × (present ≡ true))
 
-accessed : (present : NatSet) (write : Bool) (a : ℕ) → fault_at present (access write) (place_of a) ≡ None → IsIn write a (present ((a - page_base) / 0x1000))
+pub accessed : (present : NatSet) (user write : Bool) (a : ℕ) → fault_at present (access_of user write) (place_of a) ≡ None → IsIn write a (present ((a - page_base) / 0x1000))
 unfolding fault_at place_of
-accessed present write a h =
+accessed present user write a h =
     pick (nat_le text_base a && nat_lt a (text_base + 0x10000)) (nat_le page_base a && nat_lt a (page_base + 0x1000 * 256)) (nat_lt a (2 ^ 63)) write
     (present ((a - page_base) / 0x1000)) refl refl refl h
   where
     rule : Bool → Place → Option ℕ
-    rule w z = fault_at present (access w) z
+    rule w z = fault_at present (access_of user w) z
 
     pick : (x y z w b : Bool) → (nat_le text_base a && nat_lt a (text_base + 0x10000)) ≡ x → (nat_le page_base a && nat_lt a (page_base + 0x1000 * 256)) ≡ y
         → present ((a - page_base) / 0x1000) ≡ b
@@ -43,7 +46,7 @@ accessed present write a h =
     pick false true z w false hx hy e k = absurd (let f : rule w (Page ((a - page_base) / 0x1000)) ≡ rule_absent w = ap (absent_if w) e in cc)
       where
         absent_if : Bool → Bool → Option ℕ
-        absent_if w b = fault_at (λ k. b) (access w) (Page 0)
+        absent_if w b = fault_at (λ k. b) (access_of user w) (Page 0)
 
         rule_absent : Bool → Option ℕ
         rule_absent w = absent_if w false
@@ -74,7 +77,7 @@ small_code present x KernelWord code h = if_small x.user (fault_code x true) cod
 small_code present x Lower code h = if_small true (fault_code x false) code (code_small x false) h
 small_code present x Upper code h = if_small true (fault_code x x.user) code (code_small x x.user) h
 
-user_word : (write b : Bool) (a : ℕ) → is_aligned a ≡ true → IsIn write a b → IsUserWord a
+pub user_word : (write b : Bool) (a : ℕ) → is_aligned a ≡ true → IsIn write a b → IsUserWord a
 user_word write b a h (inl k) = (h, inl k.0)
 user_word write b a h (inr k) = (h, inr k.0)
 
@@ -83,7 +86,7 @@ pub views_alike : (image : Image) (u : UserMemory) (m : Memory) → IsImage imag
 views_alike image u m is s = record {
   faults = λ write a. sym (pages_fault_alike image u m is s write false a);
   codes = λ write a code h. small_code u.present (access write) (place_of a) code h;
-  words = λ write a al h. sym (s.words a (user_word write (u.present ((a - page_base) / 0x1000)) a al (accessed u.present write a h)));
+  words = λ write a al h. sym (s.words a (user_word write (u.present ((a - page_base) / 0x1000)) a al (accessed u.present true write a h)));
 }
 
 -- ---- after a write
@@ -91,7 +94,7 @@ views_alike image u m is s = record {
 -- a word that can be written is one of a page that is present
 pub is_write : (u : UserMemory) (w : Option (ℕ × ℕ)) → IsOpenTo (user_view u) w → IsWrite u.present w
 is_write u None h = tt
-is_write u (Some x) h = pick (accessed u.present true x.0 h.1)
+is_write u (Some x) h = pick (accessed u.present true true x.0 h.1)
   where
     pick : IsIn true x.0 (u.present ((x.0 - page_base) / 0x1000)) → IsWrite u.present (Some x)
     pick (inl k) = absurd (let z : true ≡ false = k.1 in cc)

@@ -18,7 +18,7 @@ use Rattle.ev_abstract.specs.Machine.{user_memory, opening}
 use Rattle.ev_concrete.specs.Opening.{opening_memory}
 use Rattle.ev_user.specs.Tasks.{RunsTask, task_processor}
 use Rattle.ev_user.specs.Sees.{Sees, IsPageWord, IsWrite, with_write, written}
-use Rattle.ev_user.specs.Causes.{Cause, IsCause, own_event, raised_event, raising}
+use Rattle.ev_user.specs.Causes.{Cause, IsCause, is_own, own_event, raised_event, raising}
 
 -- ---- memory
 
@@ -83,6 +83,7 @@ pub record Raised (t : Task) (c : Processor) (a : Apic) (m : Memory) (nmi : Bool
     (e : Event) (s : After) : Type 0 where
   pub cause : Cause
   pub is : IsCause cause
+  pub own : is_own cause ≡ true
   pub event : e ≡ raised_event cause
   pub saved_is : saved ≡ t.rip + (raised_event cause).length
   pub canonical : is_canonical saved ≡ true

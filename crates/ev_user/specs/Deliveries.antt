@@ -2,7 +2,7 @@
 use Rattle.std.specs.Prelude.{◌≡◌, ◌≢◌, ℕ, ◌+◌, ◌^◌, ◌<◌, Bool, true, false, ◌&&◌, nat_lt, Some}
 use Rattle.ev_isa.specs.Word.{NatMap}
 use Rattle.ev_event.specs.declared.event.Event.{Event}
-use Rattle.ev_event.specs.declared.event.EventType.TheVariants.{External, Nmi}
+use Rattle.ev_event.specs.declared.event.EventType.TheVariants.{Nmi}
 use Rattle.ev_event.specs.Event.{has_error_code, is_hardware}
 use Rattle.ev_state.specs.Processor.{Processor, is_user}
 use Rattle.ev_state.specs.Outcome.{Went, Met}
@@ -14,9 +14,8 @@ use Rattle.ev_proc.specs.ProcessorStep.{has_fred, try, after_arrival}
 use Rattle.ev_concrete.specs.Opening.{gate}
 use Rattle.ev_user.specs.Causes.{Cause, Refused, Call, IsCause, own_event, raised_event, raising}
 
--- an event that is no NMI and no interrupt, and whose vector is a byte
+-- an event that is no NMI, and whose vector is a byte
 pub record IsOwn (e : Event) : Type 0 where
-  pub no_interrupt : e.kind ≢ External
   pub no_nmi : e.kind ≢ Nmi
   pub small : e.vector < 2 ^ 8
 

@@ -1,12 +1,22 @@
--- The frames of a document's runs are safe.
-use Rattle.std.proofs.Common.{subst}
+-- The frames of a document's runs are safe, and their calls are kept.
+use Rattle.std.proofs.Common.{ℕ, List, subst}
+use Rattle.ev_body.specs.KernelImage.{KernelImage}
 use Rattle.ev_body.specs.WellFormed.{IsImage}
+use Rattle.ev_abstract.specs.declared.script_line.Line.{Line}
 use Rattle.ev_built.proofs.Taken.{taken_are_built}
+use Rattle.ev_call_law.proofs.Runs.{calls_are_kept}
 use Rattle.ev_pair.proofs.Safe.{run_is_safe}
-use Rattle.fredbox.specs.Safe.{FramesAreSafe}
+use Rattle.fredbox.specs.Safe.{CallsAreKept, FramesAreSafe, HoldsRun}
 use Rattle.fredbox.proofs.ReadFormed.{opened_is_image, script_is_formed}
+
+image_is : (bytes : List ℕ) (image : KernelImage) (script : List Line) → HoldsRun bytes image script → IsImage image
+image_is bytes image script h = subst IsImage h.image_is (opened_is_image _ h.read h.opens)
 
 pub frames_are_safe : FramesAreSafe
 frames_are_safe bytes image script h mode =
-    let is : IsImage image = subst IsImage h.image_is (opened_is_image _ h.read h.opens) in
-    run_is_safe mode image script is (taken_are_built image h.accepted h.built) (script_is_formed image _ _ _ script h.script_is) h.lines_built
+    run_is_safe mode image script (image_is bytes image script h) (taken_are_built image h.accepted h.built)
+    (script_is_formed image _ _ _ script h.script_is) h.lines_built
+
+pub all_calls_are_kept : CallsAreKept
+all_calls_are_kept bytes image script h =
+    calls_are_kept image script (image_is bytes image script h) h.accepted (script_is_formed image _ _ _ script h.script_is)

@@ -1,9 +1,11 @@
--- What is promised of the frames of a document's runs, whatever comes of the command. Own.
+-- What is promised of a document's runs, whatever comes of the command. Own.
 use Rattle.std.specs.Prelude.{◌≡◌, ℕ, true, List, Ok}
 use Rattle.std.specs.List.{list_all}
 use Rattle.ev_isa.specs.declared.mode.Mode.{Mode}
 use Rattle.ev_body.specs.KernelImage.{KernelImage}
 use Rattle.ev_abstract.specs.Accepted.{IsAccepted}
+use Rattle.ev_abstract.specs.CallLaws.{KeepsCalls}
+use Rattle.ev_abstract.specs.Run.{trace}
 use Rattle.ev_abstract.specs.declared.script_line.Line.{Line}
 use Rattle.ev_built.specs.Built.{line_is_built}
 use Rattle.ev_built.specs.RunTakes.{is_built}
@@ -27,3 +29,8 @@ pub record HoldsRun (bytes : List ℕ) (image : KernelImage) (script : List Line
 abbrev pub FramesAreSafe : Type 0
 FramesAreSafe = (bytes : List ℕ) (image : KernelImage) (script : List Line) → HoldsRun bytes image script
     → (mode : Mode) → RunIsSafe mode image script
+
+-- in the trace of such a run each call runs at most once, was queued before it ran, and ran before it is reported as done
+abbrev pub CallsAreKept : Type 0
+CallsAreKept = (bytes : List ℕ) (image : KernelImage) (script : List Line) → HoldsRun bytes image script
+    → KeepsCalls (trace image script)

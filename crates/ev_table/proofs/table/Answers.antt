@@ -4,6 +4,7 @@ use Rattle.ev_symbolic.proofs.Listed.{spaced_in}
 use Rattle.ev_table.specs.Table.{KernelStands}
 use Rattle.ev_table.proofs.Kernel as kernel
 use Rattle.ev_table.proofs.LabelPlaces.{labels_placed}
+use Rattle.ev_table.proofs.OwnPlaces.{own_labels_placed}
 use Rattle.ev_table.proofs.Whole as whole
 use Rattle.ev_table.proofs.table.Goals as goal
 
@@ -19,6 +20,7 @@ returns c = record {
   item_marks = λ mode image given n i b item h k. whole.item_marks mode image given n i b item h k;
   follow = λ mode image n i b item k. whole.next_address mode image n i b item k;
   labels = λ mode image given n i b h l. labels_placed mode image given n i b h l;
+  own_labels = λ mode image given n i b item c cs off high h l found. own_labels_placed mode image i c cs high item off given n b h l found;
   placed = λ mode image key. whole.exit_is_there mode image key;
   logs = λ mode image given n i s b h k. whole.log_stands mode image given n i s b h k;
   rets = λ mode image given n i b h k. whole.ret_stands mode image given n i b h k;
