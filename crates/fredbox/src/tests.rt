@@ -102,7 +102,7 @@ fn first_refusal(rt: HostRuntime) -> Result<(), Fail> {
         ),
         (
             "run",
-            "task 0 start 0\nscript\n",
+            "body nmi user\nret\nendbody\nscript\n",
             "turn\n",
             Status::NotBuilt,
         ),
