@@ -18,6 +18,7 @@ mod PageFaultInAnNmi
 mod CrossingCalls
 mod BusySite
 mod Reschedule
+mod SwitchOfTasks
 mod RefusedImages
 mod LongestChain
 mod GateBytes

@@ -5,7 +5,7 @@ use Rattle.ev_asm.specs.Assembly.{size, places, distance}
 use Rattle.ev_listing.specs.FredCode.{fred_listings}
 use Rattle.ev_symbolic.specs.Run.{brun}
 use Rattle.ev_blocks.specs.Shapes.{FredFrame, UserCode, KernelCode}
-use Rattle.ev_paths.specs.Ends.{Continues}
+use Rattle.ev_paths.specs.Ends.{HasWords, next_names, Continues}
 use Rattle.ev_blocks.specs.Fred.{FredWay, ByCall, ByInt3, ByIntN, ByOther, FredToKernel, FredToTask, FredToNext, FromUser, FromKernel, Leaves, LeavesNmi, way_values, kernel_values, fred_lines, fred_block, eretu_place, erets_place}
 use Rattle.ev_blocks.specs.Items.{AtTable, body_block}
 use Rattle.ev_paths.specs.FredEnds.{fred_end, FredEnters, ReturnsAt, ReturnsToNext, FredReturns, FredTellsNoCr2}
@@ -71,6 +71,10 @@ to_next : ReturnsToNext (Leaves FredToNext)
 unfolding fred_end fred_lines fred_listings spelling four_bytes size places distance
 to_next = record { runs = refl; rip = refl; regs = refl; gs = refl; kernel_gs = refl; selector = refl; rsp0 = refl; blocked = refl; words = refl }
 
+switched : HasWords (fred_end (Leaves FredToNext)) next_names
+unfolding fred_end fred_lines fred_listings spelling four_bytes size places distance
+switched = refl
+
 nmi_to_task : ReturnsAt eretu_place (LeavesNmi UserCode)
 unfolding fred_end fred_lines fred_listings spelling four_bytes size places distance
 nmi_to_task = record { runs = refl; rip = refl; regs = refl; gs = refl; kernel_gs = refl; selector = refl; rsp0 = refl; blocked = refl; words = refl }
@@ -80,7 +84,7 @@ unfolding fred_end fred_lines fred_listings spelling four_bytes size places dist
 nmi_to_kernel = record { runs = refl; rip = refl; regs = refl; gs = refl; kernel_gs = refl; selector = refl; rsp0 = refl; blocked = refl; words = refl }
 
 pub fred_returns : FredReturns
-fred_returns = record { to_kernel = to_kernel; to_task = to_task; to_next = to_next; nmi_to_task = nmi_to_task; nmi_to_kernel = nmi_to_kernel }
+fred_returns = record { to_kernel = to_kernel; to_task = to_task; to_next = to_next; switched = switched; nmi_to_task = nmi_to_task; nmi_to_kernel = nmi_to_kernel }
 
 -- ---- CR2
 

@@ -1,13 +1,16 @@
 -- What the blocks of IDT's code come to: closed facts, each by computation; the vector of an entry is any number.
 use Rattle.std.proofs.Common.{◌≡◌, ℕ, Bool, true, false, Option, None, refl, sym, ap, subst}
-use Rattle.std.specs.Prelude.{◌==◌}
+use Rattle.std.specs.Prelude.{◌==◌, ◌∷◌}
 use Rattle.ev_isa.specs.Spelling.{spelling, four_bytes}
 use Rattle.ev_asm.specs.Assembly.{size, places, distance}
 use Rattle.ev_symbolic.specs.Value.{V}
 use Rattle.ev_symbolic.specs.State.{Block}
 use Rattle.ev_blocks.specs.Shapes.{Origin, UserCode, KernelCode, IdtFrame}
-use Rattle.ev_paths.specs.Ends.{TellsNoCr2, Enters}
-use Rattle.ev_blocks.specs.Idt.{ByOtherRip, ByOtherFlags, Stub, Sys, Common, idt_places, sys_lines, common_lines, exit_lines, told_cr2, sys_values, common_values, idt_block}
+use Rattle.ev_paths.specs.Ends.{TellsNoCr2, HasWords, next_names, Enters}
+use Rattle.ev_symbolic.specs.Value.{P}
+use Rattle.ev_symbolic.specs.Openings.{word, gs_word}
+use Rattle.ev_symbolic.specs.Names.{next_top_tag}
+use Rattle.ev_blocks.specs.Idt.{IdtReturn, BySysret, IdtToNext, Leaves, ByOtherRip, ByOtherFlags, Stub, Sys, Common, idt_places, sys_lines, common_lines, exit_lines, told_cr2, sys_values, common_values, idt_block}
 use Rattle.ev_blocks.specs.Items.{AtTable, body_block}
 use Rattle.ev_paths.specs.IdtEnds.{idt_end, EntersCommon, IdtEnters, IretToKernel, IretToTask, IretToNext, SysretToTask, SysretToNext, IdtReturns, IdtTellsNoCr2}
 
@@ -144,6 +147,12 @@ to_next_by_flags : IretToNext ByOtherFlags
 unfolding idt_end idt_places sys_lines common_lines exit_lines spelling four_bytes size places distance
 to_next_by_flags = record { runs = refl; rip = refl; regs = refl; gs = refl; kernel_gs = refl; selector = refl; rsp0 = refl; blocked = refl; words = refl }
 
+switched : (r : IdtReturn) → HasWords (idt_end (Leaves (IdtToNext r))) (word (gs_word 0x408) (P next_top_tag 0) ∷ next_names)
+unfolding idt_end idt_places sys_lines common_lines exit_lines spelling four_bytes size places distance
+switched BySysret = refl
+switched ByOtherRip = refl
+switched ByOtherFlags = refl
+
 pub idt_returns : IdtReturns
 idt_returns = record {
   to_kernel = to_kernel;
@@ -153,6 +162,7 @@ idt_returns = record {
   to_next = to_next;
   to_next_by_rip = to_next_by_rip;
   to_next_by_flags = to_next_by_flags;
+  switched = switched;
 }
 
 -- ---- CR2

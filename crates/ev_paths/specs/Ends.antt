@@ -1,10 +1,11 @@
 -- What it is for a block to come to the next one, or to a return. Own.
-use Rattle.std.specs.Prelude.{◌≡◌, ℕ, Bool, true, false, List, map, Option, Some, None}
-use Rattle.ev_symbolic.specs.Value.{V}
+use Rattle.std.specs.Prelude.{◌≡◌, ℕ, Bool, true, false, List, [], ◌∷◌, map, Option, Some, None}
+use Rattle.ev_symbolic.specs.Value.{V, K, P}
 use Rattle.ev_symbolic.specs.State.{Word, SS, Block, absolute, find}
 use Rattle.ev_symbolic.specs.Run.{brun, every}
 use Rattle.ev_symbolic.specs.Join.{Joins}
-use Rattle.ev_symbolic.specs.Openings.{end_or}
+use Rattle.ev_symbolic.specs.Openings.{end_or, word, gs_word}
+use Rattle.ev_symbolic.specs.Names.{next_task_tag, next_top_tag}
 
 -- the state that a block comes to
 abbrev pub end_of : Block → SS
@@ -28,6 +29,10 @@ pub record Continues (s : SS) (θ : List V) (b : Block) : Type 0 where
 -- words that a state knows
 abbrev pub HasWords : SS → List Word → Type 0
 HasWords s ws = map (λ (w : Word). find w.at s.words) ws ≡ map (λ (w : Word). Some w.val) ws
+
+-- behind a switch, which clears the mark: the top of the next task's stack and its words are the running task's
+abbrev pub next_names : List Word
+next_names = word (gs_word 0x10) (P next_top_tag 0) ∷ word (gs_word 0x18) (P next_task_tag 0) ∷ word (gs_word 0x20) (K 0) ∷ []
 
 -- an entry comes to the opening of the next block
 pub record Enters (b : Block) (z : SS) (θ : List V) (next : Block) : Type 0 where

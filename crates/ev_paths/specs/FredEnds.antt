@@ -5,7 +5,7 @@ use Rattle.ev_symbolic.specs.State.{SS}
 use Rattle.ev_symbolic.specs.Openings.{gs_tag, words_from}
 use Rattle.ev_symbolic.specs.Names.{next_top_tag, saved, next_saved, other_gs, gs_selector, level_rsp, next_selector, next_gs, top_less}
 use Rattle.ev_blocks.specs.Shapes.{UserCode, KernelCode, FredFrame, registers_of, interrupted_words}
-use Rattle.ev_paths.specs.Ends.{end_of, TellsNoCr2, Enters, Returns}
+use Rattle.ev_paths.specs.Ends.{end_of, TellsNoCr2, HasWords, next_names, Enters, Returns}
 use Rattle.ev_blocks.specs.Fred.{FredWay, FredToKernel, FredToTask, FredToNext, FredSpot, FromUser, FromKernel, Leaves, LeavesNmi, way_values, kernel_values, fred_block, next_interrupted, eretu_place, erets_place}
 use Rattle.ev_blocks.specs.Items.{AtTable, body_block}
 
@@ -36,6 +36,7 @@ pub record FredReturns : Type 0 where
   pub to_kernel : ReturnsAt erets_place (Leaves FredToKernel)
   pub to_task : ReturnsAt eretu_place (Leaves FredToTask)
   pub to_next : ReturnsToNext (Leaves FredToNext)
+  pub switched : HasWords (fred_end (Leaves FredToNext)) next_names
   pub nmi_to_task : ReturnsAt eretu_place (LeavesNmi UserCode)
   pub nmi_to_kernel : ReturnsAt erets_place (LeavesNmi KernelCode)
 

@@ -1,13 +1,13 @@
 -- What the blocks of IDT's code come to.
-use Rattle.std.specs.Prelude.{◌≡◌, ℕ, ◌-◌, ◌==◌, Bool, true, false, Some}
+use Rattle.std.specs.Prelude.{◌≡◌, ℕ, ◌-◌, ◌==◌, Bool, true, false, ◌∷◌, Some}
 use Rattle.ev_symbolic.specs.Value.{M, P}
 use Rattle.ev_symbolic.specs.State.{SS}
 use Rattle.ev_symbolic.specs.Run.{brun}
 use Rattle.ev_symbolic.specs.Join.{Joins}
-use Rattle.ev_symbolic.specs.Openings.{gs_tag, at_base, words_from}
+use Rattle.ev_symbolic.specs.Openings.{gs_tag, gs_word, word, at_base, words_from}
 use Rattle.ev_symbolic.specs.Names.{stub_tag, next_top_tag, saved, frame_rsp, next_rsp, next_saved, other_gs, gs_selector, level_rsp, next_selector, next_gs, top_less}
 use Rattle.ev_blocks.specs.Shapes.{Origin, IdtFrame, registers_of, interrupted_words}
-use Rattle.ev_paths.specs.Ends.{end_of, TellsNoCr2, Enters, Returns}
+use Rattle.ev_paths.specs.Ends.{end_of, TellsNoCr2, HasWords, next_names, Enters, Returns}
 use Rattle.ev_blocks.specs.Idt.{IdtReturn, BySysret, ByOtherRip, ByOtherFlags, IdtToKernel, IdtToTask, IdtToNext, IdtSpot, Stub, Sys, Common, Leaves, stub_values, sys_values, common_values, next_interrupted, sysretq_place, iretq_place, idt_block}
 use Rattle.ev_blocks.specs.Items.{AtTable, body_block}
 
@@ -74,6 +74,7 @@ pub record IdtReturns : Type 0 where
   pub to_next : SysretToNext
   pub to_next_by_rip : IretToNext ByOtherRip
   pub to_next_by_flags : IretToNext ByOtherFlags
+  pub switched : (r : IdtReturn) → HasWords (idt_end (Leaves (IdtToNext r))) (word (gs_word 0x408) (P next_top_tag 0) ∷ next_names)
 
 -- all blocks but the entry of page faults and their code in common are told of no CR2
 abbrev pub IdtTellsNoCr2 : Type 0

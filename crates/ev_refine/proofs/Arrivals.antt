@@ -141,6 +141,7 @@ module _ (mode : Mode) (image : Image) where
         isr = on.isr;
         pending = λ u lu. put.0 u ∙ pending u lu;
         service = on.service;
+        single = on.single;
       })
       (lines_keep_legal image m (Arrive p (Irq v)) good accepted line h.legal) (lines_keep_bases image m (Arrive p (Irq v)) h.bases) inside
     where

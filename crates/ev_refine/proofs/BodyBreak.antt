@@ -149,7 +149,7 @@ module _ (mode : Mode) (image : Image) (built : IsBuilt image) (good : IsImage i
                 (subst (λ y. Agrees u (block mode (body mode spots.AtItem)).ground (opening_of mode) y s.memory) whole agrees);
             long = a.long;
           };
-          switches = way.off ∙ sym (step.still mode image built good facts left s m h p hp o a.act);
+          switches = way.off ∙ sym o.off;
           knows = plain_knows mode o.κ on.frame plain (blocks.holds (body mode spots.AtItem));
           means = means_at mode image o.κ plain spots.AtItem u o.w (context.onward o.b) s.memory.words (item, refl);
         }

@@ -54,13 +54,13 @@ use Rattle.ev_refine.specs.Relation.{IsContext, Beneath, keeps_cr2, chained, bod
 use Rattle.ev_refine.specs.Claims.{Simulated}
 use Rattle.ev_refine.proofs.Facts.{Facts}
 use Rattle.ev_refine.proofs.Maps.{at_same, at_other}
-use Rattle.ev_refine.proofs.CallKinds.{is_plain_kind, ArePlain, none_nmi, seat_under, plain_seat}
+use Rattle.ev_refine.proofs.CallKinds.{is_plain_kind, ArePlain, none_nmi, seat_under, plain_seat, area_under}
 use Rattle.ev_refine.proofs.Chains.{Kept, chain_kept}
 use Rattle.ev_refine.proofs.Domains.{four_tasks}
-use Rattle.ev_refine.proofs.Legality.{turn_legal, legal_few, turn_bases}
+use Rattle.ev_refine.proofs.Legality.{turn_legal, turn_bases, legal_few}
 use Rattle.ev_refine.proofs.Standing.{seen, Moves, step_moves, delivery_moves}
 use Rattle.ev_refine.proofs.Stays.{AreSpared, chain_stays, below_spared}
-use Rattle.ev_refine.proofs.After.{none_spares, slot_same, cell_same, page_same, user_same, few_inner, apic_again, own_becomes, stands_become}
+use Rattle.ev_refine.proofs.After.{none_spares, slot_same, cell_same, page_same, user_same, few_inner, apic_again, own_becomes, stands_become, AreSameWords, tasks_same, current_is, mark_is}
 use Rattle.ev_refine.proofs.Depth.{stands_depth}
 use Rattle.ev_refine.proofs.UserState.{TurnsTo, makes_turn, is_safe, tells_bodies}
 use Rattle.ev_refine.proofs.UserBody.{HasBody, has_body}
@@ -225,7 +225,10 @@ module _ (mode : Mode) (image : Image) (built : IsBuilt image) (good : IsImage i
   small = step.small mode image built good facts left s m h p hp
 
   abbrev r : ℕ
-  r = on.returning
+  r = x.running
+
+  abbrev to : ℕ
+  to = on.returning
 
   abbrev Stood : ℕ → BodyContext → Processor → Memory → Type 0
   Stood now b cpu mem = Active mode image p now o.κ o.σ on.frame (switches_at mode image on.switching o.below) o.w b cpu mem
@@ -243,7 +246,7 @@ module _ (mode : Mode) (image : Image) (built : IsBuilt image) (good : IsImage i
       → AtItem mode p r n (record c { rip = saved })
   at_item ss ss_is extra v f offset rax rcx rdx g state long saved =
       let e : Env = here mode p o.κ o.σ ss o.w extra v f in
-      let k : Kept mode image p c = chain_kept mode image p on.own r (x.tasks r) on.frame on.switching x.bodies (s.activations p) c s.memory
+      let k : Kept mode image p c = chain_kept mode image p on.own r to (x.tasks to) on.frame on.switching x.bodies (s.activations p) c s.memory
       (step.chain mode image built good facts left s m h p hp) in
       let under : Kept mode image p o.w = step.kept mode image built good facts left s m h p hp o in
       record {
@@ -413,10 +416,10 @@ module _ (mode : Mode) (image : Image) (built : IsBuilt image) (good : IsImage i
     above : AllAbove (top_at p (seat_under mode r (suc n))) (interrupted c (s.activations p))
     above =
         let others = above_less (top_at p (seat_under mode r (suc n))) (top_at p (seat_under mode r n)) (deeper mode p r n) o.others
-        (chain_above mode image p on.own r (x.tasks r) on.frame on.switching o.b o.below o.last o.others c s.memory
+        (chain_above mode image p on.own r to (x.tasks to) on.frame on.switching o.b o.below o.last o.others c s.memory
         (step.all_plain mode image built good facts left s m h p hp o)
-        (subst (λ ys. Chain mode image p on.own r (x.tasks r) on.frame on.switching (o.b ∷ o.below) ys c s.memory) o.acts
-        (subst (λ bs. Chain mode image p on.own r (x.tasks r) on.frame on.switching bs (s.activations p) c s.memory) o.bodies
+        (subst (λ ys. Chain mode image p on.own r to (x.tasks to) on.frame on.switching (o.b ∷ o.below) ys c s.memory) o.acts
+        (subst (λ bs. Chain mode image p on.own r to (x.tasks to) on.frame on.switching bs (s.activations p) c s.memory) o.bodies
         (step.chain mode image built good facts left s m h p hp)))) in
         subst (λ ys. AllAbove (top_at p (seat_under mode r (suc n))) (interrupted c ys)) (sym o.acts)
         (rsp_over mode p r n (rsp c) at.at_top, others)
@@ -433,20 +436,20 @@ module _ (mode : Mode) (image : Image) (built : IsBuilt image) (good : IsImage i
     spared = below_spared mode image p r [] s.memory.words words' entered_context (b ∷ o.below) small narrow deep tt refl
         (subst (λ σ. Changes p σ [] s.memory.words words') (sym seat_now) changes) plain_now
 
-    under : (a : ℕ) → Chain mode image p (body_edges mode image) r (x.tasks r) on.frame on.switching (b ∷ o.below) (under_now ∷ o.others)
+    under : (a : ℕ) → Chain mode image p (body_edges mode image) r to (x.tasks to) on.frame on.switching (b ∷ o.below) (under_now ∷ o.others)
         (record w { cr2 = a }) mem
     under a =
-        let k : Chain mode image p (body_edges mode image) r (x.tasks r) on.frame on.switching (b ∷ o.below) (o.last ∷ o.others) (record w { cr2 = a })
+        let k : Chain mode image p (body_edges mode image) r to (x.tasks to) on.frame on.switching (b ∷ o.below) (o.last ∷ o.others) (record w { cr2 = a })
         s.memory
         = step.with_last mode image built good facts left s m h p hp o b kind contexts.1 (body_edges mode image) (record w { cr2 = a }) s.memory.words []
         (none_spares p).allowed (step.unknown_none o.below) (λ i off off'. refl) (y.stood a) in
-        chain_stays mode image p (body_edges mode image) r (x.tasks r) on.frame on.switching (b ∷ o.below) (under_now ∷ o.others) (record w { cr2 = a })
+        chain_stays mode image p (body_edges mode image) r to (x.tasks to) on.frame on.switching (b ∷ o.below) (under_now ∷ o.others) (record w { cr2 = a })
         s.memory words' hp good.count.1 spared (k.0, k.1, k.2, k.3, k.4, k.5, k.6)
 
-    chain : Chain mode image p (body_edges mode image) r (x.tasks r) on.frame on.switching now_bodies (last_now ∷ under_now ∷ o.others) d mem
+    chain : Chain mode image p (body_edges mode image) r to (x.tasks to) on.frame on.switching now_bodies (last_now ∷ under_now ∷ o.others) d mem
     chain =
         let at_kind = subst (λ k. Beneath mode image (keeps_cr2 mode image k)
-        (λ v. Chain mode image p (body_edges mode image) r (x.tasks r) on.frame (chained mode image on.switching (b ∷ o.below)) (b ∷ o.below)
+        (λ v. Chain mode image p (body_edges mode image) r to (x.tasks to) on.frame (chained mode image on.switching (b ∷ o.below)) (b ∷ o.below)
         (under_now ∷ o.others) v mem) w
         × Leads mode p k on.frame w mem.words
         × Active mode image p (body_edges mode image) k (seat_by mode k r (seat_of mode image r (b ∷ o.below)) (room_of mode image (b ∷ o.below))) on.frame
@@ -470,13 +473,18 @@ module _ (mode : Mode) (image : Image) (built : IsBuilt image) (good : IsImage i
     abbrev now : ℕ
     now = body_edges mode image + inner_edges (s.latches p)
 
+    words_same : AreSameWords p (seat_under mode r (suc n)) [] small narrow s.memory.words words' tt changes p
+    words_same = tasks_same p (seat_under mode r (suc n)) [] small narrow s.memory.words words' tt changes refl p small
+
     -- the local APIC stays
     same_apic : s'.apics p ≡ s.apics p
     same_apic = at_same s.apics p p (s.apics p) refl
 
     there : StandsOn mode image p now s' z
     there = own_becomes mode image p (left p) s s' x (seat_under mode r (suc n)) d as' words' x.tasks x.slots now_bodies (body_edges mode image) on small
-        (four_tasks image good p hp) mv refl narrow [] (none_spares p).allowed changes
+        (four_tasks image good p hp) mv (λ i d. inr (area_under mode r n)) narrow [] (none_spares p).allowed changes
+        (λ f. current_is p (seat_under mode r (suc n)) [] small narrow s.memory.words words' tt changes p words_same mode x.running (on.current f))
+        (λ f. mark_is p (seat_under mode r (suc n)) [] small narrow s.memory.words words' tt changes p words_same ∙ on.mark f)
         (λ k l. slot_same p (seat_under mode r (suc n)) [] small narrow s.memory.words words' tt changes refl p k small l ∙ on.slots k l)
         (λ i f. refl) on.tasks (begun.blocking ∙ sym (none_nmi image now_bodies plain_now))
         x.pending (apic_again mode image (s.apics p) _ x.pending x.bodies now_bodies same_apic
@@ -485,7 +493,7 @@ module _ (mode : Mode) (image : Image) (built : IsBuilt image) (good : IsImage i
         ∙ sym (ap (list_any (λ (a : BodyContext). serves mode image class a.service)) o.bodies))
         on.apic)
         (let f = few_inner mode image (s.latches p) in omega arith)
-        (subst (λ ys. Chain mode image p (body_edges mode image) r (x.tasks r) on.frame on.switching now_bodies ys d mem) (sym acts_are) chain)
+        (subst (λ ys. Chain mode image p (body_edges mode image) r to (x.tasks to) on.frame on.switching now_bodies ys d mem) (sym acts_are) chain)
 
     all : Stands mode image (put_at left p now) s' m'
     all =
@@ -515,7 +523,8 @@ module _ (mode : Mode) (image : Image) (built : IsBuilt image) (good : IsImage i
     frame_fits : begun.frame + 8 * frame_size (middle.cpus p) e ≤ top_at p (seat_under mode r (suc n))
     frame_fits =
         let fred : has_fred (middle.cpus p) ≡ has_fred w = ap has_fred (at_same s.cpus p p d refl)
-        ∙ (chain_kept mode image p (body_edges mode image) r (x.tasks r) on.frame on.switching now_bodies (last_now ∷ under_now ∷ o.others) d mem chain).fred
+        ∙ (chain_kept mode image p (body_edges mode image) r to (x.tasks to) on.frame on.switching now_bodies
+        (last_now ∷ under_now ∷ o.others) d mem chain).fred
         ∙ sym at.fred in
         let same : frame_size (middle.cpus p) e ≡ frame_size w e
         = ap (λ t. if t then 8 else (if is_hardware e.kind && has_error_code e.vector then 6 else 5)) fred in

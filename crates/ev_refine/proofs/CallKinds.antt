@@ -1,5 +1,5 @@
 -- Kinds of activations: that of a system call, and of another event of a task, stands on the task alone; those and that of an event of a body are no NMI's.
-use Rattle.std.proofs.Common.{◌≡◌, ℕ, suc, ◌+◌, ◌*◌, Bool, true, false, List, [], ◌∷◌, length, Option, Some, None, refl, ap, ◌∙◌, arith}
+use Rattle.std.proofs.Common.{◌≡◌, ℕ, suc, ◌+◌, ◌*◌, Bool, true, false, List, [], ◌∷◌, length, Option, Some, None, refl, ap, ◌∙◌, arith, ◌≤◌}
 use Rattle.std.specs.Prelude.{◌==◌, ◌||◌, if◌then◌else◌, slice_get}
 use Rattle.std.specs.List.{list_any}
 use Rattle.std.proofs.lemmas.Bool.{eqb-true}
@@ -8,6 +8,7 @@ use Rattle.ev_body.specs.declared.image.Image.{Image}
 use Rattle.ev_body.specs.Bodies.{key_number}
 use Rattle.ev_abstract.specs.Boundary.{has_key, is_nmi_body}
 use Rattle.ev_abstract.specs.Context.{BodyContext}
+use Rattle.ev_concrete.specs.LiveWords.{area_bytes}
 use Rattle.ev_activation.specs.Seat.{Kind, SystemCall, FromTask, FromBody, NmiFromTask, NmiFromBody, Seat, plain_room, room, key_by, key_at, kind_from, kind_of, seat_by, seat_of, room_of}
 use Rattle.ev_isa.specs.Word.{NatMap}
 use Rattle.ev_isa.specs.declared.mode.Mode.{Mode}
@@ -118,6 +119,11 @@ none_nmi image (b ∷ below) h =
 abbrev pub seat_under : Mode → (r n : ℕ) → Seat
 seat_under mode r n = record { stack = r; used = plain_room mode * n }
 
+-- below another one it leaves the saved area at the top
+pub area_under : (mode : Mode) (r n : ℕ) → area_bytes mode ≤ (seat_under mode r (suc n)).used
+area_under Fred r n = omega arith
+area_under Idt r n = omega arith
+
 pub plain_seat : (mode : Mode) (image : Image) (r : ℕ) (b : BodyContext) (below : List BodyContext) → ArePlain image (b ∷ below)
     → seat_of mode image r (b ∷ below) ≡ seat_under mode r (length below)
 plain_seat mode image r b [] h = first (kind_of image b []) h.0 refl
@@ -200,18 +206,19 @@ level_of mode NmiFromTask w a = refl
 level_of mode NmiFromBody w a = let clash : false ≡ true = a in absurd (cc)
 
 -- the chain of one activation
-pub over_kind : (mode : Mode) (image : Image) (p left r : ℕ) (t : Task) (f : Frame) (sw : Bool) (w : Processor) (b : BodyContext) (c : Processor) (m : Memory)
-    (κ : Kind) → is_over_task κ ≡ true → RunsTask mode image p r t w → sw ≡ false
+pub over_kind : (mode : Mode) (image : Image) (p left r to : ℕ) (t : Task) (f : Frame) (sw : Bool) (w : Processor) (b : BodyContext) (c : Processor)
+    (m : Memory)
+    (κ : Kind) → is_over_task κ ≡ true → RunsTask mode image p to t w → sw ≡ false
     → Active mode image p left κ (record { stack = r; used = 0 }) f sw w b c m
     → Beneath mode image (keeps_cr2 mode image κ)
-    (λ v. Chain mode image p (body_edges mode image) r t f (chained mode image sw []) [] [] v m) w
+    (λ v. Chain mode image p (body_edges mode image) r to t f (chained mode image sw []) [] [] v m) w
     × Leads mode p κ f w m.words
     × Active mode image p left κ (seat_by mode κ r (seat_of mode image r []) (room_of mode image [])) f (switches_at mode image sw []) w b c m
-over_kind mode image p left r t f sw w b c m SystemCall a task still act = (λ n. (with_cr2 mode image p r t w n task, refl, refl), tt, act)
-over_kind mode image p left r t f sw w b c m FromTask a task still act = (λ n. (with_cr2 mode image p r t w n task, refl, refl), tt, act)
-over_kind mode image p left r t f sw w b c m FromBody a task still act = let clash : false ≡ true = a in absurd (cc)
-over_kind mode image p left r t f sw w b c m NmiFromTask a task still act = let clash : false ≡ true = a in absurd (cc)
-over_kind mode image p left r t f sw w b c m NmiFromBody a task still act = let clash : false ≡ true = a in absurd (cc)
+over_kind mode image p left r to t f sw w b c m SystemCall a task still act = (λ n. (with_cr2 mode image p to t w n task, refl, refl), tt, act)
+over_kind mode image p left r to t f sw w b c m FromTask a task still act = (λ n. (with_cr2 mode image p to t w n task, refl, refl), tt, act)
+over_kind mode image p left r to t f sw w b c m FromBody a task still act = let clash : false ≡ true = a in absurd (cc)
+over_kind mode image p left r to t f sw w b c m NmiFromTask a task still act = let clash : false ≡ true = a in absurd (cc)
+over_kind mode image p left r to t f sw w b c m NmiFromBody a task still act = let clash : false ≡ true = a in absurd (cc)
 
 -- ---- what gives back the processor to which it returns, and what the exit means
 

@@ -67,13 +67,13 @@ module _ (mode : Mode) (image : Image) where
     stacks = ap (λ (c : Processor). length (drop 1 c.msrs.rsp)) h.is;
   }
 
-  pub chain_kept : (p left r : ℕ) (t : Task) (f : Frame) (sw : Bool) (bs : List BodyContext) (as' : List Activation) (c : Processor) (m : Memory)
-      → Chain mode image p left r t f sw bs as' c m → Kept p c
-  chain_kept p left r t f sw [] as' c m h = task_kept p r t c h.0
-  chain_kept p left r t f sw (b ∷ below) [] c m h = absurd h
-  chain_kept p left r t f sw (b ∷ below) (a ∷ as') c m h =
-      let k : Kept p h.0 = chain_kept p (body_edges mode image) r t f (chained mode image sw below) below as' h.0 m
-      (over_any mode image (λ v. Chain mode image p (body_edges mode image) r t f (chained mode image sw below) below as' v m)
+  pub chain_kept : (p left r to : ℕ) (t : Task) (f : Frame) (sw : Bool) (bs : List BodyContext) (as' : List Activation) (c : Processor) (m : Memory)
+      → Chain mode image p left r to t f sw bs as' c m → Kept p c
+  chain_kept p left r to t f sw [] as' c m h = task_kept p to t c h.0
+  chain_kept p left r to t f sw (b ∷ below) [] c m h = absurd h
+  chain_kept p left r to t f sw (b ∷ below) (a ∷ as') c m h =
+      let k : Kept p h.0 = chain_kept p (body_edges mode image) r to t f (chained mode image sw below) below as' h.0 m
+      (over_any mode image (λ v. Chain mode image p (body_edges mode image) r to t f (chained mode image sw below) below as' v m)
       (keeps_cr2 mode image (kind_of image b below)) h.0 h.4) in
       kept_by p (kind_of image b below) (means_plain mode image (kind_of image b below) h.6.stands.spot _ h.0 b m.words h.6.means) h.6.stands.ss h.0 c
       h.6.stands.at.agrees.rest k
@@ -90,14 +90,14 @@ module _ (mode : Mode) (image : Image) where
       }
 
   -- none is an NMI's
-  pub chain_plain : (p left r : ℕ) (t : Task) (f : Frame) (sw : Bool) (bs : List BodyContext) (as' : List Activation) (c : Processor) (m : Memory)
-      → Chain mode image p left r t f sw bs as' c m → ArePlain image bs
-  chain_plain p left r t f sw [] as' c m h = tt
-  chain_plain p left r t f sw (b ∷ below) [] c m h = absurd h
-  chain_plain p left r t f sw (b ∷ below) (a ∷ as') c m h = (
+  pub chain_plain : (p left r to : ℕ) (t : Task) (f : Frame) (sw : Bool) (bs : List BodyContext) (as' : List Activation) (c : Processor) (m : Memory)
+      → Chain mode image p left r to t f sw bs as' c m → ArePlain image bs
+  chain_plain p left r to t f sw [] as' c m h = tt
+  chain_plain p left r to t f sw (b ∷ below) [] c m h = absurd h
+  chain_plain p left r to t f sw (b ∷ below) (a ∷ as') c m h = (
     means_plain mode image (kind_of image b below) h.6.stands.spot _ h.0 b m.words h.6.means,
-    chain_plain p (body_edges mode image) r t f (chained mode image sw below) below as' h.0 m
-        (over_any mode image (λ v. Chain mode image p (body_edges mode image) r t f (chained mode image sw below) below as' v m)
+    chain_plain p (body_edges mode image) r to t f (chained mode image sw below) below as' h.0 m
+        (over_any mode image (λ v. Chain mode image p (body_edges mode image) r to t f (chained mode image sw below) below as' v m)
         (keeps_cr2 mode image (kind_of image b below)) h.0 h.4),
   )
 
@@ -107,10 +107,10 @@ module _ (mode : Mode) (image : Image) where
       → Active mode image p left κ σ f sw w b c m → interrupts_on c ≡ false
   active_masked p left κ σ f sw w b c m a = at_interrupts (code_table mode image) (block mode a.stands.spot) a.stands.k _ c m a.stands.at ∙ a.stands.masked
 
-  pub chain_masked : (p left r : ℕ) (t : Task) (f : Frame) (sw : Bool) (b : BodyContext) (below : List BodyContext) (as' : List Activation) (c : Processor)
-      (m : Memory) → Chain mode image p left r t f sw (b ∷ below) as' c m → interrupts_on c ≡ false
-  chain_masked p left r t f sw b below [] c m h = absurd h
-  chain_masked p left r t f sw b below (a ∷ as') c m h = active_masked p left _ _ f _ h.0 b c m h.6
+  pub chain_masked : (p left r to : ℕ) (t : Task) (f : Frame) (sw : Bool) (b : BodyContext) (below : List BodyContext) (as' : List Activation) (c : Processor)
+      (m : Memory) → Chain mode image p left r to t f sw (b ∷ below) as' c m → interrupts_on c ≡ false
+  chain_masked p left r to t f sw b below [] c m h = absurd h
+  chain_masked p left r to t f sw b below (a ∷ as') c m h = active_masked p left _ _ f _ h.0 b c m h.6
 
   -- ---- a chain says nothing of the blocking of NMIs, which the relation does
 
@@ -137,12 +137,12 @@ module _ (mode : Mode) (image : Image) where
     };
   }
 
-  pub chain_open : (p left r : ℕ) (t : Task) (f : Frame) (sw : Bool) (bs : List BodyContext) (as' : List Activation) (c : Processor) (m : Memory)
-      → Chain mode image p left r t f sw bs as' c m → Chain mode image p left r t f sw bs as' (record c { nmi_blocked = false }) m
-  chain_open p left r t f sw [] as' c m h =
+  pub chain_open : (p left r to : ℕ) (t : Task) (f : Frame) (sw : Bool) (bs : List BodyContext) (as' : List Activation) (c : Processor) (m : Memory)
+      → Chain mode image p left r to t f sw bs as' c m → Chain mode image p left r to t f sw bs as' (record c { nmi_blocked = false }) m
+  chain_open p left r to t f sw [] as' c m h =
       (record { is = ap (λ (y : Processor). record y { nmi_blocked = false }) h.0.is; task = h.0.task }, h.1, h.2)
-  chain_open p left r t f sw (b ∷ below) [] c m h = h
-  chain_open p left r t f sw (b ∷ below) (a ∷ as') c m h = (
+  chain_open p left r to t f sw (b ∷ below) [] c m h = h
+  chain_open p left r to t f sw (b ∷ below) (a ∷ as') c m h = (
     h.0,
     h.1,
     h.2,

@@ -14,6 +14,7 @@ use Rattle.ev_effect.specs.Task.{Task}
 use Rattle.ev_listing.specs.AddressMap.{nmi_entry, repeat_entry, nbody_entry, vector_stub}
 use Rattle.ev_listing.specs.Expansion.{item_address}
 use Rattle.ev_state.specs.Processor.{Processor, is_user, rsp}
+use Rattle.ev_apic.specs.declared.apic.Apic.{Apic}
 use Rattle.ev_mem.specs.Memory.{Memory}
 use Rattle.ev_proc.specs.ProcessorStep.{next_of, instruction_at}
 use Rattle.ev_abstract.specs.Context.{BodyContext}
@@ -201,23 +202,23 @@ module _ (mode : Mode) (image : Image) (facts : Facts mode image) where
   active_outside p left NmiFromBody σ f sw w b c m ctx a = absurd a.means
 
   -- as many bodies as contexts
-  counted : (p left r : ℕ) (t : Task) (f : Frame) (sw : Bool) (bs : List BodyContext) (as' : List Activation) (c : Processor) (m : Memory)
-      → Chain mode image p left r t f sw bs as' c m → length (filter has_body (interrupted c as')) ≡ length bs
-  counted p left r t f sw [] as' c m h = ap (λ xs. length (filter has_body (interrupted c xs))) h.2
-  counted p left r t f sw (b ∷ below) [] c m h = absurd h
-  counted p left r t f sw (b ∷ below) (a ∷ as') c m h =
+  counted : (p left r to : ℕ) (t : Task) (f : Frame) (sw : Bool) (bs : List BodyContext) (as' : List Activation) (c : Processor) (m : Memory)
+      → Chain mode image p left r to t f sw bs as' c m → length (filter has_body (interrupted c as')) ≡ length bs
+  counted p left r to t f sw [] as' c m h = ap (λ xs. length (filter has_body (interrupted c xs))) h.2
+  counted p left r to t f sw (b ∷ below) [] c m h = absurd h
+  counted p left r to t f sw (b ∷ below) (a ∷ as') c m h =
       let outside : is_in_repeat c.rip ≡ false = active_outside p left _ _ f _ h.0 b c m h.1 h.6 in
       let seen : (not a.inner && not (is_in_repeat c.rip)) ≡ true = ap (λ i. not i && not (is_in_repeat c.rip)) h.2 ∙ ap not outside in
       let top : Activation = record a { rsp = rsp c; rip = c.rip } in
-      let under : Chain mode image p (body_edges mode image) r t f (chained mode image sw below) below as' h.0 m
-      = over_any mode image (λ v. Chain mode image p (body_edges mode image) r t f (chained mode image sw below) below as' v m) _ h.0 h.4 in
+      let under : Chain mode image p (body_edges mode image) r to t f (chained mode image sw below) below as' h.0 m
+      = over_any mode image (λ v. Chain mode image p (body_edges mode image) r to t f (chained mode image sw below) below as' v m) _ h.0 h.4 in
       ap (λ x. length (if x then top ∷ filter has_body as' else filter has_body as')) seen
       ∙ ap suc (below_same below h.0 as' h.3 under
-      ∙ counted p (body_edges mode image) r t f (chained mode image sw below) below as' h.0 m under)
+      ∙ counted p (body_edges mode image) r to t f (chained mode image sw below) below as' h.0 m under)
     where
       -- what was interrupted stands where the processor below it does
       below_same : (ds : List BodyContext) (w : Processor) (as' : List Activation) → Interrupted mode image ds w as'
-          → Chain mode image p (body_edges mode image) r t f (chained mode image sw ds) ds as' w m
+          → Chain mode image p (body_edges mode image) r to t f (chained mode image sw ds) ds as' w m
           → length (filter has_body as') ≡ length (filter has_body (interrupted w as'))
       below_same [] w as' i k = ap (λ xs. length (filter has_body xs)) k.2 ∙ sym (ap (λ xs. length (filter has_body (interrupted w xs))) k.2)
       below_same (d ∷ ds) w [] i k = absurd i
@@ -231,8 +232,9 @@ module _ (mode : Mode) (image : Image) (facts : Facts mode image) where
           either false = refl
 
   pub stands_depth : (p left : ℕ) (s : System) (x : abstract.Processor) → StandsOn mode image p left s x → bodies_on s p ≡ length x.bodies
-  stands_depth p left s x o = counted p o.own o.returning (x.tasks o.returning) o.frame o.switching x.bodies (s.activations p) (s.cpus p) s.memory
-      (as_chain mode image o.layer p o.own o.more o.returning (x.tasks o.returning) o.frame o.switching x.bodies (s.activations p) (s.cpus p) s.memory o.runs)
+  stands_depth p left s x o = counted p o.own x.running o.returning (x.tasks o.returning) o.frame o.switching x.bodies (s.activations p) (s.cpus p) s.memory
+      (as_chain mode image o.layer p o.own o.more x.running o.returning (x.tasks o.returning) o.frame o.switching x.bodies (s.activations p)
+      (s.cpus p) s.memory o.runs)
 
 -- ---- as steps tell it
 
@@ -257,21 +259,22 @@ ends_a_body i c place rip out hu hr =
     ∙ ap (λ a. not (nat_le nmi_entry a && nat_lt a repeat_entry)) rip ∙ ap not out
 
 -- a step that ran an instruction
-told_ran : (s : System) (p : ℕ) (cpu : Processor) (words : NatMap ℕ) (i : Ins) → Runs s p cpu words → instruction_at s.memory.words (s.cpus p).rip ≡ Some i
+told_ran : (s : System) (p : ℕ) (a : Apic) (cpu : Processor) (words : NatMap ℕ) (i : Ins) → Runs s p a cpu words
+    → instruction_at s.memory.words (s.cpus p).rip ≡ Some i
     → told_bodies s p ≡ (if ends_body (s.cpus p) (Some i) then bodies_on s p - 1
     else (if begins_body (s.cpus p) (Some i) then suc (bodies_on s p) else bodies_on s p))
 unfolding told_bodies
-told_ran s p cpu words i h hi =
+told_ran s p a cpu words i h hi =
     ap (λ r. bodies_after (bodies_on s p) (starts_inner s p (next_of (s.cpus p) (s.apics p) (s.latches p)))
     (ends_body (s.cpus p) (instruction_at s.memory.words (s.cpus p).rip)) (begins_body (s.cpus p) (instruction_at s.memory.words (s.cpus p).rip)) r.step) h
     ∙ ap (λ o. if ends_body (s.cpus p) o then bodies_on s p - 1 else (if begins_body (s.cpus p) o then suc (bodies_on s p) else bodies_on s p)) hi
 
-pub ran_counts : (n : ℕ) (s : System) (p : ℕ) (cpu : Processor) (words : NatMap ℕ) (i : Ins) → Runs s p cpu words
+pub ran_counts : (n : ℕ) (s : System) (p : ℕ) (a : Apic) (cpu : Processor) (words : NatMap ℕ) (i : Ins) → Runs s p a cpu words
     → instruction_at s.memory.words (s.cpus p).rip ≡ Some i
-    → (before after : ℕ) → bodies_on s p ≡ before → bodies_on (after_ran s p cpu words) p ≡ after
+    → (before after : ℕ) → bodies_on s p ≡ before → bodies_on (after_ran s p a cpu words) p ≡ after
     → (if ends_body (s.cpus p) (Some i) then before - 1 else (if begins_body (s.cpus p) (Some i) then suc before else before)) ≡ after
     → bodies_on (concrete_step n s p).0 p ≡ told_bodies s p
-ran_counts n s p cpu words i h hi before after hb ha ht =
-    ap (λ z. bodies_on z.0 p) (ran_step n s p cpu words h) ∙ ha
-    ∙ sym (told_ran s p cpu words i h hi
+ran_counts n s p a cpu words i h hi before after hb ha ht =
+    ap (λ z. bodies_on z.0 p) (ran_step n s p a cpu words h) ∙ ha
+    ∙ sym (told_ran s p a cpu words i h hi
     ∙ ap (λ k. if ends_body (s.cpus p) (Some i) then k - 1 else (if begins_body (s.cpus p) (Some i) then suc k else k)) hb ∙ ht)

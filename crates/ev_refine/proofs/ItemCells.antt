@@ -4,7 +4,7 @@ use Rattle.std.specs.Prelude.{pos, negsuc, codes, if◌then◌else◌, ◌++◌}
 use Rattle.std.proofs.lemmas.Bool.{le-leb}
 use Rattle.ev_isa.specs.Spelling.{spelling, four_bytes}
 use Rattle.ev_isa.specs.declared.instruction.Ins.{Ins}
-use Rattle.ev_isa.specs.declared.instruction.Ins.TheVariants.{MovImm, MovReg, Load, Store, StoreImm, AluImm, Shl, Shr, Jcc, GsLoad, GsStore, Xchg, Xadd}
+use Rattle.ev_isa.specs.declared.instruction.Ins.TheVariants.{MovImm, MovReg, Load, Store, StoreImm, Shl, Jcc, GsLoad, GsStore, Xchg, Xadd}
 use Rattle.ev_isa.specs.declared.mode.Mode.{Mode}
 use Rattle.ev_body.specs.declared.key.Key.{Key}
 use Rattle.ev_body.specs.declared.item.Item.{Item}
@@ -12,7 +12,7 @@ use Rattle.ev_body.specs.declared.item.Item.TheVariants.{Set, Copy, Alu, Nop, Lo
 use Rattle.ev_asm.specs.Assembly.{Places, place, distance, size, total_size}
 use Rattle.ev_listing.specs.AddressMap.{slot_offset, cells_base, saved_rip}
 use Rattle.ev_mem.specs.Memory.{page_map}
-use Rattle.ev_isa.specs.declared.instruction.AluOp.TheVariants.{Add, Sub, Cmp}
+use Rattle.ev_isa.specs.declared.instruction.AluOp.TheVariants.{Add}
 use Rattle.ev_isa.specs.declared.instruction.Cond.TheVariants.{C}
 use Rattle.ev_listing.specs.Expansion.{saved_offset, own_label, page_word, expansion}
 use Rattle.ev_listing.specs.Statements.{seen}

@@ -161,7 +161,7 @@ module _ (mode : Mode) (image : Image) (built : IsBuilt image) (good : IsImage i
           at = begins_number mode code e c s.memory n at stand;
           long = long;
         };
-        switches = number_plain mode n ∙ sym (step.still mode image built good facts left s m h p hp o act);
+        switches = number_plain mode n ∙ sym o.off;
         knows = plain_knows mode o.κ on.frame (step.plain_kind mode image built good facts left s m h p hp o) (blocks.holds (body mode (AtNumber n)));
         means = means_at mode image o.κ (step.plain_kind mode image built good facts left s m h p hp o) (AtNumber n) e o.w b s.memory.words
             (means, place, ap (λ o. number_of (item_at o b.place)) is ∙ ap number_of hi ∙ number);

@@ -1,7 +1,7 @@
 -- Items of a page: an activation at such an item moves the local that has an address to RAX, and at the end of the block that tells its page's word, or that
 -- it is in no page, it is at the visible instruction.
-use Rattle.std.proofs.Common.{◌≡◌, ℕ, suc, ◌+◌, ◌-◌, ◌*◌, ◌/◌, ◌^◌, ◌%◌, Bool, ◌<◌, ◌≤◌, true, false, List, [], ◌∷◌, set, get_or, length, Some, refl, sym, ap, ◌∙◌, subst, arith}
-use Rattle.std.specs.Prelude.{◌==◌, if◌then◌else◌, slice_get, nat_lt}
+use Rattle.std.proofs.Common.{◌≡◌, ℕ, suc, ◌+◌, ◌-◌, ◌*◌, ◌/◌, ◌^◌, ◌%◌, Bool, ◌<◌, ◌≤◌, true, false, List, ◌∷◌, set, get_or, length, Some, refl, sym, ap, ◌∙◌, subst, arith}
+use Rattle.std.specs.Prelude.{if◌then◌else◌, slice_get, nat_lt}
 use Rattle.std.proofs.lemmas.Bool.{ne_eqb}
 use Rattle.std.proofs.lemmas.List.{length-set}
 use Rattle.ev_isa.specs.Word.{NatMap}
@@ -23,7 +23,7 @@ use Rattle.ev_abstract.specs.Context.{BodyContext, local}
 use Rattle.ev_abstract.specs.Machine.{Machine, processor}
 use Rattle.ev_abstract.specs.Machine as abstract
 use Rattle.ev_abstract.specs.Run.{item_at}
-use Rattle.ev_concrete.specs.ConcreteRun.{System, is_return}
+use Rattle.ev_concrete.specs.ConcreteRun.{System}
 use Rattle.ev_built.specs.Built.{IsBuilt}
 use Rattle.ev_symbolic.specs.Value.{M, K, X}
 use Rattle.ev_symbolic.specs.Agrees.{Env, FactsHold, eval, eval_flags, edge_cell, Code, Fits, Stands as LinesStand, At}
@@ -32,12 +32,11 @@ use Rattle.ev_symbolic.specs.Openings.{at_base}
 use Rattle.ev_symbolic.specs.Names.{item_tag}
 use Rattle.ev_symbolic.proofs.Blocks.{unsome, begins, at_end}
 use Rattle.ev_blocks.specs.Shapes.{FredFrame, IdtFrame}
-use Rattle.ev_blocks.specs.Items.{AtItem, AtPageWord, page_code, is_page_fact, page_steps, page_number, page_word}
+use Rattle.ev_blocks.specs.Items.{AtItem, AtPageWord, page_code, page_steps, page_word}
 use Rattle.ev_blocks.specs.Blocks.{Spot, block, edges}
 use Rattle.ev_blocks.specs.Blocks as blocks
 use Rattle.ev_blocks.proofs.Falls.{edges_fall}
-use Rattle.ev_paths.specs.Ends.{TellsNoCr2}
-use Rattle.ev_paths.proofs.BodyEnds.{body_ends, body_untold}
+use Rattle.ev_paths.proofs.BodyEnds.{body_ends}
 use Rattle.ev_activation.specs.Seat.{Kind, Seat}
 use Rattle.ev_symbolic.specs.Single.{onward, Leads}
 use Rattle.ev_symbolic.proofs.Single.{singles}

@@ -1,10 +1,10 @@
 -- Items of a page: they write the word of its presence, or, where the address is in no page, the word behind those of pages, which nobody reads.
-use Rattle.std.proofs.Common.{◌≡◌, ℕ, suc, ◌+◌, ◌-◌, ◌*◌, ◌/◌, ◌%◌, ◌^◌, ◌<◌, ◌≤◌, Bool, true, false, ◌&&◌, [], Some, None, refl, sym, ap, ◌∙◌, subst, arith}
+use Rattle.std.proofs.Common.{◌≡◌, ℕ, suc, ◌+◌, ◌-◌, ◌*◌, ◌/◌, ◌^◌, ◌<◌, ◌≤◌, Bool, true, false, ◌&&◌, [], Some, None, refl, sym, ap, ◌∙◌, subst, arith}
 use Rattle.std.specs.Prelude.{ℤ, pos, slice_get, nat_le, nat_lt, if◌then◌else◌}
-use Rattle.std.proofs.lemmas.Bool.{leb-true, ltb-true, ltb-false, le-leb, lt-ltb, le-ltb}
+use Rattle.std.proofs.lemmas.Bool.{leb-true, ltb-true, ltb-false, le-leb, lt-ltb}
 use Rattle.ev_isa.specs.Word.{NatMap, put_at, displaced, sign_extend}
 use Rattle.ev_isa.specs.Flags.{Flags}
-use Rattle.ev_isa.specs.Pages.{Place, Text, Page, Lower, Upper, text_base, page_base, place_of}
+use Rattle.ev_isa.specs.Pages.{Text, Page, Lower, Upper, text_base, page_base, place_of}
 use Rattle.ev_isa.specs.Spelling.{spelling, four_bytes}
 use Rattle.ev_isa.specs.declared.instruction.Ins.{Ins}
 use Rattle.ev_isa.specs.declared.instruction.Ins.TheVariants.{StoreImm}
@@ -24,11 +24,10 @@ use Rattle.ev_abstract.specs.Run.{item_at}
 use Rattle.ev_concrete.specs.ConcreteRun.{System, is_return}
 use Rattle.ev_concrete.specs.Shown.{shown_always}
 use Rattle.ev_built.specs.Built.{IsBuilt}
-use Rattle.ev_symbolic.specs.Value.{M}
 use Rattle.ev_symbolic.specs.Agrees.{IsOpen}
 use Rattle.ev_symbolic.specs.Single.{onward, Leads, Singles}
 use Rattle.ev_symbolic.proofs.Single.{singles}
-use Rattle.ev_refine.specs.Named.{Named, PageBit}
+use Rattle.ev_refine.specs.Named.{PageBit}
 use Rattle.ev_refine.specs.Relation.{Stands}
 use Rattle.ev_refine.proofs.Facts.{Facts}
 use Rattle.ev_refine.proofs.ItemCells.{before, visible_of, bytes_of}

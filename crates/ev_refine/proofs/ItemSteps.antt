@@ -203,7 +203,8 @@ module _ (mode : Mode) (image : Image) (built : IsBuilt image) (good : IsImage i
       let n = bounds r q in local_at mode image env c s.memory a.offset a.rax a.rcx a.rdx a.flags a.state b a.means.locals r n.0 n.1
 
   pub nothing : Makes m s.memory.words x.slots
-  nothing = words.makes_nothing mode image built good facts left s m h p hp o [] (none_spares p).allowed s.memory.words (λ y off d. refl) refl refl refl refl
+  nothing = words.makes_nothing mode image built good facts left s m h p hp o [] (none_spares p).allowed s.memory.words
+      (λ y off d. refl) refl refl refl refl refl
 
   -- the flags that the context knows
   pub known_flags : a.flags ≡ f → FlagsBehind mode image a.flags b.flags a.flags
@@ -316,7 +317,7 @@ module _ (mode : Mode) (image : Image) (built : IsBuilt image) (good : IsImage i
         let value : register c r ≡ local b r = is_the_local r (ruled.operands b.place (Log r) hi).2 in
         let few = good.count.1 in
         let z : Named = Port p in
-        let free : IsFree p z = record { name = small; written = small; own = λ q d. own_word p q d; kernel = refl; private = refl } in
+        let free : IsFree p z = record { name = small; written = small; own = λ q d. own_word p q d; tasks = refl; calls = refl; private = refl } in
         does (Log r) hi (GsStore (pos 0x28) r) refl off near refl None tt a.flags b.flags (known_flags same) (Some (z, local b r))
         free
         (λ i. onward_by (GsStore (pos 0x28) r) _ _
@@ -324,7 +325,7 @@ module _ (mode : Mode) (image : Image) (built : IsBuilt image) (good : IsImage i
         ((one (at (suc b.place))).stores_to_gs (pos 0x28) r (pcpu p + 0x28) i (in_area 0x28 (omega arith))
         (area_open image s.memory.regions h.regions_are p 0x28 hp few refl (omega arith))))) m x.slots
         (words.makes_nothing mode image built good facts left s m h p hp o (z ∷ []) (are_names p z free) _
-        (words.writes_name mode image built good facts left s m h p hp o z (local b r)) refl refl refl refl)
+        (words.writes_name mode image built good facts left s m h p hp o z (local b r)) refl refl refl refl refl)
         (Entry.Log p (local b r) ∷ []) refl (ap (λ n. Entry.Log p n ∷ []) value)
 
     -- ---- jumps

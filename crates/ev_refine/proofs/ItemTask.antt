@@ -142,7 +142,7 @@ module _ (mode : Mode) (image : Image) (built : IsBuilt image) (good : IsImage i
 
   module _ (over : is_over_task o.κ ≡ true) where
     one : step.Alone mode image built good facts left s m h p hp o
-    one = step.alone mode image built good facts left s m h p hp o over (step.still mode image built good facts left s m h p hp o a.act)
+    one = step.alone mode image built good facts left s m h p hp o over
 
     saved : Saved mode image v o.w
     saved = saved_task mode image o.κ over env o.w a.means.saved
@@ -230,7 +230,7 @@ module _ (mode : Mode) (image : Image) (built : IsBuilt image) (good : IsImage i
     tasks = put_at x.tasks x.running t
 
     alone_is : step.Alone mode image built good facts left s m h p hp o
-    alone_is = step.alone mode image built good facts left s m h p hp o over (step.still mode image built good facts left s m h p hp o a.act)
+    alone_is = step.alone mode image built good facts left s m h p hp o over
 
     -- it is written on the activation's own stretch of the stack
     changes : Changes p o.σ [] s.memory.words ws
@@ -253,36 +253,37 @@ module _ (mode : Mode) (image : Image) (built : IsBuilt image) (good : IsImage i
 
     chains : (b' : BodyContext) → kind_of image b' o.below ≡ o.κ → IsContext mode image b' → (now : ℕ) (cpu : Processor)
         → Active mode image p now o.κ o.σ on.frame (switches_at mode image on.switching o.below) w b' cpu (with_words s.memory ws)
-        → Chain mode image p now on.returning (tasks on.returning) on.frame on.switching (b' ∷ o.below) (o.last ∷ o.others) cpu (with_words s.memory ws)
+        → Chain mode image p now x.running on.returning (tasks on.returning) on.frame on.switching (b' ∷ o.below) (o.last ∷ o.others) cpu
+        (with_words s.memory ws)
     chains b' kind ctx now cpu act = over_nothing o.below alone_is.none o.others alone_is.no_others kind act seat_is
       where
         mem : Memory
         mem = with_words s.memory ws
 
-        seat_is : o.σ ≡ record { stack = on.returning; used = 0 }
-        seat_is = sym o.seat ∙ seat_alone o.κ over on.returning (room_of mode image o.below) (seat_of mode image on.returning o.below)
+        seat_is : o.σ ≡ record { stack = x.running; used = 0 }
+        seat_is = sym o.seat ∙ seat_alone o.κ over x.running (room_of mode image o.below) (seat_of mode image x.running o.below)
 
         written : tasks on.returning ≡ t
         written = at_same x.tasks x.running on.returning t (on.is_returning
             ∙ ap (λ t. if t then get_or x.waiting 0 x.running else x.running) alone_is.still)
 
         alone : kind_of image b' [] ≡ o.κ → Active mode image p now o.κ o.σ on.frame (switches_at mode image on.switching []) w b' cpu mem
-            → o.σ ≡ record { stack = on.returning; used = 0 }
-            → Chain mode image p now on.returning (tasks on.returning) on.frame on.switching (b' ∷ []) (o.last ∷ []) cpu mem
+            → o.σ ≡ record { stack = x.running; used = 0 }
+            → Chain mode image p now x.running on.returning (tasks on.returning) on.frame on.switching (b' ∷ []) (o.last ∷ []) cpu mem
         alone k act q =
             let tail = subst (λ z. Beneath mode image (keeps_cr2 mode image z)
-            (λ v. Chain mode image p (body_edges mode image) on.returning t on.frame (chained mode image on.switching []) [] [] v mem) w
+            (λ v. Chain mode image p (body_edges mode image) x.running on.returning t on.frame (chained mode image on.switching []) [] [] v mem) w
             × LeadsTo mode p z on.frame w mem.words
-            × Active mode image p now z (seat_by mode z on.returning (seat_of mode image on.returning []) (room_of mode image [])) on.frame
+            × Active mode image p now z (seat_by mode z x.running (seat_of mode image x.running []) (room_of mode image [])) on.frame
             (switches_at mode image on.switching []) w b' cpu mem) (sym k)
-            (over_kind mode image p now on.returning t on.frame on.switching w b' cpu mem o.κ over runs alone_is.still
+            (over_kind mode image p now x.running on.returning t on.frame on.switching w b' cpu mem o.κ over runs alone_is.still
             (subst (λ z. Active mode image p now o.κ z on.frame on.switching w b' cpu mem) q act)) in
-            subst (λ z. Chain mode image p now on.returning z on.frame on.switching (b' ∷ []) (o.last ∷ []) cpu mem) (sym written)
+            subst (λ z. Chain mode image p now x.running on.returning z on.frame on.switching (b' ∷ []) (o.last ∷ []) cpu mem) (sym written)
             (w, ctx, o.outer, tt, tail.0, tail.1, tail.2)
 
         over_nothing : (ds : List BodyContext) → ds ≡ [] → (as' : List Activation) → as' ≡ [] → kind_of image b' ds ≡ o.κ
-            → Active mode image p now o.κ o.σ on.frame (switches_at mode image on.switching ds) w b' cpu mem → o.σ ≡ record { stack = on.returning; used = 0 }
-            → Chain mode image p now on.returning (tasks on.returning) on.frame on.switching (b' ∷ ds) (o.last ∷ as') cpu mem
+            → Active mode image p now o.κ o.σ on.frame (switches_at mode image on.switching ds) w b' cpu mem → o.σ ≡ record { stack = x.running; used = 0 }
+            → Chain mode image p now x.running on.returning (tasks on.returning) on.frame on.switching (b' ∷ ds) (o.last ∷ as') cpu mem
         over_nothing [] e [] e' k act q = alone k act q
         over_nothing [] e (z ∷ zs) e' k act q = absurd (cc)
         over_nothing (d ∷ ds) e as' e' k act q = absurd (cc)
@@ -308,6 +309,8 @@ module _ (mode : Mode) (image : Image) (built : IsBuilt image) (good : IsImage i
       same_tasks = λ i d. ⊎_elim (λ e. absurd (d (e.1 ∙ sym (runs_is over)))) (λ e. at_other x.tasks x.running i t e.0) (eqb_tells i x.running);
       good_tasks = λ i q. ⊎_elim (λ e. subst IsTask (sym (at_same x.tasks x.running i t e.1)) runs.task)
           (λ e. subst IsTask (sym (at_other x.tasks x.running i t e.0)) (on.tasks i q)) (eqb_tells i x.running);
+      current = step.same_current mode image built good facts left s m h p hp o [] (none_spares p).allowed ws changes refl;
+      mark = step.same_mark mode image built good facts left s m h p hp o [] (none_spares p).allowed ws changes refl;
       slots_are = step.same_slots mode image built good facts left s m h p hp o [] (none_spares p).allowed ws changes refl;
       user = step.same_user mode image built good facts left s m h p hp o [] (none_spares p).allowed ws changes refl;
       held = h.shares.held;

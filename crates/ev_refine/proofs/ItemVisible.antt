@@ -142,7 +142,8 @@ module _ (mode : Mode) (image : Image) (built : IsBuilt image) (good : IsImage i
         → Known (here mode p o.κ o.σ ss w extra' (with_registers regs var) f') (known_of mode) words (opening_of mode).words
     pub chains : (b : BodyContext) → kind_of image b o.below ≡ o.κ → IsContext mode image b → (now : ℕ) (cpu : Processor)
         → Active mode image p now o.κ o.σ on.frame (switches_at mode image on.switching o.below) w b cpu (with_words s.memory words)
-        → Chain mode image p now on.returning (tasks on.returning) on.frame on.switching (b ∷ o.below) (o.last ∷ o.others) cpu (with_words s.memory words)
+        → Chain mode image p now x.running on.returning (tasks on.returning) on.frame on.switching (b ∷ o.below) (o.last ∷ o.others) cpu
+        (with_words s.memory words)
 
   -- where the block's words stay
   pub stays_over : (ss : ℕ) (extra v : ℕ → ℕ) (f : Flags) (a : AtVisible ss extra v f) (words : NatMap ℕ) (names : List Named) → AreNames p names
@@ -237,7 +238,7 @@ module _ (mode : Mode) (image : Image) (built : IsBuilt image) (good : IsImage i
           at = begins code (block mode (body mode AtItem)) u cpu mem fit agrees;
           long = regs_long c.regs d.write a.long;
         };
-        switches = way.off ∙ sym (step.still mode image built good facts left s m h p hp o a.act);
+        switches = way.off ∙ sym o.off;
         knows = plain_knows mode o.κ on.frame plain (blocks.holds (body mode AtItem));
         means = means_at mode image o.κ plain AtItem u w b' d.words (item, refl);
       } in
@@ -252,6 +253,7 @@ module _ (mode : Mode) (image : Image) (built : IsBuilt image) (good : IsImage i
       (goes_on_inside (is_return (Some d.cell.ins)) (not (is_user c)) (not (nat_le nmi_entry c.rip && nat_lt c.rip repeat_entry)) (is_jump (Some d.cell.ins))
       (is_in_repeat c.rip) (length x.bodies) d.no_return (step.outside mode image built good facts left s m h p hp o a.act) ∙ ap length o.bodies)
       (edges mode (body mode AtItem) 0) (omega arith)
-      (subst (λ as'. Chain mode image p (edges mode (body mode AtItem) 0) on.returning (d.tasks on.returning) on.frame on.switching (b' ∷ o.below) as' cpu
+      (subst (λ as'. Chain mode image p (edges mode (body mode AtItem) 0) x.running on.returning (d.tasks on.returning) on.frame on.switching
+      (b' ∷ o.below) as' cpu
       mem) (sym still_there) (d.over.chains b' o.kind ctx (edges mode (body mode AtItem) 0) cpu act'))
       d.shows

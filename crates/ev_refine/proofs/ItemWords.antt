@@ -23,7 +23,7 @@ use Rattle.ev_symbolic.proofs.Words.{put_same, put_other}
 use Rattle.ev_distances.specs.Form.{OnStack}
 use Rattle.ev_blocks.specs.Shapes.{body_bytes}
 use Rattle.ev_blocks.specs.Items.{AtItem}
-use Rattle.ev_refine.specs.Named.{Named, UserRsp, Top, Current, Mark, Port, Head, TssTop, Slot, RecordWord, CellAt, PageBit, UserWord, address_of, owner, IsName, IsWritten, is_kernel_word, is_private, is_slot, is_cell, is_page_bit, is_user_word, have_none, Outside, UnknownTo, Changes}
+use Rattle.ev_refine.specs.Named.{Named, UserRsp, Top, Current, Mark, Port, Head, TssTop, Slot, RecordWord, CellAt, PageBit, UserWord, address_of, owner, IsName, IsWritten, is_task_word, is_call_word, is_private, is_slot, is_cell, is_page_bit, is_user_word, have_none, Outside, UnknownTo, Changes}
 use Rattle.ev_user.specs.Sees.{IsPageWord, IsUserWord}
 use Rattle.ev_user.proofs.Words.{put_words}
 use Rattle.ev_refine.specs.Active.{here}
@@ -80,11 +80,12 @@ pub record IsFree (p : ℕ) (z : Named) : Type 0 where
   pub name : IsName z
   pub written : IsWritten z
   pub own : (q : ℕ) → (q ≡ p → ⊥) → owner z ≢ Some q
-  pub kernel : is_kernel_word z ≡ false
+  pub tasks : is_task_word z ≡ false
+  pub calls : is_call_word z ≡ false
   pub private : is_private z ≡ false
 
 pub are_names : (p : ℕ) (z : Named) → IsFree p z → AreNames p (z ∷ [])
-are_names p z f = record { written = (f.written, tt); own = λ q d. (f.own q d, tt); kernel = ap (λ b. not b && true) f.kernel }
+are_names p z f = record { written = (f.written, tt); own = λ q d. (f.own q d, tt); calls = ap (λ b. not b && true) f.calls }
 
 pub is_unknown : (p : ℕ) (z : Named) → IsFree p z → (below : List BodyContext) → UnknownTo below (z ∷ [])
 is_unknown p z f [] = tt
@@ -136,12 +137,14 @@ module _ (mode : Mode) (image : Image) (built : IsBuilt image) (good : IsImage i
   -- where no word that it tells of is written
   pub makes_nothing : (names : List Named) → AreNames p names → (words : NatMap ℕ) → Changes p o.σ names s.memory.words words
       → have_none is_slot names ≡ true → have_none is_user_word names ≡ true → have_none is_page_bit names ≡ true → have_none is_cell names ≡ true
-      → Makes m words x.tasks x.slots x.bodies
-  makes_nothing names allowed words changes slots user pages cells = record {
+      → have_none is_task_word names ≡ true → Makes m words x.tasks x.slots x.bodies
+  makes_nothing names allowed words changes slots user pages cells tasks = record {
     own = refl;
     others = λ q e. refl;
     same_tasks = λ i d. refl;
     good_tasks = on.tasks;
+    current = step.same_current mode image built good facts left s m h p hp o names allowed words changes tasks;
+    mark = step.same_mark mode image built good facts left s m h p hp o names allowed words changes tasks;
     slots_are = step.same_slots mode image built good facts left s m h p hp o names allowed words changes slots;
     user = step.same_user mode image built good facts left s m h p hp o names allowed words changes user;
     held = h.shares.held;
@@ -150,7 +153,7 @@ module _ (mode : Mode) (image : Image) (built : IsBuilt image) (good : IsImage i
   }
 
   pub slot_free : (k : ℕ) → k < 64 → IsFree p (Slot p k)
-  slot_free k l = record { name = (small, l); written = (small, l); own = λ q d. own_word p q d; kernel = refl; private = refl }
+  slot_free k l = record { name = (small, l); written = (small, l); own = λ q d. own_word p q d; tasks = refl; calls = refl; private = refl }
 
   pub makes_slot : (k v : ℕ) → k < 64
       → Makes (with_slot m p k v) (put_at s.memory.words (address_of (Slot p k)) v) x.tasks (put_at x.slots k v) x.bodies
@@ -162,6 +165,8 @@ module _ (mode : Mode) (image : Image) (built : IsBuilt image) (good : IsImage i
         others = λ q e. at_other m.processors p q (record x { slots = put_at x.slots k v }) e;
         same_tasks = λ i d. refl;
         good_tasks = on.tasks;
+        current = step.same_current mode image built good facts left s m h p hp o (z ∷ []) allowed _ changes refl;
+        mark = step.same_mark mode image built good facts left s m h p hp o (z ∷ []) allowed _ changes refl;
         slots_are = λ i b. put_through (λ i. pcpu p + slot_offset i) s.memory.words x.slots k v i (λ e. omega arith) (on.slots i b);
         user = step.same_user mode image built good facts left s m h p hp o (z ∷ []) allowed _ changes refl;
         held = h.shares.held;
@@ -170,7 +175,7 @@ module _ (mode : Mode) (image : Image) (built : IsBuilt image) (good : IsImage i
       }
 
   pub cell_free : (k : ℕ) → k < 256 → IsFree p (CellAt k)
-  cell_free k l = record { name = l; written = l; own = λ q d f. absurd (cc); kernel = refl; private = refl }
+  cell_free k l = record { name = l; written = l; own = λ q d f. absurd (cc); tasks = refl; calls = refl; private = refl }
 
   pub makes_cell : (k v : ℕ) → k < 256 → Makes (with_cell m k v) (put_at s.memory.words (address_of (CellAt k)) v) x.tasks x.slots x.bodies
   makes_cell k v l =
@@ -181,6 +186,8 @@ module _ (mode : Mode) (image : Image) (built : IsBuilt image) (good : IsImage i
         others = λ q e. refl;
         same_tasks = λ i d. refl;
         good_tasks = on.tasks;
+        current = step.same_current mode image built good facts left s m h p hp o (z ∷ []) allowed _ changes refl;
+        mark = step.same_mark mode image built good facts left s m h p hp o (z ∷ []) allowed _ changes refl;
         slots_are = step.same_slots mode image built good facts left s m h p hp o (z ∷ []) allowed _ changes refl;
         user = step.same_user mode image built good facts left s m h p hp o (z ∷ []) allowed _ changes refl;
         held = h.shares.held;
@@ -190,7 +197,7 @@ module _ (mode : Mode) (image : Image) (built : IsBuilt image) (good : IsImage i
 
   -- the presence of a page, and the word behind those of pages
   pub page_free : (i : ℕ) → i ≤ 256 → IsFree p (PageBit i)
-  page_free i l = record { name = l; written = l; own = λ q d f. absurd (cc); kernel = refl; private = refl }
+  page_free i l = record { name = l; written = l; own = λ q d f. absurd (cc); tasks = refl; calls = refl; private = refl }
 
   pub makes_page : (i : ℕ) (t : Bool) → i < 256
       → Makes (record m { present = put_at m.present i t }) (put_at s.memory.words (address_of (PageBit i)) (word_of t)) x.tasks x.slots x.bodies
@@ -202,6 +209,8 @@ module _ (mode : Mode) (image : Image) (built : IsBuilt image) (good : IsImage i
         others = λ q e. refl;
         same_tasks = λ i d. refl;
         good_tasks = on.tasks;
+        current = step.same_current mode image built good facts left s m h p hp o (z ∷ []) allowed _ changes refl;
+        mark = step.same_mark mode image built good facts left s m h p hp o (z ∷ []) allowed _ changes refl;
         slots_are = step.same_slots mode image built good facts left s m h p hp o (z ∷ []) allowed _ changes refl;
         user = step.same_user mode image built good facts left s m h p hp o (z ∷ []) allowed _ changes refl;
         held = h.shares.held;
@@ -219,6 +228,8 @@ module _ (mode : Mode) (image : Image) (built : IsBuilt image) (good : IsImage i
         others = λ q e. refl;
         same_tasks = λ i d. refl;
         good_tasks = on.tasks;
+        current = step.same_current mode image built good facts left s m h p hp o (z ∷ []) allowed _ changes refl;
+        mark = step.same_mark mode image built good facts left s m h p hp o (z ∷ []) allowed _ changes refl;
         slots_are = step.same_slots mode image built good facts left s m h p hp o (z ∷ []) allowed _ changes refl;
         user = step.same_user mode image built good facts left s m h p hp o (z ∷ []) allowed _ changes refl;
         held = h.shares.held;
@@ -227,7 +238,7 @@ module _ (mode : Mode) (image : Image) (built : IsBuilt image) (good : IsImage i
       }
 
   pub user_free : (a : ℕ) → IsUserWord a → IsPageWord a → IsFree p (UserWord a)
-  user_free a u w = record { name = u; written = w; own = λ q d f. absurd (cc); kernel = refl; private = refl }
+  user_free a u w = record { name = u; written = w; own = λ q d f. absurd (cc); tasks = refl; calls = refl; private = refl }
 
   pub makes_user : (a v : ℕ) → IsUserWord a → IsPageWord a → v < 2 ^ 64
       → Makes (record m { words = put_at m.words a v }) (put_at s.memory.words (address_of (UserWord a)) v) x.tasks x.slots x.bodies
@@ -239,6 +250,8 @@ module _ (mode : Mode) (image : Image) (built : IsBuilt image) (good : IsImage i
         others = λ q e. refl;
         same_tasks = λ i d. refl;
         good_tasks = on.tasks;
+        current = step.same_current mode image built good facts left s m h p hp o (z ∷ []) allowed _ changes refl;
+        mark = step.same_mark mode image built good facts left s m h p hp o (z ∷ []) allowed _ changes refl;
         slots_are = step.same_slots mode image built good facts left s m h p hp o (z ∷ []) allowed _ changes refl;
         user = λ i b. put_through (λ i. i) s.memory.words m.words a v i (λ e. e) (h.shares.user i b);
         held = put_words m.words a v h.shares.held l;
@@ -255,6 +268,8 @@ module _ (mode : Mode) (image : Image) (built : IsBuilt image) (good : IsImage i
     others = λ q e. at_other m1.processors p q _ e ∙ y.others q e;
     same_tasks = y.same_tasks;
     good_tasks = y.good_tasks;
+    current = y.current;
+    mark = y.mark;
     slots_are = y.slots_are;
     user = y.user;
     held = y.held;

@@ -40,7 +40,7 @@ use Rattle.ev_blocks.specs.Fred.{FromUser, FromKernel, FredToKernel, FredToTask,
 use Rattle.ev_blocks.specs.Fred as fred
 use Rattle.ev_blocks.specs.Idt.{Stub, Sys, Common, IdtToKernel, IdtToTask, idt_block, is_page_fault, table_of, stub_values, common_values, sys_values}
 use Rattle.ev_blocks.specs.Idt as idt
-use Rattle.ev_blocks.specs.Items.{BodySpot, AtTable, AtJump, AtItem, AtNumber, AtUserWord, AtPageWord, page_steps}
+use Rattle.ev_blocks.specs.Items.{BodySpot, AtTable, AtJump, AtItem, AtNumber, AtUserWord, AtPageWord}
 use Rattle.ev_blocks.specs.Blocks.{Spot, InFred, InIdt, InBody, block, edges}
 use Rattle.ev_blocks.proofs.Falls.{edges_fall}
 use Rattle.ev_grounds.specs.Facts.{FactLaws}
@@ -62,7 +62,7 @@ use Rattle.ev_refine.specs.Active.{item_place, number_of, here, IsKernelSs, Save
 use Rattle.ev_refine.specs.Relation.{IsContext, switches_at, body_edges, Chain, StandsOn, Stands, serves}
 use Rattle.ev_refine.specs.Claims.{Simulated}
 use Rattle.ev_refine.proofs.Facts.{Facts}
-use Rattle.ev_refine.proofs.Spots.{is_spot}
+use Rattle.ev_refine.proofs.Spots.{is_spot, means_over, never_switches}
 use Rattle.ev_refine.proofs.ModeFacts.{is_fred}
 use Rattle.ev_refine.proofs.Bodies.{body, Goes, goes_by, unlike, loads, jumps, at_the_table, at_the_jump, at_the_item, table_falls, jump_falls, saved_again, load_again, means_at, rax_at}
 use Rattle.ev_refine.proofs.Standing.{ran_returns}
@@ -147,12 +147,15 @@ module _ (mode : Mode) (image : Image) (built : IsBuilt image) (good : IsImage i
   abbrev fetches : Fetches code s.memory
   fetches = step.fetches mode image built good facts left s m h p hp
 
-  -- the task to which the bodies return
+  -- the task that runs, and that to which the bodies return
   abbrev r : ℕ
-  r = on.returning
+  r = x.running
+
+  abbrev to : ℕ
+  to = on.returning
 
   abbrev t : Task
-  t = x.tasks r
+  t = x.tasks to
 
   abbrev Executes : Ins → Processor → NatMap ℕ → Type 0
   Executes i cpu words = (a : Apic) (nmi : Bool) → executed c a s.memory nmi (Some i) ≡ ran cpu a words nmi
@@ -191,8 +194,8 @@ module _ (mode : Mode) (image : Image) (built : IsBuilt image) (good : IsImage i
     abbrev Alone : Type 0
     Alone = step.Alone mode image built good facts left s m h p hp o
 
-    alone : Stood on.own b c s.memory → is_over_task κ ≡ true → Alone
-    alone act over = step.alone mode image built good facts left s m h p hp o over (step.still mode image built good facts left s m h p hp o act)
+    alone : is_over_task κ ≡ true → Alone
+    alone over = step.alone mode image built good facts left s m h p hp o over
 
     module _ (body' : Body) (is : slice_get image.bodies b.body ≡ Some body') where
       -- ---- at the load of the body's address
@@ -273,9 +276,8 @@ module _ (mode : Mode) (image : Image) (built : IsBuilt image) (good : IsImage i
 
       -- ---- the exit's end: the return
 
-      at_exit : Exits code c s.memory w → is_user c ≡ false → item_at (slice_get image.bodies b.body) b.place ≡ Some Ret
-          → switches_at mode image on.switching below ≡ false → Result
-      at_exit x hu ret still =
+      at_exit : Exits code c s.memory w → is_user c ≡ false → item_at (slice_get image.bodies b.body) b.place ≡ Some Ret → Result
+      at_exit x hu ret =
           let cell : Cell = record { ins = x.ins; next = x.next; mark = true } in
           let hc : code c.rip ≡ Some cell = ap code x.rip ∙ x.cell in
           let back : Processor = record w { cr2 = c.cr2; nmi_blocked = false } in
@@ -290,13 +292,14 @@ module _ (mode : Mode) (image : Image) (built : IsBuilt image) (good : IsImage i
           below)
           (step.are_quiet mode image built good facts left s m h p hp o).1
           (λ class. sym (ap (list_any (λ (a : BodyContext). serves mode image class a.service)) o.bodies
-          ∙ ap (λ q. serves mode image class q || list_any (λ (a : BodyContext). serves mode image class a.service) below) (step.ret_serves mode image built good facts left s m h p hp o ret)))
+          ∙ ap (λ q. serves mode image class q || list_any (λ (a : BodyContext). serves mode image class a.service) below)
+          (step.ret_serves mode image built good facts left s m h p hp o ret)))
           (ap (λ e. if e then length (processor m p).bodies - 1 else
           (if begins_body c (Some cell.ins) then suc (length (processor m p).bodies) else length (processor m p).bodies))
           (ends_a_body (Some cell.ins) c x.place x.rip x.outside hu x.is) ∙ ap (λ (bs : List BodyContext). length bs - 1) o.bodies
           ∙ one_less (length below)) (body_edges mode image) (omega arith)
-          (subst (λ as'. Chain mode image p (body_edges mode image) r t on.frame on.switching below as' back s.memory) (sym gone)
-          (step.returns_to_below mode image built good facts left s m h p hp o c.cr2 still)) (x.silent p (bodies_on s p) c s.memory.words)
+          (subst (λ as'. Chain mode image p (body_edges mode image) r to t on.frame on.switching below as' back s.memory) (sym gone)
+          (step.returns_to_below mode image built good facts left s m h p hp o c.cr2)) (x.silent p (bodies_on s p) c s.memory.words)
         where
           one_less : (n : ℕ) → suc n - 1 ≡ n
           one_less n = omega arith
@@ -390,7 +393,7 @@ module _ (mode : Mode) (image : Image) (built : IsBuilt image) (good : IsImage i
           items.by_address mode image built good facts left s m h p hp o body' is ss ss_is extra v f
           (subst (λ i. At code (block mode (body mode AtUserWord)) i (env ss extra v f) c s.memory) (n ∙ address_steps mode) at) means.0 means.1 means.2 long
           (subst (λ i. edges mode (body mode AtUserWord) i ≤ on.own) (n ∙ address_steps mode) enough)
-          (step.still mode image built good facts left s m h p hp o act) ctx.item hi
+          ctx.item hi
       at_body act (AtPageWord is_page) k ss ss_is extra v f n at means long enough hi =
           items.by_page mode image built good facts left s m h p hp o body' is act ss ss_is extra v f is_page
           (subst (λ i. At code (block mode (body mode (AtPageWord is_page))) i (env ss extra v f) c s.memory) (n ∙ page_block_steps mode is_page) at)
@@ -412,12 +415,12 @@ module _ (mode : Mode) (image : Image) (built : IsBuilt image) (good : IsImage i
           (subst (λ m. edges m (body m AtTable) 0 ≤ on.own) q (omega arith))
       at_the_end act UserCode oq Fred q (InFred (fred.Leaves FredToTask)) k ss ss_is extra v f n at means long enough hi =
           let over = of_task κ plain_kind oq in
-          let one : Alone = alone act over in
-          at_exit (fred_exits image p small κ σ r t w ss extra v f code c s.memory blocked (subst (λ m. HasKernel m code) (sym q) facts.kernel)
-          (subst (λ m. RunsTask m image p r t w) (sym q) one.task) (level_of Fred κ w over) (subst (λ m. Saved m image v w) (sym q) means.saved)
+          let one : Alone = alone over in
+          at_exit (fred_exits image p small κ σ to t w ss extra v f code c s.memory blocked (subst (λ m. HasKernel m code) (sym q) facts.kernel)
+          (subst (λ m. RunsTask m image p to t w) (sym q) one.task) (level_of Fred κ w over) (subst (λ m. Saved m image v w) (sym q) means.saved)
           (subst (λ m. At code (fred_block (fred.Leaves FredToTask)) (fred_block (fred.Leaves FredToTask)).steps (here m p κ σ ss w extra v f) c s.memory)
           (sym q) (subst (λ j. At code (fred_block (fred.Leaves FredToTask)) j (env ss extra v f) c s.memory) n at)))
-          (ap is_user at.agrees.rest) means.ret (step.still mode image built good facts left s m h p hp o act)
+          (ap is_user at.agrees.rest) means.ret
       at_the_end act KernelCode oq Fred q (InFred FromKernel) k ss ss_is extra v f n at means long enough hi =
           let falls = (edges_fall Fred).from_kernel in
           at_entry act (fred_block FromKernel) _ kernel_values
@@ -431,7 +434,7 @@ module _ (mode : Mode) (image : Image) (built : IsBuilt image) (good : IsImage i
           (subst (λ m. SavedBody m image (here m p κ σ ss w extra v f) w) (sym q) means.saved)
           (subst (λ m. At code (fred_block (fred.Leaves FredToKernel)) (fred_block (fred.Leaves FredToKernel)).steps (here m p κ σ ss w extra v f) c s.memory)
           (sym q) (subst (λ j. At code (fred_block (fred.Leaves FredToKernel)) j (env ss extra v f) c s.memory) n at)))
-          (ap is_user at.agrees.rest) means.ret (step.still mode image built good facts left s m h p hp o act)
+          (ap is_user at.agrees.rest) means.ret
       at_the_end act UserCode oq Fred q (InBody FredFrame spot) k ss ss_is extra v f n at means long enough hi =
           at_body act spot k ss ss_is extra v f (n ∙ ap (λ m. (block m (body m spot)).steps) q)
           (subst (λ m. At code (block m (body m spot)) k (env ss extra v f) c s.memory) q at)
@@ -451,7 +454,7 @@ module _ (mode : Mode) (image : Image) (built : IsBuilt image) (good : IsImage i
           (subst (λ m. edges m (body m AtTable) 0 ≤ on.own) q (omega arith))
       at_the_end act UserCode oq Idt q (InIdt (Stub UserCode has v)) k ss ss_is extra u f n at means long enough hi =
           let falls = (edges_fall Idt).stub UserCode has v (v == 14) in
-          let one : Alone = alone act (of_task κ plain_kind oq) in
+          let one : Alone = alone (of_task κ plain_kind oq) in
           at_stub act q UserCode oq has v ss ss_is extra u f
           (subst (λ i. At code (idt_block (Stub UserCode has v)) i (env ss extra u f) c s.memory) n at) means.0
           means.1 (means.1.saved.cs ∙ ap (λ (y : Processor). y.cs) one.task.is) means.2 long
@@ -479,21 +482,21 @@ module _ (mode : Mode) (image : Image) (built : IsBuilt image) (good : IsImage i
           (subst (λ m. edges m (body m AtTable) 0 ≤ on.own) q (omega arith))
       at_the_end act UserCode oq Idt q (InIdt (idt.Leaves (IdtToTask by))) k ss ss_is extra v f n at means long enough hi =
           let over = of_task κ plain_kind oq in
-          let one : Alone = alone act over in
-          at_exit (idt_exits image p small κ σ r t w ss extra v f code c s.memory blocked by (subst (λ m. HasKernel m code) (sym q) facts.kernel)
-          (subst (λ m. RunsTask m image p r t w) (sym q) one.task) (level_of Idt κ w over) (subst (λ m. Saved m image v w) (sym q) means.0.saved)
+          let one : Alone = alone over in
+          at_exit (idt_exits image p small κ σ to t w ss extra v f code c s.memory blocked by (subst (λ m. HasKernel m code) (sym q) facts.kernel)
+          (subst (λ m. RunsTask m image p to t w) (sym q) one.task) (level_of Idt κ w over) (subst (λ m. Saved m image v w) (sym q) means.0.saved)
           (subst (λ m. Matches m image by v) (sym q) means.1)
           (subst (λ m. At code (idt_block (idt.Leaves (IdtToTask by))) (idt_block (idt.Leaves (IdtToTask by))).steps (here m p κ σ ss w extra v f) c
           s.memory)
           (sym q) (subst (λ j. At code (idt_block (idt.Leaves (IdtToTask by))) j (env ss extra v f) c s.memory) n at)))
-          (ap is_user at.agrees.rest) means.0.ret (step.still mode image built good facts left s m h p hp o act)
+          (ap is_user at.agrees.rest) means.0.ret
       at_the_end act KernelCode oq Idt q (InIdt (idt.Leaves IdtToKernel)) k ss ss_is extra v f n at means long enough hi =
           at_exit (idt_exits_to_body p small κ σ w ss extra v f code c s.memory blocked image (subst (λ m. HasKernel m code) (sym q) facts.kernel)
           (subst (IsKernelSs Idt) means.saved.same_ss (subst (λ m. IsKernelSs m ss) (sym q) ss_is)) (plain_level Idt κ w plain_kind)
           (subst (λ m. SavedBody m image (here m p κ σ ss w extra v f) w) (sym q) means.saved)
           (subst (λ m. At code (idt_block (idt.Leaves IdtToKernel)) (idt_block (idt.Leaves IdtToKernel)).steps (here m p κ σ ss w extra v f) c s.memory)
           (sym q) (subst (λ j. At code (idt_block (idt.Leaves IdtToKernel)) j (env ss extra v f) c s.memory) n at)))
-          (ap is_user at.agrees.rest) means.ret (step.still mode image built good facts left s m h p hp o act)
+          (ap is_user at.agrees.rest) means.ret
       at_the_end act UserCode oq Idt q (InBody IdtFrame spot) k ss ss_is extra v f n at means long enough hi =
           at_body act spot k ss ss_is extra v f (n ∙ ap (λ m. (block m (body m spot)).steps) q)
           (subst (λ m. At code (block m (body m spot)) k (env ss extra v f) c s.memory) q at)
@@ -523,10 +526,10 @@ module _ (mode : Mode) (image : Image) (built : IsBuilt image) (good : IsImage i
   -- a step of a processor on which a body stands: an edge or a turn, and it writes no frame
   pub kernel_step : (b : BodyContext) (below : List BodyContext) → x.bodies ≡ b ∷ below → Result
   kernel_step b below hb = by_acts (s.activations p) refl
-      (subst (λ bs. Chain mode image p on.own r t on.frame on.switching bs (s.activations p) c s.memory) hb
+      (subst (λ bs. Chain mode image p on.own r to t on.frame on.switching bs (s.activations p) c s.memory) hb
       (step.chain mode image built good facts left s m h p hp))
     where
-      by_acts : (as' : List Activation) → s.activations p ≡ as' → Chain mode image p on.own r t on.frame on.switching (b ∷ below) as' c s.memory → Result
+      by_acts : (as' : List Activation) → s.activations p ≡ as' → Chain mode image p on.own r to t on.frame on.switching (b ∷ below) as' c s.memory → Result
       by_acts [] e k = absurd k
       by_acts (a ∷ as') e k = act_step (record {
         b = b;
@@ -545,4 +548,6 @@ module _ (mode : Mode) (image : Image) (built : IsBuilt image) (good : IsImage i
         interrupted = k.3;
         under = k.4;
         leads = k.5;
+        off = sym k.6.switches ∙ never_switches mode k.6.stands.spot (means_over mode image
+            (kind_of image b below) k.6.stands.spot _ k.0 b s.memory.words k.6.means);
       }) k.6

@@ -103,11 +103,8 @@ module _ (mode : Mode) (image : Image) (built : IsBuilt image) (good : IsImage i
   fetches = step.fetches mode image built good facts left s m h p hp
 
   -- the task to which the bodies return
-  abbrev r : ℕ
-  r = on.returning
-
   abbrev t : Task
-  t = x.tasks r
+  t = x.tasks on.returning
 
   abbrev Executes : Ins → Processor → NatMap ℕ → Type 0
   Executes i cpu words = (a : Apic) (nmi : Bool) → executed c a s.memory nmi (Some i) ≡ ran cpu a words nmi
@@ -193,7 +190,7 @@ module _ (mode : Mode) (image : Image) (built : IsBuilt image) (good : IsImage i
               → OpensExit mode p κ σ ss w extra v f c (onward c c.regs (other_exit mode)) s.memory
           by_kind true over u q =
               let one : step.Alone mode image built good facts left s m h p hp o
-              = step.alone mode image built good facts left s m h p hp o over (step.still mode image built good facts left s m h p hp o act) in
+              = step.alone mode image built good facts left s m h p hp o over in
               let z : Saved mode image v w = saved_task mode image κ over (env ss extra v f) w saved in
               exits image p small κ over σ ss w (ap (λ (y : Processor). y.cs) one.task.is) extra v f c s.memory
               (on.mark one.still ∙ ap (λ r. if r then 1 else 0) domain.resched) mode z
@@ -255,7 +252,7 @@ module _ (mode : Mode) (image : Image) (built : IsBuilt image) (good : IsImage i
                   (x.agrees (step.windows mode image built good facts left s m h p hp o body' is x.spot x.over ss extra v f));
               long = long;
             };
-            switches = x.off ∙ sym (step.still mode image built good facts left s m h p hp o act);
+            switches = x.off ∙ sym o.off;
             knows = plain_knows mode κ on.frame plain_kind (blocks.holds x.spot);
             means = x.means image b s.memory.words (record { saved = means.saved; ret = ap (λ o. item_at o b.place) is ∙ hi });
           })
@@ -401,10 +398,9 @@ module _ (mode : Mode) (image : Image) (built : IsBuilt image) (good : IsImage i
       pub by_address : (ss : ℕ) → IsKernelSs mode ss → (extra v : ℕ → ℕ) (f : Flags)
           → At code (block mode (body mode AtUserWord)) 2 (env ss extra v f) c s.memory → InItem mode image (origin_of κ) (env ss extra v f) w b
           → extra 20 ≡ item_place mode image b.body b.place → LocalInRax mode image address_local (env ss extra v f) b → length c.regs ≡ 16
-          → edges mode (body mode AtUserWord) 2 ≤ on.own → switches_at mode image on.switching below ≡ false
-          → (i : Item) → item_at (Some body') b.place ≡ Some i → Result
+          → edges mode (body mode AtUserWord) 2 ≤ on.own → (i : Item) → item_at (Some body') b.place ≡ Some i → Result
       unfolding address_local
-      by_address ss ss_is extra v f at means place address long enough still i hi =
+      by_address ss ss_is extra v f at means place address long enough i hi =
           pick i (ap address_local (sym hi) ∙ ap (λ o. address_local (item_at o b.place)) (sym is) ∙ address.is) hi
         where
           last : (block mode (body mode AtUserWord)).steps ≡ 2
@@ -426,7 +422,7 @@ module _ (mode : Mode) (image : Image) (built : IsBuilt image) (good : IsImage i
               at = at;
               long = long;
             };
-            switches = addresses.address_plain mode ∙ sym still;
+            switches = addresses.address_plain mode ∙ sym o.off;
             knows = plain_knows mode κ on.frame plain_kind (blocks.holds (body mode AtUserWord));
             means = means_at mode image κ plain_kind AtUserWord (env ss extra v f) w b s.memory.words (means, place, address);
           }

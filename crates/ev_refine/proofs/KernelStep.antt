@@ -1,6 +1,6 @@
 -- What a step of kernel code gives: an edge, or a turn of the abstract machine; and steps inside blocks.
 use Rattle.std.proofs.Common.{◌≡◌, inl, inr, ℕ, suc, ◌+◌, ◌-◌, ◌*◌, ◌<◌, ◌≤◌, Bool, true, false, not, ◌&&◌, List, [], ◌∷◌, length, Some, refl, sym, ap, ◌∙◌, subst, arith, None}
-use Rattle.std.specs.Prelude.{if◌then◌else◌, ◌==◌, slice_get, nat_le, nat_lt}
+use Rattle.std.specs.Prelude.{if◌then◌else◌, ◌==◌, get_or, slice_get, nat_le, nat_lt}
 use Rattle.std.specs.List.{list_any}
 use Rattle.ev_isa.specs.Word.{NatMap, put_at, greatest_below}
 use Rattle.ev_isa.specs.Flags.{Flags, flags_word}
@@ -44,26 +44,29 @@ use Rattle.ev_table.specs.Table.{code_table}
 use Rattle.ev_user.specs.Tasks.{IsTask, RunsTask}
 use Rattle.ev_user.specs.Sees.{IsUserWord}
 use Rattle.ev_user.specs.Words.{HoldsWords}
+use Rattle.ev_concrete.specs.LiveWords.{area_bytes}
 use Rattle.ev_concrete.specs.Opening.{tasks_of}
+use Rattle.ev_refine.specs.Tasks.{CurrentIs}
 use Rattle.ev_refine.specs.Nmi.{Leads, inner_edges}
-use Rattle.ev_refine.specs.Named.{Named, is_slot, is_cell, is_page_bit, is_user_word, have_none, UnknownTo, Changes}
+use Rattle.ev_refine.specs.Named.{Named, is_task_word, is_slot, is_cell, is_page_bit, is_user_word, have_none, UnknownTo, Changes}
 use Rattle.ev_refine.specs.Domain.{IsQuiet, AreQuiet, IsInDomain}
 use Rattle.ev_refine.specs.Active.{item_place, address_of_item, here, IsKernelSs, Means, Active}
-use Rattle.ev_refine.specs.Relation.{IsContext, Beneath, keeps_cr2, switches_at, chained, Interrupted, body_edges, Chain, serves, StandsOn, Stands}
+use Rattle.ev_refine.specs.Relation.{ApicIs, IsContext, Beneath, keeps_cr2, switches_at, chained, Interrupted, body_edges, Chain, serves, StandsOn, Stands}
 use Rattle.ev_refine.specs.Claims.{Simulated}
 use Rattle.ev_concrete.specs.Shown.{shown_always}
 use Rattle.ev_refine.proofs.Facts.{Facts}
 use Rattle.ev_refine.proofs.Maps.{at_same, at_other}
 use Rattle.ev_refine.proofs.ModeFacts.{is_fred}
-use Rattle.ev_refine.proofs.Spots.{is_spot, IsAtEntry, keeps_rsp, names_if, names_at, means_over, body_writes, never_switches, runs_to_end}
+use Rattle.ev_refine.proofs.Spots.{is_spot, IsAtEntry, keeps_rsp, names_if, names_at, means_over, body_writes, runs_to_end}
 use Rattle.ev_refine.proofs.Fits.{IsSeat, InBodies, fits_at, opens_at, kernel_changes}
 use Rattle.ev_refine.proofs.Bodies.{Goes}
 use Rattle.ev_refine.proofs.Instructions.{stays_inside}
 use Rattle.ev_refine.proofs.Standing.{masked_first, hidden, seen, after_ran, Runs, ran_step, ran_writes, ran_safe, ran_shown, ran_stays, Moves, step_moves}
 use Rattle.ev_refine.proofs.Stays.{means_again, leads_again, AreSpared, chain_stays, seat_fits, below_spared}
 use Rattle.ev_refine.proofs.Chains.{Kept, chain_kept, chain_plain, chain_open, chain_masked, word_interrupts, at_interrupts}
-use Rattle.ev_refine.proofs.After.{AreNames, AreSparing, own_word, none_spares, slot_same, cell_same, page_same, user_same, few_inner, latch_parts, as_chain, returns_to, apic_again, own_becomes, own_after, stands_become, stands_after}
-use Rattle.ev_refine.proofs.CallKinds.{is_over_task, is_plain_kind, over_any, beneath_as, stands_alone, ArePlain, none_nmi, seat_under, plain_seat, plain_knows}
+use Rattle.ev_refine.proofs.After.{AreNames, AreSparing, own_word, none_spares, tasks_same, current_is, mark_is, slot_same, cell_same, page_same, user_same, few_inner, latch_parts, as_chain, apic_again, own_becomes, own_after, Becomes, stands_become}
+use Rattle.ev_refine.proofs.CallKinds.{is_over_task, is_plain_kind, over_any, beneath_as, stands_alone, ArePlain, none_nmi, seat_under, area_under, plain_seat, plain_knows}
+use Rattle.ev_refine.proofs.Words.{IsBeside}
 use Rattle.ev_refine.proofs.Domains.{four_tasks}
 use Rattle.ev_law.proofs.Ruled.{body_ruled}
 use Rattle.ev_user.specs.Numbers.{AreOfWords, HoldsNumbers}
@@ -74,7 +77,8 @@ use Rattle.ev_refine.proofs.Depth.{body_at, active_outside, stands_depth, goes_o
 -- the names of a block's writes
 rsp_spares : (p : ℕ) → p < 32 → (rsp : Bool) → AreSparing p (names_if rsp p)
 rsp_spares p hp true = record {
-  allowed = record { written = (hp, tt); own = λ q d. (own_word p q d, tt); kernel = refl };
+  allowed = record { written = (hp, tt); own = λ q d. (own_word p q d, tt); calls = refl };
+  tasks = refl;
   slots = refl;
   cells = refl;
   pages = refl;
@@ -122,24 +126,27 @@ module _ (mode : Mode) (image : Image) (built : IsBuilt image) (good : IsImage i
   pub fetches : Fetches code s.memory
   fetches = facts.fetches s.memory h.regions_are h.fixed
 
-  -- the task to which the bodies return
+  -- the task that runs, on whose stack the bodies stand, and that to which they return
   abbrev pub r : ℕ
-  r = on.returning
+  r = x.running
+
+  abbrev pub to : ℕ
+  to = on.returning
 
   abbrev pub t : Task
-  t = x.tasks r
+  t = x.tasks to
 
   pub narrow_task : r < 4
-  narrow_task = let n = returns_to mode image p (left p) s x on in let four = four_tasks image good p hp in omega arith
+  narrow_task = let n = on.running in let four = four_tasks image good p hp in omega arith
 
   abbrev pub Chained : (now : ℕ) (t : Task) → List BodyContext → List Activation → Processor → Memory → Type 0
-  Chained now t bs as' cpu mem = Chain mode image p now r t on.frame on.switching bs as' cpu mem
+  Chained now t bs as' cpu mem = Chain mode image p now r to t on.frame on.switching bs as' cpu mem
 
   pub chain : Chained on.own t x.bodies (s.activations p) c s.memory
-  chain = as_chain mode image on.layer p on.own on.more r t on.frame on.switching x.bodies (s.activations p) c s.memory on.runs
+  chain = as_chain mode image on.layer p on.own on.more r to t on.frame on.switching x.bodies (s.activations p) c s.memory on.runs
 
   pub plain : ArePlain image x.bodies
-  plain = chain_plain mode image p on.own r t on.frame on.switching x.bodies (s.activations p) c s.memory chain
+  plain = chain_plain mode image p on.own r to t on.frame on.switching x.bodies (s.activations p) c s.memory chain
 
   pub none_is_nmi : list_any (is_nmi_body image) x.bodies ≡ false
   none_is_nmi = none_nmi image x.bodies plain
@@ -158,8 +165,9 @@ module _ (mode : Mode) (image : Image) (built : IsBuilt image) (good : IsImage i
   abbrev pub Executes : Ins → Processor → NatMap ℕ → Type 0
   Executes i cpu words = (a : Apic) (nmi : Bool) → executed c a s.memory nmi (Some i) ≡ ran cpu a words nmi
 
-  moves : (cpu : Processor) (words : NatMap ℕ) → Moves p s (after_ran s p cpu words) cpu (activations_by s p (s.activations p) cpu Stepped.Ran) words
-  moves cpu words = step_moves s p (ran cpu (s.apics p) words (s.latches p)) refl
+  moves : (a : Apic) (cpu : Processor) (words : NatMap ℕ)
+      → Moves p s (after_ran s p a cpu words) cpu (activations_by s p (s.activations p) cpu Stepped.Ran) words
+  moves a cpu words = step_moves s p (ran cpu a words (s.latches p)) refl
 
   -- ---- the last context, on any contexts below
 
@@ -179,8 +187,9 @@ module _ (mode : Mode) (image : Image) (built : IsBuilt image) (good : IsImage i
     pub w : Processor
     pub interrupted : Interrupted mode image below w others
     pub under : Beneath mode image (keeps_cr2 mode image κ)
-        (λ v. Chain mode image p (body_edges mode image) r t on.frame (chained mode image on.switching below) below others v s.memory) w
+        (λ v. Chain mode image p (body_edges mode image) r to t on.frame (chained mode image on.switching below) below others v s.memory) w
     pub leads : Leads mode p κ on.frame w s.memory.words
+    pub off : switches_at mode image on.switching below ≡ false  -- its exit, if it is in it, switches to no other task
 
   module _ (o : Top) where
     abbrev pub b : BodyContext
@@ -207,7 +216,7 @@ module _ (mode : Mode) (image : Image) (built : IsBuilt image) (good : IsImage i
     -- ---- IF is off, so an instruction comes first
 
     pub masked : interrupts_on c ≡ false
-    masked = chain_masked mode image p on.own r t on.frame on.switching b below (s.activations p) c s.memory
+    masked = chain_masked mode image p on.own r to t on.frame on.switching b below (s.activations p) c s.memory
         (subst (λ bs. Chained on.own t bs (s.activations p) c s.memory) o.bodies chain)
 
     -- so it is off in the flags of each block where the processor is
@@ -220,8 +229,81 @@ module _ (mode : Mode) (image : Image) (built : IsBuilt image) (good : IsImage i
     pub first : next_of c (s.apics p) (s.latches p) ≡ Next.Instruction
     first = masked_first c (s.apics p) (s.latches p) latch masked
 
-    runs : (cell : Cell) → code c.rip ≡ Some cell → is_user c ≡ false → (cpu : Processor) (words : NatMap ℕ) → Executes cell.ins cpu words → Runs s p cpu words
-    runs cell hc hu cpu words he = cell_step code c (s.apics p) s.memory (s.latches p) cell fetches hc first hu ∙ he (s.apics p) (s.latches p)
+    runs : (cell : Cell) → code c.rip ≡ Some cell → is_user c ≡ false → (a : Apic) (cpu : Processor) (words : NatMap ℕ)
+        → executed c (s.apics p) s.memory (s.latches p) (Some cell.ins) ≡ ran cpu a words (s.latches p) → Runs s p a cpu words
+    runs cell hc hu a cpu words he = cell_step code c (s.apics p) s.memory (s.latches p) cell fetches hc first hu ∙ he
+
+    -- an edge: the processor stands for the same behind it, and it writes no word of the abstract machine's
+    pub edge_to : (cell : Cell) → code c.rip ≡ Some cell → cell.mark ≡ false → is_return (Some cell.ins) ≡ false
+        → is_user c ≡ false → is_in_repeat c.rip ≡ false → (cpu : Processor) (words : NatMap ℕ) → Executes cell.ins cpu words
+        → (σ : Seat) → σ.stack < 7 → (names : List Named) → AreNames p names → have_none is_page_bit names ≡ true → have_none is_cell names ≡ true
+        → have_none is_user_word names ≡ true → Changes p σ names s.memory.words words → (now : ℕ) → now < on.own
+        → StandsOn mode image p (now + inner_edges (s.latches p)) (after_ran s p (s.apics p) cpu words) x → Result
+    edge_to cell hc hm hr hu out cpu words he σ narrow names allowed no_page no_cell no_user changes now fewer there =
+        let run : Runs s p (s.apics p) cpu words = runs cell hc hu (s.apics p) cpu words (he (s.apics p) (s.latches p)) in
+        let all : Stands mode image (put_at left p (now + inner_edges (s.latches p))) (after_ran s p (s.apics p) cpu words) m
+        = stands_become mode image left s (after_ran s p (s.apics p) cpu words) m m p (now + inner_edges (s.latches p)) x σ cpu _ words good built.accepted
+        (four_tasks image good) h hp (moves (s.apics p) cpu words) narrow names allowed changes
+        (record {
+          own = refl;
+          others = λ q e. refl;
+          mail = refl;
+          mail_nmi = refl;
+          records = refl;
+          queue = refl;
+          user = λ a u. user_same p σ names small narrow s.memory.words words allowed.written changes no_user a u ∙ h.shares.user a u;
+          held = h.shares.held;
+          pages = λ i l. page_same p σ names small narrow s.memory.words words allowed.written changes no_page i l ∙ h.shares.pages i l;
+          cells = λ k l. cell_same p σ names small narrow s.memory.words words allowed.written changes no_cell k l ∙ h.shares.cells k l;
+        })
+        h.legal h.bases h.numbers domain there in
+        let bound = on.enough in record {
+          safe = ran_safe mode image s p (s.apics p) cpu words run;
+          counts = ran_counts image.processors s p (s.apics p) cpu words cell.ins run (fetches c.rip cell hc).1 (length x.bodies) (length x.bodies) depth
+              (stands_depth mode image facts p (now + inner_edges (s.latches p)) (after_ran s p (s.apics p) cpu words) x there)
+              (goes_on_inside (is_return (Some cell.ins)) (not (is_user c)) (not (nat_le nmi_entry c.rip && nat_lt c.rip repeat_entry))
+              (is_jump (Some cell.ins)) (is_in_repeat c.rip) (length x.bodies) hr out);
+          how = inl (record {
+            hidden = hidden (marks_of mode image) s p first hu (facts.unmarked c.rip cell hc hm);
+            now = put_at left p (now + inner_edges (s.latches p));
+            fewer = subst (λ n. n < left p) (sym (at_same left p p (now + inner_edges (s.latches p)) refl)) (omega arith);
+            stands = subst (λ y. Stands mode image (put_at left p (now + inner_edges (s.latches p))) y.0 m)
+                (sym (ran_step image.processors s p (s.apics p) cpu words run)) all;
+            writes = ran_writes image.processors s p (s.apics p) cpu words run;
+          });
+        }
+
+    -- a visible step: the processor stands for the one of the machine behind the abstract machine's turn, and memory for that machine's
+    pub turn_to : (cell : Cell) → code c.rip ≡ Some cell → cell.mark ≡ true → is_user c ≡ false
+        → (a : Apic) (cpu : Processor) (words : NatMap ℕ)
+        → executed c (s.apics p) s.memory (s.latches p) (Some cell.ins) ≡ ran cpu a words (s.latches p)
+        → (σ : Seat) → σ.stack < 7 → (names : List Named) → AreNames p names → Changes p σ names s.memory.words words
+        → (m' : Machine) (es : List Entry) → turn image m p ≡ (m', es) → (x' : abstract.Processor) → Becomes mode image p m m' x' words → HoldsNumbers m'
+        → IsInDomain x'
+        → (if ends_body c (Some cell.ins) then length x.bodies - 1
+        else (if begins_body c (Some cell.ins) then suc (length x.bodies) else length x.bodies)) ≡ length x'.bodies
+        → (now : ℕ) → StandsOn mode image p (now + inner_edges (s.latches p)) (after_ran s p a cpu words) x'
+        → shown_always p (bodies_on s p) c s.memory.words (Some cell.ins) ≡ es → Result
+    turn_to cell hc hm hu a cpu words he σ narrow names allowed changes m' es ht x' becomes numbers inside told now there hes =
+        let run : Runs s p a cpu words = runs cell hc hu a cpu words he in
+        let all : Stands mode image (put_at left p (now + inner_edges (s.latches p))) (after_ran s p a cpu words) m'
+        = stands_become mode image left s (after_ran s p a cpu words) m m' p (now + inner_edges (s.latches p)) x' σ cpu _ words
+        good built.accepted (four_tasks image good) h hp (moves a cpu words) narrow names allowed changes becomes
+        (turn_legal image good built.accepted m p hp h.legal (m', es) ht) (turn_bases image m p h.bases (m', es) ht) numbers inside there in
+        let turned : Stands mode image (put_at left p (now + inner_edges (s.latches p))) (after_ran s p a cpu words) (turn image m p).0 =
+        subst (λ q. Stands mode image (put_at left p (now + inner_edges (s.latches p))) (after_ran s p a cpu words) q.0) (sym ht) all in record {
+          safe = ran_safe mode image s p a cpu words run;
+          counts = ran_counts image.processors s p a cpu words cell.ins run (fetches c.rip cell hc).1 (length x.bodies) (length x'.bodies) depth
+              (stands_depth mode image facts p (now + inner_edges (s.latches p)) (after_ran s p a cpu words) x' there) told;
+          how = inr (record {
+            seen = seen (marks_of mode image) s p first hu (facts.marked c.rip cell hc hm);
+            now = put_at left p (now + inner_edges (s.latches p));
+            stands = subst (λ q. Stands mode image (put_at left p (now + inner_edges (s.latches p))) q.0 (turn image m p).0)
+                (sym (ran_step image.processors s p a cpu words run)) turned;
+            entries = ran_shown (marks_of mode image) s p a cpu words cell.ins run hu (facts.marked c.rip cell hc hm) (fetches c.rip cell hc).1
+                ∙ hes ∙ sym (ap (λ (q : Step). q.1) ht);
+          });
+        }
 
     abbrev pub Stood : ℕ → BodyContext → Processor → Memory → Type 0
     Stood now b' cpu mem = Active mode image p now κ σ on.frame (switches_at mode image on.switching below) w b' cpu mem
@@ -250,15 +332,26 @@ module _ (mode : Mode) (image : Image) (built : IsBuilt image) (good : IsImage i
     narrow : σ.stack < 7
     narrow = in_seat.stack
 
+    -- its steps leave the saved areas of the tasks to which the bodies don't return
+    beside : (i : ℕ) → (i ≡ to → ⊥) → IsBeside mode σ i
+    beside i d = by_depth below refl
+      where
+        by_depth : (ds : List BodyContext) → below ≡ ds → IsBeside mode σ i
+        by_depth [] none = inl (λ e. d (e ∙ on_stack
+            ∙ sym (on.is_returning ∙ ap (λ z. if z then get_or x.waiting 0 x.running else x.running) (sym (ap (switches_at mode image on.switching) none)
+            ∙ o.off))))
+        by_depth (b' ∷ ds) some = inr (subst (λ (y : Seat). area_bytes mode ≤ y.used) (sym (under_is ∙ ap (λ bs. seat_under mode r (length bs)) some))
+            (area_under mode r (length ds)))
+
     -- ---- what stands below
 
-    pub lower : Chain mode image p (body_edges mode image) r t on.frame (chained mode image on.switching below) below o.others w s.memory
+    pub lower : Chain mode image p (body_edges mode image) r to t on.frame (chained mode image on.switching below) below o.others w s.memory
     lower = over_any mode image
-        (λ v. Chain mode image p (body_edges mode image) r t on.frame (chained mode image on.switching below) below o.others v s.memory)
+        (λ v. Chain mode image p (body_edges mode image) r to t on.frame (chained mode image on.switching below) below o.others v s.memory)
         (keeps_cr2 mode image κ) w o.under
 
     pub kept : Kept mode image p w
-    kept = chain_kept mode image p (body_edges mode image) r t on.frame (chained mode image on.switching below) below o.others w s.memory lower
+    kept = chain_kept mode image p (body_edges mode image) r to t on.frame (chained mode image on.switching below) below o.others w s.memory lower
 
     pub fred_is : has_fred w ≡ is_fred mode
     fred_is = kept.fred
@@ -266,27 +359,27 @@ module _ (mode : Mode) (image : Image) (built : IsBuilt image) (good : IsImage i
     -- what stands over a task
     pub record Alone : Type 0 where
       pub none : below ≡ []
-      pub task : RunsTask mode image p r t w
+      pub task : RunsTask mode image p to t w
       pub still : on.switching ≡ false
       pub no_others : o.others ≡ []
 
-    pub alone : is_over_task κ ≡ true → switches_at mode image on.switching below ≡ false → Alone
-    alone h off =
+    pub alone : is_over_task κ ≡ true → Alone
+    alone h =
         let none : below ≡ [] = stands_alone image b below (ap is_over_task o.kind ∙ h) in
-        let k : Chain mode image p (body_edges mode image) r t on.frame (chained mode image on.switching []) [] o.others w s.memory
-        = subst (λ ds. Chain mode image p (body_edges mode image) r t on.frame (chained mode image on.switching ds) ds o.others w s.memory) none lower in
+        let k : Chain mode image p (body_edges mode image) r to t on.frame (chained mode image on.switching []) [] o.others w s.memory
+        = subst (λ ds. Chain mode image p (body_edges mode image) r to t on.frame (chained mode image on.switching ds) ds o.others w s.memory) none lower in
         record {
           none = none;
           task = k.0;
-          still = sym (ap (switches_at mode image on.switching) none) ∙ off;
+          still = sym (ap (switches_at mode image on.switching) none) ∙ o.off;
           no_others = k.2;
         }
 
     -- where it returns, with any CR2 and NMIs open
-    pub returns_to_below : (cr2 : ℕ) → switches_at mode image on.switching below ≡ false
-        → Chain mode image p (body_edges mode image) r t on.frame on.switching below o.others (record w { cr2 = cr2; nmi_blocked = false }) s.memory
-    returns_to_below cr2 off = chain_open mode image p (body_edges mode image) r t on.frame on.switching below o.others (record w { cr2 = cr2 }) s.memory
-        (subst (λ sw. Chain mode image p (body_edges mode image) r t on.frame sw below o.others (record w { cr2 = cr2 }) s.memory) (same below off)
+    pub returns_to_below : (cr2 : ℕ) → Chain mode image p (body_edges mode image) r to t on.frame on.switching below o.others
+        (record w { cr2 = cr2; nmi_blocked = false }) s.memory
+    returns_to_below cr2 = chain_open mode image p (body_edges mode image) r to t on.frame on.switching below o.others (record w { cr2 = cr2 }) s.memory
+        (subst (λ sw. Chain mode image p (body_edges mode image) r to t on.frame sw below o.others (record w { cr2 = cr2 }) s.memory) (same below o.off)
         (any_cr2 κ plain_kind _ o.under cr2))
       where
         same : (ds : List BodyContext) → switches_at mode image on.switching ds ≡ false → chained mode image on.switching ds ≡ on.switching
@@ -304,14 +397,14 @@ module _ (mode : Mode) (image : Image) (built : IsBuilt image) (good : IsImage i
     -- a step that writes its own stretch of the stack, and words that no block below knows
     pub below_stays : (names : List Named) → AreNames p names → UnknownTo below names → (words : NatMap ℕ) → Changes p σ names s.memory.words words
         → Beneath mode image (keeps_cr2 mode image κ)
-        (λ v. Chain mode image p (body_edges mode image) r t on.frame (chained mode image on.switching below) below o.others v (with_words s.memory words)) w
+        (λ v. Chain mode image p (body_edges mode image) r to t on.frame (chained mode image on.switching below) below o.others v (with_words s.memory words)) w
     below_stays names allowed unknown words changes =
         let z = narrow_task in
         let spared : AreSpared mode image p r below s.memory.words words
         = below_spared mode image p r names s.memory.words words b below small (omega arith) shallow allowed.written unknown
         (subst (λ y. Changes p y names s.memory.words words) (sym seat_is) changes) all_plain in
         beneath_as mode image (keeps_cr2 mode image κ) _ _
-        (λ v k. chain_stays mode image p (body_edges mode image) r t on.frame (chained mode image on.switching below) below o.others v s.memory words hp
+        (λ v k. chain_stays mode image p (body_edges mode image) r to t on.frame (chained mode image on.switching below) below o.others v s.memory words hp
         good.count.1 spared k) w o.under
 
     -- the chain with another last context of the same kind
@@ -321,7 +414,7 @@ module _ (mode : Mode) (image : Image) (built : IsBuilt image) (good : IsImage i
     with_last b' k ctx' now cpu words names allowed unknown changes act =
         let mem : Memory = with_words s.memory words in
         let at = subst (λ n. Beneath mode image (keeps_cr2 mode image n)
-        (λ v. Chain mode image p (body_edges mode image) r t on.frame (chained mode image on.switching below) below o.others v mem) w
+        (λ v. Chain mode image p (body_edges mode image) r to t on.frame (chained mode image on.switching below) below o.others v mem) w
         × Leads mode p n on.frame w mem.words
         × Active mode image p now n (seat_by mode n r (seat_of mode image r below) (room_of mode image below)) on.frame
         (switches_at mode image on.switching below) w b' cpu mem) (sym k) (
@@ -338,39 +431,19 @@ module _ (mode : Mode) (image : Image) (built : IsBuilt image) (good : IsImage i
         → (names : List Named) → AreSparing p names → have_none is_user_word names ≡ true → UnknownTo below names → Changes p σ names s.memory.words words
         → (now : ℕ) → now < on.own → Stood now b cpu (with_words s.memory words) → Result
     edge cell hc hm hr hu out cpu words he hb names sparing no_user unknown changes now fewer act =
-        let run : Runs s p cpu words = runs cell hc hu cpu words he in
         let same : activations_by s p (s.activations p) cpu Stepped.Ran ≡ o.last ∷ o.others
         = ran_stays s p cpu cell.ins (fetches c.rip cell hc).1 hr ∙ o.acts in
         let goes_on : Chained now t x.bodies (activations_by s p (s.activations p) cpu Stepped.Ran) cpu (with_words s.memory words)
         = subst (λ as'. Chained now t x.bodies as' cpu (with_words s.memory words)) (sym same)
         (subst (λ bs. Chained now t bs (o.last ∷ o.others) cpu (with_words s.memory words)) (sym o.bodies)
         (with_last b o.kind ctx now cpu words names sparing.allowed unknown changes act)) in
-        let there : StandsOn mode image p (now + inner_edges (s.latches p)) (after_ran s p cpu words) x
-        = own_after mode image p (left p) s (after_ran s p cpu words) x σ cpu _ words x.tasks x.bodies now on small (four_tasks image good p hp)
-        (moves cpu words) on_stack narrow names sparing changes (λ i d. refl) on.tasks
+        let there : StandsOn mode image p (now + inner_edges (s.latches p)) (after_ran s p (s.apics p) cpu words) x
+        = own_after mode image p (left p) s (after_ran s p (s.apics p) cpu words) x σ cpu _ words x.tasks x.bodies now on small (four_tasks image good p hp)
+        (moves (s.apics p) cpu words) beside narrow names sparing changes (λ i d. refl) on.tasks
         (hb ∙ sym none_is_nmi) x.pending
-        (apic_again mode image (s.apics p) _ x.pending x.bodies x.bodies (at_same s.apics p p (s.apics p) refl) (λ class. refl) on.apic) (let l = on.enough in let f = on.few in omega arith) goes_on in
-        let all : Stands mode image (put_at left p (now + inner_edges (s.latches p))) (after_ran s p cpu words) m
-        = stands_after mode image left s (after_ran s p cpu words) m m p (now + inner_edges (s.latches p)) x σ cpu _ words good built.accepted
-        (four_tasks image good) h hp (moves cpu words) narrow names sparing changes
-        (λ a u. user_same p σ names small narrow s.memory.words words sparing.allowed.written changes no_user a u ∙ h.shares.user a u) h.shares.held
-        (record { own = refl; others = λ q e. refl; present = refl; cells = refl; mail = refl; mail_nmi = refl; records = refl; queue = refl })
-        h.legal h.bases h.numbers domain there in
-        let bound = on.enough in record {
-          safe = ran_safe mode image s p cpu words run;
-          counts = ran_counts image.processors s p cpu words cell.ins run (fetches c.rip cell hc).1 (length x.bodies) (length x.bodies) depth
-              (stands_depth mode image facts p (now + inner_edges (s.latches p)) (after_ran s p cpu words) x there)
-              (goes_on_inside (is_return (Some cell.ins)) (not (is_user c)) (not (nat_le nmi_entry c.rip && nat_lt c.rip repeat_entry))
-              (is_jump (Some cell.ins)) (is_in_repeat c.rip) (length x.bodies) hr out);
-          how = inl (record {
-            hidden = hidden (marks_of mode image) s p first hu (facts.unmarked c.rip cell hc hm);
-            now = put_at left p (now + inner_edges (s.latches p));
-            fewer = subst (λ n. n < left p) (sym (at_same left p p (now + inner_edges (s.latches p)) refl)) (omega arith);
-            stands = subst (λ y. Stands mode image (put_at left p (now + inner_edges (s.latches p))) y.0 m)
-                (sym (ran_step image.processors s p cpu words run)) all;
-            writes = ran_writes image.processors s p cpu words run;
-          });
-        }
+        (apic_again mode image (s.apics p) _ x.pending x.bodies x.bodies (at_same s.apics p p (s.apics p) refl) (λ class. refl) on.apic)
+        (let l = on.enough in let f = on.few in omega arith) goes_on in
+        edge_to cell hc hm hr hu out cpu words he σ narrow names sparing.allowed sparing.pages sparing.cells no_user changes now fewer there
 
     -- ---- what the abstract machine does
 
@@ -406,39 +479,39 @@ module _ (mode : Mode) (image : Image) (built : IsBuilt image) (good : IsImage i
     pub record Makes (m' : Machine) (words : NatMap ℕ) (tasks : NatMap Task) (slots : NatMap ℕ) (bodies : List BodyContext) : Type 0 where
       pub own : processor m' p ≡ record x { tasks = tasks; slots = slots; bodies = bodies }
       pub others : (q : ℕ) → (q == p) ≡ false → processor m' q ≡ processor m q
-      pub same_tasks : (i : ℕ) → (i ≡ r → ⊥) → tasks i ≡ x.tasks i
+      pub same_tasks : (i : ℕ) → (i ≡ to → ⊥) → tasks i ≡ x.tasks i
       pub good_tasks : (i : ℕ) → i < length (tasks_of image p) → IsTask (tasks i)
+      pub current : on.switching ≡ false → CurrentIs mode p r words
+      pub mark : on.switching ≡ false → words (pcpu p + 0x20) ≡ (if x.resched then 1 else 0)
       pub slots_are : (k : ℕ) → k < 64 → words (pcpu p + slot_offset k) ≡ slots k
       pub user : (a : ℕ) → IsUserWord a → words a ≡ m'.words a
       pub held : HoldsWords m'.words
       pub pages : (i : ℕ) → i < 256 → words (page_map + 8 * i) ≡ (if m'.present i then 1 else 0)
       pub cells : (k : ℕ) → k < 256 → words (cells_base + 8 * k) ≡ m'.cells k
 
-    pub visible : (cell : Cell) → code c.rip ≡ Some cell → cell.mark ≡ true → is_user c ≡ false
-        → (cpu : Processor) (words : NatMap ℕ) → Executes cell.ins cpu words → cpu.nmi_blocked ≡ false
+    -- with the local APIC behind the step
+    pub visible_with : (cell : Cell) → code c.rip ≡ Some cell → cell.mark ≡ true → is_user c ≡ false
+        → (a : Apic) (cpu : Processor) (words : NatMap ℕ)
+        → executed c (s.apics p) s.memory (s.latches p) (Some cell.ins) ≡ ran cpu a words (s.latches p) → cpu.nmi_blocked ≡ false
         → (names : List Named) → AreNames p names → Changes p σ names s.memory.words words
         → (m' : Machine) (es : List Entry) → turn image m p ≡ (m', es) → (tasks : NatMap Task) (slots : NatMap ℕ) (bs : List BodyContext)
-        → Makes m' words tasks slots bs → AreQuiet bs → ServesAlike bs
+        → Makes m' words tasks slots bs → AreQuiet bs → ApicIs mode image a x.pending bs
         → (if ends_body c (Some cell.ins) then length x.bodies - 1
         else (if begins_body c (Some cell.ins) then suc (length x.bodies) else length x.bodies)) ≡ length bs
         → (now : ℕ) → now ≤ body_edges mode image
-        → Chained now (tasks r) bs (activations_by s p (s.activations p) cpu Stepped.Ran) cpu (with_words s.memory words)
+        → Chained now (tasks to) bs (activations_by s p (s.activations p) cpu Stepped.Ran) cpu (with_words s.memory words)
         → shown_always p (bodies_on s p) c s.memory.words (Some cell.ins) ≡ es → Result
-    visible cell hc hm hu cpu words he hb names allowed changes m' es ht tasks slots bs y quiet serving told now few goes_on hes =
-        let run : Runs s p cpu words = runs cell hc hu cpu words he in
+    visible_with cell hc hm hu a cpu words he hb names allowed changes m' es ht tasks slots bs y quiet apic told now few goes_on hes =
         let x' : abstract.Processor = record x { tasks = tasks; slots = slots; bodies = bs } in
         let none : list_any (is_nmi_body image) bs ≡ false
-        = none_nmi image bs (chain_plain mode image p now r (tasks r) on.frame on.switching bs _ cpu (with_words s.memory words) goes_on) in
-        let there : StandsOn mode image p (now + inner_edges (s.latches p)) (after_ran s p cpu words) x'
-        = own_becomes mode image p (left p) s (after_ran s p cpu words) x σ cpu _ words tasks slots bs now on small (four_tasks image good p hp)
-        (moves cpu words) on_stack narrow names allowed changes y.slots_are y.same_tasks y.good_tasks (hb ∙ sym none)
-        x.pending (apic_again mode image (s.apics p) _ x.pending x.bodies bs (at_same s.apics p p (s.apics p) refl)
-        serving on.apic)
+        = none_nmi image bs (chain_plain mode image p now r to (tasks to) on.frame on.switching bs _ cpu (with_words s.memory words) goes_on) in
+        let there : StandsOn mode image p (now + inner_edges (s.latches p)) (after_ran s p a cpu words) x'
+        = own_becomes mode image p (left p) s (after_ran s p a cpu words) x σ cpu _ words tasks slots bs now on small (four_tasks image good p hp)
+        (moves a cpu words) beside narrow names allowed changes y.current y.mark y.slots_are y.same_tasks y.good_tasks (hb ∙ sym none)
+        x.pending (subst (λ y. ApicIs mode image y x.pending bs) (sym (at_same s.apics p p a refl)) apic)
         (let f = few_inner mode image (s.latches p) in omega arith) goes_on in
         let inside : IsInDomain x' = record { nmi = domain.nmi; resched = domain.resched; bodies = quiet } in
-        let all : Stands mode image (put_at left p (now + inner_edges (s.latches p))) (after_ran s p cpu words) m'
-        = stands_become mode image left s (after_ran s p cpu words) m m' p (now + inner_edges (s.latches p)) x' σ cpu _ words
-        good built.accepted (four_tasks image good) h hp (moves cpu words) narrow names allowed changes
+        turn_to cell hc hm hu a cpu words he σ narrow names allowed changes m' es ht x'
         (record {
           own = y.own;
           others = y.others;
@@ -451,24 +524,33 @@ module _ (mode : Mode) (image : Image) (built : IsBuilt image) (good : IsImage i
           pages = y.pages;
           cells = y.cells;
         })
-        (turn_legal image good built.accepted m p hp h.legal (m', es) ht) (turn_bases image m p h.bases (m', es) ht) (numbers_behind m' es ht) inside there in
-        let turned : Stands mode image (put_at left p (now + inner_edges (s.latches p))) (after_ran s p cpu words) (turn image m p).0 =
-        subst (λ q. Stands mode image (put_at left p (now + inner_edges (s.latches p))) (after_ran s p cpu words) q.0) (sym ht) all in record {
-          safe = ran_safe mode image s p cpu words run;
-          counts = ran_counts image.processors s p cpu words cell.ins run (fetches c.rip cell hc).1 (length x.bodies) (length bs) depth
-              (stands_depth mode image facts p (now + inner_edges (s.latches p)) (after_ran s p cpu words) x' there) told;
-          how = inr (record {
-            seen = seen (marks_of mode image) s p first hu (facts.marked c.rip cell hc hm);
-            now = put_at left p (now + inner_edges (s.latches p));
-            stands = subst (λ q. Stands mode image (put_at left p (now + inner_edges (s.latches p))) q.0 (turn image m p).0)
-                (sym (ran_step image.processors s p cpu words run)) turned;
-            entries = ran_shown (marks_of mode image) s p cpu words cell.ins run hu (facts.marked c.rip cell hc hm) (fetches c.rip cell hc).1
-                ∙ hes ∙ sym (ap (λ (q : Step). q.1) ht);
-          });
-        }
+        (numbers_behind m' es ht) inside told now there hes
+
+    -- which stays
+    pub visible : (cell : Cell) → code c.rip ≡ Some cell → cell.mark ≡ true → is_user c ≡ false
+        → (cpu : Processor) (words : NatMap ℕ) → Executes cell.ins cpu words → cpu.nmi_blocked ≡ false
+        → (names : List Named) → AreNames p names → Changes p σ names s.memory.words words
+        → (m' : Machine) (es : List Entry) → turn image m p ≡ (m', es) → (tasks : NatMap Task) (slots : NatMap ℕ) (bs : List BodyContext)
+        → Makes m' words tasks slots bs → AreQuiet bs → ServesAlike bs
+        → (if ends_body c (Some cell.ins) then length x.bodies - 1
+        else (if begins_body c (Some cell.ins) then suc (length x.bodies) else length x.bodies)) ≡ length bs
+        → (now : ℕ) → now ≤ body_edges mode image
+        → Chained now (tasks to) bs (activations_by s p (s.activations p) cpu Stepped.Ran) cpu (with_words s.memory words)
+        → shown_always p (bodies_on s p) c s.memory.words (Some cell.ins) ≡ es → Result
+    visible cell hc hm hu cpu words he hb names allowed changes m' es ht tasks slots bs y quiet serving told now few goes_on hes =
+        visible_with cell hc hm hu (s.apics p) cpu words (he (s.apics p) (s.latches p)) hb names allowed changes m' es ht tasks slots bs y quiet
+        (apic_again mode image (s.apics p) (s.apics p) x.pending x.bodies bs refl serving on.apic) told now few goes_on hes
 
     -- what holds of the components that a step leaves alone, by the names that it writes
     module _ (names : List Named) (allowed : AreNames p names) (words : NatMap ℕ) (changes : Changes p σ names s.memory.words words) where
+      pub same_current : have_none is_task_word names ≡ true → on.switching ≡ false → CurrentIs mode p r words
+      same_current none e = current_is p σ names small narrow s.memory.words words allowed.written changes p
+          (tasks_same p σ names small narrow s.memory.words words allowed.written changes none p small) mode r (on.current e)
+
+      pub same_mark : have_none is_task_word names ≡ true → on.switching ≡ false → words (pcpu p + 0x20) ≡ (if x.resched then 1 else 0)
+      same_mark none e = mark_is p σ names small narrow s.memory.words words allowed.written changes p
+          (tasks_same p σ names small narrow s.memory.words words allowed.written changes none p small) ∙ on.mark e
+
       pub same_slots : have_none is_slot names ≡ true → (k : ℕ) → k < 64 → words (pcpu p + slot_offset k) ≡ x.slots k
       same_slots none k l = slot_same p σ names small narrow s.memory.words words allowed.written changes none p k small l ∙ on.slots k l
 
@@ -489,6 +571,8 @@ module _ (mode : Mode) (image : Image) (built : IsBuilt image) (good : IsImage i
         others = λ q e. at_other m.processors p q (record x { bodies = bs }) e;
         same_tasks = λ i d. refl;
         good_tasks = on.tasks;
+        current = same_current sparing.tasks;
+        mark = same_mark sparing.tasks;
         slots_are = same_slots sparing.slots;
         user = same_user no_user;
         held = h.shares.held;
@@ -513,9 +597,6 @@ module _ (mode : Mode) (image : Image) (built : IsBuilt image) (good : IsImage i
 
     pub over_spot : (act : Stood on.own b c s.memory) → is_spot mode act.stands.spot ≡ true
     over_spot act = means_over mode image κ act.stands.spot _ w b s.memory.words act.means
-
-    pub still : (act : Stood on.own b c s.memory) → switches_at mode image on.switching below ≡ false
-    still act = sym act.switches ∙ never_switches mode act.stands.spot (over_spot act)
 
     pub outside : (act : Stood on.own b c s.memory) → is_in_repeat c.rip ≡ false
     outside act = active_outside mode image facts p on.own κ σ on.frame (switches_at mode image on.switching below) w b c s.memory ctx act
@@ -597,7 +678,8 @@ module _ (mode : Mode) (image : Image) (built : IsBuilt image) (good : IsImage i
       windows spot over ss extra v f = opens_at mode image p σ in_seat hp good.count.1 κ ss w extra v f spot over s.memory h.regions_are
 
       -- an edge to the opening of a block
-      pub goes : (act : Stood on.own b c s.memory) (spot : Spot) (ss : ℕ) → IsKernelSs mode ss → (extra v : ℕ → ℕ) (f : Flags) → f.interrupts ≡ false → is_user c ≡ false
+      pub goes : (act : Stood on.own b c s.memory) (spot : Spot) (ss : ℕ) → IsKernelSs mode ss → (extra v : ℕ → ℕ) (f : Flags) → f.interrupts ≡ false
+          → is_user c ≡ false
           → Goes code c s.memory (block mode spot) (env ss extra v f) → edges mode spot 0 < on.own → length c.regs ≡ 16 → blocks.switches spot ≡ false
           → Means mode image κ spot (env ss extra v f) w b s.memory.words → Result
       goes act spot ss ss_is extra v f masked_by hu g fewer long off means =
@@ -618,7 +700,7 @@ module _ (mode : Mode) (image : Image) (built : IsBuilt image) (good : IsImage i
               at = g.step.at;
               long = g.step.long ∙ long;
             };
-            switches = off ∙ sym (still act);
+            switches = off ∙ sym o.off;
             knows = plain_knows mode κ on.frame plain_kind (blocks.holds spot);
             means = means;
           })

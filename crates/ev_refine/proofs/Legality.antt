@@ -26,6 +26,7 @@ unfolding line_step is_line
 turn_legal image given accepted m p lt h z is =
     subst (λ (y : Machine × List Entry). Legal image y.0) is (lines_keep_legal image m (Turn p) given accepted (lt-ltb p image.processors lt) h)
 
+-- and its tasks have the GS bases of the image
 pub turn_bases : (image : Image) (m : Machine) (p : ℕ) → HasBases image m → (z : Machine × List Entry) → turn image m p ≡ z → HasBases image z.0
 unfolding line_step
 turn_bases image m p h z is = subst (λ (y : Machine × List Entry). HasBases image y.0) is (lines_keep_bases image m (Turn p) h)

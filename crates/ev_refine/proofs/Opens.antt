@@ -383,6 +383,7 @@ module _ (mode : Mode) (image : Image) (given : IsImage image) where
             isr = record { four = refl; small = zero_words };
             pending = λ v lt. no_vector v;
             service = λ class. none_served class (numbers_from 0 256);
+            single = λ u v lu lv hu hv e. let clash : false ≡ true = sym (no_vector u) ∙ hu in absurd (cc);
           };
           slots = λ k lt. ap (first_word mode image) (let e : pcpu p + slot_offset k ≡ pcpu p + (0x200 + 8 * k) = omega arith in e)
               ∙ word (0x200 + 8 * k) (omega arith) (omega arith) ∙ pcpu_zero p (0x200 + 8 * k) (inr (inr (omega arith, omega arith)));

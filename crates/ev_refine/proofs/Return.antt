@@ -19,9 +19,9 @@ use Rattle.ev_concrete.specs.ConcreteRun.{is_return}
 use Rattle.ev_concrete.specs.Shown.{shown_always}
 use Rattle.ev_idt.specs.IdtDelivery as idt_delivery
 use Rattle.ev_symbolic.specs.Value.{M, V, P}
-use Rattle.ev_symbolic.specs.State.{SS, Block, top_tag}
-use Rattle.ev_symbolic.specs.Openings.{gs_tag}
-use Rattle.ev_symbolic.specs.Names.{frame_rip, frame_cs, frame_flags, frame_rsp, frame_ss, saved, other_gs, gs_selector, level_rsp, top_less}
+use Rattle.ev_symbolic.specs.State.{Word, SS, Block, top_tag}
+use Rattle.ev_symbolic.specs.Openings.{gs_tag, words_from}
+use Rattle.ev_symbolic.specs.Names.{frame_rip, frame_cs, frame_flags, frame_rsp, frame_ss, saved, other_gs, gs_selector, level_rsp}
 use Rattle.ev_symbolic.specs.Agrees.{Env, Code, untracked, eval, addr, Agrees, At}
 use Rattle.ev_symbolic.proofs.Blocks.{at_end, levels_split}
 use Rattle.ev_blocks.specs.Shapes.{registers_of, interrupted_words, IdtFrame}
@@ -39,7 +39,7 @@ use Rattle.ev_return.proofs.ByReturn.{iret_returns, sysret_returns, eretu_return
 use Rattle.ev_activation.specs.Seat.{Kind, Seat}
 use Rattle.ev_user.specs.Tasks.{RunsTask}
 use Rattle.ev_refine.proofs.Bodies.{at_code}
-use Rattle.ev_refine.specs.Active.{IsKernelSs, Saved, SavedBody, Matches, here, level_in}
+use Rattle.ev_refine.specs.Active.{IsKernelSs, GivesBack, Saved, SavedBody, Matches, here, level_in}
 
 -- the processor c stands at a visible return that is no NMI's, and that leads back to w
 pub record Exits (code : Code) (c : Processor) (m : Memory) (w : Processor) : Type 0 where
@@ -54,69 +54,128 @@ pub record Exits (code : Code) (c : Processor) (m : Memory) (w : Processor) : Ty
   pub silent : (p depth : ℕ) (d : Processor) (words : NatMap ℕ) → shown_always p depth d words (Some ins) ≡ []
   pub back : LeadsBack c m ins w false
 
+-- to a task, which the values of a saved area, a frame, a GS base, a selector and RSP of level 0 give back
 module _ (image : Image) (mode : Mode) (p : ℕ) (hp : p < 32) (κ : Kind) (σ : Seat) (q : ℕ) (t : Task) (w : Processor) (r : RunsTask mode image p q t w)
-    (level : level_in mode κ w ≡ w.level) (kss : ℕ) (extra v : ℕ → ℕ) (f : Flags) (saved_is : Saved mode image v w) where
+    (level : level_in mode κ w ≡ w.level) (kss : ℕ) (extra v : ℕ → ℕ) (f : Flags) (area : ℕ → V) (rip cs flags sp ss gs chosen top : V) where
   abbrev e : Env
   e = here mode p κ σ kss w extra v f
 
-  -- at the task's privilege the rest is the task's
-  rest : record e.rest { cpl = 3; cs = 0x33; ss = 0x2b } ≡ untracked w
-  rest =
-      let s : w ≡ _ = r.is in
-      let h_cpl : 3 ≡ w.cpl = sym (ap (λ (y : Processor). y.cpl) s) in
-      let h_cs : 0x33 ≡ w.cs = sym (ap (λ (y : Processor). y.cs) s) in
-      let h_ss : 0x2b ≡ w.ss = sym (ap (λ (y : Processor). y.ss) s) in
-      λ i. record (untracked w) { cpl = h_cpl i; cs = h_cs i; ss = h_ss i; level = level i }
+  module _ (saved_is : GivesBack mode image (λ n. eval e (area n)) (eval e rip) (eval e cs) (eval e flags) (eval e sp) (eval e ss) (eval e gs) (eval e chosen)
+      (eval e top) w) where
+    -- at the task's privilege the rest is the task's
+    rest : record e.rest { cpl = 3; cs = 0x33; ss = 0x2b } ≡ untracked w
+    rest =
+        let s : w ≡ _ = r.is in
+        let h_cpl : 3 ≡ w.cpl = sym (ap (λ (y : Processor). y.cpl) s) in
+        let h_cs : 0x33 ≡ w.cs = sym (ap (λ (y : Processor). y.cs) s) in
+        let h_ss : 0x2b ≡ w.ss = sym (ap (λ (y : Processor). y.ss) s) in
+        λ i. record (untracked w) { cpl = h_cpl i; cs = h_cs i; ss = h_ss i; level = level i }
 
-  restores_with : (regs : List V) (rip flags base other : V) → map (eval e) regs ≡ w.regs → eval e rip ≡ w.rip → eval e flags ≡ w.flags
-      → eval e base ≡ w.msrs.gs_base → eval e other ≡ w.msrs.kernel_gs_base → Restores e w regs rip flags base other gs_selector level_rsp
-  unfolding eval
-  restores_with regs rip flags base other hr hi hf hb ho = record {
-    regs_are = hr;
-    rip_is = hi;
-    canonical = ap is_canonical (ap (λ (y : Processor). y.rip) r.is) ∙ r.task.canonical;
-    flags_are = ap modelled hf ∙ sym (kept w.flags t.flags (ap (λ (y : Processor). y.flags) r.is));
-    base_is = hb;
-    other_is = ho;
-    chosen_is = saved_is.chosen;
-    levels_are = ap (λ n. n ∷ drop 1 w.msrs.rsp) saved_is.level ∙ sym (levels_split w.msrs.rsp (ap (λ (y : Processor). length y.msrs.rsp) r.is));
-  }
+    kernel_gs : eval e (P gs_tag 0) ≡ w.msrs.kernel_gs_base
+    unfolding eval
+    kernel_gs = (let h : (pcpu p + 0) % M ≡ pcpu p = omega arith in h) ∙ sym (ap (λ (y : Processor). y.msrs.kernel_gs_base) r.is)
 
-  regs_are : map (eval e) (registers_of saved frame_rsp) ≡ w.regs
-  unfolding eval
-  regs_are = sym saved_is.regs
+    restores_with : (at word : V) → eval e at ≡ w.rip → eval e word ≡ w.flags → Restores e w (registers_of area sp) at word gs (P gs_tag 0) chosen top
+    restores_with at word hi hf = record {
+      regs_are = sym saved_is.regs;
+      rip_is = hi;
+      canonical = ap is_canonical (ap (λ (y : Processor). y.rip) r.is) ∙ r.task.canonical;
+      flags_are = ap modelled hf ∙ sym (kept w.flags t.flags (ap (λ (y : Processor). y.flags) r.is));
+      base_is = saved_is.gs;
+      other_is = kernel_gs;
+      chosen_is = saved_is.chosen;
+      levels_are = ap (λ n. n ∷ drop 1 w.msrs.rsp) saved_is.level ∙ sym (levels_split w.msrs.rsp (ap (λ (y : Processor). length y.msrs.rsp) r.is));
+    }
 
-  kernel_gs : eval e (P gs_tag 0) ≡ w.msrs.kernel_gs_base
-  unfolding eval
-  kernel_gs = (let h : (pcpu p + 0) % M ≡ pcpu p = omega arith in h) ∙ sym (ap (λ (y : Processor). y.msrs.kernel_gs_base) r.is)
+    unblocked : w.sti_blocked ≡ false
+    unblocked = ap (λ (y : Processor). y.sti_blocked) r.is
 
-  unblocked : w.sti_blocked ≡ false
-  unblocked = ap (λ (y : Processor). y.sti_blocked) r.is
+    iret_words : IretWords e w cs ss
+    iret_words = record {
+      cs_is = saved_is.cs;
+      ss_is = saved_is.ss;
+      taken = ap (λ (y : Processor). idt_delivery.is_return y.cs y.ss) r.is;
+      ring = ap (λ (y : Processor). y.cpl) r.is ∙ sym (ap (λ (y : Processor). if y.cs == 0x33 then 3 else 0) r.is);
+      unblocked = unblocked;
+      rest = (λ i. record (e.rest) {
+        cpl = ap (λ (y : Processor). y.cpl) r.is i;
+        cs = ap (λ (y : Processor). y.cs) r.is i;
+        ss = ap (λ (y : Processor). y.ss) r.is i;
+      }) ∙ rest;
+    }
 
-  iret_words : IretWords e w frame_cs frame_ss
-  unfolding eval
-  iret_words = record {
-    cs_is = saved_is.cs;
-    ss_is = saved_is.ss;
-    taken = ap (λ (y : Processor). idt_delivery.is_return y.cs y.ss) r.is;
-    ring = ap (λ (y : Processor). y.cpl) r.is ∙ sym (ap (λ (y : Processor). if y.cs == 0x33 then 3 else 0) r.is);
-    unblocked = unblocked;
-    rest = (λ i. record (e.rest) {
-      cpl = ap (λ (y : Processor). y.cpl) r.is i;
-      cs = ap (λ (y : Processor). y.cs) r.is i;
-      ss = ap (λ (y : Processor). y.ss) r.is i;
-    }) ∙ rest;
-  }
+    eretu_words : EretuWords e w cs ss
+    eretu_words = record {
+      cs_is = saved_is.cs ∙ ap (λ (y : Processor). y.cs) r.is;
+      ss_is = saved_is.ss ∙ ap (λ (y : Processor). y.ss) r.is;
+      level = level ∙ ap (λ (y : Processor). y.level) r.is;
+      blocked = saved_is.sti;
+      rest = rest;
+    }
 
-  eretu_words : EretuWords e w frame_cs frame_ss
-  unfolding eval
-  eretu_words = record {
-    cs_is = saved_is.cs ∙ ap (λ (y : Processor). y.cs) r.is;
-    ss_is = saved_is.ss ∙ ap (λ (y : Processor). y.ss) r.is;
-    level = level ∙ ap (λ (y : Processor). y.level) r.is;
-    blocked = saved_is.sti;
-    rest = rest;
-  }
+    -- ---- by each return, from the end of a block
+
+    module _ (code : Code) (c : Processor) (m : Memory) (open_to : c.nmi_blocked ≡ false) (b : Block) (z : SS) (at : At code b b.steps e c m) where
+      pub by_eretu : HasKernel Fred code → has_fred w ≡ true → (n o : ℕ)
+          → Returns b z eretu_place (registers_of area (P n o)) (P gs_tag 0) gs chosen top (words_from n (o + 8) (rip ∷ cs ∷ flags ∷ sp ∷ ss ∷ []))
+          → Exits code c m w
+      unfolding is_return shown_always
+      by_eretu k fred_on n o x =
+          let a : Agrees e b.ground z c m = at_end code b b.steps z x.runs e c m at in
+          let back = eretu_returns e b.ground b z eretu_place c m w area n o rip cs flags sp ss (P gs_tag 0) gs chosen top x a refl fred_on
+          (restores_with rip flags saved_is.rip saved_is.flags) eretu_words in
+          record {
+            ins = Eretu;
+            next = eretu_place + 4;
+            place = eretu_place;
+            rip = a.rip ∙ ap (addr e) x.rip ∙ at_code e eretu_place refl refl;
+            cell = (fred_cells code k).eretu;
+            is = refl;
+            outside = refl;
+            unlike = refl;
+            silent = λ n depth d words. refl;
+            back = subst (λ b. LeadsBack c m Eretu w (b && not (bit 18 (eval e ss)))) open_to back;
+          }
+
+      pub by_sysretq : HasKernel Idt code → has_fred w ≡ false → eval e (area 1) ≡ eval e rip → eval e (area 11) ≡ eval e flags → (frame : List Word)
+          → Returns b z sysretq_place (registers_of area sp) gs (P gs_tag 0) chosen top frame → Exits code c m w
+      unfolding is_return shown_always
+      by_sysretq k fred_off same_rip same_flags frame x =
+          let a : Agrees e b.ground z c m = at_end code b b.steps z x.runs e c m at in
+          let back = sysret_returns e b.ground b z sysretq_place c m w area sp gs (P gs_tag 0) chosen top frame x a refl fred_off
+          (restores_with (area 1) (area 11) (same_rip ∙ saved_is.rip) (same_flags ∙ saved_is.flags)) unblocked rest in
+          record {
+            ins = Sysretq;
+            next = sysretq_place + 3;
+            place = sysretq_place;
+            rip = a.rip ∙ ap (addr e) x.rip ∙ at_code e sysretq_place refl refl;
+            cell = (idt_cells code k).sysretq;
+            is = refl;
+            outside = refl;
+            unlike = refl;
+            silent = λ n depth d words. refl;
+            back = subst (λ b. LeadsBack c m Sysretq w b) open_to back;
+          }
+
+      pub by_iretq : HasKernel Idt code → (n o : ℕ)
+          → Returns b z iretq_place (registers_of area (P n o)) gs (P gs_tag 0) chosen top (words_from n o (rip ∷ cs ∷ flags ∷ sp ∷ ss ∷ []))
+          → Exits code c m w
+      unfolding is_return shown_always
+      by_iretq k n o x =
+          let a : Agrees e b.ground z c m = at_end code b b.steps z x.runs e c m at in
+          record {
+            ins = Iretq;
+            next = iretq_place + 2;
+            place = iretq_place;
+            rip = a.rip ∙ ap (addr e) x.rip ∙ at_code e iretq_place refl refl;
+            cell = (idt_cells code k).iretq;
+            is = refl;
+            outside = refl;
+            unlike = refl;
+            silent = λ n depth d words. refl;
+            back = iret_returns e b.ground b z iretq_place c m w area n o rip cs flags sp ss gs (P gs_tag 0) chosen top x a refl
+                (restores_with rip flags saved_is.rip saved_is.flags) iret_words;
+          }
 
 -- ---- each exit
 
@@ -124,92 +183,25 @@ module _ (image : Image) (p : ℕ) (hp : p < 32) (κ : Kind) (σ : Seat) (q : �
     (kss : ℕ) (extra v : ℕ → ℕ) (f : Flags) (code : Code) (c : Processor) (m : Memory) (open_to : c.nmi_blocked ≡ false) where
   pub fred_exits : HasKernel Fred code → RunsTask Fred image p q t w → level_in Fred κ w ≡ w.level → Saved Fred image v w
       → At code (fred_block (fred.Leaves FredToTask)) (fred_block (fred.Leaves FredToTask)).steps (here Fred p κ σ kss w extra v f) c m → Exits code c m w
-  unfolding eval is_return shown_always
+  unfolding eval
   fred_exits k r level saved_is at =
-      let e : Env = here Fred p κ σ kss w extra v f in
-      let b : Block = fred_block (fred.Leaves FredToTask) in
-      let z = fred_returns.to_task in
-      let a : Agrees e b.ground _ c m = at_end code b b.steps _ z.runs e c m at in
-      let back = eretu_returns e b.ground b _ eretu_place c m w saved top_tag (M - 0x40) frame_rip frame_cs frame_flags frame_rsp frame_ss (P gs_tag 0)
-      other_gs
-      gs_selector level_rsp z a refl (ap (λ (y : Processor). bit 32 y.cr4) r.is)
-      (restores_with image Fred p hp κ σ q t w r level kss extra v f saved_is _ frame_rip frame_flags other_gs (P gs_tag 0)
-      (regs_are image Fred p hp κ σ q t w r level kss extra v f saved_is) saved_is.rip saved_is.flags saved_is.gs
-      (kernel_gs image Fred p hp κ σ q t w r level kss extra v f saved_is))
-      (eretu_words image Fred p hp κ σ q t w r level kss extra v f saved_is) in
-      record {
-        ins = Eretu;
-        next = eretu_place + 4;
-        place = eretu_place;
-        rip = a.rip ∙ ap (addr e) z.rip ∙ at_code e eretu_place refl refl;
-        cell = (fred_cells code k).eretu;
-        is = refl;
-        outside = refl;
-        unlike = refl;
-        silent = λ n depth d words. refl;
-        back = subst (λ b. LeadsBack c m Eretu w (b && not (bit 18 (v 21)))) open_to back;
-      }
-
-  sysret_exits : HasKernel Idt code → RunsTask Idt image p q t w → level_in Idt κ w ≡ w.level → Saved Idt image v w → Matches Idt image BySysret v
-      → At code (idt_block (idt.Leaves (IdtToTask BySysret))) (idt_block (idt.Leaves (IdtToTask BySysret))).steps (here Idt p κ σ kss w extra v f) c m
-      → Exits code c m w
-  unfolding eval is_return shown_always
-  sysret_exits k r level saved_is same at =
-      let e : Env = here Idt p κ σ kss w extra v f in
-      let b : Block = idt_block (idt.Leaves (IdtToTask BySysret)) in
-      let z = idt_returns.to_task in
-      let a : Agrees e b.ground _ c m = at_end code b b.steps _ z.runs e c m at in
-      let back = sysret_returns e b.ground b _ sysretq_place c m w saved frame_rsp other_gs (P gs_tag 0) gs_selector level_rsp (interrupted_words IdtFrame)
-      z a refl (ap (λ (y : Processor). bit 32 y.cr4) r.is)
-      (restores_with image Idt p hp κ σ q t w r level kss extra v f saved_is _ (saved 1) (saved 11) other_gs (P gs_tag 0)
-      (regs_are image Idt p hp κ σ q t w r level kss extra v f saved_is) (same.0 ∙ saved_is.rip) (same.1 ∙ saved_is.flags) saved_is.gs
-      (kernel_gs image Idt p hp κ σ q t w r level kss extra v f saved_is))
-      (unblocked image Idt p hp κ σ q t w r level kss extra v f saved_is)
-      (rest image Idt p hp κ σ q t w r level kss extra v f saved_is) in
-      record {
-        ins = Sysretq;
-        next = sysretq_place + 3;
-        place = sysretq_place;
-        rip = a.rip ∙ ap (addr e) z.rip ∙ at_code e sysretq_place refl refl;
-        cell = (idt_cells code k).sysretq;
-        is = refl;
-        outside = refl;
-        unlike = refl;
-        silent = λ n depth d words. refl;
-        back = subst (λ b. LeadsBack c m Sysretq w b) open_to back;
-      }
-
-  iret_exits : (b : Block) (z : SS) → Returns b z iretq_place (registers_of saved (top_less 0x28)) other_gs (P gs_tag 0) gs_selector level_rsp
-      (interrupted_words IdtFrame) → HasKernel Idt code → RunsTask Idt image p q t w → level_in Idt κ w ≡ w.level → Saved Idt image v w
-      → At code b b.steps (here Idt p κ σ kss w extra v f) c m → Exits code c m w
-  unfolding eval is_return shown_always
-  iret_exits b z returns k r level saved_is at =
-      let e : Env = here Idt p κ σ kss w extra v f in
-      let a : Agrees e b.ground z c m = at_end code b b.steps z returns.runs e c m at in
-      record {
-        ins = Iretq;
-        next = iretq_place + 2;
-        place = iretq_place;
-        rip = a.rip ∙ ap (addr e) returns.rip ∙ at_code e iretq_place refl refl;
-        cell = (idt_cells code k).iretq;
-        is = refl;
-        outside = refl;
-        unlike = refl;
-        silent = λ n depth d words. refl;
-        back = iret_returns e b.ground b z iretq_place c m w saved top_tag (M - 0x28) frame_rip frame_cs frame_flags frame_rsp frame_ss other_gs (P gs_tag 0)
-            gs_selector level_rsp returns a refl
-            (restores_with image Idt p hp κ σ q t w r level kss extra v f saved_is _ frame_rip frame_flags other_gs (P gs_tag 0)
-            (regs_are image Idt p hp κ σ q t w r level kss extra v f saved_is) saved_is.rip saved_is.flags saved_is.gs
-            (kernel_gs image Idt p hp κ σ q t w r level kss extra v f saved_is))
-            (iret_words image Idt p hp κ σ q t w r level kss extra v f saved_is);
-      }
+      by_eretu image Fred p hp κ σ q t w r level kss extra v f saved frame_rip frame_cs frame_flags frame_rsp frame_ss other_gs gs_selector level_rsp saved_is
+      code c m open_to (fred_block (fred.Leaves FredToTask)) _ at k (ap (λ (y : Processor). bit 32 y.cr4) r.is) top_tag (M - 0x40) fred_returns.to_task
 
   pub idt_exits : (by : IdtReturn) → HasKernel Idt code → RunsTask Idt image p q t w → level_in Idt κ w ≡ w.level → Saved Idt image v w
       → Matches Idt image by v
       → At code (idt_block (idt.Leaves (IdtToTask by))) (idt_block (idt.Leaves (IdtToTask by))).steps (here Idt p κ σ kss w extra v f) c m → Exits code c m w
-  idt_exits BySysret k r level saved_is same at = sysret_exits k r level saved_is same at
-  idt_exits ByOtherRip k r level saved_is same at = iret_exits _ _ idt_returns.to_task_by_rip k r level saved_is at
-  idt_exits ByOtherFlags k r level saved_is same at = iret_exits _ _ idt_returns.to_task_by_flags k r level saved_is at
+  unfolding eval
+  idt_exits BySysret k r level saved_is same at =
+      by_sysretq image Idt p hp κ σ q t w r level kss extra v f saved frame_rip frame_cs frame_flags frame_rsp frame_ss other_gs gs_selector level_rsp saved_is
+      code c m open_to (idt_block (idt.Leaves (IdtToTask BySysret))) _ at k (ap (λ (y : Processor). bit 32 y.cr4) r.is) same.0 same.1
+      (interrupted_words IdtFrame) idt_returns.to_task
+  idt_exits ByOtherRip k r level saved_is same at =
+      by_iretq image Idt p hp κ σ q t w r level kss extra v f saved frame_rip frame_cs frame_flags frame_rsp frame_ss other_gs gs_selector level_rsp saved_is
+      code c m open_to (idt_block (idt.Leaves (IdtToTask ByOtherRip))) _ at k top_tag (M - 0x28) idt_returns.to_task_by_rip
+  idt_exits ByOtherFlags k r level saved_is same at =
+      by_iretq image Idt p hp κ σ q t w r level kss extra v f saved frame_rip frame_cs frame_flags frame_rsp frame_ss other_gs gs_selector level_rsp saved_is
+      code c m open_to (idt_block (idt.Leaves (IdtToTask ByOtherFlags))) _ at k top_tag (M - 0x28) idt_returns.to_task_by_flags
 
 -- ---- to a body
 

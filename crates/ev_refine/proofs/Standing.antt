@@ -82,30 +82,35 @@ seen marks s p hn hu hm = ap (is_visible_by marks s p (s.cpus p)) hn ∙ ap (λ 
 
 -- ---- a step that ran an instruction
 
-abbrev pub after_ran : System → ℕ → Processor → NatMap ℕ → System
-after_ran s p cpu words = after_step s p (ran cpu (s.apics p) words (s.latches p))
+-- with the local APIC behind it
+abbrev pub after_ran : System → ℕ → Apic → Processor → NatMap ℕ → System
+after_ran s p a cpu words = after_step s p (ran cpu a words (s.latches p))
 
-abbrev pub Runs : System → ℕ → Processor → NatMap ℕ → Type 0
-Runs s p cpu words = step (s.cpus p) (s.apics p) s.memory (s.latches p) ≡ ran cpu (s.apics p) words (s.latches p)
+abbrev pub Runs : System → ℕ → Apic → Processor → NatMap ℕ → Type 0
+Runs s p a cpu words = step (s.cpus p) (s.apics p) s.memory (s.latches p) ≡ ran cpu a words (s.latches p)
 
-pub ran_step : (n : ℕ) (s : System) (p : ℕ) (cpu : Processor) (words : NatMap ℕ) → Runs s p cpu words → concrete_step n s p ≡ (after_ran s p cpu words, [])
+pub ran_step : (n : ℕ) (s : System) (p : ℕ) (a : Apic) (cpu : Processor) (words : NatMap ℕ) → Runs s p a cpu words
+    → concrete_step n s p ≡ (after_ran s p a cpu words, [])
 unfolding concrete_step
-ran_step n s p cpu words h = ap (λ r. acted n (after_step s p r) p r.step) h
+ran_step n s p a cpu words h = ap (λ r. acted n (after_step s p r) p r.step) h
 
 -- writes no frame, and leaves the NMI latch
-pub ran_writes : (n : ℕ) (s : System) (p : ℕ) (cpu : Processor) (words : NatMap ℕ) → Runs s p cpu words
+pub ran_writes : (n : ℕ) (s : System) (p : ℕ) (a : Apic) (cpu : Processor) (words : NatMap ℕ) → Runs s p a cpu words
     → EdgeWrites (s.latches p) ((concrete_step n s p).0.latches p) (concrete_step n s p).1
-ran_writes n s p cpu words h = subst (λ (r : System × List FrameNote). EdgeWrites (s.latches p) (r.0.latches p) r.1) (sym (ran_step n s p cpu words h))
+ran_writes n s p a cpu words h = subst (λ (r : System × List FrameNote). EdgeWrites (s.latches p) (r.0.latches p) r.1) (sym (ran_step n s p a cpu words h))
     (inl (refl, at_same s.latches p p (s.latches p) refl))
 
-pub ran_safe : (mode : Mode) (image : Image) (s : System) (p : ℕ) (cpu : Processor) (words : NatMap ℕ) → Runs s p cpu words → IsSafeStep mode image s p
-ran_safe mode image s p cpu words h = ap (λ (r : System × List FrameNote). list_any (overwrites mode image s) r.1) (ran_step image.processors s p cpu words h)
+pub ran_safe : (mode : Mode) (image : Image) (s : System) (p : ℕ) (a : Apic) (cpu : Processor) (words : NatMap ℕ) → Runs s p a cpu words
+    → IsSafeStep mode image s p
+ran_safe mode image s p a cpu words h =
+    ap (λ (r : System × List FrameNote). list_any (overwrites mode image s) r.1) (ran_step image.processors s p a cpu words h)
 
-pub ran_shown : (marks : Marks) (s : System) (p : ℕ) (cpu : Processor) (words : NatMap ℕ) (i : Ins) → Runs s p cpu words → is_user (s.cpus p) ≡ false
+pub ran_shown : (marks : Marks) (s : System) (p : ℕ) (a : Apic) (cpu : Processor) (words : NatMap ℕ) (i : Ins) → Runs s p a cpu words
+    → is_user (s.cpus p) ≡ false
     → mark_at marks (s.cpus p).rip ≡ Always → instruction_at s.memory.words (s.cpus p).rip ≡ Some i
     → shown marks s p ≡ shown_always p (bodies_on s p) (s.cpus p) s.memory.words (Some i)
 unfolding shown
-ran_shown marks s p cpu words i h hu hm hi =
+ran_shown marks s p a cpu words i h hu hm hi =
     ap (λ r. shown_by p (bodies_on s p) (is_user (s.cpus p)) (has_fred (s.cpus p)) (told_at (mark_at marks (s.cpus p).rip) s p)
     r.cpu r.words r.step) h
     ∙ ap (λ b. if b then [] else told_at (mark_at marks (s.cpus p).rip) s p) hu ∙ ap (λ k. told_at k s p) hm

@@ -124,18 +124,18 @@ module _ (mode : Mode) (image : Image) where
   }
 
   -- and every context below it
-  pub chain_stays : (q left r : ℕ) (t : Task) (f : Frame) (sw : Bool) (bs : List BodyContext) (as' : List Activation) (c : Processor) (m : Memory)
+  pub chain_stays : (q left r to : ℕ) (t : Task) (f : Frame) (sw : Bool) (bs : List BodyContext) (as' : List Activation) (c : Processor) (m : Memory)
       (words : NatMap ℕ) → q < image.processors → image.processors ≤ 8 → AreSpared q r bs m.words words
-      → Chain mode image q left r t f sw bs as' c m → Chain mode image q left r t f sw bs as' c (with_words m words)
-  chain_stays q left r t f sw [] as' c m words hq few spares h = h
-  chain_stays q left r t f sw (b ∷ below) [] c m words hq few spares h = h
-  chain_stays q left r t f sw (b ∷ below) (a ∷ as') c m words hq few spares h = (
+      → Chain mode image q left r to t f sw bs as' c m → Chain mode image q left r to t f sw bs as' c (with_words m words)
+  chain_stays q left r to t f sw [] as' c m words hq few spares h = h
+  chain_stays q left r to t f sw (b ∷ below) [] c m words hq few spares h = h
+  chain_stays q left r to t f sw (b ∷ below) (a ∷ as') c m words hq few spares h = (
     h.0,
     h.1,
     h.2,
     h.3,
     beneath_as mode image (keeps_cr2 mode image (kind_of image b below)) _ _
-        (λ v k. chain_stays q (body_edges mode image) r t f (chained mode image sw below) below as' v m words hq few spares.1 k) h.0 h.4,
+        (λ v k. chain_stays q (body_edges mode image) r to t f (chained mode image sw below) below as' v m words hq few spares.1 k) h.0 h.4,
     leads_again q (kind_of image b below) f h.0 m.words words h.5,
     active_stays (kind_of image b below) q left (seat_of mode image r (b ∷ below)) f (switches_at mode image sw below) h.0 b c m words hq few spares.0.0
         spares.0.1 h.6,

@@ -205,7 +205,10 @@ raised_in x cause body set = record (with_task x (returning (task x) cause)) { b
 raise_steps : (image : Image) (m : Machine) (p : ℕ) (cause : Cause) (body : ℕ) (b : HasBody image (cause_key cause) body) → (processor m p).bodies ≡ []
     → first_body 0 image.bodies (cause_key cause) User ≡ Some body → Starts (task (processor m p)) cause
     → task_step image m p (Raises (saved_at (task (processor m p)) cause) (raised_event cause))
-    ≡ (with_processor m p (raised_in (processor m p) cause body (processor m p).pending), entry_of p (raised_event cause) (saved_at (task (processor m p)) cause) ∷ [])
+    ≡ (
+      with_processor m p (raised_in (processor m p) cause body (processor m p).pending),
+      entry_of p (raised_event cause) (saved_at (task (processor m p)) cause) ∷ [],
+    )
 raise_steps image m p cause body b hb hf st =
     let x : abstract.Processor = processor m p in
     let back : Task = returning (task x) cause in
@@ -302,13 +305,13 @@ module _ (mode : Mode) (image : Image) (formed : IsImage image) (built : IsBuilt
       = subst (λ g. Active mode image p entry_edges κ (record { stack = n; used = 0 }) u.on.frame g w b d mem) (sym u.rest.still)
       (begun.active u.on.frame) in
       let tail = subst (λ k. Beneath mode image (keeps_cr2 mode image k)
-      (λ v. Chain mode image p (body_edges mode image) n back u.on.frame (chained mode image u.on.switching []) [] [] v mem) w
+      (λ v. Chain mode image p (body_edges mode image) n n back u.on.frame (chained mode image u.on.switching []) [] [] v mem) w
       × Leads mode p k u.on.frame w mem.words
       × Active mode image p entry_edges k (seat_by mode k n (seat_of mode image n []) (room_of mode image [])) u.on.frame
       (switches_at mode image u.on.switching []) w b d mem) (sym kind)
-      (over_kind mode image p entry_edges n back u.on.frame u.on.switching w b d mem κ (over_one cause is_cause) under u.rest.still stood) in
+      (over_kind mode image p entry_edges n n back u.on.frame u.on.switching w b d mem κ (over_one cause is_cause) under u.rest.still stood) in
       let is_context : IsContext mode image b = record { item = holder.item; is = holder.first } in
-      let chain : Chain mode image p entry_edges n back u.on.frame u.on.switching (b ∷ []) (last ∷ []) d mem =
+      let chain : Chain mode image p entry_edges n n back u.on.frame u.on.switching (b ∷ []) (last ∷ []) d mem =
       (w, is_context, refl, tt, tail.0, tail.1, tail.2) in
       let after = user_after mode image formed built facts left s s' m p lt h u d as' words' back (b ∷ []) set entry_edges hb mv (kernel_names p)
       (kernel_spares p small) begun.changes m.words
@@ -321,8 +324,8 @@ module _ (mode : Mode) (image : Image) (formed : IsImage image) (built : IsBuilt
       (subst (λ y. ApicIs mode image y set (b ∷ []))
       (sym (delivery_apic image.processors p p (after_step s p r) begun.event begun.frame ∙ at_same s.apics p p a refl)) apic)
       (omega arith)
-      (λ q e. subst (λ ys. Chain mode image p entry_edges q back u.on.frame u.on.switching (b ∷ []) ys d (with_words s.memory words')) (sym begins_last)
-      (subst (λ z. Chain mode image p entry_edges z back u.on.frame u.on.switching (b ∷ []) (last ∷ []) d (with_words s.memory words')) (sym e) chain)) in
+      (λ q e. subst (λ ys. Chain mode image p entry_edges n q back u.on.frame u.on.switching (b ∷ []) ys d (with_words s.memory words')) (sym begins_last)
+      (subst (λ z. Chain mode image p entry_edges n z back u.on.frame u.on.switching (b ∷ []) (last ∷ []) d (with_words s.memory words')) (sym e) chain)) in
       let shallow : bodies_on s p ≡ 0 = stands_depth mode image facts p (left p) s x u.on ∙ ap length hb in
       let only : OnlyTask s p n = record { none = u.rest.none; user = u.at_cpl3; task_is = current.current } in
       record {
@@ -400,7 +403,7 @@ module _ (mode : Mode) (image : Image) (formed : IsImage image) (built : IsBuilt
       let bs : List BodyContext = body_at_start found.0 User e ∷ [] in
       raise_turn left s m h p lt hb u (Arrived v) is_cause found.0 found.1 (begun (s.apics p) v) set
       (begun_is mode image (s.apics p) x.pending [] v (body_at_start found.0 User e)
-      (subst (ApicIs mode image (s.apics p) x.pending) hb u.on.apic) comes.to refl)
+      (subst (ApicIs mode image (s.apics p) x.pending) hb u.on.apic) comes.to refl refl)
       (ap (chosen_step image m p) (u.chosen ∙ ap interrupt_or_next is)
       ∙ ap (λ (q : abstract.Processor × List Entry). (with_processor m p q.0, q.1))
       (delivered_is image p (record x { pending = set }) found.0 e holder hb found.1 (holder.key_is ∙ st.key))

@@ -17,8 +17,8 @@ use Rattle.ev_proc.specs.declared.stepped.Stepped.{Stepped}
 use Rattle.ev_proc.specs.ProcessorStep.{After, step, ran, next_of, instruction_at}
 use Rattle.ev_abstract.specs.Machine.{Machine, processor, with_processor, task, with_task, user_memory}
 use Rattle.ev_abstract.specs.Machine as abstract
-use Rattle.ev_law.specs.Legal.{Legal}
 use Rattle.ev_law.specs.Bases.{HasBases}
+use Rattle.ev_law.specs.Legal.{Legal}
 use Rattle.ev_abstract.specs.Boundary.{is_nmi_body, choice, interrupt_or_next}
 use Rattle.ev_abstract.specs.Context.{BodyContext}
 use Rattle.ev_symbolic.specs.Agrees.{with_words}
@@ -142,11 +142,13 @@ module _ (mode : Mode) (image : Image) (formed : IsImage image) (built : IsBuilt
       → HasBases image (with_processor (record m { words = memory }) p (record (with_task (processor m p) t) { bodies = bs; pending = set }))
       → AreOfWords bs → IsTask t → cpu.nmi_blocked ≡ list_any (is_nmi_body image) bs → AreQuiet bs
       → ApicIs mode image (s'.apics p) set bs → own ≤ 500
-      → ((r : ℕ) → r ≡ (processor m p).running → Chain mode image p own r t u.on.frame u.on.switching bs as' cpu (with_words s.memory words))
+      → ((r : ℕ) → r ≡ (processor m p).running → Chain mode image p own (processor m p).running r t u.on.frame u.on.switching bs as' cpu
+      (with_words s.memory words))
       → (StandsOn mode image p (own + inner_edges (s.latches p)) s' (record (with_task (processor m p) t) { bodies = bs; pending = set }))
       × Stands mode image (put_at left p (own + inner_edges (s.latches p))) s'
       (with_processor (record m { words = memory }) p (record (with_task (processor m p) t) { bodies = bs; pending = set }))
-  user_after left s s' m p lt h u cpu as' words t bs set own hb mv names sparing changes memory user held legal bases of_words good blocked quiet apic few chain =
+  user_after left s s' m p lt h u cpu as' words t bs set own hb mv names sparing changes memory user held legal bases of_words good blocked quiet apic few
+      chain =
       let x : abstract.Processor = processor m p in
       let y : abstract.Processor = record (with_task x t) { bodies = bs; pending = set } in
       let small : p < 32 = let eight = formed.count.1 in omega arith in
@@ -154,10 +156,10 @@ module _ (mode : Mode) (image : Image) (formed : IsImage image) (built : IsBuilt
       let narrow : x.running < 7 = let l = u.on.running in omega arith in
       let there : StandsOn mode image p (own + inner_edges (s.latches p)) s' y
       = own_after mode image p (left p) s s' x (record { stack = x.running; used = 0 }) cpu as' words (put_at x.tasks x.running t) bs own u.on small four mv
-      (sym u.rest.returning) narrow names sparing changes (λ i d. others i (λ e. d (e ∙ sym u.rest.returning))) tasks blocked
+      (λ i d. inl (λ e. d (e ∙ sym u.rest.returning))) narrow names sparing changes (λ i d. others i (λ e. d (e ∙ sym u.rest.returning))) tasks blocked
       set apic
       (let f = few_inner mode image (s.latches p) in omega arith)
-      (subst (λ k. Chain mode image p own u.on.returning k u.on.frame u.on.switching bs as' cpu (with_words s.memory words))
+      (subst (λ k. Chain mode image p own x.running u.on.returning k u.on.frame u.on.switching bs as' cpu (with_words s.memory words))
       (sym (at_same x.tasks x.running u.on.returning t u.rest.returning)) (chain u.on.returning u.rest.returning)) in
       let inside : IsInDomain y = record {
         nmi = u.domain.nmi;
@@ -223,7 +225,8 @@ module _ (mode : Mode) (image : Image) (formed : IsImage image) (built : IsBuilt
       apart (inr l) q = omega arith
 
   pub goes_turn : (left : NatMap ℕ) (s : System) (m : Machine) → Stands mode image left s m → (p : ℕ) → p < image.processors → (processor m p).bodies ≡ []
-      → (u : AtUser left s m p) → AtInstruction left s m p → (t : Task) (memory : NatMap ℕ) → user_step (user_memory image m) (task (processor m p)) ≡ Goes t memory
+      → (u : AtUser left s m p) → AtInstruction left s m p → (t : Task) (memory : NatMap ℕ)
+      → user_step (user_memory image m) (task (processor m p)) ≡ Goes t memory
       → TurnsTo mode image left s m p
   goes_turn left s m h p lt hb u i t memory goes =
       let x : abstract.Processor = processor m p in

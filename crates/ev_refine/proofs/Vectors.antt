@@ -1,12 +1,12 @@
 -- The interrupt that comes next: the local APIC's, and the abstract machine's choice.
-use Rattle.std.proofs.Common.{◌≡◌, ℕ, zero, suc, ◌+◌, ◌/◌, ◌<◌, ◌≤◌, Bool, true, false, ◌&&◌, ◌||◌, List, [], ◌∷◌, Option, Some, None, refl, sym, ap, ◌∙◌, arith, ⊎_elim}
+use Rattle.std.proofs.Common.{◌≡◌, ℕ, zero, suc, ◌+◌, ◌/◌, ◌<◌, ◌≤◌, Bool, true, false, ◌&&◌, ◌||◌, List, [], ◌∷◌, Option, Some, None, refl, sym, ap, ◌∙◌, arith, ⊎_elim, ◌⊎◌, inl, inr, subst}
 use Rattle.std.specs.Prelude.{◌==◌, nat_lt, max}
 use Rattle.std.specs.List.{list_any, list_all}
-use Rattle.std.proofs.lemmas.Bool.{ltb-true, ltb-false, lt-ltb, le-ltb, eq-eqb, eqb-true, eqb-false}
+use Rattle.std.proofs.lemmas.Bool.{ltb-true, ltb-false, lt-ltb, le-ltb, eq-eqb, eqb-true, eqb-false, ne_eqb}
 use Rattle.ev_isa.specs.Word.{NatSet, put_at, greatest_below, numbers_from}
 use Rattle.ev_symbolic.proofs.Values.{and_left, and_right}
 use Rattle.ev_apic.specs.declared.apic.Apic.{Apic}
-use Rattle.ev_apic.specs.Apic.{begun, class_of, priority_class, next_vector}
+use Rattle.ev_apic.specs.Apic.{begun, ended, without, class_of, priority_class, next_vector}
 use Rattle.ev_apic.specs.Vectors.{vectors_of, IsGreatestBelow}
 use Rattle.ev_apic.proofs.Greatest.{greatest_law}
 use Rattle.ev_apic.proofs.Laws.{puts}
@@ -206,8 +206,9 @@ module _ (mode : Mode) (image : Image) where
 
   -- The vector is no longer pending, and a context has its class in service.
   pub begun_is : (a : Apic) (set : NatSet) (bs : List BodyContext) (v : ℕ) (b : BodyContext) → ApicIs mode image a set bs → v < 256 → b.service ≡ Some (v / 16)
+      → list_all (λ (d : BodyContext). outranks v d.service) bs ≡ true
       → ApicIs mode image (begun a v) (put_at set v false) (b ∷ bs)
-  begun_is a set bs v b is lt hb =
+  begun_is a set bs v b is lt hb above =
       let out = puts a.irr v false is.irr.four is.irr.small lt in
       let in' = puts a.isr v true is.isr.four is.isr.small lt in record {
         tpr = is.tpr;
@@ -220,4 +221,95 @@ module _ (mode : Mode) (image : Image) where
             ∙ any_more (vectors_of a.isr) (λ u. u / 16 == class) v lt
             ∙ ap (λ t. (v / 16 == class) || t) (is.service class)
             ∙ sym (ap (λ o. serves mode image class o || list_any (has class) bs) hb);
+        single = λ u w lu lw hu hw e. ⊎_elim
+            (λ q. ⊎_elim (λ r. q.1 ∙ sym r.1)
+            (λ r. let low = lower w lw (sym (at_other (vectors_of a.isr) v w true r.0) ∙ sym (in'.0 w) ∙ hw) in let same = q.1 in absurd (omega arith))
+            (eqb_tells w v))
+            (λ q. let held = sym (at_other (vectors_of a.isr) v u true q.0) ∙ sym (in'.0 u) ∙ hu in ⊎_elim
+            (λ r. let low = lower u lu held in let same = r.1 in absurd (omega arith))
+            (λ r. is.single u w lu lw held (sym (at_other (vectors_of a.isr) v w true r.0) ∙ sym (in'.0 w) ∙ hw) e) (eqb_tells w v))
+            (eqb_tells u v);
       }
+    where
+      -- the classes in service are below that of the vector
+      lower : (u : ℕ) → u < 256 → vectors_of a.isr u ≡ true → u / 16 < v / 16
+      lower u lu h = outranks_each v (u / 16) bs above (sym (is.service (u / 16))
+          ∙ any_number (λ w. vectors_of a.isr w && (w / 16 == u / 16)) 256 0 u (omega arith) lu
+          (ap (λ t. t && (u / 16 == u / 16)) h ∙ eq-eqb (u / 16) (u / 16) refl))
+
+  -- ---- the end of an interrupt
+
+  -- The last context's class, which is above those of the others, is no longer in service.
+  pub ended_is : (a : Apic) (set : NatSet) (b d : BodyContext) (bs : List BodyContext) (k : ℕ) → ApicIs mode image a set (b ∷ bs) → b.service ≡ Some k
+      → d.service ≡ None → ((class : ℕ) → list_any (has class) bs ≡ true → class < k) → ApicIs mode image (ended a) set (d ∷ bs)
+  ended_is a set b d bs k is hb hd above = by_greatest_of (greatest_below 256 (vectors_of a.isr)) (greatest_law 256 (vectors_of a.isr))
+    where
+      -- a vector of a class in service
+      of_class : (class : ℕ) → list_any (has class) (b ∷ bs) ≡ true → (u : ℕ) × (u < 0 + 256) × ((vectors_of a.isr u && (u / 16 == class)) ≡ true)
+      of_class class h = number_of_any (λ u. vectors_of a.isr u && (u / 16 == class)) 256 0 (is.service class ∙ h)
+
+      served_by : (class : ℕ) → list_any (has class) (b ∷ bs) ≡ ((k == class) || list_any (has class) bs)
+      served_by class = ap (λ o. serves mode image class o || list_any (has class) bs) hb
+
+      own : (u : ℕ) × (u < 0 + 256) × ((vectors_of a.isr u && (u / 16 == k)) ≡ true)
+      own = of_class k (served_by k ∙ ap (λ t. t || list_any (has k) bs) (eq-eqb k k refl))
+
+      -- a vector in service has that class or a lower one
+      no_higher : (u : ℕ) → u < 256 → vectors_of a.isr u ≡ true → (u / 16 ≡ k) ⊎ (list_any (has (u / 16)) bs ≡ true)
+      no_higher u lu h = pick (k == u / 16) refl (sym (served_by (u / 16)) ∙ sym (is.service (u / 16))
+          ∙ any_number (λ w. vectors_of a.isr w && (w / 16 == u / 16)) 256 0 u (omega arith) lu
+          (ap (λ t. t && (u / 16 == u / 16)) h ∙ eq-eqb (u / 16) (u / 16) refl))
+        where
+          pick : (t : Bool) → (k == u / 16) ≡ t → ((k == u / 16) || list_any (has (u / 16)) bs) ≡ true → (u / 16 ≡ k) ⊎ (list_any (has (u / 16)) bs ≡ true)
+          pick true q e = inl (sym (eqb-true k (u / 16) q))
+          pick false q e = inr (sym (ap (λ t. t || list_any (has (u / 16)) bs) q) ∙ e)
+
+      by_greatest_of : (o : Option ℕ) → IsGreatestBelow 256 (vectors_of a.isr) o → ApicIs mode image (record a { isr = without a.isr o }) set (d ∷ bs)
+      by_greatest_of None top =
+          let clash : true ≡ false = sym (and_left (vectors_of a.isr own.0) _ own.2) ∙ top own.0 own.1 in absurd (cc)
+      by_greatest_of (Some g) top =
+          let put = puts a.isr g false is.isr.four is.isr.small top.0 in record {
+            tpr = is.tpr;
+            irr = is.irr;
+            isr = record { four = put.1; small = put.2 };
+            pending = is.pending;
+            service = λ class.
+                same_any _ _ (numbers_from 0 256) (λ u. ap (λ t. t && (u / 16 == class)) (put.0 u))
+                ∙ alike _ _ (λ h. left class (number_of_any (λ u. put_at (vectors_of a.isr) g false u && (u / 16 == class)) 256 0 h)) (right class)
+                ∙ sym (ap (λ o. serves mode image class o || list_any (has class) bs) hd);
+            single = λ u w lu lw hu hw e. is.single u w lu lw (was u (sym (put.0 u) ∙ hu)).0 (was w (sym (put.0 w) ∙ hw)).0 e;
+          }
+        where
+          -- what is left was in service, and isn't the greatest
+          was : (u : ℕ) → put_at (vectors_of a.isr) g false u ≡ true → (vectors_of a.isr u ≡ true) × (u ≡ g → ⊥)
+          was u h = ⊎_elim (λ e. let clash : false ≡ true = sym (at_same (vectors_of a.isr) g u false e.1) ∙ h in absurd (cc))
+              (λ e. (sym (at_other (vectors_of a.isr) g u false e.0) ∙ h, e.1)) (eqb_tells u g)
+
+          -- the greatest has class k
+          class_of_top : g / 16 ≡ k
+          class_of_top =
+              let held : vectors_of a.isr own.0 ≡ true = and_left (vectors_of a.isr own.0) _ own.2 in
+              let class : own.0 / 16 ≡ k = eqb-true (own.0 / 16) k (and_right (vectors_of a.isr own.0) _ own.2) in
+              let below : own.0 ≤ g = under own.0 own.1 held (nat_lt g own.0) refl in
+              ⊎_elim (λ e. e) (λ e. let low = above (g / 16) e in absurd (omega arith)) (no_higher g top.0 top.1)
+            where
+              under : (u : ℕ) → u < 256 → vectors_of a.isr u ≡ true → (t : Bool) → nat_lt g u ≡ t → u ≤ g
+              under u lt h true e = let clash : true ≡ false = sym h ∙ top.2 u (ltb-true g u e) lt in absurd (cc)
+              under u lt h false e = ltb-false g u e
+
+          left : (class : ℕ) → (u : ℕ) × (u < 0 + 256) × ((put_at (vectors_of a.isr) g false u && (u / 16 == class)) ≡ true) → list_any (has class) bs ≡ true
+          left class u =
+              let w = was u.0 (and_left (put_at (vectors_of a.isr) g false u.0) _ u.2) in
+              let c : u.0 / 16 ≡ class = eqb-true (u.0 / 16) class (and_right (put_at (vectors_of a.isr) g false u.0) _ u.2) in
+              ⊎_elim (λ e. absurd (w.1 (is.single u.0 g u.1 top.0 w.0 top.1 (e ∙ sym class_of_top)))) (λ e. subst (λ n. list_any (has n) bs ≡ true) c e)
+              (no_higher u.0 u.1 w.0)
+
+          right : (class : ℕ) → list_any (has class) bs ≡ true
+              → list_any (λ u. put_at (vectors_of a.isr) g false u && (u / 16 == class)) (numbers_from 0 256) ≡ true
+          right class h =
+              let u = of_class class (or_right (has class b) (list_any (has class) bs) h) in
+              let low = above class h in
+              let c : u.0 / 16 ≡ class = eqb-true (u.0 / 16) class (and_right (vectors_of a.isr u.0) _ u.2) in
+              let top_class = class_of_top in
+              any_number (λ u. put_at (vectors_of a.isr) g false u && (u / 16 == class)) 256 0 u.0 (omega arith) u.1
+              (ap (λ t. t && (u.0 / 16 == class)) (at_other (vectors_of a.isr) g u.0 false (ne_eqb u.0 g (λ e. let z : ⊥ = omega arith in z))) ∙ u.2)

@@ -9,6 +9,7 @@ use Rattle.ev_effect.specs.Frame.{addresses}
 use Rattle.ev_effect.specs.Task.{Task}
 use Rattle.ev_listing.specs.AddressMap.{pcpu, stack_top, stack_bytes}
 use Rattle.ev_activation.specs.Seat.{Seat, top_at}
+use Rattle.ev_concrete.specs.LiveWords.{area_bytes}
 use Rattle.ev_refine.specs.Relation.{IsUnwritten, IsFixed, InText, InTables, InTasks, InCode, InArea}
 use Rattle.ev_refine.specs.Tasks.{IsSaved}
 use Rattle.ev_refine.specs.Named.{Named, UserRsp, Top, Current, Mark, Port, Head, TssTop, Slot, RecordWord, CellAt, PageBit, UserWord, address_of, owner, IsName, IsWritten, Outside, NotNamed, AreWritten, NoneOf, Changes}
@@ -183,7 +184,16 @@ pub other_unnamed : (names : List Named) → AreWritten names → (q : ℕ) → 
 other_unnamed [] w q hq n a h k = tt
 other_unnamed (x ∷ xs) w q hq n a h k = (other_area x w.0 q a hq n.0 h k, other_unnamed xs w.1 q hq n.1 a h k)
 
+-- a saved area lies on its stack
+pub on_its_stack : (mode : Mode) (p i a : ℕ) → stack_top p i - area_bytes mode ≤ a → stack_top p i - stack_bytes ≤ a
+on_its_stack Fred p i a h = omega arith
+on_its_stack Idt p i a h = omega arith
+
 -- ---- what a step leaves
+
+-- A step of an activation in a seat leaves the saved area of a task that has another stack, or above which it doesn't reach.
+abbrev pub IsBeside : Mode → Seat → ℕ → Type 0
+IsBeside mode σ i = (i ≢ σ.stack) ⊎ (area_bytes mode ≤ σ.used)
 
 module _ (p : ℕ) (σ : Seat) (names : List Named) (m n : NatMap ℕ) (hp : p < 32) (hs : σ.stack < 7) (written : AreWritten names)
     (changes : Changes p σ names m n) where
@@ -200,6 +210,17 @@ module _ (p : ℕ) (σ : Seat) (names : List Named) (m n : NatMap ℕ) (hp : p <
       apart : (i < σ.stack) ⊎ (σ.stack < i) → OffStack p σ hp hs a
       apart (inl l) = inl (omega arith)
       apart (inr l) = inr (omega arith)
+
+  -- the saved area of a task on another stack, or above what stands on its own
+  pub beside_stays : (mode : Mode) (i : ℕ) → i < 7 → IsBeside mode σ i → (a : ℕ) → stack_top p i - area_bytes mode ≤ a → a < stack_top p i → n a ≡ m a
+  beside_stays mode i hi beside a h k = by_stack beside
+    where
+      by_stack : IsBeside mode σ i → n a ≡ m a
+      by_stack (inl d) = stack_stays i d a (on_its_stack mode p i a h) k
+      by_stack (inr l) = ⊎_elim
+          (λ e. changes a (inr (subst (λ j. stack_top p j - σ.used ≤ a) e.1 (omega (arith, h, l))))
+          (stack_unnamed names written a (let b = on_its_stack mode p i a h in omega arith)))
+          (λ e. stack_stays i e.1 a (on_its_stack mode p i a h) k) (eqb_tells i σ.stack)
 
   -- what belongs to another processor: its area and its stacks
   pub area_stays : (q : ℕ) → q < 32 → NoneOf q names → (a : ℕ) → pcpu q ≤ a → a < pcpu q + 0x10000 → n a ≡ m a
@@ -224,7 +245,7 @@ same_map m n (suc k) a hi l h f =
     (subst (λ z. map n (addresses z k) ≡ map m (addresses z k)) (sym next) (same_map m n k (a + 8) hi (omega arith) h (λ x b c. f x (omega arith) c)))
 
 pub saved_stays : (mode : Mode) (p i : ℕ) (t : Task) (m n : NatMap ℕ) → p < 32 → i < 7
-    → ((a : ℕ) → stack_top p i - stack_bytes ≤ a → a < stack_top p i → n a ≡ m a)
+    → ((a : ℕ) → stack_top p i - area_bytes mode ≤ a → a < stack_top p i → n a ≡ m a)
     → IsSaved mode p i t m → IsSaved mode p i t n
 saved_stays Idt p i t m n hp hi f s = record {
   regs = same_map m n 15 (stack_top p i - 0xb0) (stack_top p i) (omega arith) (omega arith) (λ x b c. f x (omega arith) c) ∙ s.regs;

@@ -114,17 +114,22 @@ module _ (mode : Mode) (image : Image) where
 
   -- ---- what a block's variables are, where w is the processor to which the activation returns, and b its body's context
 
-  -- Of a task: the saved area, the frame, the other GS base, the selector and RSP of level 0 give back w.
-  pub record Saved (v : ℕ → ℕ) (w : Processor) : Type 0 where
-    pub regs : w.regs ≡ v 30 ∷ v 31 ∷ v 32 ∷ v 33 ∷ v 20 ∷ v 35 ∷ v 36 ∷ v 37 ∷ v 38 ∷ v 39 ∷ v 40 ∷ v 41 ∷ v 42 ∷ v 43 ∷ v 44 ∷ v 45 ∷ []
-    pub rip : v 17 ≡ w.rip
-    pub cs : selector (v 18) ≡ w.cs
-    pub flags : v 19 ≡ w.flags
-    pub ss : selector (v 21) ≡ w.ss
-    pub sti : bit 16 (v 21) ≡ w.sti_blocked
-    pub gs : v 60 ≡ w.msrs.gs_base
-    pub chosen : v 61 ≡ w.gs
-    pub level : v 63 ≡ get_or w.msrs.rsp 0 0
+  -- Of a task: a saved area's registers, the words of a frame, the GS base, the selector and RSP of level 0 give back w.
+  pub record GivesBack (area : ℕ → ℕ) (a code word rsp stack base own top : ℕ) (w : Processor) : Type 0 where
+    pub regs : w.regs ≡ area 0 ∷ area 1 ∷ area 2 ∷ area 3 ∷ rsp ∷ area 5 ∷ area 6 ∷ area 7 ∷ area 8 ∷ area 9 ∷ area 10 ∷ area 11 ∷ area 12 ∷ area 13
+        ∷ area 14 ∷ area 15 ∷ []
+    pub rip : a ≡ w.rip
+    pub cs : selector code ≡ w.cs
+    pub flags : word ≡ w.flags
+    pub ss : selector stack ≡ w.ss
+    pub sti : bit 16 stack ≡ w.sti_blocked
+    pub gs : base ≡ w.msrs.gs_base
+    pub chosen : own ≡ w.gs
+    pub level : top ≡ get_or w.msrs.rsp 0 0
+
+  -- so do these variables of the activation's own task
+  abbrev pub Saved : (ℕ → ℕ) → Processor → Type 0
+  Saved v w = GivesBack (λ r. v (30 + r)) (v 17) (v 18) (v 19) (v 20) (v 21) (v 60) (v 61) (v 63) w
 
   -- Of a body, which is at an item: GS is the kernel's and isn't exchanged, SS stays, and the frame lies below RSP. What a return asks of w is said of it
   -- here.

@@ -68,15 +68,19 @@ IsWritten x = IsName x
 
 -- ---- which of the machines' components they are
 
--- the words by which the kernel names tasks, and those of calls
-abbrev pub is_kernel_word : Named → Bool
-is_kernel_word (Top p) = true
-is_kernel_word (Current p) = true
-is_kernel_word (Mark p) = true
-is_kernel_word (Head p) = true
-is_kernel_word (TssTop p) = true
-is_kernel_word (RecordWord p k o) = true
-is_kernel_word x = false
+-- the words by which the kernel names tasks, with the mark that asks for another one
+abbrev pub is_task_word : Named → Bool
+is_task_word (Top p) = true
+is_task_word (Current p) = true
+is_task_word (Mark p) = true
+is_task_word (TssTop p) = true
+is_task_word x = false
+
+-- those of calls
+abbrev pub is_call_word : Named → Bool
+is_call_word (Head p) = true
+is_call_word (RecordWord p k o) = true
+is_call_word x = false
 
 -- those that blocks of an activation know
 abbrev pub is_private : Named → Bool

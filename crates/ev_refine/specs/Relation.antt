@@ -21,8 +21,8 @@ use Rattle.ev_abstract.specs.Context.{BodyContext, CallId}
 use Rattle.ev_abstract.specs.Machine.{Machine, processor, CallRecord, CallState, Free, Queued, Taken}
 use Rattle.ev_abstract.specs.Machine as abstract
 use Rattle.ev_abstract.specs.Run.{item_at}
-use Rattle.ev_law.specs.Legal.{Legal}
 use Rattle.ev_law.specs.Bases.{HasBases}
+use Rattle.ev_law.specs.Legal.{Legal}
 use Rattle.ev_concrete.specs.Opening.{listings, code_of, opening_word, tasks_of, regions}
 use Rattle.ev_concrete.specs.ConcreteRun.{System, Activation}
 use Rattle.ev_concrete.specs.Depth.{is_in_repeat}
@@ -112,20 +112,20 @@ module _ (mode : Mode) (image : Image) where
   Interrupted (b ∷ below) w [] = ⊥
   Interrupted (b ∷ below) w (a ∷ as') = (a.rsp ≡ rsp w) × (is_in_repeat a.rip ≡ is_in_repeat w.rip)
 
-  -- Each context stands on the one before it, and the first on task r, which is t: the running one, or where its exit switches, the next one. Each has an
-  -- activation of its own, which isn't an inner NMI's.
-  abbrev pub Chain : (p left r : ℕ) → Task → Frame → (switching : Bool) → List BodyContext → List Activation → Processor → Memory → Type 0
-  Chain p left r t f sw [] as' c m = RunsTask mode image p r t c × (sw ≡ false) × (as' ≡ [])
-  Chain p left r t f sw (b ∷ below) [] c m = ⊥
-  Chain p left r t f sw (b ∷ below) (a ∷ as') c m =
+  -- Each context stands on the one before it, and the first on a task: all on the stack of task r, which runs, and the first returns to task `to`, which is t:
+  -- to the same, or where its exit switches, to the next one. Each has an activation of its own, which isn't an inner NMI's.
+  abbrev pub Chain : (p left r to : ℕ) → Task → Frame → (switching : Bool) → List BodyContext → List Activation → Processor → Memory → Type 0
+  Chain p left r to t f sw [] as' c m = RunsTask mode image p to t c × (sw ≡ false) × (as' ≡ [])
+  Chain p left r to t f sw (b ∷ below) [] c m = ⊥
+  Chain p left r to t f sw (b ∷ below) (a ∷ as') c m =
       (w : Processor) × IsContext b × (a.inner ≡ false) × Interrupted below w as'
-      × Beneath (keeps_cr2 (kind_of image b below)) (λ v. Chain p body_edges r t f (chained sw below) below as' v m) w
+      × Beneath (keeps_cr2 (kind_of image b below)) (λ v. Chain p body_edges r to t f (chained sw below) below as' v m) w
       × Leads mode p (kind_of image b below) f w m.words
       × Active mode image p left (kind_of image b below) (seat_of mode image r (b ∷ below)) f (switches_at sw below) w b c m
 
   -- and what stands on them; `more` edges come behind its own
-  abbrev pub Runs : (p left more r : ℕ) → Task → Layer → Frame → Bool → List BodyContext → List Activation → Processor → Memory → Type 0
-  Runs p left more r t Plain f sw bs as' c m = Chain p left r t f sw bs as' c m
+  abbrev pub Runs : (p left more r to : ℕ) → Task → Layer → Frame → Bool → List BodyContext → List Activation → Processor → Memory → Type 0
+  Runs p left more r to t Plain f sw bs as' c m = Chain p left r to t f sw bs as' c m
 
   -- ---- what belongs to one processor
 
@@ -147,6 +147,8 @@ module _ (mode : Mode) (image : Image) where
     pub pending : (v : ℕ) → v < 256 → vectors_of a.irr v ≡ set v
     pub service : (class : ℕ) → list_any (λ v. vectors_of a.isr v && (v / 16 == class)) (numbers_from 0 256)
         ≡ list_any (λ (b : BodyContext). serves class b.service) bs
+    -- one vector of a class, so that the end of an interrupt ends its class
+    pub single : (u v : ℕ) → u < 256 → v < 256 → vectors_of a.isr u ≡ true → vectors_of a.isr v ≡ true → u / 16 ≡ v / 16 → u ≡ v
 
   -- Processor p of the one stands for processor p of the other; at most `left` edges come before a visible step.
   pub record StandsOn (p left : ℕ) (s : System) (x : abstract.Processor) : Type 0 where
@@ -169,7 +171,7 @@ module _ (mode : Mode) (image : Image) where
     pub latch : LatchIs layer frame (list_any (is_nmi_body image) x.bodies) (s.latches p) (s.cpus p).nmi_blocked x.nmi
     pub apic : ApicIs (s.apics p) x.pending x.bodies
     pub slots : (k : ℕ) → k < 64 → s.memory.words (pcpu p + slot_offset k) ≡ x.slots k
-    pub runs : Runs p own more returning (x.tasks returning) layer frame switching x.bodies (s.activations p) (s.cpus p) s.memory
+    pub runs : Runs p own more x.running returning (x.tasks returning) layer frame switching x.bodies (s.activations p) (s.cpus p) s.memory
 
   -- ---- what all processors share
 
@@ -194,7 +196,7 @@ module _ (mode : Mode) (image : Image) where
     pub fixed : (a : ℕ) → IsFixed a → s.memory.words a ≡ first_word mode image a
     pub shares : Shares s m
     pub legal : Legal image m
-    pub bases : HasBases image m
+    pub bases : HasBases image m  -- which a switch loads from the descriptors
     pub numbers : HoldsNumbers m
     pub domain : (p : ℕ) → p < image.processors → IsInDomain (processor m p)
     pub each : (p : ℕ) → p < image.processors → StandsOn p (left p) s (processor m p)
