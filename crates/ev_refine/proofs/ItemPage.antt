@@ -33,7 +33,7 @@ use Rattle.ev_symbolic.specs.Names.{item_tag}
 use Rattle.ev_symbolic.proofs.Blocks.{unsome, begins, at_end}
 use Rattle.ev_blocks.specs.Shapes.{FredFrame, IdtFrame}
 use Rattle.ev_blocks.specs.Items.{AtItem, AtPageWord, page_code, page_steps, page_word}
-use Rattle.ev_blocks.specs.Blocks.{Spot, block, edges}
+use Rattle.ev_blocks.specs.Blocks.{block, edges}
 use Rattle.ev_blocks.specs.Blocks as blocks
 use Rattle.ev_blocks.proofs.Falls.{edges_fall}
 use Rattle.ev_paths.proofs.BodyEnds.{body_ends}
