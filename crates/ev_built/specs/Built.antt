@@ -4,9 +4,9 @@ use Rattle.std.specs.List.{list_all}
 use Rattle.ev_isa.specs.declared.mode.Mode.{Mode}
 use Rattle.ev_isa.specs.declared.mode.Mode.TheVariants.{Idt, Fred}
 use Rattle.ev_body.specs.declared.key.Key.{Key}
-use Rattle.ev_body.specs.declared.key.Key.TheVariants.{Nmi, Irq}
+use Rattle.ev_body.specs.declared.key.Key.TheVariants.{Nmi}
 use Rattle.ev_body.specs.declared.item.Item.{Item}
-use Rattle.ev_body.specs.declared.item.Item.TheVariants.{Set, Copy, Alu, Jcc, Goto, Nop, Log, Cpu, Slot, Put, Cell, SetCell, AddCell, SwapCell, Uget, Uput, GetReg, SetReg, SetRip, Map, Unmap, Ret}
+use Rattle.ev_body.specs.declared.item.Item.TheVariants.{Set, Copy, Alu, Jcc, Goto, Nop, Log, Cpu, Slot, Put, Cell, SetCell, AddCell, SwapCell, Uget, Uput, GetReg, SetReg, SetRip, Map, Unmap, Eoi, Ret}
 use Rattle.ev_body.specs.declared.body.Body.{Body}
 use Rattle.ev_body.specs.declared.image.Image.{Image}
 use Rattle.ev_body.specs.WellFormed.{has_no_parts}
@@ -37,14 +37,14 @@ is_built_item (SetReg r s) = true
 is_built_item (SetRip a) = true
 is_built_item (Map s) = true
 is_built_item (Unmap s) = true
+is_built_item Eoi = true
 is_built_item Item.Bp = true
 is_built_item Ret = true
 is_built_item _ = false
 
--- bodies of system calls and exceptions, whose exit is the one of all bodies but those of NMIs
+-- bodies of system calls, exceptions and interrupts, whose exit is the one of all bodies but those of NMIs
 unfoldable pub is_built_key : Key → Bool
 is_built_key Nmi = false
-is_built_key (Irq v) = false
 is_built_key _ = true
 
 -- without parts

@@ -35,6 +35,7 @@ fn is_built_item(item: &Item) -> bool
             | Item::SetRip(_)
             | Item::Map(_)
             | Item::Unmap(_)
+            | Item::Eoi
             | Item::Bp
             | Item::Ret
     )
@@ -57,7 +58,7 @@ fn all_built(items: &[Item]) -> bool
 fn is_built_key(key: Key) -> bool
     ensures { result ≡ is_built_key key }
 {
-    !matches!(key, Key::Nmi | Key::Irq(_))
+    !matches!(key, Key::Nmi)
 }
 
 /// Whether `run` takes the body.

@@ -8,9 +8,14 @@ use std::test::Fail;
 
 #[test]
 fn bodies(rt: HostRuntime) -> Result<(), Fail> {
-    let cases: [(&str, bool); 4] = [
+    let cases: [(&str, bool); 6] = [
         ("body sys user\nlog rdi\nnop\nret\nendbody\nfill\n", true),
         ("body bp both\nret\nendbody\nfill\n", true),
+        ("body irq31 both\neoi\nret\nendbody\nfill\n", true),
+        (
+            "body irq31 both\nsti\nnop\ncli\neoi\nret\nendbody\nfill\n",
+            false,
+        ),
         ("body sys user\nresched\nret\nendbody\nfill\n", false),
         ("body nmi user\nret\nendbody\nfill\n", false),
     ];

@@ -10,7 +10,7 @@ use Rattle.ev_body.specs.declared.body.Body.{Body}
 use Rattle.ev_body.specs.declared.image.Image.{Image}
 use Rattle.ev_body.specs.Bodies.{body_items, covers}
 use Rattle.ev_body.specs.WellFormed.{IsImage}
-use Rattle.ev_body.specs.declared.item.Item.TheVariants.{Ret}
+use Rattle.ev_body.specs.declared.item.Item.TheVariants.{Eoi, Ret}
 use Rattle.ev_abstract.specs.Accepted.{IsAccepted}
 use Rattle.ev_abstract.specs.CrossCall.{take_place}
 use Rattle.ev_abstract.specs.Rules.{is_irq}
@@ -21,7 +21,7 @@ use Rattle.ev_abstract.specs.Chain.{is_legal, is_nmi, is_sti, is_below, has_item
 use Rattle.ev_law.specs.Legal.{AreLegal, IsLegalOn, numbers, class_of, served, is_eoi_behind, has_flags_for, read_at, knows}
 use Rattle.ev_law.specs.Laws.{is_lower, has_nmi, Follows, ContextsFollow}
 use Rattle.ev_law.proofs.Ruled.{IsRuled, body_ruled}
-use Rattle.ev_law.proofs.Places.{flags_are_known, on_before_eoi, read_within}
+use Rattle.ev_law.proofs.Places.{first_eoi, flags_are_known, on_before_eoi, read_within}
 use Rattle.ev_law.proofs.Runs.{runs_are_legal}
 
 -- ---- chains of bodies
@@ -107,6 +107,22 @@ ret_serves_none image is accepted known c below l h =
         either true = refl
         either false = refl
 
+-- and at the `eoi` it has its interrupt's
+some_class : (k : Key) → is_irq k ≡ true → (class : ℕ) × (class_of k ≡ Some class)
+unfolding is_irq class_of
+some_class (Irq v) h = (v / 16, refl)
+some_class _ h = absurd (cc)
+
+pub eoi_serves : (image : Image) → IsImage image → IsAccepted image → (known : CallId → Bool) (c : BodyContext) (below : List BodyContext)
+    → (l : IsLegalOn image known c below) → slice_get (body_items l.body) c.place ≡ Some Eoi → (class : ℕ) × (c.service ≡ Some class)
+eoi_serves image is accepted known c below l h =
+    let e = first_eoi image l.body (body_ruled image is accepted.1.kept c.body l.body l.is_body) c.place h in
+    let k = some_class l.body.key e.0 in (
+      k.0,
+      l.at.service ∙ ap (λ (t : Bool). served l.body (if t then take_place 0 (body_items l.body) else c.place)) e.1
+          ∙ ap (λ (t : Bool). if t then None else class_of l.body.key) e.2 ∙ k.1,
+    )
+
 -- ---- a context
 
 bodies_here : (image : Image) (known : CallId → Bool) (c : BodyContext) (below : List BodyContext) (l : IsLegalOn image known c below)
@@ -151,7 +167,7 @@ module _ (image : Image) (known : CallId → Bool) (ruled : (n : ℕ) (b : Body)
   on_here c (d ∷ below) l n = start_on_nmi l.0.body.key l.1.0.body (bodies_of image (numbers below))
       (subst (λ bs. list_any (λ (b : Body). is_nmi b.key) bs ≡ true) (bodies_here image known d below l.1.0) n) (may_here c d below l.0 l.1.0)
 
-  follows : (c : BodyContext) (below : List BodyContext) → AreLegal image known (c ∷ below) → Follows image c below
+  pub follows : (c : BodyContext) (below : List BodyContext) → AreLegal image known (c ∷ below) → Follows image c below
   follows c below l =
       let b : Body = l.0.body in
       let at = l.0.at in record {

@@ -100,6 +100,19 @@ module _ (image : Image) (b : Body) (ruled : IsRuled image b) where
       let h3 = or_parts _ (if_at b e) h4.0 in
       (h3.1, h4.1, h5.1)
 
+  -- an `eoi` stands in the main part of an interrupt's body, and none before it
+  pub first_eoi : (e : ℕ) → slice_get (body_items b) e ≡ Some Eoi → (is_irq b.key ≡ true) × (in_function b e ≡ false) × (is_eoi_behind b e ≡ false)
+  unfolding is_eoi
+  first_eoi e q =
+      let h = eoi_is_good b e Eoi refl (ruled.eoi e Eoi q) in
+      let h5 = or_parts _ (is_crossed b e) h in
+      let h4 = or_parts _ (list_any is_sti (drop e b.items)) h5.0 in
+      let h3 = or_parts _ (if_at b e) h4.0 in
+      let h2 = or_parts _ (list_any is_eoi (take e b.items)) h3.0 in
+      let h1 = or_parts (not (is_irq b.key)) (in_function b e) h2.0 in
+      let l : e < length b.items = leb-false (length b.items) e h1.1 in
+      (not-false (is_irq b.key) h1.0, h1.1, ap (list_any is_eoi) (front b e (omega (arith, l))) ∙ h2.1)
+
   pub on_before_eoi : (n : ℕ) → n ≤ length b.items → if_at b n ≡ true → is_eoi_behind b n ≡ false
   on_before_eoi n l on = pick (is_eoi_behind b n) refl
     where

@@ -1,13 +1,13 @@
 -- The facts on an image's code hold for the images of today.
-use Rattle.std.proofs.Common.{◌≡◌, ℕ, true, not, ◌&&◌, List, [], ◌∷◌, Some, refl, ap, ◌∙◌, ◌≤◌, ◌+◌, ◌^◌, arith}
-use Rattle.std.specs.Prelude.{slice_get, flat_map, ◌++◌}
+use Rattle.std.proofs.Common.{◌≡◌, ℕ, true, not, ◌&&◌, List, [], ◌∷◌, Some, refl, ap, ◌∙◌, ◌≤◌, ◌+◌, ◌^◌, arith, leb-true}
+use Rattle.std.specs.Prelude.{slice_get, flat_map, ◌++◌, nat_le}
 use Rattle.std.proofs.lemmas.List.{append-nil}
 use Rattle.std.specs.List.{list_all}
 use Rattle.ev_body.specs.declared.item.Item.{Item}
 use Rattle.ev_body.specs.declared.body.Body.{Body}
 use Rattle.ev_body.specs.declared.body.Part.{Part}
 use Rattle.ev_body.specs.declared.image.Image.{Image}
-use Rattle.ev_body.specs.WellFormed.{IsImage, has_no_parts}
+use Rattle.ev_body.specs.WellFormed.{IsImage, is_key, has_no_parts}
 use Rattle.ev_body.specs.Bodies.{key_number, body_items}
 use Rattle.ev_body.specs.declared.key.Key.{Key}
 use Rattle.ev_body.specs.declared.key.Key.TheVariants.{Sys, Db, Nmi, Bp, Ud, Ss, Gp, Pf, Ac, Irq}
@@ -28,6 +28,7 @@ use Rattle.ev_table.proofs.LabelPlaces.{labels_placed}
 use Rattle.ev_table.proofs.OwnPlaces.{own_labels_placed}
 use Rattle.ev_fetch.proofs.Kernel.{kernel_fetches}
 use Rattle.ev_fetch.proofs.InCode.{stays_in_code}
+use Rattle.ev_law.proofs.Ruled.{body_ruled}
 use Rattle.ev_fetch.proofs.Ruled.{accepted_are_spelled}
 use Rattle.ev_fetch.proofs.Opened.{holds_code, holds_text}
 use Rattle.ev_fetch.specs.Spelled.{AreSpelled}
@@ -37,21 +38,22 @@ use Rattle.ev_refine.proofs.Facts.{Facts}
 use Rattle.ev_refine.proofs.Items.{all_at}
 
 -- no body of today is that of NMIs
-not_nmi : (bs : List Body) (n : ℕ) (b : Body) → list_all (λ (b : Body). is_built_key b.key) bs ≡ true → slice_get bs n ≡ Some b → key_number b.key ≡ 2 → ⊥
-unfolding is_built_key key_number
-not_nmi bs n b h k q = other b.key (all_at (λ (b : Body). is_built_key b.key) bs n b h k) q
+not_nmi : (bs : List Body) (n : ℕ) (b : Body) → list_all (λ (b : Body). is_built_key b.key) bs ≡ true → slice_get bs n ≡ Some b → is_key b.key ≡ true
+    → key_number b.key ≡ 2 → ⊥
+unfolding is_built_key key_number is_key
+not_nmi bs n b h k i q = other b.key (all_at (λ (b : Body). is_built_key b.key) bs n b h k) i q
   where
-    other : (key : Key) → is_built_key key ≡ true → key_number key ≡ 2 → ⊥
-    other Sys h q = absurd (cc)
-    other Db h q = absurd (cc)
-    other Nmi h q = absurd (cc)
-    other Bp h q = absurd (cc)
-    other Ud h q = absurd (cc)
-    other Ss h q = absurd (cc)
-    other Gp h q = absurd (cc)
-    other Pf h q = absurd (cc)
-    other Ac h q = absurd (cc)
-    other (Irq v) h q = absurd (cc)
+    other : (key : Key) → is_built_key key ≡ true → is_key key ≡ true → key_number key ≡ 2 → ⊥
+    other Sys h i q = absurd (cc)
+    other Db h i q = absurd (cc)
+    other Nmi h i q = absurd (cc)
+    other Bp h i q = absurd (cc)
+    other Ud h i q = absurd (cc)
+    other Ss h i q = absurd (cc)
+    other Gp h i q = absurd (cc)
+    other Pf h i q = absurd (cc)
+    other Ac h i q = absurd (cc)
+    other (Irq v) h i q = let l : 32 ≤ v = leb-true 32 v (and_left (nat_le 32 v) _ i) in absurd (omega arith)
 
 body_parts : (b : Body) → is_built_body b ≡ true → (has_no_parts b.parts ≡ true) × (list_all is_built_item b.items ≡ true)
 body_parts b h = (and_left (has_no_parts b.parts) _ h, and_right (has_no_parts b.parts) _ h)
@@ -95,7 +97,8 @@ module _ (mode : Mode) (image : Image) (given : IsImage image) (built : IsBuilt 
         jump = r.jump;
         unmarked = r.unmarked;
         leads =
-            r.leads ∙ whole.exit_of_others mode b.key (not_nmi image.bodies n b built.keys h);
+            r.leads ∙ whole.exit_of_others mode b.key (not_nmi image.bodies n b built.keys h
+            (body_ruled image given built.accepted.1.kept n b h).key);
       }
 
   kernel_found : HasKernel mode (code_table mode image)

@@ -36,14 +36,14 @@ use Rattle.ev_blocks.specs.Fred.{FromUser, FromKernel, FredToKernel, FredToTask,
 use Rattle.ev_blocks.specs.Fred as fred
 use Rattle.ev_blocks.specs.Idt.{Stub, Sys, Common, IdtToKernel, IdtToTask, idt_block}
 use Rattle.ev_blocks.specs.Idt as idt
-use Rattle.ev_blocks.specs.Items.{AtTable, AtJump, AtItem, AtNumber, AtUserWord, AtPageWord, body_block}
+use Rattle.ev_blocks.specs.Items.{AtTable, AtJump, AtItem, AtNumber, AtNumbers, AtUserWord, AtPageWord, body_block}
 use Rattle.ev_blocks.specs.Blocks.{Spot, InFred, InIdt, InBody, block}
 use Rattle.ev_table.specs.Table.{code_table}
 use Rattle.ev_refine.specs.Nmi.{Frame}
 use Rattle.ev_refine.specs.Active.{address_of_item, item_place, OverTask, OverBody, Active}
 use Rattle.ev_refine.specs.Relation.{IsContext, body_edges, chained, Interrupted, Chain, StandsOn}
 use Rattle.ev_refine.proofs.Facts.{Facts}
-use Rattle.ev_refine.proofs.Spots.{is_elsewhere, entry_elsewhere, kernel_entry_elsewhere, kernel_exit_elsewhere, fred_exit_elsewhere, sys_elsewhere, common_elsewhere, idt_exit_elsewhere, idt_kernel_exit_elsewhere, is_in_stub, stub_inside, is_in_item, number_inside, address_inside, page_inside}
+use Rattle.ev_refine.proofs.Spots.{is_elsewhere, entry_elsewhere, kernel_entry_elsewhere, kernel_exit_elsewhere, fred_exit_elsewhere, sys_elsewhere, common_elsewhere, idt_exit_elsewhere, idt_kernel_exit_elsewhere, is_in_stub, stub_inside, is_in_item, number_inside, numbers_inside, address_inside, page_inside}
 use Rattle.ev_refine.proofs.Standing.{after_ran, Runs, ran_step}
 use Rattle.ev_refine.proofs.CallKinds.{over_any}
 use Rattle.ev_refine.proofs.After.{as_chain}
@@ -135,6 +135,8 @@ module _ (mode : Mode) (image : Image) (facts : Facts mode image) where
       at_item_outside (body_block true FredFrame AtItem) k e c mem b ctx at l refl h.1
   over_task_outside Fred (InBody FredFrame (AtNumber n)) k e w c mem b ctx z l at h =
       in_item_outside (body_block true FredFrame (AtNumber n)) k e c mem b ctx at l (number_inside true FredFrame n) h.1
+  over_task_outside Fred (InBody FredFrame (AtNumbers rcx rax rdx)) k e w c mem b ctx z l at h =
+      in_item_outside (body_block true FredFrame (AtNumbers rcx rax rdx)) k e c mem b ctx at l (numbers_inside true FredFrame rcx rax rdx) h.1
   over_task_outside Fred (InBody FredFrame AtUserWord) k e w c mem b ctx z l at h =
       in_item_outside (body_block true FredFrame AtUserWord) k e c mem b ctx at l (address_inside true FredFrame) h.1
   over_task_outside Fred (InBody FredFrame (AtPageWord is_page)) k e w c mem b ctx z l at h =
@@ -151,6 +153,8 @@ module _ (mode : Mode) (image : Image) (facts : Facts mode image) where
       at_item_outside (body_block false IdtFrame AtItem) k e c mem b ctx at l refl h.1
   over_task_outside Idt (InBody IdtFrame (AtNumber n)) k e w c mem b ctx z l at h =
       in_item_outside (body_block false IdtFrame (AtNumber n)) k e c mem b ctx at l (number_inside false IdtFrame n) h.1
+  over_task_outside Idt (InBody IdtFrame (AtNumbers rcx rax rdx)) k e w c mem b ctx z l at h =
+      in_item_outside (body_block false IdtFrame (AtNumbers rcx rax rdx)) k e c mem b ctx at l (numbers_inside false IdtFrame rcx rax rdx) h.1
   over_task_outside Idt (InBody IdtFrame AtUserWord) k e w c mem b ctx z l at h =
       in_item_outside (body_block false IdtFrame AtUserWord) k e c mem b ctx at l (address_inside false IdtFrame) h.1
   over_task_outside Idt (InBody IdtFrame (AtPageWord is_page)) k e w c mem b ctx z l at h =
@@ -169,6 +173,8 @@ module _ (mode : Mode) (image : Image) (facts : Facts mode image) where
       at_item_outside (body_block true FredFrame AtItem) k e c mem b ctx at l refl h.1
   over_body_outside Fred (InBody FredFrame (AtNumber n)) k e w c mem b ctx z l at h =
       in_item_outside (body_block true FredFrame (AtNumber n)) k e c mem b ctx at l (number_inside true FredFrame n) h.1
+  over_body_outside Fred (InBody FredFrame (AtNumbers rcx rax rdx)) k e w c mem b ctx z l at h =
+      in_item_outside (body_block true FredFrame (AtNumbers rcx rax rdx)) k e c mem b ctx at l (numbers_inside true FredFrame rcx rax rdx) h.1
   over_body_outside Fred (InBody FredFrame AtUserWord) k e w c mem b ctx z l at h =
       in_item_outside (body_block true FredFrame AtUserWord) k e c mem b ctx at l (address_inside true FredFrame) h.1
   over_body_outside Fred (InBody FredFrame (AtPageWord is_page)) k e w c mem b ctx z l at h =
@@ -184,6 +190,8 @@ module _ (mode : Mode) (image : Image) (facts : Facts mode image) where
       at_item_outside (body_block false IdtFrame AtItem) k e c mem b ctx at l refl h.1
   over_body_outside Idt (InBody IdtFrame (AtNumber n)) k e w c mem b ctx z l at h =
       in_item_outside (body_block false IdtFrame (AtNumber n)) k e c mem b ctx at l (number_inside false IdtFrame n) h.1
+  over_body_outside Idt (InBody IdtFrame (AtNumbers rcx rax rdx)) k e w c mem b ctx z l at h =
+      in_item_outside (body_block false IdtFrame (AtNumbers rcx rax rdx)) k e c mem b ctx at l (numbers_inside false IdtFrame rcx rax rdx) h.1
   over_body_outside Idt (InBody IdtFrame AtUserWord) k e w c mem b ctx z l at h =
       in_item_outside (body_block false IdtFrame AtUserWord) k e c mem b ctx at l (address_inside false IdtFrame) h.1
   over_body_outside Idt (InBody IdtFrame (AtPageWord is_page)) k e w c mem b ctx z l at h =

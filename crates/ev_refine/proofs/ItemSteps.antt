@@ -142,7 +142,7 @@ module _ (mode : Mode) (image : Image) (built : IsBuilt image) (good : IsImage i
   keeps_of None g = a.state.words
   keeps_of (Some z) g = words.keeps_known mode image built good facts left s m h p hp o ss extra v f z.0 z.1 g.name a.state.words
 
-  over_of : (z : WordWrite) → IsFreeWord p z
+  pub over_of : (z : WordWrite) → IsFreeWord p z
       → visible.StandsOver mode image built good facts left s m h p hp o body' is ss v (words_with s.memory.words z) o.w v x.tasks
   over_of z g = visible.stays_over mode image built good facts left s m h p hp o body' is ss extra v f a (words_with s.memory.words z) (names_with z)
       (allowed_of z g) (unknown_of z g) (changes_of z) (keeps_of z g)
@@ -171,7 +171,10 @@ module _ (mode : Mode) (image : Image) (built : IsBuilt image) (good : IsImage i
         status = status;
         flags_are = known;
         words = words_with s.memory.words z;
-        runs = runs (at_ins ins (at (suc b.place)) here);
+        apic = s.apics p;
+        runs = runs (at_ins ins (at (suc b.place)) here) (s.apics p) (s.latches p);
+        service = b.service;
+        apic_is = visible.same_apic mode image built good facts left s m h p hp o body' is write (suc b.place) status;
         names = names_with z;
         allowed = allowed_of z free;
         unknown = unknown_of z free;
@@ -349,7 +352,11 @@ module _ (mode : Mode) (image : Image) (built : IsBuilt image) (good : IsImage i
           status = b.flags;
           flags_are = known_flags same;
           words = s.memory.words;
-          runs = goes_onward c s.memory ins a.flags c.regs (at t) s.memory.words a.state.flags (runs (at_ins ins (at (suc b.place)) here));
+          apic = s.apics p;
+          runs = goes_onward c s.memory ins a.flags c.regs (at t) s.memory.words a.state.flags (runs (at_ins ins (at (suc b.place)) here))
+              (s.apics p) (s.latches p);
+          service = b.service;
+          apic_is = visible.same_apic mode image built good facts left s m h p hp o body' is None t b.flags;
           names = [];
           allowed = (none_spares p).allowed;
           unknown = step.unknown_none o.below;

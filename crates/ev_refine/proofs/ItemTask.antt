@@ -343,8 +343,11 @@ module _ (mode : Mode) (image : Image) (built : IsBuilt image) (good : IsImage i
           status = b.flags;
           flags_are = steps.known_flags mode image built good facts left s m h p hp o body' is ss extra v f a same;
           words = ws;
+          apic = s.apics p;
           runs = goes_onward c s.memory ins a.flags c.regs next ws a.state.flags
-              (does (steps.at_ins mode image built good facts left s m h p hp o body' is ss extra v f a ins next here));
+              (does (steps.at_ins mode image built good facts left s m h p hp o body' is ss extra v f a ins next here)) (s.apics p) (s.latches p);
+          service = b.service;
+          apic_is = visible.same_apic mode image built good facts left s m h p hp o body' is None (suc b.place) b.flags;
           names = [];
           allowed = (none_spares p).allowed;
           unknown = step.unknown_none o.below;

@@ -19,7 +19,8 @@ use Rattle.ev_listing.specs.Expansion.{item_address}
 use Rattle.ev_state.specs.Processor.{Processor, is_user}
 use Rattle.ev_state.proofs.FlagLaws.{flags_of-flags_word}
 use Rattle.ev_mem.specs.Memory.{Memory}
-use Rattle.ev_proc.specs.ProcessorStep.{has_fred}
+use Rattle.ev_apic.specs.declared.apic.Apic.{Apic}
+use Rattle.ev_proc.specs.ProcessorStep.{has_fred, executed, ran}
 use Rattle.ev_proc.specs.declared.stepped.Stepped.{Stepped}
 use Rattle.ev_abstract.specs.Context.{BodyContext, CallId}
 use Rattle.ev_abstract.specs.declared.entry.Entry.{Entry}
@@ -42,7 +43,7 @@ use Rattle.ev_activation.specs.Seat.{kind_of}
 use Rattle.ev_table.specs.Table.{code_table}
 use Rattle.ev_refine.specs.Named.{Named, UnknownTo, Changes}
 use Rattle.ev_refine.specs.Active.{item_place, address_of_item, here, rest_in, IsKernelSs, SavedOf, FlagsAre, InItem, Active}
-use Rattle.ev_refine.specs.Relation.{IsContext, switches_at, Chain, StandsOn, Stands, serves}
+use Rattle.ev_refine.specs.Relation.{ApicIs, IsContext, switches_at, Chain, StandsOn, Stands, serves}
 use Rattle.ev_refine.specs.Claims.{Simulated}
 use Rattle.ev_refine.proofs.Facts.{Facts}
 use Rattle.ev_refine.proofs.Legality.{turn_legal}
@@ -51,7 +52,7 @@ use Rattle.ev_refine.proofs.ModeFacts.{is_fred}
 use Rattle.ev_refine.proofs.Fits.{IsSeat, fits_at, opens_at}
 use Rattle.ev_refine.proofs.Bodies.{body, at_the_item, item_edges_few, saved_again, means_at}
 use Rattle.ev_refine.proofs.Standing.{ran_stays}
-use Rattle.ev_refine.proofs.After.{AreNames}
+use Rattle.ev_refine.proofs.After.{AreNames, apic_again}
 use Rattle.ev_refine.proofs.CallKinds.{origin_of, plain_knows}
 use Rattle.ev_refine.proofs.ItemState.{with_registers, opening_of, known_of, ItemState, any_registers, any_known, beyond_registers, gone, lands}
 use Rattle.ev_refine.proofs.ItemLocals.{Write, IsLocal, regs_with, locals_with, regs_long, keeps_rsp, locals_behind}
@@ -161,7 +162,13 @@ module _ (mode : Mode) (image : Image) (built : IsBuilt image) (good : IsImage i
     chains = λ b kind ctx now cpu act. step.with_last mode image built good facts left s m h p hp o b kind ctx now cpu words names allowed unknown changes act;
   }
 
-  -- What an item does there.
+  -- the local APIC, where the context keeps what it has in service
+  pub same_apic : (write : Write) (place : ℕ) (status : Option Status) → ApicIs mode image (s.apics p) x.pending (behind write place status ∷ o.below)
+  same_apic write place status =
+      apic_again mode image (s.apics p) (s.apics p) x.pending x.bodies (behind write place status ∷ o.below) refl
+      (λ class. sym (ap (list_any (λ (a : BodyContext). serves mode image class a.service)) o.bodies)) on.apic
+
+  -- What an item does there; all but the end of an interrupt leave the local APIC as it is.
   pub record Does (ss : ℕ) (extra v : ℕ → ℕ) (f : Flags) (a : AtVisible ss extra v f) : Type 0 where
     pub cell : Cell
     pub found : code c.rip ≡ Some cell
@@ -174,7 +181,11 @@ module _ (mode : Mode) (image : Image) (built : IsBuilt image) (good : IsImage i
     pub status : Option Status
     pub flags_are : FlagsBehind mode image a.flags status flags
     pub words : NatMap ℕ
-    pub runs : Leads c s.memory cell.ins (gone c (regs_with c.regs write) flags (at place)) words
+    pub apic : Apic
+    pub runs : executed c (s.apics p) s.memory (s.latches p) (Some cell.ins)
+        ≡ ran (gone c (regs_with c.regs write) flags (at place)) apic words (s.latches p)
+    pub service : Option ℕ
+    pub apic_is : ApicIs mode image apic x.pending (record (behind write place status) { service = service } ∷ o.below)
     pub names : List Named
     pub allowed : AreNames p names
     pub unknown : UnknownTo o.below names
@@ -187,12 +198,13 @@ module _ (mode : Mode) (image : Image) (built : IsBuilt image) (good : IsImage i
     pub entries : List Entry
     pub turns : turn image m p ≡ (machine, entries)
     pub slots : NatMap ℕ
-    pub makes : step.Makes mode image built good facts left s m h p hp o machine words tasks slots (behind write place status ∷ o.below)
+    pub makes : step.Makes mode image built good facts left s m h p hp o machine words tasks slots
+        (record (behind write place status) { service = service } ∷ o.below)
     pub shows : shown_always p (bodies_on s p) c s.memory.words (Some cell.ins) ≡ entries
 
   pub visible : (ss : ℕ) (extra v : ℕ → ℕ) (f : Flags) (a : AtVisible ss extra v f) → Does ss extra v f a → Simulated mode image left s m p
   visible ss extra v f a d =
-      let b' : BodyContext = behind d.write d.place d.status in
+      let b' : BodyContext = record (behind d.write d.place d.status) { service = d.service } in
       let regs : List ℕ = regs_with c.regs d.write in
       let cpu : Processor = gone c regs d.flags (at d.place) in
       let mem : Memory = with_words s.memory d.words in
@@ -245,11 +257,11 @@ module _ (mode : Mode) (image : Image) (built : IsBuilt image) (good : IsImage i
       let still_there : activations_by s p (s.activations p) cpu Stepped.Ran ≡ o.last ∷ o.others
       = ran_stays s p cpu d.cell.ins (step.fetches mode image built good facts left s m h p hp c.rip d.cell d.found).1 d.no_return ∙ o.acts in
       let quiet = step.are_quiet mode image built good facts left s m h p hp o in
-      step.visible mode image built good facts left s m h p hp o d.cell d.found d.marked a.kernel cpu d.words d.runs
+      step.visible_with mode image built good facts left s m h p hp o d.cell d.found d.marked a.kernel d.apic cpu d.words d.runs
       (step.blocked mode image built good facts left s m h p hp) d.names d.allowed d.changes d.machine d.entries d.turns d.tasks d.slots (b' ∷ o.below)
       d.makes
       (record { interrupts = quiet.0.interrupts; calls = quiet.0.calls }, quiet.1)
-      (λ class. sym (ap (list_any (λ (a : BodyContext). serves mode image class a.service)) o.bodies))
+      d.apic_is
       (goes_on_inside (is_return (Some d.cell.ins)) (not (is_user c)) (not (nat_le nmi_entry c.rip && nat_lt c.rip repeat_entry)) (is_jump (Some d.cell.ins))
       (is_in_repeat c.rip) (length x.bodies) d.no_return (step.outside mode image built good facts left s m h p hp o a.act) ∙ ap length o.bodies)
       (edges mode (body mode AtItem) 0) (omega arith)

@@ -40,7 +40,7 @@ use Rattle.ev_blocks.specs.Fred.{FromUser, FromKernel, FredToKernel, FredToTask,
 use Rattle.ev_blocks.specs.Fred as fred
 use Rattle.ev_blocks.specs.Idt.{Stub, Sys, Common, IdtToKernel, IdtToTask, idt_block, is_page_fault, table_of, stub_values, common_values, sys_values}
 use Rattle.ev_blocks.specs.Idt as idt
-use Rattle.ev_blocks.specs.Items.{BodySpot, AtTable, AtJump, AtItem, AtNumber, AtUserWord, AtPageWord}
+use Rattle.ev_blocks.specs.Items.{BodySpot, AtTable, AtJump, AtItem, AtNumber, AtNumbers, AtUserWord, AtPageWord}
 use Rattle.ev_blocks.specs.Blocks.{Spot, InFred, InIdt, InBody, block, edges}
 use Rattle.ev_blocks.proofs.Falls.{edges_fall}
 use Rattle.ev_grounds.specs.Facts.{FactLaws}
@@ -58,7 +58,7 @@ use Rattle.ev_paths.specs.FredEnds.{fred_end}
 use Rattle.ev_paths.specs.IdtEnds.{idt_end}
 use Rattle.ev_paths.specs.Ends.{Enters}
 use Rattle.ev_refine.specs.Domain.{IsInDomain}
-use Rattle.ev_refine.specs.Active.{item_place, number_of, here, IsKernelSs, Saved, SavedBody, AtLoad, AtStart, FlagsAre, HasPlace, InSpot, Matches, OverTask, OverBody, Active}
+use Rattle.ev_refine.specs.Active.{item_place, number_of, numbers_of, here, IsKernelSs, Saved, SavedBody, AtLoad, AtStart, FlagsAre, HasPlace, InSpot, Matches, OverTask, OverBody, Active}
 use Rattle.ev_refine.specs.Relation.{IsContext, switches_at, body_edges, Chain, StandsOn, Stands, serves}
 use Rattle.ev_refine.specs.Claims.{Simulated}
 use Rattle.ev_refine.proofs.Facts.{Facts}
@@ -73,6 +73,7 @@ use Rattle.ev_refine.proofs.BodyTables.{table_place, table_reads}
 use Rattle.ev_refine.proofs.Depth.{body_at, ends_a_body}
 use Rattle.ev_refine.proofs.Items.{which}
 use Rattle.ev_refine.proofs.ItemInside.{number_steps}
+use Rattle.ev_refine.proofs.ItemMsr.{numbers_steps}
 use Rattle.ev_refine.proofs.ItemAddress.{address_steps}
 use Rattle.ev_refine.proofs.ItemPage.{page_block_steps}
 use Rattle.ev_refine.proofs.KernelStep as step
@@ -389,6 +390,11 @@ module _ (mode : Mode) (image : Image) (built : IsBuilt image) (good : IsImage i
           items.by_number mode image built good facts left s m h p hp o body' is act ss ss_is extra v f j
           (subst (λ i. At code (block mode (body mode (AtNumber j))) i (env ss extra v f) c s.memory) (n ∙ number_steps mode j) at) means.0 means.1 long
           ctx.item (ap number_of (sym hi) ∙ ap (λ o. number_of (item_at o b.place)) (sym is) ∙ means.2) hi
+      at_body act (AtNumbers rcx rax rdx) k ss ss_is extra v f n at means long enough hi =
+          items.by_numbers mode image built good facts left s m h p hp o body' is act ss ss_is extra v f rcx rax rdx
+          (subst (λ i. At code (block mode (body mode (AtNumbers rcx rax rdx))) i (env ss extra v f) c s.memory) (n ∙ numbers_steps mode rcx rax rdx) at)
+          means.0 means.1 long
+          ctx.item (ap numbers_of (sym hi) ∙ ap (λ o. numbers_of (item_at o b.place)) (sym is) ∙ means.2) hi
       at_body act AtUserWord k ss ss_is extra v f n at means long enough hi =
           items.by_address mode image built good facts left s m h p hp o body' is ss ss_is extra v f
           (subst (λ i. At code (block mode (body mode AtUserWord)) i (env ss extra v f) c s.memory) (n ∙ address_steps mode) at) means.0 means.1 means.2 long

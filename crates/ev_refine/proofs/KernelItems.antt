@@ -6,11 +6,11 @@ use Rattle.ev_isa.specs.Word.{NatMap, is_canonical}
 use Rattle.ev_isa.specs.Flags.{Flags}
 use Rattle.ev_isa.specs.Spelling.{spelling}
 use Rattle.ev_isa.specs.declared.instruction.Ins.{Ins}
-use Rattle.ev_isa.specs.declared.instruction.Ins.TheVariants.{Load, Store, StoreImm, Xchg, Xadd, Jmp}
+use Rattle.ev_isa.specs.declared.instruction.Ins.TheVariants.{Load, Store, StoreImm, Xchg, Xadd, Jmp, Wrmsr}
 use Rattle.ev_isa.specs.declared.mode.Mode.{Mode}
 use Rattle.ev_effect.specs.Task.{Task}
 use Rattle.ev_body.specs.declared.item.Item.{Item}
-use Rattle.ev_body.specs.declared.item.Item.TheVariants.{Set, Copy, Goto, Log, Cpu, Slot, Put, SetCell, AddCell, SwapCell, Uget, Uput, GetReg, SetReg, SetRip, Map, Unmap, Ret}
+use Rattle.ev_body.specs.declared.item.Item.TheVariants.{Set, Copy, Goto, Log, Cpu, Slot, Put, SetCell, AddCell, SwapCell, Uget, Uput, GetReg, SetReg, SetRip, Eoi, Map, Unmap, Ret}
 use Rattle.ev_body.specs.declared.body.Body.{Body}
 use Rattle.ev_body.specs.declared.image.Image.{Image}
 use Rattle.ev_body.specs.WellFormed.{IsImage, is_local, has_operands}
@@ -37,14 +37,14 @@ use Rattle.ev_symbolic.specs.Machine.{Fetches}
 use Rattle.ev_symbolic.specs.Single.{IsAt, onward}
 use Rattle.ev_symbolic.proofs.Single.{singles}
 use Rattle.ev_symbolic.proofs.Blocks.{unsome, begins, at_end}
-use Rattle.ev_blocks.specs.Items.{AtItem, AtNumber, AtUserWord, AtPageWord, page_steps}
+use Rattle.ev_blocks.specs.Items.{AtItem, AtNumber, AtNumbers, AtUserWord, AtPageWord, page_steps}
 use Rattle.ev_blocks.specs.Blocks.{Spot, InFred, InIdt, InBody, block, edges}
 use Rattle.ev_blocks.specs.Blocks as blocks
 use Rattle.ev_user.specs.Words.{AreWords}
 use Rattle.ev_activation.specs.Seat.{Kind, SystemCall, FromTask, FromBody, NmiFromTask, NmiFromBody, Seat}
 use Rattle.ev_table.specs.Table.{code_table, other_exit, RetCell}
 use Rattle.ev_refine.specs.Domain.{IsInDomain}
-use Rattle.ev_refine.specs.Active.{item_place, number_of, address_local, page_local, LocalInRax, here, IsKernelSs, Saved, SavedOf, InItem, Active}
+use Rattle.ev_refine.specs.Active.{item_place, number_of, numbers_of, address_local, page_local, LocalInRax, here, IsKernelSs, Saved, SavedOf, InItem, Active}
 use Rattle.ev_refine.specs.Relation.{IsContext, switches_at, StandsOn, Stands}
 use Rattle.ev_refine.specs.Claims.{Simulated}
 use Rattle.ev_refine.proofs.Facts.{Facts, word_of_flags, word_of_canonical}
@@ -59,6 +59,7 @@ use Rattle.ev_refine.proofs.ItemSteps as steps
 use Rattle.ev_refine.proofs.ItemTask as task
 use Rattle.ev_refine.proofs.ItemNumbers as numbers
 use Rattle.ev_refine.proofs.ItemInside as inside
+use Rattle.ev_refine.proofs.ItemMsr as msr
 use Rattle.ev_refine.proofs.ItemAddress as addresses
 use Rattle.ev_refine.proofs.ItemUser as user
 use Rattle.ev_refine.proofs.ItemPage as pages
@@ -261,7 +262,7 @@ module _ (mode : Mode) (image : Image) (built : IsBuilt image) (good : IsImage i
           → At code (block mode (body mode AtItem)) 0 (env ss extra v f) c s.memory → InItem mode image (origin_of κ) (env ss extra v f) w b
           → extra 20 ≡ item_place mode image b.body b.place → length c.regs ≡ 16 → edges mode (body mode AtItem) 0 ≤ on.own
           → (i : Item) → is_built_item i ≡ true → item_at (Some body') b.place ≡ Some i → Result
-      unfolding is_built_item at_visible visible_of number_of address_local page_local has_operands
+      unfolding is_built_item at_visible visible_of number_of numbers_of address_local page_local has_operands
       by_item act ss ss_is extra v f at means place long enough i today hi = pick i today hi
         where
           a : visible.AtVisible mode image built good facts left s m h p hp o body' is ss extra v f
@@ -326,6 +327,8 @@ module _ (mode : Mode) (image : Image) (built : IsBuilt image) (good : IsImage i
           pick (Uput q r) today hi = address (Uput q r) (Store 0 (pos 0) r) refl hi q refl (and_left (is_local q) _ (ruled.operands b.place (Uput q r) hi).2)
           pick (Map q) today hi = page (Map q) (StoreImm 0 (pos 0) (pos 1)) refl hi q refl (ruled.operands b.place (Map q) hi).2
           pick (Unmap q) today hi = page (Unmap q) (StoreImm 0 (pos 0) (pos 0)) refl hi q refl (ruled.operands b.place (Unmap q) hi).2
+          pick Eoi today hi = msr.to_numbers mode image built good facts left s m h p hp o body' is act ss ss_is extra v f at means place long enough
+              Eoi Wrmsr refl hi 0x80b 0 0 refl
           pick Item.Bp today hi = breaks.by_bp mode image built good facts left s m h p hp o body' is ss extra v f a off same hi
           pick Ret today hi = at_ret act ss ss_is extra v f at means place long enough hi
           pick _ today hi = absurd (cc)
@@ -367,6 +370,35 @@ module _ (mode : Mode) (image : Image) (built : IsBuilt image) (good : IsImage i
               (low k (ruled.slots b.place (SwapCell k d) hi)) (rax ∙ sym (unsome _ _ q)) d hi)
           pick (SetRip j) q hi = does (task.by_setrip mode image built good facts left s m h p hp o body' is ss extra v f a off refl j
               (rax ∙ sym (unsome _ _ q)) hi)
+          pick _ q hi = absurd (cc)
+
+      -- behind the loads of numbers for RCX, RAX and RDX
+      pub by_numbers : (act : Stood on.own b c s.memory) (ss : ℕ) → IsKernelSs mode ss → (extra v : ℕ → ℕ) (f : Flags) (rcx rax rdx : ℕ)
+          → At code (block mode (body mode (AtNumbers rcx rax rdx))) 3 (env ss extra v f) c s.memory
+          → InItem mode image (origin_of κ) (env ss extra v f) w b
+          → extra 20 ≡ item_place mode image b.body b.place → length c.regs ≡ 16 → (i : Item) → numbers_of (Some i) ≡ Some (rcx, rax, rdx)
+          → item_at (Some body') b.place ≡ Some i → Result
+      unfolding numbers_of msr.at_numbers eval
+      by_numbers act ss ss_is extra v f rcx rax rdx at means place long i numbers hi = pick i numbers hi
+        where
+          a : visible.AtVisible mode image built good facts left s m h p hp o body' is ss extra v f
+          a = msr.at_numbers mode image built good facts left s m h p hp o body' is act ss ss_is extra v f rcx rax rdx at means place long
+
+          in_rax : register c 0 ≡ rax
+          in_rax = ap (λ (xs : List ℕ). get_or xs 0 0) a.state.regs
+
+          in_rcx : register c 1 ≡ rcx
+          in_rcx = ap (λ (xs : List ℕ). get_or xs 1 0) a.state.regs
+
+          in_rdx : register c 2 ≡ rdx
+          in_rdx = ap (λ (xs : List ℕ). get_or xs 2 0) a.state.regs
+
+          pick : (i : Item) → numbers_of (Some i) ≡ Some (rcx, rax, rdx) → item_at (Some body') b.place ≡ Some i → Result
+          pick Eoi q hi =
+              let z : (rcx, rax, rdx) ≡ (0x80b, 0, 0) = sym (unsome _ _ q) in
+              visible.visible mode image built good facts left s m h p hp o body' is ss extra v f a
+              (msr.by_eoi mode image built good facts left s m h p hp o body' is ss extra v f a refl refl
+              (in_rcx ∙ ap (λ (z : ℕ × ℕ × ℕ). z.0) z) (in_rax ∙ ap (λ (z : ℕ × ℕ × ℕ). z.1) z) (in_rdx ∙ ap (λ (z : ℕ × ℕ × ℕ). z.2) z) hi)
           pick _ q hi = absurd (cc)
 
       -- behind the block that comes to the address of the page's word

@@ -1,5 +1,5 @@
 -- The abstract machine stays legal, and tasks keep their GS bases: its turns are lines of scripts. And no more bodies stand than an image may nest.
-use Rattle.std.proofs.Common.{◌≡◌, ℕ, suc, ◌<◌, ◌≤◌, List, [], ◌∷◌, length, Some, None, refl, sym, ap, ◌∙◌, subst, arith}
+use Rattle.std.proofs.Common.{◌≡◌, ℕ, suc, ◌<◌, ◌≤◌, true, List, [], ◌∷◌, length, Some, None, refl, sym, ap, ◌∙◌, subst, arith}
 use Rattle.std.specs.Prelude.{slice_get}
 use Rattle.std.proofs.lemmas.Bool.{lt-ltb}
 use Rattle.ev_body.specs.declared.image.Image.{Image}
@@ -8,12 +8,15 @@ use Rattle.ev_abstract.specs.Accepted.{IsAccepted}
 use Rattle.ev_abstract.specs.Context.{BodyContext}
 use Rattle.ev_abstract.specs.Machine.{Machine, processor}
 use Rattle.ev_abstract.specs.declared.entry.Entry.{Entry}
-use Rattle.ev_body.specs.declared.item.Item.TheVariants.{Ret}
+use Rattle.ev_body.specs.declared.item.Item.TheVariants.{Eoi, Ret}
 use Rattle.ev_abstract.specs.Run.{turn, line_step, item_at}
 use Rattle.ev_abstract.specs.Script.{is_line}
 use Rattle.ev_abstract.specs.declared.script_line.Line.TheVariants.{Turn}
 use Rattle.ev_law.specs.Legal.{Legal, AreLegal, numbers, knows}
-use Rattle.ev_law.proofs.Follows.{ret_serves_none}
+use Rattle.ev_law.proofs.Follows.{ret_serves_none, eoi_serves, follows}
+use Rattle.ev_law.specs.Laws.{is_lower}
+use Rattle.ev_law.proofs.Ruled.{body_ruled}
+use Rattle.std.specs.List.{list_all}
 use Rattle.ev_law.proofs.Runs.{are_chain, short}
 use Rattle.ev_law.specs.Bases.{HasBases}
 use Rattle.ev_law.proofs.Lines.{lines_keep_legal}
@@ -43,6 +46,15 @@ legal_few image given accepted m p h =
     as_many : (cs : List BodyContext) → length (numbers cs) ≡ length cs
     as_many [] = refl
     as_many (c ∷ cs) = ap suc (as_many cs)
+
+-- A context at its `eoi` has the class of its interrupt in service, and those below it have lower ones.
+pub eoi_context : (image : Image) → IsImage image → IsAccepted image → (m : Machine) (p : ℕ) → Legal image m → (b : BodyContext) (below : List BodyContext)
+    → (processor m p).bodies ≡ b ∷ below → item_at (slice_get image.bodies b.body) b.place ≡ Some Eoi
+    → (class : ℕ) × (b.service ≡ Some class) × (list_all (is_lower class) below ≡ true)
+eoi_context image given accepted m p h b below hb hi =
+    let l : AreLegal image (knows image m) (b ∷ below) = subst (AreLegal image (knows image m)) hb (h.each p).bodies in
+    let k = eoi_serves image given accepted (knows image m) b below l.0 (sym (ap (λ o. item_at o b.place) l.0.is_body) ∙ hi) in
+    (k.0, k.1, (follows image (knows image m) (body_ruled image given accepted.1.kept) b below l).falls k.0 k.1)
 
 -- a context at its `ret` has no interrupt in service
 pub context_serves : (image : Image) → IsImage image → IsAccepted image → (m : Machine) (p : ℕ) → Legal image m → (b : BodyContext) (below : List BodyContext)

@@ -35,6 +35,7 @@ pub mod ItemAddress
 pub mod ItemSteps
 pub mod ItemTask
 pub mod ItemNumbers
+pub mod ItemMsr
 pub mod ItemUser
 pub mod ItemPage
 pub mod ItemPages

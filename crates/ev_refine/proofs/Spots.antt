@@ -22,7 +22,7 @@ use Rattle.ev_blocks.specs.Fred.{FredWay, ByCall, ByInt3, ByIntN, ByOther, FromU
 use Rattle.ev_blocks.specs.Fred as fred
 use Rattle.ev_blocks.specs.Idt.{IdtReturn, BySysret, ByOtherRip, ByOtherFlags, Stub, Sys, Common, IdtToKernel, IdtToTask, idt_block, idt_places, sys_lines, common_lines, exit_lines}
 use Rattle.ev_blocks.specs.Idt as idt
-use Rattle.ev_blocks.specs.Items.{AtTable, AtJump, AtItem, AtNumber, AtUserWord, AtPageWord, body_block}
+use Rattle.ev_blocks.specs.Items.{AtTable, AtJump, AtItem, AtNumber, AtNumbers, AtUserWord, AtPageWord, body_block}
 use Rattle.ev_blocks.specs.Blocks.{Spot, InFred, InIdt, InBody, block, forms, edges}
 use Rattle.ev_blocks.specs.Blocks as blocks
 use Rattle.ev_paths.specs.Lines.{HasKernel, IsAtStub}
@@ -48,6 +48,7 @@ is_spot Fred (InBody FredFrame AtTable) = true
 is_spot Fred (InBody FredFrame AtJump) = true
 is_spot Fred (InBody FredFrame AtItem) = true
 is_spot Fred (InBody FredFrame (AtNumber n)) = true
+is_spot Fred (InBody FredFrame (AtNumbers rcx rax rdx)) = true
 is_spot Fred (InBody FredFrame AtUserWord) = true
 is_spot Fred (InBody FredFrame (AtPageWord is_page)) = true
 is_spot Idt (InIdt Sys) = true
@@ -61,6 +62,7 @@ is_spot Idt (InBody IdtFrame AtTable) = true
 is_spot Idt (InBody IdtFrame AtJump) = true
 is_spot Idt (InBody IdtFrame AtItem) = true
 is_spot Idt (InBody IdtFrame (AtNumber n)) = true
+is_spot Idt (InBody IdtFrame (AtNumbers rcx rax rdx)) = true
 is_spot Idt (InBody IdtFrame AtUserWord) = true
 is_spot Idt (InBody IdtFrame (AtPageWord is_page)) = true
 is_spot mode spot = false
@@ -78,6 +80,7 @@ over_task mode image Fred (InBody FredFrame AtTable) e w b h = refl
 over_task mode image Fred (InBody FredFrame AtJump) e w b h = refl
 over_task mode image Fred (InBody FredFrame AtItem) e w b h = refl
 over_task mode image Fred (InBody FredFrame (AtNumber n)) e w b h = refl
+over_task mode image Fred (InBody FredFrame (AtNumbers rcx rax rdx)) e w b h = refl
 over_task mode image Fred (InBody FredFrame AtUserWord) e w b h = refl
 over_task mode image Fred (InBody FredFrame (AtPageWord is_page)) e w b h = refl
 over_task mode image Idt (InIdt Sys) e w b h = refl
@@ -88,6 +91,7 @@ over_task mode image Idt (InBody IdtFrame AtTable) e w b h = refl
 over_task mode image Idt (InBody IdtFrame AtJump) e w b h = refl
 over_task mode image Idt (InBody IdtFrame AtItem) e w b h = refl
 over_task mode image Idt (InBody IdtFrame (AtNumber n)) e w b h = refl
+over_task mode image Idt (InBody IdtFrame (AtNumbers rcx rax rdx)) e w b h = refl
 over_task mode image Idt (InBody IdtFrame AtUserWord) e w b h = refl
 over_task mode image Idt (InBody IdtFrame (AtPageWord is_page)) e w b h = refl
 over_task mode image m _ e w b h = absurd h
@@ -101,6 +105,7 @@ over_body mode image Fred (InBody FredFrame AtTable) e w b h = (refl, refl)
 over_body mode image Fred (InBody FredFrame AtJump) e w b h = (refl, refl)
 over_body mode image Fred (InBody FredFrame AtItem) e w b h = (refl, refl)
 over_body mode image Fred (InBody FredFrame (AtNumber n)) e w b h = (refl, refl)
+over_body mode image Fred (InBody FredFrame (AtNumbers rcx rax rdx)) e w b h = (refl, refl)
 over_body mode image Fred (InBody FredFrame AtUserWord) e w b h = (refl, refl)
 over_body mode image Fred (InBody FredFrame (AtPageWord is_page)) e w b h = (refl, refl)
 over_body mode image Idt (InIdt (Stub KernelCode has v)) e w b h = (refl, refl)
@@ -110,6 +115,7 @@ over_body mode image Idt (InBody IdtFrame AtTable) e w b h = (refl, refl)
 over_body mode image Idt (InBody IdtFrame AtJump) e w b h = (refl, refl)
 over_body mode image Idt (InBody IdtFrame AtItem) e w b h = (refl, refl)
 over_body mode image Idt (InBody IdtFrame (AtNumber n)) e w b h = (refl, refl)
+over_body mode image Idt (InBody IdtFrame (AtNumbers rcx rax rdx)) e w b h = (refl, refl)
 over_body mode image Idt (InBody IdtFrame AtUserWord) e w b h = (refl, refl)
 over_body mode image Idt (InBody IdtFrame (AtPageWord is_page)) e w b h = (refl, refl)
 over_body mode image m _ e w b h = absurd h
@@ -174,6 +180,7 @@ has_windows Fred (InBody FredFrame AtTable) h = record { known = refl; own = ref
 has_windows Fred (InBody FredFrame AtJump) h = record { known = refl; own = refl; written = refl }
 has_windows Fred (InBody FredFrame AtItem) h = record { known = refl; own = refl; written = refl }
 has_windows Fred (InBody FredFrame (AtNumber n)) h = record { known = refl; own = refl; written = refl }
+has_windows Fred (InBody FredFrame (AtNumbers rcx rax rdx)) h = record { known = refl; own = refl; written = refl }
 has_windows Fred (InBody FredFrame AtUserWord) h = record { known = refl; own = refl; written = refl }
 has_windows Fred (InBody FredFrame (AtPageWord is_page)) h = record { known = refl; own = refl; written = refl }
 has_windows Idt (InIdt Sys) h = record { known = refl; own = refl; written = refl }
@@ -187,6 +194,7 @@ has_windows Idt (InBody IdtFrame AtTable) h = record { known = refl; own = refl;
 has_windows Idt (InBody IdtFrame AtJump) h = record { known = refl; own = refl; written = refl }
 has_windows Idt (InBody IdtFrame AtItem) h = record { known = refl; own = refl; written = refl }
 has_windows Idt (InBody IdtFrame (AtNumber n)) h = record { known = refl; own = refl; written = refl }
+has_windows Idt (InBody IdtFrame (AtNumbers rcx rax rdx)) h = record { known = refl; own = refl; written = refl }
 has_windows Idt (InBody IdtFrame AtUserWord) h = record { known = refl; own = refl; written = refl }
 has_windows Idt (InBody IdtFrame (AtPageWord is_page)) h = record { known = refl; own = refl; written = refl }
 has_windows mode _ h = let clash : false ≡ true = h in absurd (cc)
@@ -204,6 +212,7 @@ few_edges Fred image (InBody FredFrame AtTable) h k = omega arith
 few_edges Fred image (InBody FredFrame AtJump) h k = omega arith
 few_edges Fred image (InBody FredFrame AtItem) h k = omega arith
 few_edges Fred image (InBody FredFrame (AtNumber n)) h k = omega arith
+few_edges Fred image (InBody FredFrame (AtNumbers rcx rax rdx)) h k = omega arith
 few_edges Fred image (InBody FredFrame AtUserWord) h k = omega arith
 few_edges Fred image (InBody FredFrame (AtPageWord true)) h k = omega arith
 few_edges Fred image (InBody FredFrame (AtPageWord false)) h k = omega arith
@@ -224,6 +233,7 @@ few_edges Idt image (InBody IdtFrame AtTable) h k = omega arith
 few_edges Idt image (InBody IdtFrame AtJump) h k = omega arith
 few_edges Idt image (InBody IdtFrame AtItem) h k = omega arith
 few_edges Idt image (InBody IdtFrame (AtNumber n)) h k = omega arith
+few_edges Idt image (InBody IdtFrame (AtNumbers rcx rax rdx)) h k = omega arith
 few_edges Idt image (InBody IdtFrame AtUserWord) h k = omega arith
 few_edges Idt image (InBody IdtFrame (AtPageWord true)) h k = omega arith
 few_edges Idt image (InBody IdtFrame (AtPageWord false)) h k = omega arith
@@ -240,6 +250,7 @@ never_switches Fred (InBody FredFrame AtTable) h = refl
 never_switches Fred (InBody FredFrame AtJump) h = refl
 never_switches Fred (InBody FredFrame AtItem) h = refl
 never_switches Fred (InBody FredFrame (AtNumber n)) h = refl
+never_switches Fred (InBody FredFrame (AtNumbers rcx rax rdx)) h = refl
 never_switches Fred (InBody FredFrame AtUserWord) h = refl
 never_switches Fred (InBody FredFrame (AtPageWord is_page)) h = refl
 never_switches Idt (InIdt Sys) h = refl
@@ -253,6 +264,7 @@ never_switches Idt (InBody IdtFrame AtTable) h = refl
 never_switches Idt (InBody IdtFrame AtJump) h = refl
 never_switches Idt (InBody IdtFrame AtItem) h = refl
 never_switches Idt (InBody IdtFrame (AtNumber n)) h = refl
+never_switches Idt (InBody IdtFrame (AtNumbers rcx rax rdx)) h = refl
 never_switches Idt (InBody IdtFrame AtUserWord) h = refl
 never_switches Idt (InBody IdtFrame (AtPageWord is_page)) h = refl
 never_switches mode _ h = let clash : false ≡ true = h in absurd (cc)
@@ -273,6 +285,7 @@ has_ground Fred (InBody FredFrame AtTable) h = record { fred = refl; descriptors
 has_ground Fred (InBody FredFrame AtJump) h = record { fred = refl; descriptors = refl; tops = refl }
 has_ground Fred (InBody FredFrame AtItem) h = record { fred = refl; descriptors = refl; tops = refl }
 has_ground Fred (InBody FredFrame (AtNumber n)) h = record { fred = refl; descriptors = refl; tops = refl }
+has_ground Fred (InBody FredFrame (AtNumbers rcx rax rdx)) h = record { fred = refl; descriptors = refl; tops = refl }
 has_ground Fred (InBody FredFrame AtUserWord) h = record { fred = refl; descriptors = refl; tops = refl }
 has_ground Fred (InBody FredFrame (AtPageWord is_page)) h = record { fred = refl; descriptors = refl; tops = refl }
 has_ground Idt (InIdt Sys) h = record { fred = refl; descriptors = refl; tops = refl }
@@ -286,6 +299,7 @@ has_ground Idt (InBody IdtFrame AtTable) h = record { fred = refl; descriptors =
 has_ground Idt (InBody IdtFrame AtJump) h = record { fred = refl; descriptors = refl; tops = refl }
 has_ground Idt (InBody IdtFrame AtItem) h = record { fred = refl; descriptors = refl; tops = refl }
 has_ground Idt (InBody IdtFrame (AtNumber n)) h = record { fred = refl; descriptors = refl; tops = refl }
+has_ground Idt (InBody IdtFrame (AtNumbers rcx rax rdx)) h = record { fred = refl; descriptors = refl; tops = refl }
 has_ground Idt (InBody IdtFrame AtUserWord) h = record { fred = refl; descriptors = refl; tops = refl }
 has_ground Idt (InBody IdtFrame (AtPageWord is_page)) h = record { fred = refl; descriptors = refl; tops = refl }
 has_ground mode _ h = let clash : false ≡ true = h in absurd (cc)
@@ -294,6 +308,7 @@ has_ground mode _ h = let clash : false ≡ true = h in absurd (cc)
 abbrev pub IsAtEntry : Spot → Env → Type 0
 IsAtEntry (InIdt s) e = IsAtStub e s
 IsAtEntry (InBody layout (AtNumber n)) e = ⊥
+IsAtEntry (InBody layout (AtNumbers rcx rax rdx)) e = ⊥
 IsAtEntry (InBody layout AtUserWord) e = ⊥
 IsAtEntry (InBody layout (AtPageWord is_page)) e = ⊥
 IsAtEntry s e = Unit {0}
@@ -305,6 +320,7 @@ lines_stand Fred code e z k (InBody FredFrame AtTable) h at = tt
 lines_stand Fred code e z k (InBody FredFrame AtJump) h at = tt
 lines_stand Fred code e z k (InBody FredFrame AtItem) h at = tt
 lines_stand Fred code e z k (InBody FredFrame (AtNumber n)) h at = absurd at
+lines_stand Fred code e z k (InBody FredFrame (AtNumbers rcx rax rdx)) h at = absurd at
 lines_stand Fred code e z k (InBody FredFrame AtUserWord) h at = absurd at
 lines_stand Fred code e z k (InBody FredFrame (AtPageWord is_page)) h at = absurd at
 lines_stand Idt code e z k (InIdt s) h at = idt_stand code e z k s at
@@ -312,6 +328,7 @@ lines_stand Idt code e z k (InBody IdtFrame AtTable) h at = tt
 lines_stand Idt code e z k (InBody IdtFrame AtJump) h at = tt
 lines_stand Idt code e z k (InBody IdtFrame AtItem) h at = tt
 lines_stand Idt code e z k (InBody IdtFrame (AtNumber n)) h at = absurd at
+lines_stand Idt code e z k (InBody IdtFrame (AtNumbers rcx rax rdx)) h at = absurd at
 lines_stand Idt code e z k (InBody IdtFrame AtUserWord) h at = absurd at
 lines_stand Idt code e z k (InBody IdtFrame (AtPageWord is_page)) h at = absurd at
 lines_stand mode code e z k _ h at = let clash : false ≡ true = h in absurd (cc)
@@ -332,6 +349,7 @@ runs_to_end Fred (InBody FredFrame AtTable) h = (_, refl)
 runs_to_end Fred (InBody FredFrame AtJump) h = (_, refl)
 runs_to_end Fred (InBody FredFrame AtItem) h = (_, refl)
 runs_to_end Fred (InBody FredFrame (AtNumber n)) h = (_, refl)
+runs_to_end Fred (InBody FredFrame (AtNumbers rcx rax rdx)) h = (_, ((body_ends true FredFrame).numbers rcx rax rdx).runs)
 runs_to_end Fred (InBody FredFrame AtUserWord) h = (_, (body_ends true FredFrame).user_word.runs)
 runs_to_end Fred (InBody FredFrame (AtPageWord is_page)) h = (_, ((body_ends true FredFrame).page_word is_page).runs)
 runs_to_end Idt (InIdt Sys) h = (_, idt_enters.call.runs)
@@ -345,6 +363,7 @@ runs_to_end Idt (InBody IdtFrame AtTable) h = (_, refl)
 runs_to_end Idt (InBody IdtFrame AtJump) h = (_, refl)
 runs_to_end Idt (InBody IdtFrame AtItem) h = (_, refl)
 runs_to_end Idt (InBody IdtFrame (AtNumber n)) h = (_, refl)
+runs_to_end Idt (InBody IdtFrame (AtNumbers rcx rax rdx)) h = (_, ((body_ends false IdtFrame).numbers rcx rax rdx).runs)
 runs_to_end Idt (InBody IdtFrame AtUserWord) h = (_, (body_ends false IdtFrame).user_word.runs)
 runs_to_end Idt (InBody IdtFrame (AtPageWord is_page)) h = (_, ((body_ends false IdtFrame).page_word is_page).runs)
 runs_to_end mode _ h = let clash : false ≡ true = h in absurd (cc)
@@ -413,6 +432,10 @@ is_in_item s = (s.rip.tag == item_tag) && nat_lt s.rip.off 0x40
 pub number_inside : (fred : Bool) (layout : Layout) (n : ℕ) → every is_in_item (body_block fred layout (AtNumber n)) ≡ true
 unfolding spelling four_bytes
 number_inside fred layout n = refl
+
+pub numbers_inside : (fred : Bool) (layout : Layout) (rcx rax rdx : ℕ) → every is_in_item (body_block fred layout (AtNumbers rcx rax rdx)) ≡ true
+unfolding spelling four_bytes
+numbers_inside fred layout rcx rax rdx = refl
 
 pub address_inside : (fred : Bool) (layout : Layout) → every is_in_item (body_block fred layout AtUserWord) ≡ true
 unfolding spelling four_bytes

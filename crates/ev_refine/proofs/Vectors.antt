@@ -18,6 +18,7 @@ use Rattle.ev_abstract.specs.Machine as abstract
 use Rattle.ev_isa.specs.declared.mode.Mode.{Mode}
 use Rattle.ev_body.specs.declared.image.Image.{Image}
 use Rattle.ev_refine.specs.Relation.{ApicIs, serves}
+use Rattle.ev_law.specs.Laws.{is_lower}
 
 -- ---- sets and lists
 
@@ -238,6 +239,25 @@ module _ (mode : Mode) (image : Image) where
           (ap (λ t. t && (u / 16 == u / 16)) h ∙ eq-eqb (u / 16) (u / 16) refl))
 
   -- ---- the end of an interrupt
+
+  -- where all classes are lower, each is
+  pub lower_each : (k class : ℕ) (bs : List BodyContext) → list_all (is_lower k) bs ≡ true → list_any (has class) bs ≡ true → class < k
+  lower_each k class [] all any = absurd (cc)
+  lower_each k class (b ∷ bs) all any = pick b.service refl (lower_each k class bs (and_right (is_lower k b) _ all))
+    where
+      lower_of : (o : Option ℕ) → b.service ≡ o → is_lower k (record b { service = o }) ≡ true
+      lower_of o q = subst (λ o. is_lower k (record b { service = o }) ≡ true) q (and_left (is_lower k b) _ all)
+
+      pick : (o : Option ℕ) → b.service ≡ o → (list_any (has class) bs ≡ true → class < k) → class < k
+      pick None q later = later (sym (ap (λ o. serves mode image class o || list_any (has class) bs) q) ∙ any)
+      pick (Some j) q later = here (j == class) refl
+        where
+          here : (t : Bool) → (j == class) ≡ t → class < k
+          here true e =
+              let l : j < k = ltb-true j k (lower_of (Some j) q) in
+              let same : j ≡ class = eqb-true j class e in omega arith
+          here false e =
+              later (sym (ap (λ o. serves mode image class o || list_any (has class) bs) q ∙ ap (λ t. t || list_any (has class) bs) e) ∙ any)
 
   -- The last context's class, which is above those of the others, is no longer in service.
   pub ended_is : (a : Apic) (set : NatSet) (b d : BodyContext) (bs : List BodyContext) (k : ℕ) → ApicIs mode image a set (b ∷ bs) → b.service ≡ Some k

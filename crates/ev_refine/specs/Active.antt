@@ -5,7 +5,7 @@ use Rattle.ev_isa.specs.Flags.{Status, Flags, modelled}
 use Rattle.ev_isa.specs.declared.mode.Mode.{Mode}
 use Rattle.ev_isa.specs.declared.mode.Mode.TheVariants.{Idt, Fred}
 use Rattle.ev_body.specs.declared.item.Item.{Item}
-use Rattle.ev_body.specs.declared.item.Item.TheVariants.{SetCell, AddCell, SwapCell, Uget, Uput, SetRip, Map, Unmap, Ret}
+use Rattle.ev_body.specs.declared.item.Item.TheVariants.{SetCell, AddCell, SwapCell, Uget, Uput, SetRip, Eoi, Map, Unmap, Ret}
 use Rattle.ev_body.specs.declared.key.Side.{Side}
 use Rattle.ev_body.specs.declared.key.Side.TheVariants.{User, Kernel}
 use Rattle.ev_body.specs.declared.body.Body.{Body}
@@ -28,7 +28,7 @@ use Rattle.ev_blocks.specs.Fred.{FromUser, FromKernel, FredToKernel, FredToTask,
 use Rattle.ev_blocks.specs.Fred as fred
 use Rattle.ev_blocks.specs.Idt.{IdtReturn, BySysret, Stub, Sys, Common, IdtToKernel, IdtToTask, table_of, stub_values, common_values, sys_values}
 use Rattle.ev_blocks.specs.Idt as idt
-use Rattle.ev_blocks.specs.Items.{BodySpot, AtTable, AtJump, AtItem, AtNumber, AtUserWord, AtPageWord}
+use Rattle.ev_blocks.specs.Items.{BodySpot, AtTable, AtJump, AtItem, AtNumber, AtNumbers, AtUserWord, AtPageWord}
 use Rattle.ev_blocks.specs.Blocks.{Spot, InFred, InIdt, InBody, block, edges}
 use Rattle.ev_blocks.specs.Blocks as blocks
 use Rattle.ev_paths.specs.Lines.{IsAtStub}
@@ -81,6 +81,11 @@ number_of (Some (AddCell k d)) = Some (cells_base + 8 * k)
 number_of (Some (SwapCell k d)) = Some (cells_base + 8 * k)
 number_of (Some (SetRip a)) = Some a
 number_of _ = None
+
+-- the numbers that an item's code puts into RCX, RAX and RDX first
+unfoldable pub numbers_of : Option Item → Option (ℕ × ℕ × ℕ)
+numbers_of (Some Eoi) = Some (0x80b, 0, 0)
+numbers_of _ = None
 
 -- the local that has its user address
 unfoldable pub address_local : Option Item → Option ℕ
@@ -224,6 +229,8 @@ module _ (mode : Mode) (image : Image) where
   InSpot o AtJump e w b = AtStart o e w b × HasPlace e b
   InSpot o AtItem e w b = InItem o e w b × HasPlace e b
   InSpot o (AtNumber n) e w b = InItem o e w b × HasPlace e b × (number_of (item_at (slice_get image.bodies b.body) b.place) ≡ Some n)
+  InSpot o (AtNumbers rcx rax rdx) e w b =
+      InItem o e w b × HasPlace e b × (numbers_of (item_at (slice_get image.bodies b.body) b.place) ≡ Some (rcx, rax, rdx))
   InSpot o AtUserWord e w b = InItem o e w b × HasPlace e b × LocalInRax address_local e b
   InSpot o (AtPageWord is_page) e w b = InItem o e w b × HasPlace e b × LocalInRax page_local e b
   InSpot o s e w b = ⊥
