@@ -12,7 +12,7 @@ use Rattle.ev_body.specs.declared.image.Image.{Image}
 use Rattle.ev_body.specs.WellFormed.{has_no_parts}
 use Rattle.ev_abstract.specs.Accepted.{IsAccepted}
 use Rattle.ev_abstract.specs.declared.script_line.Line.{Line}
-use Rattle.ev_abstract.specs.declared.script_line.Line.TheVariants.{Turn}
+use Rattle.ev_abstract.specs.declared.script_line.Line.TheVariants.{Turn, Arrive}
 
 -- items of registers, jumps, `log`, slots, `bp` and `ret`
 unfoldable pub is_built_item : Item → Bool
@@ -60,7 +60,8 @@ unfoldable pub mode_is_built : Mode → Bool
 mode_is_built Idt = true
 mode_is_built Fred = true
 
--- turns, of any processor
+-- turns, and arrivals of interrupts, of any processor
 unfoldable pub line_is_built : Line → Bool
 line_is_built (Turn p) = true
+line_is_built (Arrive p (Irq v)) = true
 line_is_built _ = false
