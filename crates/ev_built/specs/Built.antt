@@ -4,7 +4,7 @@ use Rattle.std.specs.List.{list_all}
 use Rattle.ev_isa.specs.declared.mode.Mode.{Mode}
 use Rattle.ev_isa.specs.declared.mode.Mode.TheVariants.{Idt, Fred}
 use Rattle.ev_body.specs.declared.key.Key.{Key}
-use Rattle.ev_body.specs.declared.key.Key.TheVariants.{Nmi}
+use Rattle.ev_body.specs.declared.key.Key.TheVariants.{Nmi, Irq}
 use Rattle.ev_body.specs.declared.item.Item.{Item}
 use Rattle.ev_body.specs.declared.item.Item.TheVariants.{Set, Copy, Alu, Jcc, Goto, Nop, Log, Cpu, Slot, Put, Cell, SetCell, AddCell, SwapCell, Uget, Uput, GetReg, SetReg, SetRip, Map, Unmap, Eoi, Ret}
 use Rattle.ev_body.specs.declared.body.Body.{Body}
@@ -12,7 +12,7 @@ use Rattle.ev_body.specs.declared.image.Image.{Image}
 use Rattle.ev_body.specs.WellFormed.{has_no_parts}
 use Rattle.ev_abstract.specs.Accepted.{IsAccepted}
 use Rattle.ev_abstract.specs.declared.script_line.Line.{Line}
-use Rattle.ev_abstract.specs.declared.script_line.Line.TheVariants.{Turn}
+use Rattle.ev_abstract.specs.declared.script_line.Line.TheVariants.{Turn, Arrive}
 
 -- all items but those of IF, interrupts and their end, rescheduling and cross calls
 unfoldable pub is_built_item : Item → Bool
@@ -62,7 +62,8 @@ unfoldable pub mode_is_built : Mode → Bool
 mode_is_built Idt = true
 mode_is_built Fred = true
 
--- turns, of any processor
+-- turns, and arrivals of interrupts, of any processor
 unfoldable pub line_is_built : Line → Bool
 line_is_built (Turn p) = true
+line_is_built (Arrive p (Irq v)) = true
 line_is_built _ = false

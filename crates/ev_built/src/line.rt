@@ -4,11 +4,12 @@ ghost use Rattle.std.specs.Prelude.{◌≡◌};
 ghost use Rattle.ev_built.specs.Built.{line_is_built};
 
 use ev_abstract::Line;
+use ev_body::Key;
 
-/// Whether `run` takes the script line today: a turn. Own.
+/// Whether `run` takes the script line today: a turn, or an interrupt that arrives. Own.
 #[tactic(auto, unfolding(crate::specs::Built::line_is_built))]
 pub fn line_is_built(line: &Line) -> bool
     ensures { result ≡ line_is_built line.now }
 {
-    matches!(line, Line::Turn(_))
+    matches!(line, Line::Turn(_) | Line::Arrive(_, Key::Irq(_)))
 }

@@ -6,4 +6,5 @@ pub mod Edges
 pub mod Selectors
 pub mod Standing
 pub mod Turns
+pub mod Interrupts
 pub mod Opening

@@ -75,7 +75,7 @@ module _ (mode : Mode) (image : Image) (s : System) (m : Machine) (v : MachineVi
 
 -- ---- the machine is the run of one line more
 
-all_more : {X : Type 0} (f : X → Bool) (xs : List X) (x : X) → list_all f xs ≡ true → f x ≡ true → list_all f (xs ++ x ∷ []) ≡ true
+pub all_more : {X : Type 0} (f : X → Bool) (xs : List X) (x : X) → list_all f xs ≡ true → f x ≡ true → list_all f (xs ++ x ∷ []) ≡ true
 all_more f [] x a b = ap (λ c. c && true) b
 all_more f (y ∷ ys) x a b = pick (f y) a (all_more f ys x)
   where

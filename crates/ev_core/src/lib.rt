@@ -2,6 +2,7 @@
 //! counted processor steps, with the entries and frames that a step shows.
 #![tactic(auto)]
 
+mod arrival;
 mod entry;
 mod frame;
 mod local;

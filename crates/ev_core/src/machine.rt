@@ -1,12 +1,14 @@
 // The machine.
 
-ghost use Rattle.std.specs.Prelude.{◌≡◌, nat_lt, ◌<◌, ◌^◌, ℕ, true, List, [], ◌∷◌, ◌++◌, length, None, IfOk};
+ghost use Rattle.std.specs.Prelude.{◌≡◌, nat_lt, ◌<◌, ◌≤◌, ◌^◌, ℕ, true, List, [], ◌∷◌, ◌++◌, length, None, IfOk};
 ghost use Rattle.ev_isa.specs.declared.mode.Mode.{Mode};
 ghost use Rattle.ev_body.specs.declared.image.Image.{Image};
+ghost use Rattle.ev_body.specs.declared.key.Key.TheVariants.{Irq};
 ghost use Rattle.ev_abstract.specs.declared.script_line.Line.{Line};
-ghost use Rattle.ev_abstract.specs.declared.script_line.Line.TheVariants.{Turn};
+ghost use Rattle.ev_abstract.specs.declared.script_line.Line.TheVariants.{Turn, Arrive};
 ghost use Rattle.ev_abstract.specs.Machine as abstract;
 ghost use Rattle.ev_abstract.specs.Run.{entries_of};
+ghost use Rattle.ev_abstract.specs.Script.{has_body_of};
 ghost use Rattle.ev_body.specs.WellFormed.{IsImage};
 ghost use Rattle.ev_concrete.specs.Opening.{tasks_of};
 ghost use Rattle.ev_concrete.specs.ConcreteRun.{System, concrete_line, concrete_run, is_visible, marks_of};
@@ -16,6 +18,7 @@ ghost use Rattle.ev_core.specs.Run.{Costs, IsAt, IsRun, IsStandingAs};
 ghost use Rattle.ev_core.specs.Turns.{IsSettling, IsTurn};
 ghost use Rattle.ev_core.specs.Task.{IsTaskView};
 
+use crate::arrival::{KERNEL_TABLE, USER_TABLE, names_body};
 use crate::frame::keep;
 use crate::local::all_at_start;
 use crate::settle::settle;
@@ -141,6 +144,32 @@ impl Machine {
             entry: None,
             frames,
         }
+    }
+
+    /// Whether an interrupt of the vector has a body, of either side.
+    pub fn has_interrupt(&self, v: u8) -> bool
+        ensures { (mode : Mode) (image : Image) (s : System) (m : abstract.Machine)
+            → IsStandingAs mode image s m self.now → result ≡ has_body_of image (Irq v) }
+    {
+        let mem = &self.state.mem;
+        names_body(mem, USER_TABLE, v) || names_body(mem, KERNEL_TABLE, v)
+    }
+
+    /// An interrupt comes to processor p: its vector is requested in the local APIC. From any state
+    /// that stands for one of the abstract machine, so it is there; no step is made. A run of a
+    /// script becomes that of one line more.
+    pub fn arrive(&mut self, p: usize, v: u8)
+        requires place { p < length self.old.parts.cpus }
+        requires vector { 0x20 ≤ v }
+        requires body { (mode : Mode) (image : Image) (s : System) (m : abstract.Machine)
+            → IsStandingAs mode image s m self.old → has_body_of image (Irq v) ≡ true }
+        ensures run { (mode : Mode) (image : Image) (script : List Line)
+            → IsRun mode image script self.old
+            → IsRun mode image (script ++ Arrive p (Irq v) ∷ []) self.new }
+        ensures totals { self.new.parts.totals ≡ self.old.parts.totals }
+        ensures same { length self.new.parts.cpus ≡ length self.old.parts.cpus }
+    {
+        self.state.arrive(p, v);
     }
 
     /// How many processors there are.

@@ -2,8 +2,9 @@
 
 ghost use Rattle.std.specs.Prelude.{◌≡◌, ◌<◌, ◌≤◌, ◌+◌, ◌^◌, ℕ, true, length, map, replicate, slice_get, Some, IfOk};
 ghost use Rattle.ev_isa.specs.Word.{numbers_from};
+ghost use Rattle.ev_body.specs.declared.key.Key.TheVariants.{Irq};
 ghost use Rattle.ev_mem.specs.Mapped.{memory};
-ghost use Rattle.ev_concrete.specs.ConcreteRun.{System, concrete_step, is_visible};
+ghost use Rattle.ev_concrete.specs.ConcreteRun.{System, arrived_at, concrete_step, is_visible};
 ghost use Rattle.ev_concrete.specs.Shown.{shown};
 ghost use Rattle.ev_layout.specs.Marks.{marks_in};
 ghost use Rattle.ev_core.specs.Local.{optional};
@@ -88,5 +89,18 @@ impl State {
             entry: made.entry,
             frame,
         }
+    }
+
+    /// The vector is requested in the local APIC of processor p.
+    pub fn arrive(&mut self, p: usize, v: u8)
+        requires { p < length self.old.cpus }
+        ensures shows { (n : ℕ) (s : System) → Shows n self.old s
+            → Shows n self.new (arrived_at s p (Irq v)) }
+        ensures totals { self.new.totals ≡ self.old.totals }
+        ensures same { length self.new.cpus ≡ length self.old.cpus }
+    {
+        self.locals[p]
+            .apic
+            .accept(usize::from(v / 64), 1 << (v % 64));
     }
 }

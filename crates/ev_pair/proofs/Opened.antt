@@ -1,9 +1,10 @@
 -- A machine at its opening: how many processors it has, which every line of its script names.
-use Rattle.std.proofs.Common.{◌≡◌, ℕ, zero, suc, ◌<◌, true, ◌&&◌, List, [], ◌∷◌, length, get_or, ap, refl, sym, subst, arith}
+use Rattle.std.proofs.Common.{◌≡◌, ℕ, zero, suc, ◌<◌, ◌≤◌, true, ◌&&◌, List, [], ◌∷◌, length, get_or, ap, refl, sym, subst, arith}
 use Rattle.std.specs.Prelude.{nat_lt, nat_le}
 use Rattle.std.specs.List.{list_all}
-use Rattle.std.proofs.lemmas.Bool.{and_parts, and_from}
+use Rattle.std.proofs.lemmas.Bool.{and_parts, and_from, leb-true}
 use Rattle.ev_isa.specs.declared.mode.Mode.{Mode}
+use Rattle.ev_body.specs.declared.key.Key.TheVariants.{Irq}
 use Rattle.ev_body.specs.declared.image.Image.{Image}
 use Rattle.ev_body.specs.WellFormed.{is_sendable}
 use Rattle.ev_abstract.specs.Script.{is_line, IsScript, has_body_of}
@@ -28,6 +29,20 @@ all_within : (image : Image) (ls : List Line) → list_all (is_line image) ls �
 all_within image [] h = refl
 all_within image (l ∷ ls) h = let p = and_parts (is_line image l) (list_all (is_line image) ls) h in
     and_from (is_within image.processors l) (list_all (is_within image.processors) ls) (line_within image l p.0) (all_within image ls p.1)
+
+-- what it is for an arrival of an interrupt to follow
+pub arrival_line : (image : Image) (p v : ℕ) → is_line image (Arrive p (Irq v)) ≡ true → (0x20 ≤ v) × (has_body_of image (Irq v) ≡ true)
+unfolding is_line
+arrival_line image p v h =
+    let parts = and_parts (nat_lt p image.processors && is_sendable (Irq v)) (has_body_of image (Irq v)) h in
+    let sendable = (and_parts (nat_lt p image.processors) (is_sendable (Irq v)) parts.0).1 in
+    (leb-true 0x20 v (and_parts (nat_le 0x20 v) (nat_lt v 0x100) sendable).0, parts.1)
+
+-- a line of a script follows
+pub script_line : (image : Image) (ls : List Line) (i : ℕ) (d : Line) → IsScript image ls → i < length ls → is_line image (get_or ls i d) ≡ true
+script_line image [] i d h lt = absurd (omega arith)
+script_line image (l ∷ ls) zero d h lt = (and_parts (is_line image l) (list_all (is_line image) ls) h).0
+script_line image (l ∷ ls) (suc i) d h lt = script_line image ls i d (and_parts (is_line image l) (list_all (is_line image) ls) h).1 (omega arith)
 
 pub line_at : (n : ℕ) (ls : List Line) (i : ℕ) (d : Line) → list_all (is_within n) ls ≡ true → i < length ls → is_within n (get_or ls i d) ≡ true
 line_at n [] i d h lt = absurd (omega arith)

@@ -1,26 +1,56 @@
 -- A line of a script, what it shows, and what the end shows.
-use Rattle.std.proofs.Common.{◌≡◌, ℕ, Bool, true, List, ◌++◌, ap, refl, sym, ◌∙◌}
+use Rattle.std.proofs.Common.{◌≡◌, ℕ, Bool, true, false, List, [], ◌++◌, ap, refl, sym, ◌∙◌, Option, Some, None}
+use Rattle.std.specs.Io.KnownBytes.{append_known}
+use Rattle.std.proofs.lemmas.List.{append-nil}
 use Rattle.ev_isa.specs.declared.mode.Mode.{Mode}
 use Rattle.ev_event.specs.declared.frame_note.FrameNote.{FrameNote}
+use Rattle.ev_body.specs.declared.key.Key.{Key}
+use Rattle.ev_body.specs.declared.key.Key.TheVariants.{Irq}
 use Rattle.ev_body.specs.declared.image.Image.{Image}
-use Rattle.ev_abstract.specs.Run.{run, entries_of}
+use Rattle.ev_abstract.specs.Run.{run, line_step, entries_of}
 use Rattle.ev_abstract.specs.declared.entry.Entry.{Entry}
 use Rattle.ev_abstract.specs.declared.script_line.Line.{Line}
 use Rattle.ev_abstract.specs.declared.script_line.Line.TheVariants.{Turn, Edge, Arrive, Accept}
-use Rattle.ev_abstract.specs.EntryText.{trace_text, all_end_lines}
+use Rattle.ev_abstract.specs.EntryText.{Text, trace_text, all_end_lines}
 use Rattle.ev_trace.specs.FrameText.{Totals, mode_text, totals_text}
 use Rattle.ev_built.specs.Built.{line_is_built}
 use Rattle.ev_concrete.specs.ConcreteRun.{marks_of, noted, concrete_line, concrete_run}
 use Rattle.ev_concrete.specs.RunText.{shown_frames, settling}
 use Rattle.ev_pair.specs.SideText.{side_at, shown_line, shown_end}
 
--- only turns are built today
-pub only_turns : (l : Line) → line_is_built l ≡ true → ((p : ℕ) → l ≡ Turn p → ⊥) → ⊥
+-- only turns and arrivals are built today
+pub turns_and_arrivals : (l : Line) → line_is_built l ≡ true → ((p : ℕ) (key : Key) → l ≡ Arrive p key → ⊥) → ((p : ℕ) → l ≡ Turn p → ⊥) → ⊥
 unfolding line_is_built
-only_turns (Turn p) e other = other p refl
-only_turns (Edge p n) e other = absurd (cc)
-only_turns (Arrive p key) e other = absurd (cc)
-only_turns (Accept p) e other = absurd (cc)
+turns_and_arrivals (Turn p) e arrival other = other p refl
+turns_and_arrivals (Edge p n) e arrival other = absurd (cc)
+turns_and_arrivals (Arrive p key) e arrival other = arrival p key refl
+turns_and_arrivals (Accept p) e arrival other = absurd (cc)
+
+-- and those of interrupts alone
+pub only_interrupts : (p : ℕ) (key : Key) → line_is_built (Arrive p key) ≡ true → ((v : ℕ) → key ≡ Irq v → ⊥) → ⊥
+unfolding line_is_built
+only_interrupts p (Irq v) e other = other v refl
+only_interrupts p Key.Sys e other = absurd (cc)
+only_interrupts p Key.Db e other = absurd (cc)
+only_interrupts p Key.Nmi e other = absurd (cc)
+only_interrupts p Key.Bp e other = absurd (cc)
+only_interrupts p Key.Ud e other = absurd (cc)
+only_interrupts p Key.Ss e other = absurd (cc)
+only_interrupts p Key.Gp e other = absurd (cc)
+only_interrupts p Key.Pf e other = absurd (cc)
+only_interrupts p Key.Ac e other = absurd (cc)
+
+-- where nothing is shown, nothing is written
+pub nothing_more : (old : Option Text) (text : Text) → text ≡ [] → old ≡ append_known old text
+nothing_more None text e = refl
+nothing_more (Some bs) text e = ap Some (sym (append-nil bs)) ∙ ap (append_known (Some bs)) (sym e)
+
+-- an arrival shows nothing
+pub arrival_shown : (frames : Bool) (mode : Mode) (image : Image) (done : List Line) (p : ℕ) (key : Key)
+    → shown_line frames mode image done (Arrive p key) ≡ []
+unfolding shown_line concrete_line line_step
+arrival_shown false mode image done p key = refl
+arrival_shown true mode image done p key = refl
 
 module _ (frames : Bool) (mode : Mode) (image : Image) where
   pub turn_shown : (done : List Line) (line : Line) (p : ℕ) (fs : List FrameNote) (es : List Entry) → line ≡ Turn p

@@ -43,10 +43,10 @@ fn put_one<L: Ledger, K: Sink>(
     requires within { list_all (is_within (length machine.old.parts.cpus)) script.now ≡ true }
     requires count { machine.old.parts.totals.steps ≡ 0 }
     ensures ok { (image : Image) → IsRun mode image [] machine.old
-        → OnOk result (K.taken sink.new ≡ append_known (K.taken sink.old)
+        → IsScript image script.now → OnOk result (K.taken sink.new ≡ append_known (K.taken sink.old)
         (run_text image script.now (mode ∷ []) frames)) }
     ensures failed { (image : Image) → IsRun mode image [] machine.old
-        → OnErr result (TookPrefix (K.taken sink.old) (K.taken sink.new)
+        → IsScript image script.now → OnErr result (TookPrefix (K.taken sink.old) (K.taken sink.new)
         (run_text image script.now (mode ∷ []) frames)) }
     ensures later { K.faults sink.old ≤ K.faults sink.new }
     ensures cause { OnErr result (Rose (K.faults sink.old) (K.faults sink.new)) }
@@ -76,10 +76,10 @@ fn put_both<L: Ledger, K: Sink>(
     requires fred_within { list_all (is_within (length fred.old.parts.cpus)) script.now ≡ true }
     requires fred_count { fred.old.parts.totals.steps ≡ 0 }
     ensures ok { (image : Image) → IsRun Idt image [] idt.old → IsRun Fred image [] fred.old
-        → OnOk result (K.taken sink.new ≡ append_known (K.taken sink.old)
+        → IsScript image script.now → OnOk result (K.taken sink.new ≡ append_known (K.taken sink.old)
         (run_text image script.now (Idt ∷ Fred ∷ []) frames)) }
     ensures failed { (image : Image) → IsRun Idt image [] idt.old → IsRun Fred image [] fred.old
-        → OnErr result (TookPrefix (K.taken sink.old) (K.taken sink.new)
+        → IsScript image script.now → OnErr result (TookPrefix (K.taken sink.old) (K.taken sink.new)
         (run_text image script.now (Idt ∷ Fred ∷ []) frames)) }
     ensures later { K.faults sink.old ≤ K.faults sink.new }
     ensures cause { OnErr result (Rose (K.faults sink.old) (K.faults sink.new)) }

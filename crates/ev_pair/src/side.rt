@@ -3,6 +3,9 @@
 ghost use Rattle.std.specs.Prelude.{◌≡◌, ◌<◌, ◌≤◌, ◌+◌, ◌^◌, true, List, [], ◌∷◌, ◌++◌, length, OnOk, OnErr};
 ghost use Rattle.std.specs.Io.KnownBytes.{append_known};
 ghost use Rattle.ev_body.specs.declared.image.Image.{Image};
+ghost use Rattle.ev_isa.specs.declared.mode.Mode.{Mode};
+ghost use Rattle.ev_abstract.specs.Script.{is_line};
+ghost use Rattle.ev_abstract.specs.declared.script_line.Line.TheVariants.{Arrive};
 ghost use Rattle.ev_io.specs.Transfer.{Rose, TookPrefix};
 ghost use Rattle.ev_abstract.specs.declared.script_line.Line.{Line};
 ghost use Rattle.ev_abstract.specs.EntryText.{all_end_lines, end_lines, task_lines};
@@ -19,10 +22,29 @@ ghost use Rattle.ev_pair.specs.Within.{is_within};
 
 use crate::lines::{put_busy, put_entry, put_shown_frames, put_task, put_totals};
 use ev_abstract::Line;
+use ev_body::Key;
 use ev_core::{Machine, Steps};
 use ev_io::{Failed, Sink};
 use ev_isa::Mode;
 use std::sync::ledger::Ledger;
+
+/// An interrupt comes to processor p, where its vector has a body.
+fn arrive(machine: &mut Machine, p: u32, key: Key)
+    requires built { line_is_built (Arrive p key) ≡ true }
+    requires place { p < length machine.old.parts.cpus }
+    ensures run { (mode : Mode) (image : Image) (done : List Line)
+        → IsRun mode image done machine.old → is_line image (Arrive p key) ≡ true
+        → IsRun mode image (done ++ Arrive p key ∷ []) machine.new }
+    ensures totals { machine.new.parts.totals ≡ machine.old.parts.totals }
+    ensures same { length machine.new.parts.cpus ≡ length machine.old.parts.cpus }
+{
+    let Key::Irq(v) = key else {
+        return;
+    };
+    if v >= 0x20 && machine.has_interrupt(v) {
+        machine.arrive(p as usize, v);
+    }
+}
 
 /// Makes a line of the script and writes what it shows: frames, where they are asked for, and then
 /// the entry.
@@ -38,7 +60,7 @@ pub fn put_line<L: Ledger, K: Sink>(
     requires within { is_within (length machine.old.parts.cpus) line.now ≡ true }
     requires count { machine.old.parts.totals.steps < 2 ^ 62 }
     ensures run { (image : Image) (done : List Line) → IsRun mode image done machine.old
-        → IsRun mode image (done ++ line.now ∷ []) machine.new }
+        → is_line image line.now ≡ true → IsRun mode image (done ++ line.now ∷ []) machine.new }
     ensures ok { (image : Image) (done : List Line) → IsRun mode image done machine.old
         → OnOk result (K.taken sink.new ≡ append_known (K.taken sink.old)
         (shown_line frames mode image done line.now)) }
@@ -50,6 +72,10 @@ pub fn put_line<L: Ledger, K: Sink>(
     ensures later { K.faults sink.old ≤ K.faults sink.new }
     ensures cause { OnErr result (Rose (K.faults sink.old) (K.faults sink.new)) }
 {
+    if let Line::Arrive(p, key) = *line {
+        arrive(machine, p, key);
+        return Ok(());
+    }
     let Line::Turn(p) = *line else {
         return Ok(());
     };

@@ -20,13 +20,13 @@ use Rattle.ev_tables.proofs.Gates.{upper_canonical}
 use Rattle.ev_refine.specs.Active.{side_by}
 use Rattle.ev_refine.specs.Relation.{first_word, InTables}
 use Rattle.ev_refine.proofs.Facts.{HasFixed}
-use Rattle.ev_refine.proofs.UserBody.{table_word_is}
+use Rattle.ev_refine.proofs.UserBody.{user_word_is}
 
--- the address of a body is the word of the table of events of bodies for its key
-kernel_word_is : (mode : Mode) (image : Image) → image.processors ≤ 8 → (key : ℕ) → key ≤ 0x100 → (n : ℕ)
-    → first_body 0 image.bodies key Kernel ≡ Some n → first_word mode image (kernel_table + 8 * key) ≡ body_code n
+-- the word of the table of events of bodies for a key, whether or not it has a body
+pub kernel_word_is : (mode : Mode) (image : Image) → image.processors ≤ 8 → (key : ℕ) → key ≤ 0x100
+    → first_word mode image (kernel_table + 8 * key) ≡ body_address (first_body 0 image.bodies key Kernel)
 unfolding opening_word word_there
-kernel_word_is mode image few key small n h =
+kernel_word_is mode image few key small =
     let a : ℕ = kernel_table + 8 * key in
     let aligned : is_aligned a ≡ true = eq-eqb (a % 8) 0 (omega arith) in
     let upper : nat_lt a (2 ^ 63) ≡ false = le-ltb a (2 ^ 63) (omega arith) in
@@ -41,7 +41,7 @@ kernel_word_is mode image few key small n h =
     let to : nat_lt a (kernel_table + 8 * 257) ≡ true = lt-ltb a (kernel_table + 8 * 257) (omega arith) in
     let number : (a - kernel_table) / 8 ≡ key = omega arith in
     rw (aligned, upper, code, stacks, areas, above, tasks, over, beyond, from, to)
-    (ap (λ k. body_address (first_body 0 image.bodies k Kernel)) number ∙ ap body_address h)
+    (ap (λ k. body_address (first_body 0 image.bodies k Kernel)) number)
 
 -- a displacement of 0 is none
 pub table_place : (o : Origin) (key : ℕ) → key ≤ 0x100 → displaced (table_of o + 8 * key) (pos 0) ≡ table_of o + 8 * key
@@ -65,11 +65,11 @@ module _ (mode : Mode) (image : Image) (good : IsImage image) where
     opened m hr (user_table + 8 * key)
         (user_table_covered image 0 0x808 (omega arith) (user_table + 8 * key) (record { from = omega arith; to = omega arith })) (omega arith) (omega arith)
         (omega arith),
-    fixed (user_table + 8 * key) (InTables (omega arith) (omega arith)) ∙ table_word_is mode image good.count.1 key small n h,
+    fixed (user_table + 8 * key) (InTables (omega arith) (omega arith)) ∙ user_word_is mode image good.count.1 key small ∙ ap body_address h,
   )
   table_reads KernelCode key small n h m hr fixed = (
     opened m hr (kernel_table + 8 * key)
         (kernel_table_covered image 0x1000 0x808 (omega arith) (omega arith) (kernel_table + 8 * key) (record { from = omega arith; to = omega arith }))
         (omega arith) (omega arith) (omega arith),
-    fixed (kernel_table + 8 * key) (InTables (omega arith) (omega arith)) ∙ kernel_word_is mode image good.count.1 key small n h,
+    fixed (kernel_table + 8 * key) (InTables (omega arith) (omega arith)) ∙ kernel_word_is mode image good.count.1 key small ∙ ap body_address h,
   )

@@ -1,6 +1,6 @@
 -- From single steps to edges, turns and scripts: inductions over the step theorem.
 use Rattle.std.proofs.Common.{◌≡◌, ◌≢◌, ℕ, zero, suc, ◌+◌, ◌<◌, ◌≤◌, ◌⊎◌, inl, inr, ⊎_elim, Bool, true, false, ◌&&◌, List, [], ◌∷◌, ◌++◌, length, Some, None, refl, sym, ap, ◌∙◌, subst, arith}
-use Rattle.std.specs.Prelude.{if◌then◌else◌}
+use Rattle.std.specs.Prelude.{if◌then◌else◌, nat_le, nat_lt}
 use Rattle.std.specs.List.{list_all}
 use Rattle.std.proofs.lemmas.Bool.{ltb-true}
 use Rattle.std.proofs.lemmas.Bool.Decides.{eqb_tells, leb_tells}
@@ -8,15 +8,18 @@ use Rattle.std.proofs.lemmas.List.{length-append}
 use Rattle.ev_isa.specs.Word.{NatMap, numbers_from}
 use Rattle.ev_isa.specs.declared.mode.Mode.{Mode}
 use Rattle.ev_event.specs.declared.frame_note.FrameNote.{FrameNote}
+use Rattle.ev_body.specs.declared.key.Key.{Key}
+use Rattle.ev_body.specs.declared.key.Key.TheVariants.{Irq}
+use Rattle.ev_body.specs.WellFormed.{is_sendable}
 use Rattle.ev_body.specs.declared.image.Image.{Image}
 use Rattle.ev_abstract.specs.Machine.{Machine}
 use Rattle.ev_abstract.specs.Run.{turn, line_step, after}
-use Rattle.ev_abstract.specs.Script.{IsScript, is_line}
+use Rattle.ev_abstract.specs.Script.{IsScript, has_body_of, is_line}
 use Rattle.ev_abstract.specs.declared.script_line.Line.{Line}
 use Rattle.ev_abstract.specs.declared.script_line.Line.TheVariants.{Turn, Edge, Arrive, Accept}
 use Rattle.ev_proc.specs.ProcessorStep.{After, step}
 use Rattle.ev_proc.specs.declared.stepped.Stepped.{Stepped}
-use Rattle.ev_concrete.specs.ConcreteRun.{System, Marks, marks_of, is_visible, acted, after_step, concrete_step, edges, with_frames, settled, all_settled, concrete_line, concrete_lines}
+use Rattle.ev_concrete.specs.ConcreteRun.{System, Marks, marks_of, is_visible, acted, after_step, concrete_step, edges, with_frames, settled, all_settled, concrete_line, concrete_lines, arrived_at}
 use Rattle.ev_built.specs.Built.{line_is_built}
 use Rattle.ev_refine.specs.Relation.{Stands}
 use Rattle.ev_refine.specs.Claims.{EdgeWrites, MakesEdge, MakesTurn, Simulated, Settles, Turns, SettledFirst}
@@ -164,13 +167,18 @@ module _ (mode : Mode) (image : Image) where
               let same = length-append (settled marks image.processors s p).1 (step_of there p).1 in omega arith;
         }
 
-    pub lines_follow : (script : List Line) (left : NatMap ℕ) (s : System) (m : Machine) → Follows left s m → IsScript image script
+    -- what each arrival of an interrupt keeps
+    abbrev pub ArrivalsStand : Type 0
+    ArrivalsStand = (left : NatMap ℕ) (s : System) (m : Machine) → Follows left s m → (p v : ℕ) → p < image.processors → v < 256
+        → is_line image (Arrive p (Irq v)) ≡ true → Follows left (arrived_at s p (Irq v)) (line_step image m (Arrive p (Irq v))).0
+
+    pub lines_follow : ArrivalsStand → (script : List Line) (left : NatMap ℕ) (s : System) (m : Machine) → Follows left s m → IsScript image script
         → list_all line_is_built script ≡ true
         → (now : NatMap ℕ) × Follows now (concrete_lines marks image.processors s script).0 (after image m script)
     unfolding concrete_line line_step is_line line_is_built
-    lines_follow [] left s m r i b = (left, r)
-    lines_follow (l ∷ ls) left s m r i b = line l (one (is_line image l) _ i) (one (line_is_built l) _ b) (two (is_line image l) _ i)
-        (two (line_is_built l) _ b) (lines_follow ls)
+    lines_follow arrivals [] left s m r i b = (left, r)
+    lines_follow arrivals (l ∷ ls) left s m r i b = line l (one (is_line image l) _ i) (one (line_is_built l) _ b) (two (is_line image l) _ i)
+        (two (line_is_built l) _ b) (lines_follow arrivals ls)
       where
         Rest : Type 0
         Rest = (left : NatMap ℕ) (s : System) (m : Machine) → Follows left s m → IsScript image ls → list_all line_is_built ls ≡ true
@@ -181,7 +189,20 @@ module _ (mode : Mode) (image : Image) where
         line (Turn p) h g i b next =
             let x = turn_follows left s m r p (ltb-true p image.processors h) in next x.now _ (turn image m p).0 x.stands i b
         line (Edge p n) h g i b next = absurd (cc)
-        line (Arrive p key) h g i b next = absurd (cc)
+        line (Arrive p (Irq v)) h g i b next =
+            let front = one (nat_lt p image.processors && is_sendable (Irq v)) (has_body_of image (Irq v)) h in
+            let place = ltb-true p image.processors (one (nat_lt p image.processors) (is_sendable (Irq v)) front) in
+            let sendable = two (nat_lt p image.processors) (is_sendable (Irq v)) front in
+            next left _ _ (arrivals left s m r p v place (ltb-true v 0x100 (two (nat_le 0x20 v) (nat_lt v 0x100) sendable)) h) i b
+        line (Arrive p Key.Sys) h g i b next = absurd (cc)
+        line (Arrive p Key.Db) h g i b next = absurd (cc)
+        line (Arrive p Key.Nmi) h g i b next = absurd (cc)
+        line (Arrive p Key.Bp) h g i b next = absurd (cc)
+        line (Arrive p Key.Ud) h g i b next = absurd (cc)
+        line (Arrive p Key.Ss) h g i b next = absurd (cc)
+        line (Arrive p Key.Gp) h g i b next = absurd (cc)
+        line (Arrive p Key.Pf) h g i b next = absurd (cc)
+        line (Arrive p Key.Ac) h g i b next = absurd (cc)
         line (Accept p) h g i b next = absurd (cc)
 
     -- ---- settling

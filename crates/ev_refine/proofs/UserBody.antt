@@ -15,7 +15,7 @@ use Rattle.ev_body.specs.declared.body.Body.{Body}
 use Rattle.ev_body.specs.declared.image.Image.{Image}
 use Rattle.ev_body.specs.Bodies.{key_number, covers, first_body}
 use Rattle.ev_body.specs.WellFormed.{IsImage, is_key, is_ret, ends_with, is_body}
-use Rattle.ev_listing.specs.AddressMap.{pcpu, user_table, body_code, fred_page, stack_top, task_words}
+use Rattle.ev_listing.specs.AddressMap.{pcpu, user_table, fred_page, stack_top, task_words}
 use Rattle.ev_abstract.specs.Run.{item_at}
 use Rattle.ev_concrete.specs.Opening.{opening_word, word_there, body_address}
 use Rattle.ev_concrete.specs.Shown.{key_of_vector}
@@ -98,11 +98,11 @@ has_body image formed key n side h =
           ap (λ o. item_at o 0) f.is ∙ i.1;
     }
 
--- the address of a body is the word of the table of user events for its key
-pub table_word_is : (mode : Mode) (image : Image) → image.processors ≤ 8 → (key : ℕ) → key ≤ 0x100 → (n : ℕ) → first_body 0 image.bodies key User ≡ Some n
-    → first_word mode image (user_table + 8 * key) ≡ body_code n
+-- the word of the table of user events for a key, whether or not it has a body
+pub user_word_is : (mode : Mode) (image : Image) → image.processors ≤ 8 → (key : ℕ) → key ≤ 0x100
+    → first_word mode image (user_table + 8 * key) ≡ body_address (first_body 0 image.bodies key User)
 unfolding opening_word word_there
-table_word_is mode image few key small n h =
+user_word_is mode image few key small =
     let a : ℕ = user_table + 8 * key in
     let aligned : is_aligned a ≡ true = eq-eqb (a % 8) 0 (omega arith) in
     let upper : nat_lt a (2 ^ 63) ≡ false = le-ltb a (2 ^ 63) (omega arith) in
@@ -115,4 +115,4 @@ table_word_is mode image few key small n h =
     let to : nat_lt a (user_table + 8 * 257) ≡ true = lt-ltb a (user_table + 8 * 257) (omega arith) in
     let number : (a - user_table) / 8 ≡ key = omega arith in
     rw (aligned, upper, code, stacks, areas, above, tasks, from, to)
-    (ap (λ k. body_address (first_body 0 image.bodies k User)) number ∙ ap body_address h)
+    (ap (λ k. body_address (first_body 0 image.bodies k User)) number)

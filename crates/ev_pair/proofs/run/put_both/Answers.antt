@@ -3,7 +3,7 @@ use Rattle.ev_isa.specs.declared.mode.Mode.TheVariants.{Idt, Fred}
 use Rattle.ev_abstract.specs.declared.script_line.Line.TheVariants.{Turn}
 use Rattle.ev_concrete.specs.RunText.{run_text}
 use Rattle.ev_pair.specs.Within.{is_within}
-use Rattle.ev_pair.proofs.Opened.{line_at}
+use Rattle.ev_pair.proofs.Opened.{line_at, script_line}
 use Rattle.ev_core.specs.Run.{IsRun}
 use Rattle.ev_pair.specs.SideText.{shown_end}
 use Rattle.ev_io.proofs.Writes.{Wrote, more_written, all_written, failed_within, failed_at_end, ok_then, err_then, err_now}
@@ -12,9 +12,9 @@ use Rattle.ev_pair.proofs.run.put_both.Goals as goal
 
 pub loop-line-init : goal.loop-line-init
 loop-line-init g c = record {
-  idt_at = λ image r. r;
-  fred_at = λ image q. q;
-  wrote = λ image r q. at_start c.args.frames (Idt ∷ Fred ∷ []) image c.args.script.now (g.K.Sink.taken c.args.sink.now);
+  idt_at = λ image r script. r;
+  fred_at = λ image q script. q;
+  wrote = λ image r q script. at_start c.args.frames (Idt ∷ Fred ∷ []) image c.args.script.now (g.K.Sink.taken c.args.sink.now);
   idt_processors = refl;
   idt_totals = omega arith;
   fred_processors = refl;
@@ -40,15 +40,15 @@ loop-line-preserved g c =
     let i = c.loop-line.line-index in
     let e : i + 1 ≡ suc i = omega arith in
     let lt : i < length ls = omega arith in record {
-      idt_at = λ image r. subst (λ done. IsRun Idt image done c.put_line.new.machine) (sym (up_to_place ls i (i + 1) _ e lt))
-          (c.in_ok-put_line.ensures.run image (take i ls) (c.loop-line.invariant.idt_at image r));
-      fred_at = λ image q. subst (λ done. IsRun Fred image done c.put_line-in-loop-line.new.machine) (sym (up_to_place ls i (i + 1) _ e lt))
-          (c.in_ok-put_line-2.ensures.run image (take i ls) (c.loop-line.invariant.fred_at image q));
-      wrote = λ image r q.
+      idt_at = λ image r script. subst (λ done. IsRun Idt image done c.put_line.new.machine) (sym (up_to_place ls i (i + 1) _ e lt))
+          (c.in_ok-put_line.ensures.run image (take i ls) (c.loop-line.invariant.idt_at image r script) (script_line image ls i (Turn 0) script lt));
+      fred_at = λ image q script. subst (λ done. IsRun Fred image done c.put_line-in-loop-line.new.machine) (sym (up_to_place ls i (i + 1) _ e lt))
+          (c.in_ok-put_line-2.ensures.run image (take i ls) (c.loop-line.invariant.fred_at image q script) (script_line image ls i (Turn 0) script lt));
+      wrote = λ image r q script.
           more_written _ _ _ _ _ _ _
-          (more_written _ _ _ _ _ _ _ (c.loop-line.invariant.wrote image r q) (both_places c.args.frames image ls i (i + 1) _ e lt Idt Fred)
-          (c.in_ok-put_line.ensures.ok image (take i ls) (c.loop-line.invariant.idt_at image r)))
-          refl (c.in_ok-put_line-2.ensures.ok image (take i ls) (c.loop-line.invariant.fred_at image q));
+          (more_written _ _ _ _ _ _ _ (c.loop-line.invariant.wrote image r q script) (both_places c.args.frames image ls i (i + 1) _ e lt Idt Fred)
+          (c.in_ok-put_line.ensures.ok image (take i ls) (c.loop-line.invariant.idt_at image r script)))
+          refl (c.in_ok-put_line-2.ensures.ok image (take i ls) (c.loop-line.invariant.fred_at image q script));
       idt_processors = c.put_line.ensures.same ∙ c.loop-line.invariant.idt_processors;
       idt_totals = omega arith;
       fred_processors = c.put_line-in-loop-line.ensures.same ∙ c.loop-line.invariant.fred_processors;
@@ -57,27 +57,27 @@ loop-line-preserved g c =
     }
 
 pub returns-in_err-put_line-clause-failed : goal.returns-in_err-put_line-clause-failed
-returns-in_err-put_line-clause-failed g c image r q =
+returns-in_err-put_line-clause-failed g c image r q script =
     let ls = c.args.script.now in
     let i = c.loop-line.line-index in
     let e : i + 1 ≡ suc i = omega arith in
     let lt : i < length ls = omega arith in
-    err_now _ _ (failed_within _ _ _ _ _ _ _ (c.loop-line.invariant.wrote image r q) (both_places c.args.frames image ls i (i + 1) _ e lt Idt Fred)
-    (c.in_err-put_line.ensures.failed image (take i ls) (c.loop-line.invariant.idt_at image r)))
+    err_now _ _ (failed_within _ _ _ _ _ _ _ (c.loop-line.invariant.wrote image r q script) (both_places c.args.frames image ls i (i + 1) _ e lt Idt Fred)
+    (c.in_err-put_line.ensures.failed image (take i ls) (c.loop-line.invariant.idt_at image r script)))
 
 pub returns-in_err-put_line-2-clause-failed : goal.returns-in_err-put_line-2-clause-failed
-returns-in_err-put_line-2-clause-failed g c image r q =
+returns-in_err-put_line-2-clause-failed g c image r q script =
     let ls = c.args.script.now in
     let i = c.loop-line.line-index in
     let e : i + 1 ≡ suc i = omega arith in
     let lt : i < length ls = omega arith in
     err_now _ _ (failed_within _ _ _ _ _ _ _
-    (more_written _ _ _ _ _ _ _ (c.loop-line.invariant.wrote image r q) (both_places c.args.frames image ls i (i + 1) _ e lt Idt Fred)
-    (c.in_ok-put_line.ensures.ok image (take i ls) (c.loop-line.invariant.idt_at image r)))
-    refl (c.in_err-put_line-2.ensures.failed image (take i ls) (c.loop-line.invariant.fred_at image q)))
+    (more_written _ _ _ _ _ _ _ (c.loop-line.invariant.wrote image r q script) (both_places c.args.frames image ls i (i + 1) _ e lt Idt Fred)
+    (c.in_ok-put_line.ensures.ok image (take i ls) (c.loop-line.invariant.idt_at image r script)))
+    refl (c.in_err-put_line-2.ensures.failed image (take i ls) (c.loop-line.invariant.fred_at image q script)))
 
 pub returns-in_err-put_end-clause-failed : goal.returns-in_err-put_end-clause-failed
-returns-in_err-put_end-clause-failed g c image r q =
+returns-in_err-put_end-clause-failed g c image r q script =
     let ls = c.args.script.now in
     let i = c.loop-line.line-index in
     let past : length ls ≤ i = omega arith in
@@ -86,14 +86,14 @@ returns-in_err-put_end-clause-failed g c image r q =
     let whole = run_text image ls (Idt ∷ Fred ∷ []) c.args.frames in
     let idt_end = shown_end c.args.frames Idt image ls in
     let fred_end = shown_end c.args.frames Fred image ls in
-    let here = subst (λ done. IsRun Idt image done c.loop-line.idt) (all_done ls i past) (c.loop-line.invariant.idt_at image r) in
+    let here = subst (λ done. IsRun Idt image done c.loop-line.idt) (all_done ls i past) (c.loop-line.invariant.idt_at image r script) in
     let left = subst (λ t. Wrote old now t whole) (end_place c.args.frames (Idt ∷ Fred ∷ []) image ls i past ∙ both_ends c.args.frames Idt Fred image ls)
-    (c.loop-line.invariant.wrote image r q) in
+    (c.loop-line.invariant.wrote image r q script) in
     err_now _ _ (failed_within old now (g.K.Sink.taken c.put_end.new.sink) (idt_end ++ fred_end) idt_end fred_end whole left refl
     (c.in_err-put_end.ensures.failed image ls here))
 
 pub returns-clause-ok : goal.returns-clause-ok
-returns-clause-ok g c image r q =
+returns-clause-ok g c image r q script =
     let ls = c.args.script.now in
     let i = c.loop-line.line-index in
     let past : length ls ≤ i = omega arith in
@@ -102,17 +102,17 @@ returns-clause-ok g c image r q =
     let whole = run_text image ls (Idt ∷ Fred ∷ []) c.args.frames in
     let idt_end = shown_end c.args.frames Idt image ls in
     let fred_end = shown_end c.args.frames Fred image ls in
-    let here = subst (λ done. IsRun Idt image done c.loop-line.idt) (all_done ls i past) (c.loop-line.invariant.idt_at image r) in
-    let there = subst (λ done. IsRun Fred image done c.loop-line.fred) (all_done ls i past) (c.loop-line.invariant.fred_at image q) in
+    let here = subst (λ done. IsRun Idt image done c.loop-line.idt) (all_done ls i past) (c.loop-line.invariant.idt_at image r script) in
+    let there = subst (λ done. IsRun Fred image done c.loop-line.fred) (all_done ls i past) (c.loop-line.invariant.fred_at image q script) in
     let left = subst (λ t. Wrote old now t whole) (end_place c.args.frames (Idt ∷ Fred ∷ []) image ls i past ∙ both_ends c.args.frames Idt Fred image ls)
-    (c.loop-line.invariant.wrote image r q) in
+    (c.loop-line.invariant.wrote image r q script) in
     let last = more_written old now (g.K.Sink.taken c.put_end.new.sink) (idt_end ++ fred_end) idt_end fred_end whole left refl
     (c.in_ok-put_end.ensures.ok image ls here) in
     ok_then c.put_end-2.result _ _ (λ h. all_written old (g.K.Sink.taken c.put_end.new.sink) (g.K.Sink.taken c.put_end-2.new.sink) fred_end whole last h)
     (c.put_end-2.ensures.ok image ls there)
 
 pub returns-clause-failed : goal.returns-clause-failed
-returns-clause-failed g c image r q =
+returns-clause-failed g c image r q script =
     let ls = c.args.script.now in
     let i = c.loop-line.line-index in
     let past : length ls ≤ i = omega arith in
@@ -121,10 +121,10 @@ returns-clause-failed g c image r q =
     let whole = run_text image ls (Idt ∷ Fred ∷ []) c.args.frames in
     let idt_end = shown_end c.args.frames Idt image ls in
     let fred_end = shown_end c.args.frames Fred image ls in
-    let here = subst (λ done. IsRun Idt image done c.loop-line.idt) (all_done ls i past) (c.loop-line.invariant.idt_at image r) in
-    let there = subst (λ done. IsRun Fred image done c.loop-line.fred) (all_done ls i past) (c.loop-line.invariant.fred_at image q) in
+    let here = subst (λ done. IsRun Idt image done c.loop-line.idt) (all_done ls i past) (c.loop-line.invariant.idt_at image r script) in
+    let there = subst (λ done. IsRun Fred image done c.loop-line.fred) (all_done ls i past) (c.loop-line.invariant.fred_at image q script) in
     let left = subst (λ t. Wrote old now t whole) (end_place c.args.frames (Idt ∷ Fred ∷ []) image ls i past ∙ both_ends c.args.frames Idt Fred image ls)
-    (c.loop-line.invariant.wrote image r q) in
+    (c.loop-line.invariant.wrote image r q script) in
     let last = more_written old now (g.K.Sink.taken c.put_end.new.sink) (idt_end ++ fred_end) idt_end fred_end whole left refl
     (c.in_ok-put_end.ensures.ok image ls here) in
     err_then c.put_end-2.result _ _ (λ h. failed_at_end old (g.K.Sink.taken c.put_end.new.sink) (g.K.Sink.taken c.put_end-2.new.sink) fred_end whole last h)

@@ -1,4 +1,4 @@
-use Rattle.std.proofs.Common.{◌≡◌, ap, sym, ◌∙◌, subst}
+use Rattle.std.proofs.Common.{◌≡◌, ◌++◌, [], ◌∷◌, ap, sym, ◌∙◌, subst}
 use Rattle.std.proofs.lemmas.Bool.{ltb-true}
 use Rattle.ev_pair.specs.Within.{is_within}
 use Rattle.std.specs.Io.KnownBytes.{append_known}
@@ -9,11 +9,15 @@ use Rattle.ev_concrete.specs.ConcreteRun.{noted}
 use Rattle.ev_concrete.specs.RunText.{shown_frames}
 use Rattle.ev_core.specs.Local.{optional}
 use Rattle.ev_io.proofs.Writes.{then_ok, first_failed, second_failed, ok_then, err_then, err_now}
-use Rattle.ev_pair.proofs.Shown.{only_turns, turn_shown}
+use Rattle.ev_pair.proofs.Shown.{turns_and_arrivals, arrival_shown, turn_shown, nothing_more}
+use Rattle.ev_built.specs.Built.{line_is_built}
+use Rattle.ev_abstract.specs.Script.{is_line}
+use Rattle.ev_core.specs.Run.{IsRun}
+use Rattle.ev_pair.specs.SideText.{shown_line}
 use Rattle.ev_pair.proofs.side.put_line.Goals as goal
 
-pub returns-in_default : goal.returns-in_default
-returns-in_default g c = absurd (only_turns c.args.line.now c.requires.built c.in_default.not-Turn)
+pub returns-in_default-line : goal.returns-in_default-line
+returns-in_default-line g c = absurd (turns_and_arrivals c.args.line.now c.requires.built c.in_default.not-Arrive c.in_default-line.not-Turn)
 
 pub turn-turned-requires-clause-place : goal.turn-turned-requires-clause-place
 turn-turned-requires-clause-place g c = ltb-true c.in-Turn.p _ (ap (is_within _) (sym c.in-Turn.is) ∙ c.requires.within)
@@ -62,3 +66,19 @@ returns-clause-failed g c image done r =
     (subst (λ fs. mid ≡ append_known old (shown_frames c.args.frames c.args.mode (noted c.in-Turn.p fs)))
     c.as_slice.ensures.value c.in_ok-put_shown_frames.ensures.ok) h))
     c.put_entry.ensures.failed
+
+pub arrive-requires-clause-built : goal.arrive-requires-clause-built
+arrive-requires-clause-built g c = ap line_is_built (sym c.in-Arrive.is) ∙ c.requires.built
+
+pub arrive-requires-clause-place : goal.arrive-requires-clause-place
+arrive-requires-clause-place g c = ltb-true c.in-Arrive.p _ (ap (is_within _) (sym c.in-Arrive.is) ∙ c.requires.within)
+
+pub returns-in-Arrive-clause-run : goal.returns-in-Arrive-clause-run
+returns-in-Arrive-clause-run g c image done r is =
+    subst (λ l. IsRun c.args.mode image (done ++ l ∷ []) c.arrive.new.machine) (sym c.in-Arrive.is)
+    (c.arrive.ensures.run c.args.mode image done r (ap (is_line image) (sym c.in-Arrive.is) ∙ is))
+
+pub returns-in-Arrive-clause-ok : goal.returns-in-Arrive-clause-ok
+returns-in-Arrive-clause-ok g c image done r =
+    nothing_more (g.K.Sink.taken c.args.sink.now) _
+    (ap (shown_line c.args.frames c.args.mode image done) c.in-Arrive.is ∙ arrival_shown c.args.frames c.args.mode image done c.in-Arrive.p c.in-Arrive.key)
