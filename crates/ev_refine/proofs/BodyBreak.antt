@@ -30,6 +30,7 @@ use Rattle.ev_abstract.specs.Machine as abstract
 use Rattle.ev_abstract.specs.Run.{item_at, turn}
 use Rattle.ev_law.proofs.Lists.{any_at}
 use Rattle.ev_law.proofs.Required.{body_faults_have_bodies}
+use Rattle.ev_listing.specs.Marks.{Always}
 use Rattle.ev_concrete.specs.ConcreteRun.{System}
 use Rattle.ev_built.specs.Built.{IsBuilt}
 use Rattle.ev_symbolic.specs.Value.{M}
@@ -167,7 +168,7 @@ module _ (mode : Mode) (image : Image) (built : IsBuilt image) (good : IsImage i
     unfolding expansion size spelling
     behind = facts.follow o.b.body o.b.place body' Item.Bp hi ∙ ap (λ n. n + (1 + 0)) (sym here_is) ∙ (let q : c.rip + (1 + 0) ≡ c.rip + 1 = omega arith in q)
 
-    cell : code c.rip ≡ Some (record { ins = Int3; next = item_address mode o.b.body body' o.b.place + 1; mark = true })
+    cell : code c.rip ≡ Some (record { ins = Int3; next = item_address mode o.b.body body' o.b.place + 1; mark = Always })
     unfolding expansion size spelling
     cell = ap code here_is ∙ (facts.items o.b.body o.b.place body' Item.Bp is hi).0
 
@@ -191,7 +192,7 @@ module _ (mode : Mode) (image : Image) (built : IsBuilt image) (good : IsImage i
         let quiet : IsQuiet o.b = step.quiet mode image built good facts left s m h p hp o in
         let spread = facts.item_range o.b.body (suc o.b.place) body' is in
         turns.raise_step mode image built good facts left s m h p hp o (context.onward o.b) next breakpoint found.0 (record {
-          cell = record { ins = Int3; next = item_address mode o.b.body body' o.b.place + 1; mark = true };
+          cell = record { ins = Int3; next = item_address mode o.b.body body' o.b.place + 1; mark = Always };
           is = cell;
           marked = refl;
           runs = runs;

@@ -19,6 +19,7 @@ use Rattle.ev_abstract.specs.Machine.{Machine, processor}
 use Rattle.ev_abstract.specs.Machine as abstract
 use Rattle.ev_abstract.specs.Run.{turn}
 use Rattle.ev_law.proofs.Required.{body_faults_have_bodies}
+use Rattle.ev_listing.specs.Marks.{Always}
 use Rattle.ev_concrete.specs.ConcreteRun.{System}
 use Rattle.ev_built.specs.Built.{IsBuilt}
 use Rattle.ev_symbolic.specs.Value.{V}
@@ -55,7 +56,7 @@ module _ (mode : Mode) (image : Image) (built : IsBuilt image) (good : IsImage i
   pub by_fault : (act : Active mode image p on.own o.κ o.σ on.frame (switches_at mode image on.switching o.below) o.w o.b c s.memory)
       → TellsNoCr2 (block mode act.stands.spot) → (ss : ℕ) → IsKernelSs mode ss → (extra v : ℕ → ℕ) (f : Flags) (offset : ℕ) (rax rcx rdx : V) (g : Flags)
       → ItemState mode (here mode p o.κ o.σ ss o.w extra v f) c s.memory offset rax rcx rdx g → length c.regs ≡ 16 → is_canonical c.rip ≡ true
-      → (cell : Cell) → code_table mode image c.rip ≡ Some cell → cell.mark ≡ true → (code address : ℕ)
+      → (cell : Cell) → code_table mode image c.rip ≡ Some cell → cell.mark ≡ Always → (code address : ℕ)
       → ((a : Apic) (nmi : Bool) → executed c a s.memory nmi (Some cell.ins) ≡ delivering c a s.memory nmi (pf code address) c.rip)
       → has_item is_user_access body' ≡ true → turn image m p ≡ raised image m p (pf code address) → Simulated mode image left s m p
   unfolding key_number

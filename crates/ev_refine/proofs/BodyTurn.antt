@@ -31,6 +31,7 @@ use Rattle.ev_abstract.specs.Machine.{Machine, processor, with_processor}
 use Rattle.ev_abstract.specs.Machine as abstract
 use Rattle.ev_abstract.specs.Run.{turn}
 use Rattle.ev_law.specs.Legal.{Legal, AreLegal, knows}
+use Rattle.ev_listing.specs.Marks.{Always}
 use Rattle.ev_concrete.specs.ConcreteRun.{System, Activation, marks_of, acted, after_step, activations_by, interrupted, frame_size, starts_inner}
 use Rattle.ev_concrete.specs.Depth.{is_in_repeat, bodies_on}
 use Rattle.ev_concrete.specs.LiveWords.{area_bytes}
@@ -273,7 +274,7 @@ module _ (mode : Mode) (image : Image) (built : IsBuilt image) (good : IsImage i
   pub record Raises (b : BodyContext) (saved : ℕ) (e : Event) (body : ℕ) : Type 0 where
     pub cell : Cell
     pub is : step.code mode image built good facts left s m h p hp c.rip ≡ Some cell
-    pub marked : cell.mark ≡ true
+    pub marked : cell.mark ≡ Always
     pub runs : (a : Apic) (nmi : Bool) → executed c a s.memory nmi (Some cell.ins) ≡ delivering c a s.memory nmi e saved
     pub event : IsBodyEvent e
     pub found : first_body 0 image.bodies (event_key e.kind e.vector) Kernel ≡ Some body
@@ -547,7 +548,7 @@ module _ (mode : Mode) (image : Image) (built : IsBuilt image) (good : IsImage i
           machine = m';
           entries = entry_of p e (suc (suc n)) ∷ [];
           turns = turned;
-          seen = seen (marks_of mode image) s p first hu (facts.marked c.rip y.cell y.is y.marked);
+          seen = seen (marks_of mode image) s p first hu (facts.marks c.rip y.cell y.is ∙ y.marked);
           now_left = now;
           stands = all;
           shows = λ told. shown_is p (bodies_on s p) (is_user c) (has_fred c) told d words' e (Some begun.frame) (suc n) hu depth

@@ -16,7 +16,7 @@ use Rattle.ev_isa.specs.declared.instruction.AluOp.TheVariants.{Add}
 use Rattle.ev_isa.specs.declared.instruction.Cond.TheVariants.{C}
 use Rattle.ev_listing.specs.Expansion.{saved_offset, own_label, page_word, expansion}
 use Rattle.ev_listing.specs.Statements.{seen}
-use Rattle.ev_listing.specs.Marks.{stmts_of}
+use Rattle.ev_listing.specs.Marks.{stmts_of, Always}
 use Rattle.ev_symbolic.specs.Value.{M}
 use Rattle.ev_symbolic.specs.State.{shift}
 use Rattle.ev_symbolic.specs.Agrees.{Env, addr, Code, edge_cell, Stands}
@@ -96,14 +96,14 @@ visible_of _ = None
 -- the cells: those before it, and it, which leads to the next item
 pub record ItemCells (code : Code) (a next : ℕ) (item : Item) (i : Ins) : Type 0 where
   pub edges : EdgesFrom code a (before item)
-  pub seen : CellIs code (a + bytes_of (before item)) i next true
+  pub seen : CellIs code (a + bytes_of (before item)) i next Always
 
 -- the cell of the visible instruction, of which the listing says that it ends so many bytes on
-seen_at : (code : Code) (a b k next : ℕ) (j i : Ins) → Some j ≡ Some i → code a ≡ Some (record { ins = j; next = a + k; mark = true }) → b ≡ a → next ≡ a + k
-    → CellIs code b i next true
+seen_at : (code : Code) (a b k next : ℕ) (j i : Ins) → Some j ≡ Some i → code a ≡ Some (record { ins = j; next = a + k; mark = Always }) → b ≡ a → next ≡ a + k
+    → CellIs code b i next Always
 seen_at code a b k next j i q h e n =
     let same : j ≡ i = cc in
-    ap code e ∙ h ∙ ap (λ x. Some (record { ins = x; next = a + k; mark = true })) same ∙ ap (λ x. Some (record { ins = i; next = x; mark = true })) (sym n)
+    ap code e ∙ h ∙ ap (λ x. Some (record { ins = x; next = a + k; mark = Always })) same ∙ ap (λ x. Some (record { ins = i; next = x; mark = Always })) (sym n)
 
 -- ---- the branch over the number of no page
 
@@ -126,7 +126,7 @@ page_cells : (code : Code) (env : Places) (a next n k s : ℕ) (j i : Ins) → S
     → place env (own_label n k (codes "M1")) ≡ a + branch_label
     → AllFound code (cells_from env a (page_word (own_label n k (codes "M1")) s ++ seen j ∷ []))
     → next ≡ a + total_size (stmts_of (page_word (own_label n k (codes "M1")) s ++ seen j ∷ []))
-    → EdgesFrom code a (MovReg 0 s ∷ page_code) × CellIs code (a + bytes_of (MovReg 0 s ∷ page_code)) i next true
+    → EdgesFrom code a (MovReg 0 s ∷ page_code) × CellIs code (a + bytes_of (MovReg 0 s ∷ page_code)) i next Always
 unfolding size spelling four_bytes
 page_cells code env a next n k s j i q place_is h e =
     let m1 = own_label n k (codes "M1") in

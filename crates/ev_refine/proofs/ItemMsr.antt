@@ -21,6 +21,7 @@ use Rattle.ev_abstract.specs.Context.{BodyContext}
 use Rattle.ev_abstract.specs.Machine.{Machine, processor}
 use Rattle.ev_abstract.specs.Machine as abstract
 use Rattle.ev_abstract.specs.Run.{item_at}
+use Rattle.ev_listing.specs.Marks.{Always}
 use Rattle.ev_concrete.specs.ConcreteRun.{System}
 use Rattle.ev_built.specs.Built.{IsBuilt}
 use Rattle.ev_symbolic.specs.Value.{K}
@@ -234,10 +235,10 @@ module _ (mode : Mode) (image : Image) (built : IsBuilt image) (good : IsImage i
     by_eoi off same rcx rax rdx hi =
         let cells : ItemCells code (visible.at mode image built good facts left s m h p hp o body' is b.place) next Eoi Wrmsr
         = cells_of mode image facts b.body body' is b.place Eoi Wrmsr hi refl in
-        let here : code c.rip ≡ Some (record { ins = Wrmsr; next = next; mark = true })
+        let here : code c.rip ≡ Some (record { ins = Wrmsr; next = next; mark = Always })
         = ap code (steps.rip_is mode image built good facts left s m h p hp o body' is ss extra v f a (omega arith)
         ∙ ap (λ n. visible.at mode image built good facts left s m h p hp o body' is b.place + n) off) ∙ cells.seen in record {
-          cell = record { ins = Wrmsr; next = next; mark = true };
+          cell = record { ins = Wrmsr; next = next; mark = Always };
           found = here;
           marked = refl;
           no_return = refl;

@@ -27,6 +27,7 @@ use Rattle.ev_abstract.specs.Machine as abstract
 use Rattle.ev_abstract.specs.Run.{item_at, turn}
 use Rattle.ev_law.specs.Legal.{IsLegalOn, AreLegal, has_flags_for, knows}
 use Rattle.ev_law.proofs.Ruled.{IsRuled, body_ruled}
+use Rattle.ev_listing.specs.Marks.{Always}
 use Rattle.ev_concrete.specs.ConcreteRun.{System, is_return}
 use Rattle.ev_concrete.specs.Depth.{bodies_on}
 use Rattle.ev_concrete.specs.Shown.{shown_always, shown_again}
@@ -117,7 +118,7 @@ module _ (mode : Mode) (image : Image) (built : IsBuilt image) (good : IsImage i
       a.state.rip ∙ (let z : (extra 20 + a.offset) % M ≡ at b.place + a.offset = omega arith in z)
 
   -- what holds of it
-  pub at_ins : (ins : Ins) (next : ℕ) → code c.rip ≡ Some (record { ins = ins; next = next; mark = true }) → IsAt c ins next
+  pub at_ins : (ins : Ins) (next : ℕ) → code c.rip ≡ Some (record { ins = ins; next = next; mark = Always }) → IsAt c ins next
   at_ins ins next hc = record { kernel = a.kernel; flags = kept c.flags a.flags a.state.flags; ends = sym (facts.spaced c.rip _ hc) }
 
   -- the abstract machine's turn
@@ -158,9 +159,9 @@ module _ (mode : Mode) (image : Image) (built : IsBuilt image) (good : IsImage i
       → shown_always p (bodies_on s p) c s.memory.words (Some ins) ≡ es → Does
   does item hi ins seen offset near back write local g status known z free runs m1 slots makes es meaning shows =
       let cells : ItemCells code (at b.place) (at (suc b.place)) item ins = cells_of mode image facts b.body body' is b.place item ins hi seen in
-      let here : code c.rip ≡ Some (record { ins = ins; next = at (suc b.place); mark = true })
+      let here : code c.rip ≡ Some (record { ins = ins; next = at (suc b.place); mark = Always })
       = ap code (rip_is near ∙ ap (λ n. at b.place + n) offset) ∙ cells.seen in record {
-        cell = record { ins = ins; next = at (suc b.place); mark = true };
+        cell = record { ins = ins; next = at (suc b.place); mark = Always };
         found = here;
         marked = refl;
         no_return = back;
@@ -334,14 +335,14 @@ module _ (mode : Mode) (image : Image) (built : IsBuilt image) (good : IsImage i
     -- ---- jumps
 
     -- one that leads to an item
-    to_item : (item : Item) → item_at (Some body') b.place ≡ Some item → (ins : Ins) → code (at b.place) ≡ Some (record { ins = ins; next = at (suc b.place); mark = true })
+    to_item : (item : Item) → item_at (Some body') b.place ≡ Some item → (ins : Ins) → code (at b.place) ≡ Some (record { ins = ins; next = at (suc b.place); mark = Always })
         → is_return (Some ins) ≡ false → (t : ℕ)
         → (IsAt c ins (at (suc b.place)) → Leads c s.memory ins (onward c c.regs (at t)) s.memory.words)
         → item_step image m p b item ≡ (with_context m p (behind None t b.flags), []) → shown_always p (bodies_on s p) c s.memory.words (Some ins) ≡ [] → Does
     to_item item hi ins cell back t runs meaning shows =
-        let here : code c.rip ≡ Some (record { ins = ins; next = at (suc b.place); mark = true })
+        let here : code c.rip ≡ Some (record { ins = ins; next = at (suc b.place); mark = Always })
         = ap code (rip_is near ∙ (let z : at b.place + a.offset ≡ at b.place = omega arith in z)) ∙ cell in record {
-          cell = record { ins = ins; next = at (suc b.place); mark = true };
+          cell = record { ins = ins; next = at (suc b.place); mark = Always };
           found = here;
           marked = refl;
           no_return = back;

@@ -34,6 +34,7 @@ use Rattle.ev_abstract.specs.Machine as abstract
 use Rattle.ev_abstract.specs.Run.{item_at}
 use Rattle.ev_law.specs.Legal.{AreLegal, knows, numbers}
 use Rattle.ev_law.proofs.Ruled.{IsRuled}
+use Rattle.ev_listing.specs.Marks.{Always}
 use Rattle.ev_concrete.specs.ConcreteRun.{System, Activation, is_return}
 use Rattle.ev_concrete.specs.Depth.{bodies_on}
 use Rattle.ev_concrete.specs.Shown.{shown_always}
@@ -329,10 +330,10 @@ module _ (mode : Mode) (image : Image) (built : IsBuilt image) (good : IsImage i
         let next : ℕ = steps.at mode image built good facts left s m h p hp o body' is ss extra v f a (suc b.place) in
         let b' : BodyContext = steps.behind mode image built good facts left s m h p hp o body' is ss extra v f a None (suc b.place) b.flags in
         let cells : ItemCells code (item_address mode b.body body' b.place) next item ins = cells_of mode image facts b.body body' is b.place item ins hi seen in
-        let here : code c.rip ≡ Some (record { ins = ins; next = next; mark = true })
+        let here : code c.rip ≡ Some (record { ins = ins; next = next; mark = Always })
         = ap code (steps.rip_is mode image built good facts left s m h p hp o body' is ss extra v f a near
         ∙ ap (λ k. item_address mode b.body body' b.place + k) offset) ∙ cells.seen in record {
-          cell = record { ins = ins; next = next; mark = true };
+          cell = record { ins = ins; next = next; mark = Always };
           found = here;
           marked = refl;
           no_return = back;

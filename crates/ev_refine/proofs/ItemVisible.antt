@@ -28,6 +28,7 @@ use Rattle.ev_abstract.specs.Machine.{Machine, processor, with_processor}
 use Rattle.ev_abstract.specs.Machine as abstract
 use Rattle.ev_abstract.specs.Run.{item_at, turn}
 use Rattle.ev_law.specs.Legal.{Legal, IsLegalOn, AreLegal, knows}
+use Rattle.ev_listing.specs.Marks.{Always}
 use Rattle.ev_concrete.specs.ConcreteRun.{System, is_return, activations_by}
 use Rattle.ev_concrete.specs.Depth.{bodies_on, is_in_repeat, is_jump}
 use Rattle.ev_concrete.specs.Shown.{shown_always}
@@ -172,7 +173,7 @@ module _ (mode : Mode) (image : Image) (built : IsBuilt image) (good : IsImage i
   pub record Does (ss : ℕ) (extra v : ℕ → ℕ) (f : Flags) (a : AtVisible ss extra v f) : Type 0 where
     pub cell : Cell
     pub found : code c.rip ≡ Some cell
-    pub marked : cell.mark ≡ true
+    pub marked : cell.mark ≡ Always
     pub no_return : is_return (Some cell.ins) ≡ false
     pub write : Write
     pub local : IsLocal write

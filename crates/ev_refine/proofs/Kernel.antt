@@ -25,6 +25,7 @@ use Rattle.ev_abstract.specs.Context.{BodyContext}
 use Rattle.ev_abstract.specs.Machine.{Machine, processor, with_processor, task}
 use Rattle.ev_abstract.specs.Machine as abstract
 use Rattle.ev_abstract.specs.Run.{item_at}
+use Rattle.ev_listing.specs.Marks.{Always}
 use Rattle.ev_concrete.specs.ConcreteRun.{System, Activation, without_last, activations_by, is_return}
 use Rattle.ev_concrete.specs.Depth.{bodies_on, begins_body}
 use Rattle.ev_built.specs.Built.{IsBuilt}
@@ -279,7 +280,7 @@ module _ (mode : Mode) (image : Image) (built : IsBuilt image) (good : IsImage i
 
       at_exit : Exits code c s.memory w → is_user c ≡ false → item_at (slice_get image.bodies b.body) b.place ≡ Some Ret → Result
       at_exit x hu ret =
-          let cell : Cell = record { ins = x.ins; next = x.next; mark = true } in
+          let cell : Cell = record { ins = x.ins; next = x.next; mark = Always } in
           let hc : code c.rip ≡ Some cell = ap code x.rip ∙ x.cell in
           let back : Processor = record w { cr2 = c.cr2; nmi_blocked = false } in
           let gone : activations_by s p (s.activations p) back Stepped.Ran ≡ o.others

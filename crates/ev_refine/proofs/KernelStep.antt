@@ -28,6 +28,7 @@ use Rattle.ev_abstract.specs.declared.entry.Entry.{Entry}
 use Rattle.ev_abstract.specs.Machine.{Machine, processor, with_processor, task}
 use Rattle.ev_abstract.specs.Machine as abstract
 use Rattle.ev_abstract.specs.Run.{item_at, item_or_nothing, next_step, chosen_step, turn}
+use Rattle.ev_listing.specs.Marks.{Always, Never}
 use Rattle.ev_concrete.specs.ConcreteRun.{System, Activation, marks_of, is_return, activations_by}
 use Rattle.ev_concrete.specs.Depth.{is_in_repeat, bodies_on, is_jump, ends_body, begins_body}
 use Rattle.ev_built.specs.Built.{IsBuilt}
@@ -234,7 +235,7 @@ module _ (mode : Mode) (image : Image) (built : IsBuilt image) (good : IsImage i
     runs cell hc hu a cpu words he = cell_step code c (s.apics p) s.memory (s.latches p) cell fetches hc first hu ∙ he
 
     -- an edge: the processor stands for the same behind it, and it writes no word of the abstract machine's
-    pub edge_to : (cell : Cell) → code c.rip ≡ Some cell → cell.mark ≡ false → is_return (Some cell.ins) ≡ false
+    pub edge_to : (cell : Cell) → code c.rip ≡ Some cell → cell.mark ≡ Never → is_return (Some cell.ins) ≡ false
         → is_user c ≡ false → is_in_repeat c.rip ≡ false → (cpu : Processor) (words : NatMap ℕ) → Executes cell.ins cpu words
         → (σ : Seat) → σ.stack < 7 → (names : List Named) → AreNames p names → have_none is_page_bit names ≡ true → have_none is_cell names ≡ true
         → have_none is_user_word names ≡ true → Changes p σ names s.memory.words words → (now : ℕ) → now < on.own
@@ -264,7 +265,7 @@ module _ (mode : Mode) (image : Image) (built : IsBuilt image) (good : IsImage i
               (goes_on_inside (is_return (Some cell.ins)) (not (is_user c)) (not (nat_le nmi_entry c.rip && nat_lt c.rip repeat_entry))
               (is_jump (Some cell.ins)) (is_in_repeat c.rip) (length x.bodies) hr out);
           how = inl (record {
-            hidden = hidden (marks_of mode image) s p first hu (facts.unmarked c.rip cell hc hm);
+            hidden = hidden (marks_of mode image) s p first hu (facts.marks c.rip cell hc ∙ hm);
             now = put_at left p (now + inner_edges (s.latches p));
             fewer = subst (λ n. n < left p) (sym (at_same left p p (now + inner_edges (s.latches p)) refl)) (omega arith);
             stands = subst (λ y. Stands mode image (put_at left p (now + inner_edges (s.latches p))) y.0 m)
@@ -274,7 +275,7 @@ module _ (mode : Mode) (image : Image) (built : IsBuilt image) (good : IsImage i
         }
 
     -- a visible step: the processor stands for the one of the machine behind the abstract machine's turn, and memory for that machine's
-    pub turn_to : (cell : Cell) → code c.rip ≡ Some cell → cell.mark ≡ true → is_user c ≡ false
+    pub turn_to : (cell : Cell) → code c.rip ≡ Some cell → cell.mark ≡ Always → is_user c ≡ false
         → (a : Apic) (cpu : Processor) (words : NatMap ℕ)
         → executed c (s.apics p) s.memory (s.latches p) (Some cell.ins) ≡ ran cpu a words (s.latches p)
         → (σ : Seat) → σ.stack < 7 → (names : List Named) → AreNames p names → Changes p σ names s.memory.words words
@@ -296,11 +297,11 @@ module _ (mode : Mode) (image : Image) (built : IsBuilt image) (good : IsImage i
           counts = ran_counts image.processors s p a cpu words cell.ins run (fetches c.rip cell hc).1 (length x.bodies) (length x'.bodies) depth
               (stands_depth mode image facts p (now + inner_edges (s.latches p)) (after_ran s p a cpu words) x' there) told;
           how = inr (record {
-            seen = seen (marks_of mode image) s p first hu (facts.marked c.rip cell hc hm);
+            seen = seen (marks_of mode image) s p first hu (facts.marks c.rip cell hc ∙ hm);
             now = put_at left p (now + inner_edges (s.latches p));
             stands = subst (λ q. Stands mode image (put_at left p (now + inner_edges (s.latches p))) q.0 (turn image m p).0)
                 (sym (ran_step image.processors s p a cpu words run)) turned;
-            entries = ran_shown (marks_of mode image) s p a cpu words cell.ins run hu (facts.marked c.rip cell hc hm) (fetches c.rip cell hc).1
+            entries = ran_shown (marks_of mode image) s p a cpu words cell.ins run hu (facts.marks c.rip cell hc ∙ hm) (fetches c.rip cell hc).1
                 ∙ hes ∙ sym (ap (λ (q : Step). q.1) ht);
           });
         }
@@ -426,7 +427,7 @@ module _ (mode : Mode) (image : Image) (built : IsBuilt image) (good : IsImage i
 
     -- ---- what a step gives
 
-    pub edge : (cell : Cell) → code c.rip ≡ Some cell → cell.mark ≡ false → is_return (Some cell.ins) ≡ false
+    pub edge : (cell : Cell) → code c.rip ≡ Some cell → cell.mark ≡ Never → is_return (Some cell.ins) ≡ false
         → is_user c ≡ false → is_in_repeat c.rip ≡ false → (cpu : Processor) (words : NatMap ℕ) → Executes cell.ins cpu words → cpu.nmi_blocked ≡ false
         → (names : List Named) → AreSparing p names → have_none is_user_word names ≡ true → UnknownTo below names → Changes p σ names s.memory.words words
         → (now : ℕ) → now < on.own → Stood now b cpu (with_words s.memory words) → Result
@@ -490,7 +491,7 @@ module _ (mode : Mode) (image : Image) (built : IsBuilt image) (good : IsImage i
       pub cells : (k : ℕ) → k < 256 → words (cells_base + 8 * k) ≡ m'.cells k
 
     -- with the local APIC behind the step
-    pub visible_with : (cell : Cell) → code c.rip ≡ Some cell → cell.mark ≡ true → is_user c ≡ false
+    pub visible_with : (cell : Cell) → code c.rip ≡ Some cell → cell.mark ≡ Always → is_user c ≡ false
         → (a : Apic) (cpu : Processor) (words : NatMap ℕ)
         → executed c (s.apics p) s.memory (s.latches p) (Some cell.ins) ≡ ran cpu a words (s.latches p) → cpu.nmi_blocked ≡ false
         → (names : List Named) → AreNames p names → Changes p σ names s.memory.words words
@@ -527,7 +528,7 @@ module _ (mode : Mode) (image : Image) (built : IsBuilt image) (good : IsImage i
         (numbers_behind m' es ht) inside told now there hes
 
     -- which stays
-    pub visible : (cell : Cell) → code c.rip ≡ Some cell → cell.mark ≡ true → is_user c ≡ false
+    pub visible : (cell : Cell) → code c.rip ≡ Some cell → cell.mark ≡ Always → is_user c ≡ false
         → (cpu : Processor) (words : NatMap ℕ) → Executes cell.ins cpu words → cpu.nmi_blocked ≡ false
         → (names : List Named) → AreNames p names → Changes p σ names s.memory.words words
         → (m' : Machine) (es : List Entry) → turn image m p ≡ (m', es) → (tasks : NatMap Task) (slots : NatMap ℕ) (bs : List BodyContext)

@@ -15,6 +15,7 @@ use Rattle.ev_state.proofs.FlagLaws.{kept}
 use Rattle.ev_mem.specs.Memory.{Memory}
 use Rattle.ev_proc.specs.ProcessorStep.{has_fred}
 use Rattle.std.proofs.lemmas.Bool.{le-leb}
+use Rattle.ev_listing.specs.Marks.{Always}
 use Rattle.ev_concrete.specs.ConcreteRun.{is_return}
 use Rattle.ev_concrete.specs.Shown.{shown_always}
 use Rattle.ev_idt.specs.IdtDelivery as idt_delivery
@@ -47,7 +48,7 @@ pub record Exits (code : Code) (c : Processor) (m : Memory) (w : Processor) : Ty
   pub next : ℕ
   pub place : ℕ
   pub rip : c.rip ≡ place
-  pub cell : code place ≡ Some (record { ins = ins; next = next; mark = true })
+  pub cell : code place ≡ Some (record { ins = ins; next = next; mark = Always })
   pub is : is_return (Some ins) ≡ true
   pub outside : (nat_le nmi_entry place && nat_lt place repeat_entry) ≡ false
   pub unlike : (place == nlast_entry + 12) ≡ false
