@@ -259,7 +259,8 @@ module _ (mode : Mode) (image : Image) (built : IsBuilt image) (good : IsImage i
       let still_there : activations_by s p (s.activations p) cpu Stepped.Ran ≡ o.last ∷ o.others
       = ran_stays s p cpu d.cell.ins (step.fetches mode image built good facts left s m h p hp c.rip d.cell d.found).1 d.no_return ∙ o.acts in
       let quiet = step.are_quiet mode image built good facts left s m h p hp o in
-      step.visible_with mode image built good facts left s m h p hp o (λ on. a.state.blocked ∙ unblocked mode) d.cell d.found d.marked a.kernel d.apic cpu d.words d.runs
+      step.visible_with mode image built good facts left s m h p hp o (λ on. a.state.blocked ∙ unblocked mode) d.cell d.found d.marked a.kernel d.apic cpu d.words
+      d.runs
       (step.blocked mode image built good facts left s m h p hp) d.names d.allowed d.changes d.machine d.entries d.turns d.tasks d.slots (b' ∷ o.below)
       d.makes
       (record { calls = quiet.0.calls }, quiet.1)
