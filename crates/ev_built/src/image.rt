@@ -36,6 +36,7 @@ fn is_built_item(item: &Item) -> bool
             | Item::Map(_)
             | Item::Unmap(_)
             | Item::Eoi
+            | Item::Send(_, Key::Irq(_))
             | Item::Bp
             | Item::Ret
     )

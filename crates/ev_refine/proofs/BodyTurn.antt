@@ -517,7 +517,7 @@ module _ (mode : Mode) (image : Image) (built : IsBuilt image) (good : IsImage i
         })
         legal (turn_bases image m p h.bases (m', entry_of p e (suc (suc n)) ∷ []) turned)
         (step.numbers_behind mode image built good facts left s m h p hp o m' (entry_of p e (suc (suc n)) ∷ []) turned)
-        (record { nmi = domain.nmi; resched = domain.resched; bodies = quiet }) there
+        (record { nmi = domain.nmi; mail_nmi = domain.mail_nmi; resched = domain.resched; bodies = quiet }) there
 
     -- the frame's words are as many as before
     frame_fits : begun.frame + 8 * frame_size (middle.cpus p) e ≤ top_at p (seat_under mode r (suc n))
