@@ -1,9 +1,11 @@
 -- Mail that a processor accepts: what the parts show behind it; and when none waits.
 use Rattle.std.proofs.Common.{◌≡◌, ℕ, zero, suc, ◌+◌, ◌*◌, ◌/◌, ◌%◌, ◌^◌, ◌<◌, Bool, true, false, ◌||◌, List, [], ◌∷◌, ◌++◌, set, get_or, length, Some, refl, ap, sym, ◌∙◌, subst, arith, ⊎_elim, slice_get}
-use Rattle.std.specs.Prelude.{◌==◌, ◌↔◌, IsTrue, nat_lt}
-use Rattle.std.proofs.lemmas.Bool.{lt-ltb}
+use Rattle.std.specs.Prelude.{◌==◌, nat_lt}
+use Rattle.std.specs.Int.{bit_at}
+use Rattle.std.proofs.lemmas.Bool.{lt-ltb, eqb-false}
+use Rattle.std.proofs.lemmas.Nat.Bits.{bit_at-zero, bit_at-lt, same_from_bits_below}
 use Rattle.std.proofs.lemmas.Bool.Decides.{eqb_tells}
-use Rattle.ev_isa.specs.Word.{NatSet, put_at, bit}
+use Rattle.ev_isa.specs.Word.{put_at, bit}
 use Rattle.ev_isa.specs.declared.mode.Mode.{Mode}
 use Rattle.ev_body.specs.declared.image.Image.{Image}
 use Rattle.ev_apic.specs.Inbox.{no_mail, with_mail}
@@ -18,8 +20,10 @@ use Rattle.ev_concrete.specs.ConcreteRun.{System, marks_of, accept_mail, concret
 use Rattle.ev_concrete.specs.Depth.{bodies_on}
 use Rattle.ev_built.specs.Built.{line_is_built}
 use Rattle.ev_refine.specs.Relation.{InboxIs}
+use Rattle.ev_refine.proofs.Opens.{no_vector}
 use Rattle.ev_refine.proofs.Refine.{acceptances_stand}
 use Rattle.ev_core.specs.Local.{accepted}
+use Rattle.ev_core.specs.Mail.{HasNoMail}
 use Rattle.ev_core.specs.State.{Parts, Shows, local_of}
 use Rattle.ev_core.specs.Run.{MachineView, IsRun, IsStandingAs}
 use Rattle.ev_core.specs.declared.local.Local.{Local}
@@ -107,3 +111,44 @@ module _ (mode : Mode) (image : Image) (p : ℕ) (lt : p < image.processors) whe
           (sym (line_more (marks_of mode image) image.processors _ script (Accept p) ∙ line_is (concrete_run mode image script).0)) shows;
     };
   }
+
+-- ---- when no mail waits
+
+-- a word with no bit is 0
+zero_word : (n : ℕ) → n < 2 ^ 64 → ((k : ℕ) → k < 64 → bit k n ≡ false) → n ≡ 0
+zero_word n small none = same_from_bits_below 64 n 0 small (omega arith) (λ k l.
+    (let d = eqb-false (bit_at n k) 1 (none k l) in let two = bit_at-lt n k in let z : bit_at n k ≡ 0 = omega arith in z) ∙ sym (bit_at-zero k))
+
+-- so are the words of no vector
+zero_at : (ws : List ℕ) → ((i : ℕ) → get_or ws i 0 < 2 ^ 64) → ((v : ℕ) → v < 256 → vectors_of ws v ≡ false) → (i : ℕ) → i < 4 → get_or ws i 0 ≡ 0
+zero_at ws small none i l = zero_word (get_or ws i 0) (small i) (λ k b.
+    sym (λ j. bit ((let z : (64 * i + k) % 64 ≡ k = omega arith in z) j) (get_or ws ((let z : (64 * i + k) / 64 ≡ i = omega arith in z) j) 0))
+    ∙ none (64 * i + k) (omega arith))
+
+zero_words : (ws : List ℕ) → length ws ≡ 4 → ((i : ℕ) → i < 4 → get_or ws i 0 ≡ 0) → ws ≡ no_mail.vectors
+zero_words [] e h = absurd (omega arith)
+zero_words (a ∷ []) e h = absurd (omega arith)
+zero_words (a ∷ b ∷ []) e h = absurd (omega arith)
+zero_words (a ∷ b ∷ c ∷ []) e h = absurd (omega arith)
+zero_words (a ∷ b ∷ c ∷ d ∷ []) e h = λ i. h 0 (omega arith) i ∷ h 1 (omega arith) i ∷ h 2 (omega arith) i ∷ h 3 (omega arith) i ∷ []
+zero_words (a ∷ b ∷ c ∷ d ∷ x ∷ xs) e h = absurd (omega arith)
+
+module _ (mode : Mode) (image : Image) (s : System) (m : Machine) (v : MachineView) (so : IsStandingAs mode image s m v) (p : ℕ) (lt : p < image.processors)
+    (l : Local) (own : l ≡ local_of s p) where
+  mail : InboxIs mode image (s.inboxes p) (processor m p).mail (processor m p).mail_nmi
+  mail = so.stands.shares.mail p lt
+
+  inbox : l.inbox ≡ s.inboxes p
+  inbox = ap (λ (x : Local). x.inbox) own
+
+  pub none_waits : l.inbox ≡ no_mail → HasNoMail (processor m p)
+  none_waits e = record {
+    vectors = λ v b. sym (mail.vectors v b) ∙ ap (λ (i : Inbox). vectors_of i.vectors v) (sym inbox ∙ e) ∙ no_vector v;
+    nmi = sym mail.nmi_is ∙ ap (λ (i : Inbox). i.nmi) (sym inbox ∙ e);
+  }
+
+  pub is_no_mail : HasNoMail (processor m p) → l.inbox ≡ no_mail
+  is_no_mail h =
+      let words = zero_words (s.inboxes p).vectors mail.words.four
+      (zero_at (s.inboxes p).vectors mail.words.small (λ v b. mail.vectors v b ∙ h.vectors v b)) in
+      let nmi = mail.nmi_is ∙ h.nmi in inbox ∙ (λ i. record { vectors = words i; nmi = nmi i })

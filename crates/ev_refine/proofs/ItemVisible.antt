@@ -258,7 +258,8 @@ module _ (mode : Mode) (image : Image) (built : IsBuilt image) (good : IsImage i
         means = means_at mode image o.κ plain AtItem u w b' d.words (item, refl);
       } in
       let still_there : went_activations image.processors s p cpu d.sent ≡ o.last ∷ o.others
-      = went_stays image.processors s p cpu d.sent d.cell.ins (step.fetches mode image built good facts left s m h p hp c.rip d.cell d.found).1 d.no_return ∙ o.acts in
+      = went_stays image.processors s p cpu d.sent d.cell.ins (step.fetches mode image built good facts left s m h p hp c.rip d.cell d.found).1 d.no_return
+      ∙ o.acts in
       let quiet = step.are_quiet mode image built good facts left s m h p hp o in
       step.visible_with mode image built good facts left s m h p hp o d.cell d.found d.marked a.kernel d.apic cpu d.words d.sent
       d.sends d.runs

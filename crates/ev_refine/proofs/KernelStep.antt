@@ -529,7 +529,8 @@ module _ (mode : Mode) (image : Image) (built : IsBuilt image) (good : IsImage i
         let there : StandsOn mode image p (now + inner_edges (s.latches p)) (Behind a cpu words sent) x'
         = own_becomes mode image p (left p) (Posted sent) (Behind a cpu words sent) was σ cpu _ words tasks slots bs now
         (comes_to mode image p (left p) s s.apics s.latches (inboxes_by image.processors s p sent) x x.pending sender.mail x.nmi sender.mail_nmi refl refl on
-        on.apic) small (four_tasks image good p hp) (moves a cpu words sent) beside narrow names allowed changes y.current y.mark y.slots_are y.same_tasks y.good_tasks (hb ∙ sym none)
+        on.apic) small (four_tasks image good p hp) (moves a cpu words sent) beside narrow names allowed changes y.current y.mark y.slots_are y.same_tasks
+        y.good_tasks (hb ∙ sym none)
         x.pending (subst (λ y. ApicIs mode image y x.pending bs) (sym (at_same s.apics p p a refl)) apic)
         (let f = few_inner mode image (s.latches p) in omega arith) goes_on in
         let inside : IsInDomain x' = record {
@@ -565,8 +566,8 @@ module _ (mode : Mode) (image : Image) (built : IsBuilt image) (good : IsImage i
         → Chained now (tasks to) bs (activations_by s p (s.activations p) cpu Stepped.Ran) cpu (with_words s.memory words)
         → shown_always p (bodies_on s p) c s.memory.words (Some cell.ins) ≡ es → Result
     visible cell hc hm hu cpu words he hb names allowed changes m' es ht tasks slots bs y quiet serving told now few goes_on hes =
-        visible_with cell hc hm hu (s.apics p) cpu words None sends_nothing (he (s.apics p) (s.latches p)) hb names allowed changes m' es ht tasks slots bs y quiet
-        (apic_again mode image (s.apics p) (s.apics p) x.pending x.bodies bs refl serving on.apic) told now few goes_on hes
+        visible_with cell hc hm hu (s.apics p) cpu words None sends_nothing (he (s.apics p) (s.latches p)) hb names allowed changes m' es ht tasks slots bs y
+        quiet (apic_again mode image (s.apics p) (s.apics p) x.pending x.bodies bs refl serving on.apic) told now few goes_on hes
 
     -- what holds of the components that a step leaves alone, by the names that it writes
     module _ (names : List Named) (allowed : AreNames p names) (words : NatMap ℕ) (changes : Changes p σ names s.memory.words words) where

@@ -177,7 +177,8 @@ module _ (mode : Mode) (image : Image) where
     AcceptancesStand = (left : NatMap ℕ) (s : System) (m : Machine) → Follows left s m → (p : ℕ) → p < image.processors → is_line image (Accept p) ≡ true
         → Follows left (accept_mail s p) (line_step image m (Accept p)).0
 
-    pub lines_follow : ArrivalsStand → AcceptancesStand → (script : List Line) (left : NatMap ℕ) (s : System) (m : Machine) → Follows left s m → IsScript image script
+    pub lines_follow : ArrivalsStand → AcceptancesStand → (script : List Line) (left : NatMap ℕ) (s : System) (m : Machine) → Follows left s m
+        → IsScript image script
         → list_all line_is_built script ≡ true
         → (now : NatMap ℕ) × Follows now (concrete_lines marks image.processors s script).0 (after image m script)
     unfolding concrete_line line_step is_line line_is_built
