@@ -35,6 +35,8 @@ fn is_built_item(item: &Item) -> bool
             | Item::SetRip(_)
             | Item::Map(_)
             | Item::Unmap(_)
+            | Item::Sti
+            | Item::Cli
             | Item::Eoi
             | Item::Send(_, Key::Irq(_))
             | Item::Bp

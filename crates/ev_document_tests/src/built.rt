@@ -14,7 +14,7 @@ fn bodies(rt: HostRuntime) -> Result<(), Fail> {
         ("body irq31 both\neoi\nret\nendbody\nfill\n", true),
         (
             "body irq31 both\nsti\nnop\ncli\neoi\nret\nendbody\nfill\n",
-            false,
+            true,
         ),
         (
             "body sys user\nsend 0 irq31\nret\nendbody\nbody irq31 both\neoi\nret\nendbody\nfill\n",

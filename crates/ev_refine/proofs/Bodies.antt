@@ -194,6 +194,7 @@ load_again mode image o e g w b l = record {
   found = l.found;
   begins = l.begins;
   unknown = l.unknown;
+  off = l.off;
   saved = saved_again mode image o e (record e { flags = g }) w (λ i h. refl) refl refl refl l.saved;
   locals = l.locals;
 }

@@ -67,6 +67,7 @@ module _ (mode : Mode) (image : Image) (built : IsBuilt image) (good : IsImage i
         marked = marked;
         runs = runs;
         event = fault_event code address;
+        serves_none = refl;
         found = found.1;
         same_body = refl;
         same_service = refl;

@@ -37,14 +37,14 @@ use Rattle.ev_blocks.specs.Fred.{FromUser, FromKernel, FredToKernel, FredToTask,
 use Rattle.ev_blocks.specs.Fred as fred
 use Rattle.ev_blocks.specs.Idt.{Stub, Sys, Common, IdtToKernel, IdtToTask, idt_block}
 use Rattle.ev_blocks.specs.Idt as idt
-use Rattle.ev_blocks.specs.Items.{AtTable, AtJump, AtItem, AtNumber, AtNumbers, AtUserWord, AtPageWord, body_block}
+use Rattle.ev_blocks.specs.Items.{AtTable, AtJump, AtItem, AtNumber, AtNumbers, AtUserWord, AtPageWord, BehindSti, body_block}
 use Rattle.ev_blocks.specs.Blocks.{Spot, InFred, InIdt, InBody, block}
 use Rattle.ev_table.specs.Table.{code_table}
 use Rattle.ev_refine.specs.Nmi.{Frame}
-use Rattle.ev_refine.specs.Active.{address_of_item, item_place, OverTask, OverBody, Active}
+use Rattle.ev_refine.specs.Active.{address_of_item, item_place, HasNextPlace, OverTask, OverBody, Active}
 use Rattle.ev_refine.specs.Relation.{IsContext, body_edges, chained, Interrupted, Chain, StandsOn}
 use Rattle.ev_refine.proofs.Facts.{Facts}
-use Rattle.ev_refine.proofs.Spots.{is_elsewhere, entry_elsewhere, kernel_entry_elsewhere, kernel_exit_elsewhere, fred_exit_elsewhere, sys_elsewhere, common_elsewhere, idt_exit_elsewhere, idt_kernel_exit_elsewhere, is_in_stub, stub_inside, is_in_item, number_inside, numbers_inside, address_inside, page_inside}
+use Rattle.ev_refine.proofs.Spots.{is_elsewhere, entry_elsewhere, kernel_entry_elsewhere, kernel_exit_elsewhere, fred_exit_elsewhere, sys_elsewhere, common_elsewhere, idt_exit_elsewhere, idt_kernel_exit_elsewhere, is_in_stub, stub_inside, is_in_item, number_inside, numbers_inside, address_inside, page_inside, sti_inside}
 use Rattle.ev_refine.proofs.Standing.{sends, after_went, Went, went_step}
 use Rattle.ev_refine.proofs.CallKinds.{over_any}
 use Rattle.ev_refine.proofs.After.{as_chain}
@@ -61,7 +61,7 @@ not_true true h = absurd (cc)
 not_true false h = refl
 
 -- code of bodies stands behind it
-pub behind_repeat : (a : ℕ) → 0xffffffff82000000 ≤ a → is_in_repeat a ≡ false
+pub behind_repeat : (a : ℕ) → nbody_entry ≤ a → is_in_repeat a ≡ false
 behind_repeat a h = pick (nat_lt a nbody_entry) refl
   where
     pick : (b : Bool) → nat_lt a nbody_entry ≡ b → (nat_le repeat_entry a && b) ≡ false
@@ -113,6 +113,21 @@ module _ (mode : Mode) (image : Image) (facts : Facts mode image) where
       let low = range.0 in let high = range.1 in
       behind_repeat c.rip (omega arith)
 
+  -- and behind `sti`
+  behind_sti_outside : (B : Block) (k : ℕ) (e : Env) (c : Processor) (m : Memory) (b : BodyContext) → IsContext mode image b
+      → At (code_table mode image) B k e c m → k ≤ B.steps → every is_in_item B ≡ true → HasNextPlace mode image e b → is_in_repeat c.rip ≡ false
+  behind_sti_outside B k e c m b ctx at l every place =
+      let found = body_at (slice_get image.bodies b.body) b.place ctx.item ctx.is in
+      let inside = every_ok is_in_item B every k l at.state at.is in
+      let n : ℕ = at.state.rip.off in
+      let tag : at.state.rip.tag ≡ item_tag = eqb-true at.state.rip.tag item_tag (and_left _ _ inside) in
+      let near : n < 0x40 = ltb-true n 0x40 (and_right (at.state.rip.tag == item_tag) _ inside) in
+      let is : c.rip ≡ (e.base item_tag + n) % M = at.agrees.rip ∙ ap (λ t. (e.base t + n) % M) tag in
+      let next : e.base item_tag + 2 ≡ item_address mode b.body found.0 b.place = place ∙ ap (address_of_item mode b.body b.place) found.1 in
+      let range = facts.item_range b.body b.place found.0 found.1 in
+      let low = range.0 in let high = range.1 in
+      behind_repeat c.rip (omega arith)
+
   -- the entries of vectors stand before it
   at_stub_outside : (o : Origin) (has : Bool) (v k : ℕ) (e : Env) (c : Processor) (m : Memory) → At (code_table mode image) (idt_block (Stub o has v)) k e c m
       → v < 256 → e.base stub_tag ≡ vector_stub v → k ≤ (idt_block (Stub o has v)).steps → is_in_repeat c.rip ≡ false
@@ -142,6 +157,8 @@ module _ (mode : Mode) (image : Image) (facts : Facts mode image) where
       in_item_outside (body_block true FredFrame AtUserWord) k e c mem b ctx at l (address_inside true FredFrame) h.1
   over_task_outside Fred (InBody FredFrame (AtPageWord is_page)) k e w c mem b ctx z l at h =
       in_item_outside (body_block true FredFrame (AtPageWord is_page)) k e c mem b ctx at l (page_inside true FredFrame is_page) h.1
+  over_task_outside Fred (InBody FredFrame BehindSti) k e w c mem b ctx z l at h =
+      behind_sti_outside (body_block true FredFrame BehindSti) k e c mem b ctx at l (sti_inside true FredFrame) h.1
   over_task_outside Idt (InIdt Sys) k e w c mem b ctx z l at h = at_elsewhere (idt_block Sys) k e c mem at z l sys_elsewhere
   over_task_outside Idt (InIdt (Stub UserCode has v)) k e w c mem b ctx z l at h = at_stub_outside UserCode has v k e c mem at h.0.0 h.0.2 l
   over_task_outside Idt (InIdt (Common UserCode pf)) k e w c mem b ctx z l at h =
@@ -160,6 +177,8 @@ module _ (mode : Mode) (image : Image) (facts : Facts mode image) where
       in_item_outside (body_block false IdtFrame AtUserWord) k e c mem b ctx at l (address_inside false IdtFrame) h.1
   over_task_outside Idt (InBody IdtFrame (AtPageWord is_page)) k e w c mem b ctx z l at h =
       in_item_outside (body_block false IdtFrame (AtPageWord is_page)) k e c mem b ctx at l (page_inside false IdtFrame is_page) h.1
+  over_task_outside Idt (InBody IdtFrame BehindSti) k e w c mem b ctx z l at h =
+      behind_sti_outside (body_block false IdtFrame BehindSti) k e c mem b ctx at l (sti_inside false IdtFrame) h.1
   over_task_outside m _ k e w c mem b ctx z l at h = absurd h
 
   over_body_outside : (m : Mode) (spot : Spot) (k : ℕ) (e : Env) (w c : Processor) (mem : Memory) (b : BodyContext) → IsContext mode image b
@@ -180,6 +199,8 @@ module _ (mode : Mode) (image : Image) (facts : Facts mode image) where
       in_item_outside (body_block true FredFrame AtUserWord) k e c mem b ctx at l (address_inside true FredFrame) h.1
   over_body_outside Fred (InBody FredFrame (AtPageWord is_page)) k e w c mem b ctx z l at h =
       in_item_outside (body_block true FredFrame (AtPageWord is_page)) k e c mem b ctx at l (page_inside true FredFrame is_page) h.1
+  over_body_outside Fred (InBody FredFrame BehindSti) k e w c mem b ctx z l at h =
+      behind_sti_outside (body_block true FredFrame BehindSti) k e c mem b ctx at l (sti_inside true FredFrame) h.1
   over_body_outside Idt (InIdt (Stub KernelCode has v)) k e w c mem b ctx z l at h = at_stub_outside KernelCode has v k e c mem at h.0.0 h.0.2 l
   over_body_outside Idt (InIdt (Common KernelCode pf)) k e w c mem b ctx z l at h =
       at_elsewhere (idt_block (Common KernelCode pf)) k e c mem at z l (common_elsewhere KernelCode pf)
@@ -197,6 +218,8 @@ module _ (mode : Mode) (image : Image) (facts : Facts mode image) where
       in_item_outside (body_block false IdtFrame AtUserWord) k e c mem b ctx at l (address_inside false IdtFrame) h.1
   over_body_outside Idt (InBody IdtFrame (AtPageWord is_page)) k e w c mem b ctx z l at h =
       in_item_outside (body_block false IdtFrame (AtPageWord is_page)) k e c mem b ctx at l (page_inside false IdtFrame is_page) h.1
+  over_body_outside Idt (InBody IdtFrame BehindSti) k e w c mem b ctx z l at h =
+      behind_sti_outside (body_block false IdtFrame BehindSti) k e c mem b ctx at l (sti_inside false IdtFrame) h.1
   over_body_outside m _ k e w c mem b ctx z l at h = absurd h
 
   pub active_outside : (p left : ℕ) (κ : Kind) (σ : Seat) (f : Frame) (sw : Bool) (w : Processor) (b : BodyContext) (c : Processor) (m : Memory)

@@ -89,6 +89,7 @@ visible_of (Uput s t) = Some (Store 0 (pos 0) t)
 visible_of (GetReg d r) = Some (Load d 4 (pos (saved_offset r)))
 visible_of (SetReg r s) = Some (Store 4 (pos (saved_offset r)) s)
 visible_of (SetRip a) = Some (Store 4 (pos saved_rip) 0)
+visible_of Item.Cli = Some Ins.Cli
 visible_of Eoi = Some Wrmsr
 visible_of (Send to key) = Some Wrmsr
 visible_of (Map s) = Some (StoreImm 0 (pos 0) (pos 1))
@@ -204,6 +205,8 @@ item_cells mode n k key f code env a next (SetReg r s) i q branch h e =
     record { edges = tt; seen = seen_at code a (a + 0) 8 next (Store 4 (pos (saved_offset r)) s) i q h.0 (omega arith) (omega arith) }
 item_cells mode n k key f code env a next (SetRip x) i q branch h e =
     record { edges = (h.0, tt); seen = seen_at code (a + 10) (a + 10) 8 next (Store 4 (pos saved_rip) 0) i q h.1.0 refl (omega arith) }
+item_cells mode n k key f code env a next Item.Cli i q branch h e =
+    record { edges = tt; seen = seen_at code a (a + 0) 1 next Ins.Cli i q h.0 (omega arith) (omega arith) }
 item_cells mode n k key f code env a next Eoi i q branch h e =
     let seen = seen_at code (a + 10 + 10 + 10) (a + 30) 2 next Wrmsr i q h.1.1.1.0 (omega arith) (omega arith) in
     record { edges = (h.0, (h.1.0, (h.1.1.0, tt))); seen = seen }

@@ -47,7 +47,7 @@ use Rattle.ev_refine.proofs.Facts.{Facts}
 use Rattle.ev_refine.proofs.After.{AreNames, own_word, none_spares}
 use Rattle.ev_refine.proofs.ItemCells.{bytes_of, before, visible_of, ItemCells}
 use Rattle.ev_refine.proofs.ItemCode.{JumpCell, cells_of, goto_cell, jcc_cell}
-use Rattle.ev_refine.proofs.ItemState.{opening_of, known_of, gone, gs_of}
+use Rattle.ev_refine.proofs.ItemState.{opening_of, known_of, unblocked, gone, gs_of}
 use Rattle.ev_refine.proofs.ItemLocals.{Write, IsLocal, regs_with, local_at}
 use Rattle.ev_refine.proofs.ItemAddresses.{area_open, displaced_area}
 use Rattle.ev_refine.proofs.ItemWords.{IsFree, are_names, is_unknown}
@@ -120,9 +120,13 @@ module _ (mode : Mode) (image : Image) (built : IsBuilt image) (good : IsImage i
   pub at_ins : (ins : Ins) (next : ℕ) → code c.rip ≡ Some (record { ins = ins; next = next; mark = true }) → IsAt c ins next
   at_ins ins next hc = record { kernel = a.kernel; flags = kept c.flags a.flags a.state.flags; ends = sym (facts.spaced c.rip _ hc) }
 
+  -- IF is the context's
+  pub same_interrupts : a.flags.interrupts ≡ b.interrupts
+  same_interrupts = step.masks_flags mode image built good facts left s m h p hp o a.flags a.state.flags
+
   -- the abstract machine's turn
   pub turns : (item : Item) → item_at (Some body') b.place ≡ Some item → turn image m p ≡ item_step image m p b item
-  turns item hi = step.turns mode image built good facts left s m h p hp o item (ap (λ o. item_at o b.place) is ∙ hi)
+  turns item hi = step.turns mode image built good facts left s m h p hp o (λ on. a.state.blocked ∙ unblocked mode) item (ap (λ o. item_at o b.place) is ∙ hi)
 
   -- ---- the memory of a write
 
@@ -169,7 +173,9 @@ module _ (mode : Mode) (image : Image) (built : IsBuilt image) (good : IsImage i
         place = suc b.place;
         flags = g;
         status = status;
-        flags_are = known;
+        flags_are = known.0;
+        interrupts = b.interrupts;
+        masked = known.1 ∙ same_interrupts;
         words = words_with s.memory.words z;
         apic = s.apics p;
         sent = None;
@@ -352,7 +358,9 @@ module _ (mode : Mode) (image : Image) (built : IsBuilt image) (good : IsImage i
           place = t;
           flags = a.flags;
           status = b.flags;
-          flags_are = known_flags same;
+          flags_are = (known_flags same).0;
+          interrupts = b.interrupts;
+          masked = same_interrupts;
           words = s.memory.words;
           apic = s.apics p;
           sent = None;

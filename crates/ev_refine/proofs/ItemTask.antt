@@ -341,7 +341,9 @@ module _ (mode : Mode) (image : Image) (built : IsBuilt image) (good : IsImage i
           place = suc b.place;
           flags = a.flags;
           status = b.flags;
-          flags_are = steps.known_flags mode image built good facts left s m h p hp o body' is ss extra v f a same;
+          flags_are = (steps.known_flags mode image built good facts left s m h p hp o body' is ss extra v f a same).0;
+          interrupts = b.interrupts;
+          masked = steps.same_interrupts mode image built good facts left s m h p hp o body' is ss extra v f a;
           words = ws;
           apic = s.apics p;
           sent = None;

@@ -55,7 +55,7 @@ use Rattle.ev_refine.proofs.Bodies.{body, at_the_item, item_edges_few, saved_aga
 use Rattle.ev_refine.proofs.Standing.{went, went_shows, went_activations, went_stays}
 use Rattle.ev_refine.proofs.After.{AreNames, apic_again}
 use Rattle.ev_refine.proofs.CallKinds.{origin_of, plain_knows}
-use Rattle.ev_refine.proofs.ItemState.{with_registers, opening_of, known_of, ItemState, any_registers, any_known, beyond_registers, gone, lands}
+use Rattle.ev_refine.proofs.ItemState.{with_registers, opening_of, known_of, unblocked, ItemState, any_registers, any_known, beyond_registers, gone, lands}
 use Rattle.ev_refine.proofs.ItemLocals.{Write, IsLocal, regs_with, locals_with, regs_long, keeps_rsp, locals_behind}
 use Rattle.ev_refine.proofs.KernelStep as step
 
@@ -169,7 +169,7 @@ module _ (mode : Mode) (image : Image) (built : IsBuilt image) (good : IsImage i
       apic_again mode image (s.apics p) (s.apics p) x.pending x.bodies (behind write place status ∷ o.below) refl
       (λ class. sym (ap (list_any (λ (a : BodyContext). serves mode image class a.service)) o.bodies)) on.apic
 
-  -- What an item does there; all but the end of an interrupt leave the local APIC as it is, and all but `send` send nothing.
+  -- What an item does there; all but the end of an interrupt leave the local APIC as it is, all but `cli` IF, and all but `send` send nothing.
   pub record Does (ss : ℕ) (extra v : ℕ → ℕ) (f : Flags) (a : AtVisible ss extra v f) : Type 0 where
     pub cell : Cell
     pub found : code c.rip ≡ Some cell
@@ -180,7 +180,9 @@ module _ (mode : Mode) (image : Image) (built : IsBuilt image) (good : IsImage i
     pub place : ℕ
     pub flags : Flags
     pub status : Option Status
-    pub flags_are : FlagsBehind mode image a.flags status flags
+    pub flags_are : FlagsAre mode image status flags
+    pub interrupts : Bool
+    pub masked : flags.interrupts ≡ interrupts
     pub words : NatMap ℕ
     pub apic : Apic
     pub sent : Option Send
@@ -188,7 +190,7 @@ module _ (mode : Mode) (image : Image) (built : IsBuilt image) (good : IsImage i
     pub runs : executed c (s.apics p) s.memory (s.latches p) (Some cell.ins)
         ≡ went (gone c (regs_with c.regs write) flags (at place)) apic words (s.latches p) sent
     pub service : Option ℕ
-    pub apic_is : ApicIs mode image apic x.pending (record (behind write place status) { service = service } ∷ o.below)
+    pub apic_is : ApicIs mode image apic x.pending (record (behind write place status) { service = service; interrupts = interrupts } ∷ o.below)
     pub names : List Named
     pub allowed : AreNames p names
     pub unknown : UnknownTo o.below names
@@ -202,12 +204,12 @@ module _ (mode : Mode) (image : Image) (built : IsBuilt image) (good : IsImage i
     pub turns : turn image m p ≡ (machine, entries)
     pub slots : NatMap ℕ
     pub makes : step.Makes mode image built good facts left s m h p hp o sends.machine machine words tasks slots
-        (record (behind write place status) { service = service } ∷ o.below)
+        (record (behind write place status) { service = service; interrupts = interrupts } ∷ o.below)
     pub shows : went_shows p s cell.ins (gone c (regs_with c.regs write) flags (at place)) words sent ≡ entries
 
   pub visible : (ss : ℕ) (extra v : ℕ → ℕ) (f : Flags) (a : AtVisible ss extra v f) → Does ss extra v f a → Simulated mode image left s m p
   visible ss extra v f a d =
-      let b' : BodyContext = record (behind d.write d.place d.status) { service = d.service } in
+      let b' : BodyContext = record (behind d.write d.place d.status) { service = d.service; interrupts = d.interrupts } in
       let regs : List ℕ = regs_with c.regs d.write in
       let cpu : Processor = gone c regs d.flags (at d.place) in
       let mem : Memory = with_words s.memory d.words in
@@ -236,7 +238,7 @@ module _ (mode : Mode) (image : Image) (built : IsBuilt image) (good : IsImage i
       let item : InItem mode image (origin_of o.κ) u w b' = record {
         saved = d.over.saved regs further d.flags;
         locals = locals_behind mode image (env ss extra v f) c s.memory a.offset a.rax a.rcx a.rdx a.flags a.state o.b a.means.locals d.write d.local;
-        flags = d.flags_are.0;
+        flags = d.flags_are;
       } in
       let act' : Active mode image p (edges mode (body mode AtItem) 0) o.κ o.σ on.frame (switches_at mode image on.switching o.below) w b' cpu mem = record {
         stands = record {
@@ -247,7 +249,7 @@ module _ (mode : Mode) (image : Image) (built : IsBuilt image) (good : IsImage i
           flags = d.flags;
           ss = ss;
           ss_is = a.ss_is;
-          masked = d.flags_are.1 ∙ step.masks_flags mode image built good facts left s m h p hp o a.flags a.state.flags;
+          masked = d.masked;
           within = omega arith;
           enough = omega arith;
           at = begins code (block mode (body mode AtItem)) u cpu mem fit agrees;
@@ -261,11 +263,11 @@ module _ (mode : Mode) (image : Image) (built : IsBuilt image) (good : IsImage i
       = went_stays image.processors s p cpu d.sent d.cell.ins (step.fetches mode image built good facts left s m h p hp c.rip d.cell d.found).1 d.no_return
       ∙ o.acts in
       let quiet = step.are_quiet mode image built good facts left s m h p hp o in
-      step.visible_with mode image built good facts left s m h p hp o d.cell d.found d.marked a.kernel d.apic cpu d.words d.sent
-      d.sends d.runs
+      step.visible_with mode image built good facts left s m h p hp o (λ on. a.state.blocked ∙ unblocked mode) d.cell d.found d.marked a.kernel d.apic cpu
+      d.words d.sent d.sends d.runs
       (step.blocked mode image built good facts left s m h p hp) d.names d.allowed d.changes d.machine d.entries d.turns d.tasks d.slots (b' ∷ o.below)
       d.makes
-      (record { interrupts = quiet.0.interrupts; calls = quiet.0.calls }, quiet.1)
+      (record { calls = quiet.0.calls }, quiet.1)
       d.apic_is
       (sent_inside (length x.bodies) c d.cell.ins d.sent
       (goes_on_inside (is_return (Some d.cell.ins)) (not (is_user c)) (not (nat_le nmi_entry c.rip && nat_lt c.rip repeat_entry)) (is_jump (Some d.cell.ins))

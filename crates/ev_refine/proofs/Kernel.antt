@@ -1,4 +1,4 @@
--- A step of a processor on which a body stands: an instruction of the kernel's code, an item, or the return.
+-- A step of a processor on which a body stands: an interrupt, an instruction of the kernel's code, an item, or the return.
 use Rattle.std.proofs.Common.{◌≡◌, ℕ, suc, ◌+◌, ◌-◌, ◌*◌, ◌<◌, ◌≤◌, Bool, true, false, not, ◌&&◌, List, [], ◌∷◌, length, Some, refl, sym, ap, ◌∙◌, subst, arith, ◌||◌}
 use Rattle.std.specs.Prelude.{ℤ, pos, ◌==◌, if◌then◌else◌, slice_get, nat_le}
 use Rattle.std.proofs.lemmas.Bool.{eqb-true, ne_eqb, leb-true, leb-false}
@@ -40,7 +40,7 @@ use Rattle.ev_blocks.specs.Fred.{FromUser, FromKernel, FredToKernel, FredToTask,
 use Rattle.ev_blocks.specs.Fred as fred
 use Rattle.ev_blocks.specs.Idt.{Stub, Sys, Common, IdtToKernel, IdtToTask, idt_block, is_page_fault, table_of, stub_values, common_values, sys_values}
 use Rattle.ev_blocks.specs.Idt as idt
-use Rattle.ev_blocks.specs.Items.{BodySpot, AtTable, AtJump, AtItem, AtNumber, AtNumbers, AtUserWord, AtPageWord}
+use Rattle.ev_blocks.specs.Items.{BodySpot, AtTable, AtJump, AtItem, AtNumber, AtNumbers, AtUserWord, AtPageWord, BehindSti}
 use Rattle.ev_blocks.specs.Blocks.{Spot, InFred, InIdt, InBody, block, edges}
 use Rattle.ev_blocks.proofs.Falls.{edges_fall}
 use Rattle.ev_grounds.specs.Facts.{FactLaws}
@@ -78,6 +78,9 @@ use Rattle.ev_refine.proofs.ItemAddress.{address_steps}
 use Rattle.ev_refine.proofs.ItemPage.{page_block_steps}
 use Rattle.ev_refine.proofs.KernelStep as step
 use Rattle.ev_refine.proofs.KernelItems as items
+use Rattle.ev_refine.proofs.ItemInterrupts.{behind_steps}
+use Rattle.ev_refine.proofs.ItemInterrupts as interrupts
+use Rattle.ev_refine.proofs.BodyInterrupt as arrivals
 
 -- ---- from the entry of a vector to the code in common
 
@@ -227,6 +230,7 @@ module _ (mode : Mode) (image : Image) (built : IsBuilt image) (good : IsImage i
               code = refl;
               begins = l.begins;
               unknown = l.unknown;
+              off = l.off;
               saved = saved_again mode image (origin_of κ) e (env ss extra u f) w (λ i low. beside_rax i low) refl refl refl l.saved;
               locals = l.locals;
             },
@@ -277,8 +281,8 @@ module _ (mode : Mode) (image : Image) (built : IsBuilt image) (good : IsImage i
 
       -- ---- the exit's end: the return
 
-      at_exit : Exits code c s.memory w → is_user c ≡ false → item_at (slice_get image.bodies b.body) b.place ≡ Some Ret → Result
-      at_exit x hu ret =
+      at_exit : Exits code c s.memory w → is_user c ≡ false → b.interrupts ≡ false → item_at (slice_get image.bodies b.body) b.place ≡ Some Ret → Result
+      at_exit x hu off ret =
           let cell : Cell = record { ins = x.ins; next = x.next; mark = true } in
           let hc : code c.rip ≡ Some cell = ap code x.rip ∙ x.cell in
           let back : Processor = record w { cr2 = c.cr2; nmi_blocked = false } in
@@ -286,9 +290,11 @@ module _ (mode : Mode) (image : Image) (built : IsBuilt image) (good : IsImage i
           = ran_returns s p back x.ins (fetches c.rip cell hc).1 x.is hu
           (ap (λ y. (y == nlast_entry + 12) && (back.rip == repeat_entry) && not (is_user back)) x.rip
           ∙ ap (λ q. q && (back.rip == repeat_entry) && not (is_user back)) x.unlike) ∙ ap without_last o.acts in
-          step.visible mode image built good facts left s m h p hp o cell hc refl hu back s.memory.words x.back refl [] (none_spares p).allowed
+          let unblocked : step.Unblocked mode image built good facts left s m h p hp b
+          = (λ on. let clash : true ≡ false = sym on ∙ off in absurd (cc)) in
+          step.visible mode image built good facts left s m h p hp o unblocked cell hc refl hu back s.memory.words x.back refl [] (none_spares p).allowed
           (λ y far far'. refl) (with_processor m p (record (processor m p) { bodies = below })) []
-          (step.ret_turn mode image built good facts left s m h p hp o ret) (processor m p).tasks (processor m p).slots below
+          (step.ret_turn mode image built good facts left s m h p hp o unblocked ret) (processor m p).tasks (processor m p).slots below
           (step.bodies_alone mode image built good facts left s m h p hp o [] (none_spares p).allowed s.memory.words (λ y far far'. refl) (none_spares p) refl
           below)
           (step.are_quiet mode image built good facts left s m h p hp o).1
@@ -404,6 +410,13 @@ module _ (mode : Mode) (image : Image) (built : IsBuilt image) (good : IsImage i
           items.by_page mode image built good facts left s m h p hp o body' is act ss ss_is extra v f is_page
           (subst (λ i. At code (block mode (body mode (AtPageWord is_page))) i (env ss extra v f) c s.memory) (n ∙ page_block_steps mode is_page) at)
           means.0 means.1 means.2 long ctx.item hi
+      at_body act BehindSti k ss ss_is extra v f n at means long enough hi =
+          let last : k ≡ 1 = n ∙ behind_steps mode in
+          let z = interrupts.to_item mode image built good facts left s m h p hp o body' is ss ss_is extra v f
+          (subst (λ j. At code (block mode (body mode BehindSti)) j (env ss extra v f) c s.memory) last at) means.0 means.1 long
+          (subst (λ j. edges mode (body mode BehindSti) j ≤ on.own) last enough) in
+          items.by_item mode image built good facts left s m h p hp o body' is z.5 ss ss_is z.0 v f z.3 z.2 z.1 long z.4
+          ctx.item (which image built good b.body body' is b.place ctx.item hi) hi
       at_body act _ k ss ss_is extra v f n at means long enough hi = absurd means
 
       -- which of them, by what was interrupted and the mode
@@ -426,7 +439,7 @@ module _ (mode : Mode) (image : Image) (built : IsBuilt image) (good : IsImage i
           (subst (λ m. RunsTask m image p to t w) (sym q) one.task) (level_of Fred κ w over) (subst (λ m. Saved m image v w) (sym q) means.saved)
           (subst (λ m. At code (fred_block (fred.Leaves FredToTask)) (fred_block (fred.Leaves FredToTask)).steps (here m p κ σ ss w extra v f) c s.memory)
           (sym q) (subst (λ j. At code (fred_block (fred.Leaves FredToTask)) j (env ss extra v f) c s.memory) n at)))
-          (ap is_user at.agrees.rest) means.ret
+          (ap is_user at.agrees.rest) means.off means.ret
       at_the_end act KernelCode oq Fred q (InFred FromKernel) k ss ss_is extra v f n at means long enough hi =
           let falls = (edges_fall Fred).from_kernel in
           at_entry act (fred_block FromKernel) _ kernel_values
@@ -440,7 +453,7 @@ module _ (mode : Mode) (image : Image) (built : IsBuilt image) (good : IsImage i
           (subst (λ m. SavedBody m image (here m p κ σ ss w extra v f) w) (sym q) means.saved)
           (subst (λ m. At code (fred_block (fred.Leaves FredToKernel)) (fred_block (fred.Leaves FredToKernel)).steps (here m p κ σ ss w extra v f) c s.memory)
           (sym q) (subst (λ j. At code (fred_block (fred.Leaves FredToKernel)) j (env ss extra v f) c s.memory) n at)))
-          (ap is_user at.agrees.rest) means.ret
+          (ap is_user at.agrees.rest) means.off means.ret
       at_the_end act UserCode oq Fred q (InBody FredFrame spot) k ss ss_is extra v f n at means long enough hi =
           at_body act spot k ss ss_is extra v f (n ∙ ap (λ m. (block m (body m spot)).steps) q)
           (subst (λ m. At code (block m (body m spot)) k (env ss extra v f) c s.memory) q at)
@@ -495,14 +508,14 @@ module _ (mode : Mode) (image : Image) (built : IsBuilt image) (good : IsImage i
           (subst (λ m. At code (idt_block (idt.Leaves (IdtToTask by))) (idt_block (idt.Leaves (IdtToTask by))).steps (here m p κ σ ss w extra v f) c
           s.memory)
           (sym q) (subst (λ j. At code (idt_block (idt.Leaves (IdtToTask by))) j (env ss extra v f) c s.memory) n at)))
-          (ap is_user at.agrees.rest) means.0.ret
+          (ap is_user at.agrees.rest) means.0.off means.0.ret
       at_the_end act KernelCode oq Idt q (InIdt (idt.Leaves IdtToKernel)) k ss ss_is extra v f n at means long enough hi =
           at_exit (idt_exits_to_body p small κ σ w ss extra v f code c s.memory blocked image (subst (λ m. HasKernel m code) (sym q) facts.kernel)
           (subst (IsKernelSs Idt) means.saved.same_ss (subst (λ m. IsKernelSs m ss) (sym q) ss_is)) (plain_level Idt κ w plain_kind)
           (subst (λ m. SavedBody m image (here m p κ σ ss w extra v f) w) (sym q) means.saved)
           (subst (λ m. At code (idt_block (idt.Leaves IdtToKernel)) (idt_block (idt.Leaves IdtToKernel)).steps (here m p κ σ ss w extra v f) c s.memory)
           (sym q) (subst (λ j. At code (idt_block (idt.Leaves IdtToKernel)) j (env ss extra v f) c s.memory) n at)))
-          (ap is_user at.agrees.rest) means.ret
+          (ap is_user at.agrees.rest) means.off means.ret
       at_the_end act UserCode oq Idt q (InBody IdtFrame spot) k ss ss_is extra v f n at means long enough hi =
           at_body act spot k ss ss_is extra v f (n ∙ ap (λ m. (block m (body m spot)).steps) q)
           (subst (λ m. At code (block m (body m spot)) k (env ss extra v f) c s.memory) q at)
@@ -537,23 +550,29 @@ module _ (mode : Mode) (image : Image) (built : IsBuilt image) (good : IsImage i
     where
       by_acts : (as' : List Activation) → s.activations p ≡ as' → Chain mode image p on.own r to t on.frame on.switching (b ∷ below) as' c s.memory → Result
       by_acts [] e k = absurd k
-      by_acts (a ∷ as') e k = act_step (record {
-        b = b;
-        below = below;
-        bodies = hb;
-        κ = kind_of image b below;
-        kind = refl;
-        σ = seat_of mode image r (b ∷ below);
-        seat = refl;
-        ctx = k.1;
-        last = a;
-        others = as';
-        acts = e;
-        outer = k.2;
-        w = k.0;
-        interrupted = k.3;
-        under = k.4;
-        leads = k.5;
-        off = sym k.6.switches ∙ never_switches mode k.6.stands.spot (means_over mode image
-            (kind_of image b below) k.6.stands.spot _ k.0 b s.memory.words k.6.means);
-      }) k.6
+      by_acts (a ∷ as') e k = at_boundary (arrivals.boundary mode image built good facts left s m h p hp b below hb a as' e k)
+        where
+          at_boundary : arrivals.Boundary mode image built good facts left s m h p hp b below hb a as' e k → Result
+          at_boundary (arrivals.Delivers z) = z
+          at_boundary (arrivals.Executes first chosen) = act_step (record {
+            b = b;
+            below = below;
+            bodies = hb;
+            κ = kind_of image b below;
+            kind = refl;
+            σ = seat_of mode image r (b ∷ below);
+            seat = refl;
+            ctx = k.1;
+            last = a;
+            others = as';
+            acts = e;
+            outer = k.2;
+            w = k.0;
+            interrupted = k.3;
+            under = k.4;
+            leads = k.5;
+            off = sym k.6.switches ∙ never_switches mode k.6.stands.spot (means_over mode image
+                (kind_of image b below) k.6.stands.spot _ k.0 b s.memory.words k.6.means);
+            first = first;
+            chosen = chosen;
+          }) k.6

@@ -62,6 +62,8 @@ use Rattle.ev_refine.proofs.ItemTask as task
 use Rattle.ev_refine.proofs.ItemNumbers as numbers
 use Rattle.ev_refine.proofs.ItemInside as inside
 use Rattle.ev_refine.proofs.ItemMsr as msr
+use Rattle.ev_refine.proofs.ItemInterrupts as interrupts
+use Rattle.ev_refine.proofs.Legality.{off_at_ret}
 use Rattle.ev_refine.proofs.ItemAddress as addresses
 use Rattle.ev_refine.proofs.ItemUser as user
 use Rattle.ev_refine.proofs.ItemPage as pages
@@ -257,7 +259,11 @@ module _ (mode : Mode) (image : Image) (built : IsBuilt image) (good : IsImage i
             };
             switches = x.off ∙ sym o.off;
             knows = plain_knows mode κ on.frame plain_kind (blocks.holds x.spot);
-            means = x.means image b s.memory.words (record { saved = means.saved; ret = ap (λ o. item_at o b.place) is ∙ hi });
+            means = x.means image b s.memory.words (record {
+              saved = means.saved;
+              off = off_at_ret image good built.accepted m p h.legal b below o.bodies (ap (λ o. item_at o b.place) is ∙ hi);
+              ret = ap (λ o. item_at o b.place) is ∙ hi;
+            });
           })
 
       pub by_item : (act : Stood on.own b c s.memory) (ss : ℕ) → IsKernelSs mode ss → (extra v : ℕ → ℕ) (f : Flags)
@@ -333,6 +339,8 @@ module _ (mode : Mode) (image : Image) (built : IsBuilt image) (good : IsImage i
               Eoi Wrmsr refl hi 0x80b 0 0 refl
           pick (Send to (Irq k)) today hi = msr.to_numbers mode image built good facts left s m h p hp o body' is act ss ss_is extra v f at means place long
               enough (Send to (Irq k)) Wrmsr refl hi 0x830 (command (Irq k)) to refl
+          pick Item.Cli today hi = does (interrupts.by_cli mode image built good facts left s m h p hp o body' is ss extra v f a off same hi)
+          pick Item.Sti today hi = interrupts.by_sti mode image built good facts left s m h p hp o body' is ss extra v f a off same hi
           pick Item.Bp today hi = breaks.by_bp mode image built good facts left s m h p hp o body' is ss extra v f a off same hi
           pick Ret today hi = at_ret act ss ss_is extra v f at means place long enough hi
           pick _ today hi = absurd (cc)

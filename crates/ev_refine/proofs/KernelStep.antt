@@ -2,7 +2,7 @@
 use Rattle.std.proofs.Common.{◌≡◌, inl, inr, ℕ, suc, ◌+◌, ◌-◌, ◌*◌, ◌<◌, ◌≤◌, Bool, true, false, not, ◌&&◌, List, [], ◌∷◌, length, Option, Some, refl, sym, ap, ◌∙◌, subst, arith, None}
 use Rattle.std.specs.Prelude.{if◌then◌else◌, ◌==◌, get_or, slice_get, nat_le, nat_lt}
 use Rattle.std.specs.List.{list_any}
-use Rattle.ev_isa.specs.Word.{NatMap, put_at, greatest_below}
+use Rattle.ev_isa.specs.Word.{NatMap, put_at}
 use Rattle.ev_isa.specs.Flags.{Flags, flags_word}
 use Rattle.ev_isa.specs.declared.instruction.Ins.{Ins}
 use Rattle.ev_isa.specs.declared.mode.Mode.{Mode}
@@ -21,7 +21,7 @@ use Rattle.ev_apic.specs.declared.send.Send.{Send}
 use Rattle.ev_mem.specs.Memory.{Memory, page_map}
 use Rattle.ev_proc.specs.ProcessorStep.{has_fred, next_of, executed, ran}
 use Rattle.ev_proc.specs.declared.stepped.Stepped.{Stepped}
-use Rattle.ev_abstract.specs.Boundary.{Choice, choice, maskable, open_to_interrupts, interrupt_or_next, deliverable, is_nmi_body}
+use Rattle.ev_abstract.specs.Boundary.{Choice, choice, is_nmi_body}
 use Rattle.ev_abstract.specs.Context.{BodyContext}
 use Rattle.ev_abstract.specs.Delivery.{dropped, rescheduled}
 use Rattle.ev_abstract.specs.ItemMeaning.{Step, item_step, below_last}
@@ -62,7 +62,7 @@ use Rattle.ev_refine.proofs.Spots.{is_spot, IsAtEntry, keeps_rsp, names_if, name
 use Rattle.ev_refine.proofs.Fits.{IsSeat, InBodies, fits_at, opens_at, kernel_changes}
 use Rattle.ev_refine.proofs.Bodies.{Goes}
 use Rattle.ev_refine.proofs.Instructions.{stays_inside}
-use Rattle.ev_refine.proofs.Standing.{masked_first, hidden, seen, inboxes_by, posted_by, went, after_went, Went, went_step, went_writes, went_safe, went_shows, went_shown, went_activations, went_stays, Moves, step_moves}
+use Rattle.ev_refine.proofs.Standing.{hidden, seen, inboxes_by, posted_by, went, after_went, Went, went_step, went_writes, went_safe, went_shows, went_shown, went_activations, went_stays, Moves, step_moves}
 use Rattle.ev_refine.proofs.Stays.{means_again, leads_again, AreSpared, chain_stays, seat_fits, below_spared}
 use Rattle.ev_refine.proofs.Chains.{Kept, chain_kept, chain_plain, chain_open, chain_masked, word_interrupts, at_interrupts}
 use Rattle.ev_refine.proofs.After.{AreNames, AreSparing, own_word, none_spares, tasks_same, current_is, mark_is, slot_same, cell_same, page_same, user_same, few_inner, latch_parts, as_chain, apic_again, own_becomes, own_after, Becomes, stands_become}
@@ -122,7 +122,7 @@ module _ (mode : Mode) (image : Image) (built : IsBuilt image) (good : IsImage i
   pub small : p < 32
   small = let n = good.count.1 in omega arith
 
-  latch : s.latches p ≡ false
+  pub latch : s.latches p ≡ false
   latch = sym (latch_parts on.layer on.frame _ (s.latches p) c.nmi_blocked x.nmi on.latch).0 ∙ domain.nmi
 
   pub fetches : Fetches code s.memory
@@ -159,6 +159,10 @@ module _ (mode : Mode) (image : Image) (built : IsBuilt image) (good : IsImage i
   pub blocked : c.nmi_blocked ≡ false
   blocked = (latch_parts on.layer on.frame _ (s.latches p) c.nmi_blocked x.nmi on.latch).1 ∙ none_is_nmi
 
+  -- what no activation changes of the processor
+  pub kept_now : Kept mode image p c
+  kept_now = chain_kept mode image p on.own r to t on.frame on.switching x.bodies (s.activations p) c s.memory chain
+
   -- the classes in service are those of the contexts
   abbrev pub ServesAlike : List BodyContext → Type 0
   ServesAlike bs = (class : ℕ) → list_any (λ (a : BodyContext). serves mode image class a.service) bs
@@ -188,7 +192,11 @@ module _ (mode : Mode) (image : Image) (built : IsBuilt image) (good : IsImage i
   abbrev pub sends_nothing : Sends None
   sends_nothing = record { machine = m; own = refl; stands = h }
 
-  -- ---- the last context, on any contexts below
+  -- ---- the last context, on any contexts below, where no interrupt comes
+
+  -- STI doesn't hold back the interrupts to which the context is open
+  abbrev pub Unblocked : BodyContext → Type 0
+  Unblocked b = b.interrupts ≡ true → c.sti_blocked ≡ false
 
   pub record Top : Type 0 where
     pub b : BodyContext
@@ -209,6 +217,8 @@ module _ (mode : Mode) (image : Image) (built : IsBuilt image) (good : IsImage i
         (λ v. Chain mode image p (body_edges mode image) r to t on.frame (chained mode image on.switching below) below others v s.memory) w
     pub leads : Leads mode p κ on.frame w s.memory.words
     pub off : switches_at mode image on.switching below ≡ false  -- its exit, if it is in it, switches to no other task
+    pub first : next_of c (s.apics p) (s.latches p) ≡ Next.Instruction
+    pub chosen : Unblocked b → choice image x ≡ Choice.Next
 
   module _ (o : Top) where
     abbrev pub b : BodyContext
@@ -232,21 +242,21 @@ module _ (mode : Mode) (image : Image) (built : IsBuilt image) (good : IsImage i
     abbrev pub env : ℕ → (extra v : ℕ → ℕ) → Flags → Env
     env ss extra v f = here mode p κ σ ss w extra v f
 
-    -- ---- IF is off, so an instruction comes first
+    -- ---- IF is the context's
 
-    pub masked : interrupts_on c ≡ false
+    pub masked : interrupts_on c ≡ b.interrupts
     masked = chain_masked mode image p on.own r to t on.frame on.switching b below (s.activations p) c s.memory
         (subst (λ bs. Chained on.own t bs (s.activations p) c s.memory) o.bodies chain)
 
-    -- so it is off in the flags of each block where the processor is
-    pub masks : (B : Block) (k : ℕ) (e : Env) → At code B k e c s.memory → e.flags.interrupts ≡ false
+    -- so it is in the flags of each block where the processor is
+    pub masks : (B : Block) (k : ℕ) (e : Env) → At code B k e c s.memory → e.flags.interrupts ≡ b.interrupts
     masks B k e at = sym (at_interrupts code B k e c s.memory at) ∙ masked
 
-    pub masks_flags : (f : Flags) → c.flags ≡ flags_word f → f.interrupts ≡ false
+    pub masks_flags : (f : Flags) → c.flags ≡ flags_word f → f.interrupts ≡ b.interrupts
     masks_flags f is = sym (word_interrupts c f is) ∙ masked
 
     pub first : next_of c (s.apics p) (s.latches p) ≡ Next.Instruction
-    first = masked_first c (s.apics p) (s.latches p) latch masked
+    first = o.first
 
     runs : (cell : Cell) → code c.rip ≡ Some cell → is_user c ≡ false → (a : Apic) (cpu : Processor) (words : NatMap ℕ) (sent : Option Send)
         → executed c (s.apics p) s.memory (s.latches p) (Some cell.ins) ≡ went cpu a words (s.latches p) sent → Went s p a cpu words sent
@@ -471,24 +481,20 @@ module _ (mode : Mode) (image : Image) (built : IsBuilt image) (good : IsImage i
     pub quiet : IsQuiet b
     quiet = are_quiet.0
 
-    pub turns : (i : Item) → item_at (slice_get image.bodies b.body) b.place ≡ Some i → turn image m p ≡ item_step image m p b i
-    unfolding turn choice
-    turns i hi =
-        ap (chosen_step image m p) (ap (λ n. if n && not (list_any (is_nmi_body image) x.bodies) then Choice.Nmi else maskable x) domain.nmi
-        ∙ ap (λ bs. if open_to_interrupts bs then interrupt_or_next (greatest_below 256 (deliverable x)) else Choice.Next) o.bodies
-        ∙ ap (λ z. if z then interrupt_or_next (greatest_below 256 (deliverable x)) else Choice.Next) quiet.interrupts)
-        ∙ ap (next_step image m p) o.bodies ∙ ap (item_or_nothing image m p b) hi
+    pub turns : Unblocked b → (i : Item) → item_at (slice_get image.bodies b.body) b.place ≡ Some i → turn image m p ≡ item_step image m p b i
+    unfolding turn
+    turns unblocked i hi = ap (chosen_step image m p) (o.chosen unblocked) ∙ ap (next_step image m p) o.bodies ∙ ap (item_or_nothing image m p b) hi
 
     -- at `ret` it has no interrupt in service
     pub ret_serves : item_at (slice_get image.bodies b.body) b.place ≡ Some Ret → b.service ≡ None
     ret_serves hi = context_serves image good built.accepted m p h.legal b below o.bodies hi
 
     -- its numbers stay words
-    pub numbers_behind : (m' : Machine) (es : List Entry) → turn image m p ≡ (m', es) → HoldsNumbers m'
-    numbers_behind m' es ht =
+    pub numbers_behind : Unblocked b → (m' : Machine) (es : List Entry) → turn image m p ≡ (m', es) → HoldsNumbers m'
+    numbers_behind unblocked m' es ht =
         let found = body_at (slice_get image.bodies b.body) b.place ctx.item ctx.is in
         let ops = (body_ruled image good built.accepted.1.kept b.body found.0 found.1).operands b.place ctx.item found.2 in
-        subst (λ (z : Step). HoldsNumbers z.0) (sym (turns ctx.item ctx.is) ∙ ht)
+        subst (λ (z : Step). HoldsNumbers z.0) (sym (turns unblocked ctx.item ctx.is) ∙ ht)
         (items_keep_numbers image m p b ctx.item (length image.text) ops.0 ops.1 ops.2 (omega arith) h.numbers h.shares.held
         (on.tasks x.running on.running).words (subst AreOfWords o.bodies (h.numbers.each p).bodies).0)
 
@@ -509,7 +515,7 @@ module _ (mode : Mode) (image : Image) (built : IsBuilt image) (good : IsImage i
       pub cells : (k : ℕ) → k < 256 → words (cells_base + 8 * k) ≡ m'.cells k
 
     -- with the local APIC behind the step, and what it sends
-    pub visible_with : (cell : Cell) → code c.rip ≡ Some cell → cell.mark ≡ true → is_user c ≡ false
+    pub visible_with : Unblocked b → (cell : Cell) → code c.rip ≡ Some cell → cell.mark ≡ true → is_user c ≡ false
         → (a : Apic) (cpu : Processor) (words : NatMap ℕ) (sent : Option Send) (z : Sends sent)
         → executed c (s.apics p) s.memory (s.latches p) (Some cell.ins) ≡ went cpu a words (s.latches p) sent → cpu.nmi_blocked ≡ false
         → (names : List Named) → AreNames p names → Changes p σ names s.memory.words words
@@ -520,7 +526,7 @@ module _ (mode : Mode) (image : Image) (built : IsBuilt image) (good : IsImage i
         → Chained now (tasks to) bs (went_activations image.processors s p cpu sent) cpu (with_words s.memory words)
         → went_shows p s cell.ins cpu words sent ≡ es → Result
     unfolding comes_to
-    visible_with cell hc hm hu a cpu words sent z he hb names allowed changes m' es ht tasks slots bs y quiet apic told now few goes_on hes =
+    visible_with unblocked cell hc hm hu a cpu words sent z he hb names allowed changes m' es ht tasks slots bs y quiet apic told now few goes_on hes =
         let sender : abstract.Processor = processor z.machine p in
         let was : abstract.Processor = record x { mail = sender.mail; mail_nmi = sender.mail_nmi } in
         let x' : abstract.Processor = record was { tasks = tasks; slots = slots; bodies = bs } in
@@ -552,10 +558,10 @@ module _ (mode : Mode) (image : Image) (built : IsBuilt image) (good : IsImage i
           pages = y.pages;
           cells = y.cells;
         })
-        (numbers_behind m' es ht) inside told now there hes
+        (numbers_behind unblocked m' es ht) inside told now there hes
 
     -- which stays
-    pub visible : (cell : Cell) → code c.rip ≡ Some cell → cell.mark ≡ true → is_user c ≡ false
+    pub visible : Unblocked b → (cell : Cell) → code c.rip ≡ Some cell → cell.mark ≡ true → is_user c ≡ false
         → (cpu : Processor) (words : NatMap ℕ) → Executes cell.ins cpu words → cpu.nmi_blocked ≡ false
         → (names : List Named) → AreNames p names → Changes p σ names s.memory.words words
         → (m' : Machine) (es : List Entry) → turn image m p ≡ (m', es) → (tasks : NatMap Task) (slots : NatMap ℕ) (bs : List BodyContext)
@@ -565,9 +571,9 @@ module _ (mode : Mode) (image : Image) (built : IsBuilt image) (good : IsImage i
         → (now : ℕ) → now ≤ body_edges mode image
         → Chained now (tasks to) bs (activations_by s p (s.activations p) cpu Stepped.Ran) cpu (with_words s.memory words)
         → shown_always p (bodies_on s p) c s.memory.words (Some cell.ins) ≡ es → Result
-    visible cell hc hm hu cpu words he hb names allowed changes m' es ht tasks slots bs y quiet serving told now few goes_on hes =
-        visible_with cell hc hm hu (s.apics p) cpu words None sends_nothing (he (s.apics p) (s.latches p)) hb names allowed changes m' es ht tasks slots bs y
-        quiet (apic_again mode image (s.apics p) (s.apics p) x.pending x.bodies bs refl serving on.apic) told now few goes_on hes
+    visible unblocked cell hc hm hu cpu words he hb names allowed changes m' es ht tasks slots bs y quiet serving told now few goes_on hes =
+        visible_with unblocked cell hc hm hu (s.apics p) cpu words None sends_nothing (he (s.apics p) (s.latches p)) hb names allowed changes m' es ht tasks slots
+        bs y quiet (apic_again mode image (s.apics p) (s.apics p) x.pending x.bodies bs refl serving on.apic) told now few goes_on hes
 
     -- what holds of the components that a step leaves alone, by the names that it writes
     module _ (names : List Named) (allowed : AreNames p names) (words : NatMap ℕ) (changes : Changes p σ names s.memory.words words) where
@@ -615,10 +621,10 @@ module _ (mode : Mode) (image : Image) (built : IsBuilt image) (good : IsImage i
     below_is [] = ap (λ z. if z && not (is_nmi_body image b) then rescheduled (record x { bodies = [] }) else record x { bodies = [] }) domain.resched
     below_is (d ∷ ds) = refl
 
-    pub ret_turn : item_at (slice_get image.bodies b.body) b.place ≡ Some Ret → turn image m p ≡ (with_processor m p (record x { bodies = below }), [])
+    pub ret_turn : Unblocked b → item_at (slice_get image.bodies b.body) b.place ≡ Some Ret → turn image m p ≡ (with_processor m p (record x { bodies = below }), [])
     unfolding item_step
-    ret_turn hi =
-        turns Ret hi ∙ ap (λ bs. (with_processor m p (dropped image b x (below_last bs)), [])) o.bodies
+    ret_turn unblocked hi =
+        turns unblocked Ret hi ∙ ap (λ bs. (with_processor m p (dropped image b x (below_last bs)), [])) o.bodies
         ∙ ap (λ y. (with_processor m p y, [])) (below_is below)
 
     -- ---- inside a block
@@ -706,8 +712,8 @@ module _ (mode : Mode) (image : Image) (built : IsBuilt image) (good : IsImage i
       windows spot over ss extra v f = opens_at mode image p σ in_seat hp good.count.1 κ ss w extra v f spot over s.memory h.regions_are
 
       -- an edge to the opening of a block
-      pub goes : (act : Stood on.own b c s.memory) (spot : Spot) (ss : ℕ) → IsKernelSs mode ss → (extra v : ℕ → ℕ) (f : Flags) → f.interrupts ≡ false
-          → is_user c ≡ false
+      pub goes : (act : Stood on.own b c s.memory) (spot : Spot) (ss : ℕ) → IsKernelSs mode ss → (extra v : ℕ → ℕ) (f : Flags)
+          → f.interrupts ≡ b.interrupts → is_user c ≡ false
           → Goes code c s.memory (block mode spot) (env ss extra v f) → edges mode spot 0 < on.own → length c.regs ≡ 16 → blocks.switches spot ≡ false
           → Means mode image κ spot (env ss extra v f) w b s.memory.words → Result
       goes act spot ss ss_is extra v f masked_by hu g fewer long off means =

@@ -36,6 +36,7 @@ pub mod ItemSteps
 pub mod ItemTask
 pub mod ItemNumbers
 pub mod ItemMsr
+pub mod ItemInterrupts
 pub mod ItemUser
 pub mod ItemPage
 pub mod ItemPages
@@ -58,6 +59,7 @@ pub mod BodyRaisingFred
 pub mod BodyRaisingIdt
 pub mod KernelSafe
 pub mod BodyTurn
+pub mod BodyInterrupt
 pub mod BodyBreak
 pub mod BodyFault
 pub mod CodeFacts

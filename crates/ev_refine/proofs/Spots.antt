@@ -22,7 +22,7 @@ use Rattle.ev_blocks.specs.Fred.{FredWay, ByCall, ByInt3, ByIntN, ByOther, FromU
 use Rattle.ev_blocks.specs.Fred as fred
 use Rattle.ev_blocks.specs.Idt.{IdtReturn, BySysret, ByOtherRip, ByOtherFlags, Stub, Sys, Common, IdtToKernel, IdtToTask, idt_block, idt_places, sys_lines, common_lines, exit_lines}
 use Rattle.ev_blocks.specs.Idt as idt
-use Rattle.ev_blocks.specs.Items.{AtTable, AtJump, AtItem, AtNumber, AtNumbers, AtUserWord, AtPageWord, body_block}
+use Rattle.ev_blocks.specs.Items.{AtTable, AtJump, AtItem, AtNumber, AtNumbers, AtUserWord, AtPageWord, BehindSti, body_block}
 use Rattle.ev_blocks.specs.Blocks.{Spot, InFred, InIdt, InBody, block, forms, edges}
 use Rattle.ev_blocks.specs.Blocks as blocks
 use Rattle.ev_paths.specs.Lines.{HasKernel, IsAtStub}
@@ -51,6 +51,7 @@ is_spot Fred (InBody FredFrame (AtNumber n)) = true
 is_spot Fred (InBody FredFrame (AtNumbers rcx rax rdx)) = true
 is_spot Fred (InBody FredFrame AtUserWord) = true
 is_spot Fred (InBody FredFrame (AtPageWord is_page)) = true
+is_spot Fred (InBody FredFrame BehindSti) = true
 is_spot Idt (InIdt Sys) = true
 is_spot Idt (InIdt (Stub UserCode has v)) = true
 is_spot Idt (InIdt (Common UserCode pf)) = true
@@ -65,6 +66,7 @@ is_spot Idt (InBody IdtFrame (AtNumber n)) = true
 is_spot Idt (InBody IdtFrame (AtNumbers rcx rax rdx)) = true
 is_spot Idt (InBody IdtFrame AtUserWord) = true
 is_spot Idt (InBody IdtFrame (AtPageWord is_page)) = true
+is_spot Idt (InBody IdtFrame BehindSti) = true
 is_spot mode spot = false
 
 -- SYSCALL's entry alone writes the word for RSP
@@ -83,6 +85,7 @@ over_task mode image Fred (InBody FredFrame (AtNumber n)) e w b h = refl
 over_task mode image Fred (InBody FredFrame (AtNumbers rcx rax rdx)) e w b h = refl
 over_task mode image Fred (InBody FredFrame AtUserWord) e w b h = refl
 over_task mode image Fred (InBody FredFrame (AtPageWord is_page)) e w b h = refl
+over_task mode image Fred (InBody FredFrame BehindSti) e w b h = refl
 over_task mode image Idt (InIdt Sys) e w b h = refl
 over_task mode image Idt (InIdt (Stub UserCode has v)) e w b h = refl
 over_task mode image Idt (InIdt (Common UserCode pf)) e w b h = refl
@@ -94,6 +97,7 @@ over_task mode image Idt (InBody IdtFrame (AtNumber n)) e w b h = refl
 over_task mode image Idt (InBody IdtFrame (AtNumbers rcx rax rdx)) e w b h = refl
 over_task mode image Idt (InBody IdtFrame AtUserWord) e w b h = refl
 over_task mode image Idt (InBody IdtFrame (AtPageWord is_page)) e w b h = refl
+over_task mode image Idt (InBody IdtFrame BehindSti) e w b h = refl
 over_task mode image m _ e w b h = absurd h
 
 -- none of those over a body is SYSCALL's entry
@@ -108,6 +112,7 @@ over_body mode image Fred (InBody FredFrame (AtNumber n)) e w b h = (refl, refl)
 over_body mode image Fred (InBody FredFrame (AtNumbers rcx rax rdx)) e w b h = (refl, refl)
 over_body mode image Fred (InBody FredFrame AtUserWord) e w b h = (refl, refl)
 over_body mode image Fred (InBody FredFrame (AtPageWord is_page)) e w b h = (refl, refl)
+over_body mode image Fred (InBody FredFrame BehindSti) e w b h = (refl, refl)
 over_body mode image Idt (InIdt (Stub KernelCode has v)) e w b h = (refl, refl)
 over_body mode image Idt (InIdt (Common KernelCode pf)) e w b h = (refl, refl)
 over_body mode image Idt (InIdt (idt.Leaves IdtToKernel)) e w b h = (refl, refl)
@@ -118,6 +123,7 @@ over_body mode image Idt (InBody IdtFrame (AtNumber n)) e w b h = (refl, refl)
 over_body mode image Idt (InBody IdtFrame (AtNumbers rcx rax rdx)) e w b h = (refl, refl)
 over_body mode image Idt (InBody IdtFrame AtUserWord) e w b h = (refl, refl)
 over_body mode image Idt (InBody IdtFrame (AtPageWord is_page)) e w b h = (refl, refl)
+over_body mode image Idt (InBody IdtFrame BehindSti) e w b h = (refl, refl)
 over_body mode image m _ e w b h = absurd h
 
 pub means_over : (mode : Mode) (image : Image) (κ : Kind) (spot : Spot) (e : Env) (w : Processor) (b : BodyContext) (m : NatMap ℕ)
@@ -183,6 +189,7 @@ has_windows Fred (InBody FredFrame (AtNumber n)) h = record { known = refl; own 
 has_windows Fred (InBody FredFrame (AtNumbers rcx rax rdx)) h = record { known = refl; own = refl; written = refl }
 has_windows Fred (InBody FredFrame AtUserWord) h = record { known = refl; own = refl; written = refl }
 has_windows Fred (InBody FredFrame (AtPageWord is_page)) h = record { known = refl; own = refl; written = refl }
+has_windows Fred (InBody FredFrame BehindSti) h = record { known = refl; own = refl; written = refl }
 has_windows Idt (InIdt Sys) h = record { known = refl; own = refl; written = refl }
 has_windows Idt (InIdt (Stub UserCode has v)) h = record { known = refl; own = refl; written = refl }
 has_windows Idt (InIdt (Common UserCode pf)) h = record { known = refl; own = refl; written = refl }
@@ -197,6 +204,7 @@ has_windows Idt (InBody IdtFrame (AtNumber n)) h = record { known = refl; own = 
 has_windows Idt (InBody IdtFrame (AtNumbers rcx rax rdx)) h = record { known = refl; own = refl; written = refl }
 has_windows Idt (InBody IdtFrame AtUserWord) h = record { known = refl; own = refl; written = refl }
 has_windows Idt (InBody IdtFrame (AtPageWord is_page)) h = record { known = refl; own = refl; written = refl }
+has_windows Idt (InBody IdtFrame BehindSti) h = record { known = refl; own = refl; written = refl }
 has_windows mode _ h = let clash : false ≡ true = h in absurd (cc)
 
 -- few edges are left at each
@@ -216,6 +224,7 @@ few_edges Fred image (InBody FredFrame (AtNumbers rcx rax rdx)) h k = omega arit
 few_edges Fred image (InBody FredFrame AtUserWord) h k = omega arith
 few_edges Fred image (InBody FredFrame (AtPageWord true)) h k = omega arith
 few_edges Fred image (InBody FredFrame (AtPageWord false)) h k = omega arith
+few_edges Fred image (InBody FredFrame BehindSti) h k = omega arith
 few_edges Idt image (InIdt Sys) h k = omega arith
 few_edges Idt image (InIdt (Stub UserCode true v)) h k = omega arith
 few_edges Idt image (InIdt (Stub UserCode false v)) h k = omega arith
@@ -237,6 +246,7 @@ few_edges Idt image (InBody IdtFrame (AtNumbers rcx rax rdx)) h k = omega arith
 few_edges Idt image (InBody IdtFrame AtUserWord) h k = omega arith
 few_edges Idt image (InBody IdtFrame (AtPageWord true)) h k = omega arith
 few_edges Idt image (InBody IdtFrame (AtPageWord false)) h k = omega arith
+few_edges Idt image (InBody IdtFrame BehindSti) h k = omega arith
 few_edges mode image _ h k = let clash : false ≡ true = h in absurd (cc)
 
 -- ---- none switches to another task
@@ -253,6 +263,7 @@ never_switches Fred (InBody FredFrame (AtNumber n)) h = refl
 never_switches Fred (InBody FredFrame (AtNumbers rcx rax rdx)) h = refl
 never_switches Fred (InBody FredFrame AtUserWord) h = refl
 never_switches Fred (InBody FredFrame (AtPageWord is_page)) h = refl
+never_switches Fred (InBody FredFrame BehindSti) h = refl
 never_switches Idt (InIdt Sys) h = refl
 never_switches Idt (InIdt (Stub UserCode has v)) h = refl
 never_switches Idt (InIdt (Common UserCode pf)) h = refl
@@ -267,6 +278,7 @@ never_switches Idt (InBody IdtFrame (AtNumber n)) h = refl
 never_switches Idt (InBody IdtFrame (AtNumbers rcx rax rdx)) h = refl
 never_switches Idt (InBody IdtFrame AtUserWord) h = refl
 never_switches Idt (InBody IdtFrame (AtPageWord is_page)) h = refl
+never_switches Idt (InBody IdtFrame BehindSti) h = refl
 never_switches mode _ h = let clash : false ≡ true = h in absurd (cc)
 
 -- ---- their grounds and lines
@@ -288,6 +300,7 @@ has_ground Fred (InBody FredFrame (AtNumber n)) h = record { fred = refl; descri
 has_ground Fred (InBody FredFrame (AtNumbers rcx rax rdx)) h = record { fred = refl; descriptors = refl; tops = refl }
 has_ground Fred (InBody FredFrame AtUserWord) h = record { fred = refl; descriptors = refl; tops = refl }
 has_ground Fred (InBody FredFrame (AtPageWord is_page)) h = record { fred = refl; descriptors = refl; tops = refl }
+has_ground Fred (InBody FredFrame BehindSti) h = record { fred = refl; descriptors = refl; tops = refl }
 has_ground Idt (InIdt Sys) h = record { fred = refl; descriptors = refl; tops = refl }
 has_ground Idt (InIdt (Stub UserCode has v)) h = record { fred = refl; descriptors = refl; tops = refl }
 has_ground Idt (InIdt (Common UserCode pf)) h = record { fred = refl; descriptors = refl; tops = refl }
@@ -302,6 +315,7 @@ has_ground Idt (InBody IdtFrame (AtNumber n)) h = record { fred = refl; descript
 has_ground Idt (InBody IdtFrame (AtNumbers rcx rax rdx)) h = record { fred = refl; descriptors = refl; tops = refl }
 has_ground Idt (InBody IdtFrame AtUserWord) h = record { fred = refl; descriptors = refl; tops = refl }
 has_ground Idt (InBody IdtFrame (AtPageWord is_page)) h = record { fred = refl; descriptors = refl; tops = refl }
+has_ground Idt (InBody IdtFrame BehindSti) h = record { fred = refl; descriptors = refl; tops = refl }
 has_ground mode _ h = let clash : false ≡ true = h in absurd (cc)
 
 -- at the entry of a vector its base is that entry's address; inside an item, whose lines the image says, nothing begins
@@ -311,6 +325,7 @@ IsAtEntry (InBody layout (AtNumber n)) e = ⊥
 IsAtEntry (InBody layout (AtNumbers rcx rax rdx)) e = ⊥
 IsAtEntry (InBody layout AtUserWord) e = ⊥
 IsAtEntry (InBody layout (AtPageWord is_page)) e = ⊥
+IsAtEntry (InBody layout BehindSti) e = ⊥
 IsAtEntry s e = Unit {0}
 
 pub lines_stand : (mode : Mode) (code : Code) (e : Env) → e.base 1000 ≡ 0 → HasKernel mode code → (spot : Spot) → is_spot mode spot ≡ true
@@ -323,6 +338,7 @@ lines_stand Fred code e z k (InBody FredFrame (AtNumber n)) h at = absurd at
 lines_stand Fred code e z k (InBody FredFrame (AtNumbers rcx rax rdx)) h at = absurd at
 lines_stand Fred code e z k (InBody FredFrame AtUserWord) h at = absurd at
 lines_stand Fred code e z k (InBody FredFrame (AtPageWord is_page)) h at = absurd at
+lines_stand Fred code e z k (InBody FredFrame BehindSti) h at = absurd at
 lines_stand Idt code e z k (InIdt s) h at = idt_stand code e z k s at
 lines_stand Idt code e z k (InBody IdtFrame AtTable) h at = tt
 lines_stand Idt code e z k (InBody IdtFrame AtJump) h at = tt
@@ -331,6 +347,7 @@ lines_stand Idt code e z k (InBody IdtFrame (AtNumber n)) h at = absurd at
 lines_stand Idt code e z k (InBody IdtFrame (AtNumbers rcx rax rdx)) h at = absurd at
 lines_stand Idt code e z k (InBody IdtFrame AtUserWord) h at = absurd at
 lines_stand Idt code e z k (InBody IdtFrame (AtPageWord is_page)) h at = absurd at
+lines_stand Idt code e z k (InBody IdtFrame BehindSti) h at = absurd at
 lines_stand mode code e z k _ h at = let clash : false ≡ true = h in absurd (cc)
 
 -- ---- where their blocks end
@@ -352,6 +369,7 @@ runs_to_end Fred (InBody FredFrame (AtNumber n)) h = (_, refl)
 runs_to_end Fred (InBody FredFrame (AtNumbers rcx rax rdx)) h = (_, ((body_ends true FredFrame).numbers rcx rax rdx).runs)
 runs_to_end Fred (InBody FredFrame AtUserWord) h = (_, (body_ends true FredFrame).user_word.runs)
 runs_to_end Fred (InBody FredFrame (AtPageWord is_page)) h = (_, ((body_ends true FredFrame).page_word is_page).runs)
+runs_to_end Fred (InBody FredFrame BehindSti) h = (_, (body_ends true FredFrame).behind_sti.runs)
 runs_to_end Idt (InIdt Sys) h = (_, idt_enters.call.runs)
 runs_to_end Idt (InIdt (Stub UserCode has v)) h = (_, (idt_enters.stub UserCode has v (v == 14) refl).runs)
 runs_to_end Idt (InIdt (Common UserCode pf)) h = (_, (idt_enters.common UserCode pf).runs)
@@ -366,6 +384,7 @@ runs_to_end Idt (InBody IdtFrame (AtNumber n)) h = (_, refl)
 runs_to_end Idt (InBody IdtFrame (AtNumbers rcx rax rdx)) h = (_, ((body_ends false IdtFrame).numbers rcx rax rdx).runs)
 runs_to_end Idt (InBody IdtFrame AtUserWord) h = (_, (body_ends false IdtFrame).user_word.runs)
 runs_to_end Idt (InBody IdtFrame (AtPageWord is_page)) h = (_, ((body_ends false IdtFrame).page_word is_page).runs)
+runs_to_end Idt (InBody IdtFrame BehindSti) h = (_, (body_ends false IdtFrame).behind_sti.runs)
 runs_to_end mode _ h = let clash : false ≡ true = h in absurd (cc)
 
 -- ---- no instruction of theirs lies in REPEAT
@@ -445,3 +464,7 @@ pub page_inside : (fred : Bool) (layout : Layout) (is_page : Bool) → every is_
 unfolding spelling four_bytes
 page_inside fred layout true = refl
 page_inside fred layout false = refl
+
+pub sti_inside : (fred : Bool) (layout : Layout) → every is_in_item (body_block fred layout BehindSti) ≡ true
+unfolding spelling four_bytes
+sti_inside fred layout = refl

@@ -28,7 +28,7 @@ use Rattle.ev_blocks.specs.Fred.{FromUser, FromKernel, FredToKernel, FredToTask,
 use Rattle.ev_blocks.specs.Fred as fred
 use Rattle.ev_blocks.specs.Idt.{IdtReturn, BySysret, Stub, Sys, Common, IdtToKernel, IdtToTask, table_of, stub_values, common_values, sys_values}
 use Rattle.ev_blocks.specs.Idt as idt
-use Rattle.ev_blocks.specs.Items.{BodySpot, AtTable, AtJump, AtItem, AtNumber, AtNumbers, AtUserWord, AtPageWord}
+use Rattle.ev_blocks.specs.Items.{BodySpot, AtTable, AtJump, AtItem, AtNumber, AtNumbers, AtUserWord, AtPageWord, BehindSti}
 use Rattle.ev_blocks.specs.Blocks.{Spot, InFred, InIdt, InBody, block, edges}
 use Rattle.ev_blocks.specs.Blocks as blocks
 use Rattle.ev_paths.specs.Lines.{IsAtStub}
@@ -103,8 +103,9 @@ page_local _ = None
 module _ (mode : Mode) (image : Image) where
   -- ---- at an instruction of a block
 
-  -- the processor c stands at instruction k of the block of a spot, over w, in the seat σ; at most so many edges are left
-  pub record IsAtSpot (p left : ℕ) (κ : Kind) (σ : Seat) (w c : Processor) (m : Memory) : Type 0 where
+  -- The processor c stands at instruction k of the block of a spot, over w, in the seat σ; at most so many edges are left. IF is the context's: it may be on
+  -- at the items of a body alone, and there an interrupt comes at any instruction.
+  pub record IsAtSpot (p left : ℕ) (κ : Kind) (σ : Seat) (w : Processor) (b : BodyContext) (c : Processor) (m : Memory) : Type 0 where
     pub spot : Spot
     pub k : ℕ
     pub extra : ℕ → ℕ
@@ -114,7 +115,7 @@ module _ (mode : Mode) (image : Image) where
     pub ss_is : IsKernelSs mode ss
     pub within : k ≤ (block mode spot).steps
     pub enough : edges mode spot k ≤ left
-    pub masked : flags.interrupts ≡ false  -- no interrupt comes
+    pub masked : flags.interrupts ≡ b.interrupts
     pub at : At (code_table mode image) (block mode spot) k (here mode p κ σ ss w extra var flags) c m
     pub long : length c.regs ≡ 16
 
@@ -137,8 +138,8 @@ module _ (mode : Mode) (image : Image) where
   abbrev pub Saved : (ℕ → ℕ) → Processor → Type 0
   Saved v w = GivesBack (λ r. v (30 + r)) (v 17) (v 18) (v 19) (v 20) (v 21) (v 60) (v 61) (v 63) w
 
-  -- Of a body, which is at an item: GS is the kernel's and isn't exchanged, SS stays, and the frame lies below RSP. What a return asks of w is said of it
-  -- here.
+  -- Of a body, which is at an instruction of an item: GS is the kernel's and isn't exchanged, SS stays, and the frame lies below RSP. What a return asks of w is
+  -- said of it here.
   pub record SavedBody (e : Env) (w : Processor) : Type 0 where
     pub regs : w.regs ≡ e.var 30 ∷ e.var 31 ∷ e.var 32 ∷ e.var 33 ∷ e.var 20 ∷ e.var 35 ∷ e.var 36 ∷ e.var 37 ∷ e.var 38 ∷ e.var 39 ∷ e.var 40
         ∷ e.var 41 ∷ e.var 42 ∷ e.var 43 ∷ e.var 44 ∷ e.var 45 ∷ []
@@ -182,6 +183,7 @@ module _ (mode : Mode) (image : Image) where
     pub found : first_body 0 image.bodies key (side_by o) ≡ Some b.body
     pub begins : b.place ≡ 0
     pub unknown : b.flags ≡ None
+    pub off : b.interrupts ≡ false
     pub saved : SavedOf o e w
     pub locals : Locals e.var b
 
@@ -190,6 +192,7 @@ module _ (mode : Mode) (image : Image) where
     pub code : e.var 0 ≡ body_code b.body
     pub begins : b.place ≡ 0
     pub unknown : b.flags ≡ None
+    pub off : b.interrupts ≡ false
     pub saved : SavedOf o e w
     pub locals : Locals e.var b
 
@@ -207,6 +210,7 @@ module _ (mode : Mode) (image : Image) where
   -- in the exit, behind `ret`
   pub record Leaving (o : Origin) (e : Env) (w : Processor) (b : BodyContext) : Type 0 where
     pub saved : SavedOf o e w
+    pub off : b.interrupts ≡ false
     pub ret : item_at (slice_get image.bodies b.body) b.place ≡ Some Ret
 
   -- where the exit finds RIP in RCX and RFLAGS in R11, as SYSRETQ takes them
@@ -224,6 +228,10 @@ module _ (mode : Mode) (image : Image) where
   abbrev pub HasPlace : Env → BodyContext → Type 0
   HasPlace e b = e.base item_tag ≡ item_place mode image b.body b.place
 
+  -- behind `sti` the context is at the next item already, which begins two bytes behind that of `sti`
+  abbrev pub HasNextPlace : Env → BodyContext → Type 0
+  HasNextPlace e b = e.base item_tag + 2 ≡ item_place mode image b.body b.place
+
   -- at the spots of bodies
   abbrev pub InSpot : Origin → BodySpot → Env → Processor → BodyContext → Type 0
   InSpot o AtTable e w b = AtLoad o e w b × HasPlace e b
@@ -234,6 +242,7 @@ module _ (mode : Mode) (image : Image) where
       InItem o e w b × HasPlace e b × (numbers_of (item_at (slice_get image.bodies b.body) b.place) ≡ Some (rcx, rax, rdx))
   InSpot o AtUserWord e w b = InItem o e w b × HasPlace e b × LocalInRax address_local e b
   InSpot o (AtPageWord is_page) e w b = InItem o e w b × HasPlace e b × LocalInRax page_local e b
+  InSpot o BehindSti e w b = InItem o e w b × HasNextPlace e b
   InSpot o s e w b = ⊥
 
   -- of an activation over a task, by its spot; in an entry the variables are told by those of the block behind it
@@ -273,7 +282,7 @@ module _ (mode : Mode) (image : Image) where
   -- The activation of b, of this kind and in this seat, which runs on c and will return to w; `switching` says whether it changes the running task.
   pub record Active (p left : ℕ) (κ : Kind) (σ : Seat) (f : Frame) (switching : Bool) (w : Processor) (b : BodyContext) (c : Processor)
       (m : Memory) : Type 0 where
-    pub stands : IsAtSpot p left κ σ w c m
+    pub stands : IsAtSpot p left κ σ w b c m
     pub switches : blocks.switches stands.spot ≡ switching
     pub knows : Knows mode κ (blocks.holds stands.spot) f
     pub means : Means κ stands.spot (here mode p κ σ stands.ss w stands.extra stands.var stands.flags) w b m.words

@@ -4,9 +4,8 @@ use Rattle.std.specs.Prelude.{◌≡◌, false, List, [], ◌∷◌}
 use Rattle.ev_abstract.specs.Context.{BodyContext}
 use Rattle.ev_abstract.specs.Machine.{Processor}
 
--- bodies keep IF off, and have no call
+-- bodies have no call
 pub record IsQuiet (b : BodyContext) : Type 0 where
-  pub interrupts : b.interrupts ≡ false
   pub calls : b.calls ≡ []
 
 -- each of them
