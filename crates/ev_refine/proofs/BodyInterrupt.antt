@@ -220,8 +220,13 @@ module _ (mode : Mode) (image : Image) (built : IsBuilt image) (good : IsImage i
     abbrev w : Processor
     w = k.0
 
-    abbrev act : Active mode image p on.own (kind_of image b below) (seat_of mode image r (b ∷ below)) on.frame (switches_at mode image on.switching below) w b c
-        s.memory
+    abbrev κ : Kind
+    κ = kind_of image b below
+
+    abbrev σ : Seat
+    σ = seat_of mode image r (b ∷ below)
+
+    abbrev act : Active mode image p on.own κ σ on.frame (switches_at mode image on.switching below) w b c s.memory
     act = k.6
 
     -- IF is the context's
@@ -235,7 +240,8 @@ module _ (mode : Mode) (image : Image) (built : IsBuilt image) (good : IsImage i
     chooses : choice image x ≡ (if b.interrupts then interrupt_or_next (next_vector (s.apics p)) else Choice.Next)
     unfolding choice
     chooses =
-        ap (λ z. if z && not (list_any (is_nmi_body image) x.bodies) then Choice.Nmi else maskable x) (step.domain mode image built good facts left s m h p hp).nmi
+        ap (λ z. if z && not (list_any (is_nmi_body image) x.bodies) then Choice.Nmi else maskable x)
+        (step.domain mode image built good facts left s m h p hp).nmi
         ∙ ap (λ bs. if open_to_interrupts bs then interrupt_or_next (greatest_below 256 (deliverable x)) else Choice.Next) hb
         ∙ ap (λ z. if b.interrupts then interrupt_or_next z else Choice.Next)
         (sym (next_is mode image (s.apics p) x on.apic (λ v e. ((h.legal.each p).pending.each v e).from)))
@@ -244,21 +250,25 @@ module _ (mode : Mode) (image : Image) (built : IsBuilt image) (good : IsImage i
 
     module _ (opened : b.interrupts ≡ true) (unblocked : c.sti_blocked ≡ false) (v : ℕ) (is : next_vector (s.apics p) ≡ Some v) where
       abbrev e : Env
-      e = here mode p (kind_of image b below) (seat_of mode image r (b ∷ below)) act.stands.ss w act.stands.extra act.stands.var act.stands.flags
+      e = here mode p κ σ act.stands.ss w act.stands.extra act.stands.var act.stands.flags
 
-      abbrev agrees : Agrees e (block mode act.stands.spot).ground act.stands.at.state c s.memory
+      -- what the processor agrees with
+      abbrev state : SS
+      state = act.stands.at.state
+
+      abbrev agrees : Agrees e (block mode act.stands.spot).ground state c s.memory
       agrees = act.stands.at.agrees
 
       in_it : IsOpen mode image mode act.stands.spot e b
-      in_it = means_open mode image (kind_of image b below) act.stands.spot e w b s.memory.words act.means opened
+      in_it = means_open mode image κ act.stands.spot e w b s.memory.words act.means opened
 
-      open_state : is_open mode act.stands.at.state ≡ true
-      open_state = every_ok (is_open mode) (block mode act.stands.spot) in_it.stays act.stands.k act.stands.within act.stands.at.state act.stands.at.is
+      open_state : is_open mode state ≡ true
+      open_state = every_ok (is_open mode) (block mode act.stands.spot) in_it.stays act.stands.k act.stands.within state act.stands.at.is
 
-      rsp_and_gs : (v_eq (sreg act.stands.at.state 4) (top_less (body_bytes (layout_of mode))) && v_eq act.stands.at.state.gs (P gs_tag 0)) ≡ true
-      rsp_and_gs = and_right (is_in_item act.stands.at.state) _ open_state
+      rsp_and_gs : (v_eq (sreg state 4) (top_less (body_bytes (layout_of mode))) && v_eq state.gs (P gs_tag 0)) ≡ true
+      rsp_and_gs = and_right (is_in_item state) _ open_state
 
-      seat_is : seat_of mode image r (b ∷ below) ≡ seat_under mode r n
+      seat_is : σ ≡ seat_under mode r n
       seat_is = plain_seat mode image r b below plain
 
       shallow : n < 32
@@ -266,23 +276,23 @@ module _ (mode : Mode) (image : Image) (built : IsBuilt image) (good : IsImage i
 
       rsp_is : rsp c ≡ (top_at p (seat_under mode r n) + (M - area_bytes mode)) % M
       rsp_is =
-          register_at e act.stands.at.state c 4 agrees.regs
-          ∙ ap (eval e) (v_same (sreg act.stands.at.state 4) (top_less (body_bytes (layout_of mode))) (and_left _ _ rsp_and_gs))
+          register_at e state c 4 agrees.regs
+          ∙ ap (eval e) (v_same (sreg state 4) (top_less (body_bytes (layout_of mode))) (and_left _ _ rsp_and_gs))
           ∙ body_rsp mode e ∙ ap (λ σ. (top_at p σ + (M - area_bytes mode)) % M) seat_is
 
       gs_is : c.msrs.gs_base ≡ pcpu p
       gs_is =
-          agrees.gs ∙ ap (eval e) (v_same act.stands.at.state.gs (P gs_tag 0) (and_right (v_eq (sreg act.stands.at.state 4) (top_less (body_bytes (layout_of mode)))) _ rsp_and_gs))
-          ∙ body_gs mode p (kind_of image b below) (seat_of mode image r (b ∷ below)) act.stands.ss w act.stands.extra act.stands.var act.stands.flags
+          agrees.gs
+          ∙ ap (eval e) (v_same state.gs (P gs_tag 0) (and_right (v_eq (sreg state 4) (top_less (body_bytes (layout_of mode)))) _ rsp_and_gs))
+          ∙ body_gs mode p κ σ act.stands.ss w act.stands.extra act.stands.var act.stands.flags
           ∙ (let l = small in let q : (pcpu p + 0) % M ≡ pcpu p = omega arith in q)
 
       canonical : is_canonical c.rip ≡ true
       canonical =
-          let st : SS = act.stands.at.state in
-          let inside = and_left (is_in_item st) _ open_state in
-          let tag : st.rip.tag ≡ item_tag = eqb-true st.rip.tag item_tag (and_left _ _ inside) in
-          let near : st.rip.off < 0x40 = ltb-true st.rip.off 0x40 (and_right (st.rip.tag == item_tag) _ inside) in
-          let rip : c.rip ≡ (e.base item_tag + st.rip.off) % M = agrees.rip ∙ ap (λ t. (e.base t + st.rip.off) % M) tag in
+          let inside = and_left (is_in_item state) _ open_state in
+          let tag : state.rip.tag ≡ item_tag = eqb-true state.rip.tag item_tag (and_left _ _ inside) in
+          let near : state.rip.off < 0x40 = ltb-true state.rip.off 0x40 (and_right (state.rip.tag == item_tag) _ inside) in
+          let rip : c.rip ≡ (e.base item_tag + state.rip.off) % M = agrees.rip ∙ ap (λ t. (e.base t + state.rip.off) % M) tag in
           let found = body_at (slice_get image.bodies b.body) b.place k.1.item k.1.is in
           let range = facts.item_range b.body b.place found.0 found.1 in
           let low = range.0 in let high = range.1 in
@@ -304,7 +314,7 @@ module _ (mode : Mode) (image : Image) (built : IsBuilt image) (good : IsImage i
             ring = (ap (λ (y : Processor). y.cpl) agrees.rest, ap (λ (y : Processor). y.cs) agrees.rest);
             ss = subst (IsKernelSs mode) (sym (ap (λ (y : Processor). y.ss) agrees.rest)) act.stands.ss_is;
             level = now.level;
-            flags = sym (kept c.flags (eval_flags e act.stands.at.state.flags) agrees.flags);
+            flags = sym (kept c.flags (eval_flags e state.flags) agrees.flags);
             unblocked = unblocked;
             open_to = step.blocked mode image built good facts left s m h p hp;
             base = gs_is;
@@ -336,8 +346,7 @@ module _ (mode : Mode) (image : Image) (built : IsBuilt image) (good : IsImage i
           k.3,
           k.4,
           k.5,
-          stands_any mode image p on.own (kind_of image b below) (seat_of mode image r (b ∷ below)) on.frame (switches_at mode image on.switching below) w b c
-              s.memory act in_it.untold a,
+          stands_any mode image p on.own κ σ on.frame (switches_at mode image on.switching below) w b c s.memory act in_it.untold a,
         );
       }
 
@@ -373,7 +382,8 @@ module _ (mode : Mode) (image : Image) (built : IsBuilt image) (good : IsImage i
       turned : turn image m p ≡ (with_processor m p z, entry_of p event (suc (suc n)) ∷ [])
       unfolding turn
       turned =
-          ap (chosen_step image m p) (chooses ∙ ap (λ t. if t then interrupt_or_next (next_vector (s.apics p)) else Choice.Next) opened ∙ ap interrupt_or_next is)
+          ap (chosen_step image m p)
+          (chooses ∙ ap (λ t. if t then interrupt_or_next (next_vector (s.apics p)) else Choice.Next) opened ∙ ap interrupt_or_next is)
           ∙ ap (λ (q : abstract.Processor × List Entry). (with_processor m p q.0, q.1)) delivers
 
       first_is : next_of c (s.apics p) (s.latches p) ≡ Next.Interrupt v

@@ -377,7 +377,8 @@ module _ (mode : Mode) (image : Image) (built : IsBuilt image) (good : IsImage i
     above : AllAbove (top_at p (seat_under mode r (suc n))) (interrupted c (s.activations p))
     above =
         let others = above_less (top_at p (seat_under mode r (suc n))) (top_at p (seat_under mode r n)) (deeper mode p r n) u.others
-        (chain_above mode image p (body_edges mode image) r to (x.tasks to) on.frame on.switching u.b u.below u.last u.others w s.memory u.plain (u.chain c.cr2)) in
+        (chain_above mode image p (body_edges mode image) r to (x.tasks to) on.frame on.switching u.b u.below u.last u.others w s.memory u.plain
+        (u.chain c.cr2)) in
         subst (λ ys. AllAbove (top_at p (seat_under mode r (suc n))) (interrupted c ys)) (sym u.acts)
         (rsp_over mode p r n (rsp c) y.at.at_top, others)
 

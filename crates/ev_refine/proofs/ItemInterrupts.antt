@@ -1,4 +1,5 @@
--- The items that change IF. `cli` is an instruction that leads to the next item. Behind that of `sti` no interrupt comes for one more, with which its code ends.
+-- The items that change IF. `cli` is an instruction that leads to the next item. Behind that of `sti` no interrupt comes for one more, with which its code
+-- ends.
 use Rattle.std.proofs.Common.{◌≡◌, ℕ, suc, ◌+◌, ◌<◌, ◌≤◌, Bool, true, false, not, [], ◌∷◌, length, Option, Some, None, refl, sym, ap, ◌∙◌, subst, arith}
 use Rattle.std.specs.Prelude.{slice_get, if◌then◌else◌, ◌&&◌, ◌%◌, ◌^◌, nat_le, nat_lt}
 use Rattle.std.specs.List.{list_any}
@@ -73,7 +74,9 @@ use Rattle.ev_refine.proofs.KernelStep as step
 
 -- RFLAGS with another IF
 with_if : (c : Processor) (f : Flags) (on : Bool) → c.flags ≡ flags_word f → with_interrupts c.flags on ≡ flags_word (record f { interrupts = on })
-with_if c f on is = ap (λ n. flags_word (record (flags_of n) { interrupts = on })) is ∙ ap (λ (g : Flags). flags_word (record g { interrupts = on })) (flags_of-flags_word f)
+with_if c f on is =
+    ap (λ n. flags_word (record (flags_of n) { interrupts = on })) is
+    ∙ ap (λ (g : Flags). flags_word (record g { interrupts = on })) (flags_of-flags_word f)
 
 switches_off : (c : Processor) (m : Memory) (next : ℕ) (f : Flags) → is_user c ≡ false → c.rip + length (spelling Cli) ≡ next → c.flags ≡ flags_word f
     → (a : Apic) (nmi : Bool) → executed c a m nmi (Some Cli) ≡ ran (gone c c.regs (record f { interrupts = false }) next) a m.words nmi
@@ -165,8 +168,8 @@ behind_run Fred = refl
 behind_run Idt = refl
 
 -- there the next item opens
-opens_next : (mode : Mode) (code : Code) (p : ℕ) (κ : Kind) (σ : Seat) (ss : ℕ) (w : Processor) (extra extra' v : ℕ → ℕ) (f : Flags) (c : Processor) (m : Memory)
-    → At code (block mode (body mode BehindSti)) 1 (here mode p κ σ ss w extra v f) c m → extra 20 + 2 ≡ extra' 20 → extra' 20 + 16 < 2 ^ 64
+opens_next : (mode : Mode) (code : Code) (p : ℕ) (κ : Kind) (σ : Seat) (ss : ℕ) (w : Processor) (extra extra' v : ℕ → ℕ) (f : Flags) (c : Processor)
+    (m : Memory) → At code (block mode (body mode BehindSti)) 1 (here mode p κ σ ss w extra v f) c m → extra 20 + 2 ≡ extra' 20 → extra' 20 + 16 < 2 ^ 64
     → Open (here mode p κ σ ss w extra' v f) (block mode (body mode AtItem)).ground.known m.regions
     → Agrees (here mode p κ σ ss w extra' v f) (block mode (body mode AtItem)).ground (opening_of mode) c m
 unfolding eval eval_flags
@@ -237,13 +240,21 @@ module _ (mode : Mode) (image : Image) (built : IsBuilt image) (good : IsImage i
   apic_stays q = apic_again mode image (s.apics p) (s.apics p) x.pending x.bodies (with_if_at q ∷ o.below) refl
       (λ class. sym (ap (list_any (λ (a : BodyContext). serves mode image class a.service)) o.bodies)) on.apic
 
-  -- at the end of its block the next item begins
-  pub to_item : (ss : ℕ) → IsKernelSs mode ss → (extra v : ℕ → ℕ) (f : Flags) → At code (block mode (body mode BehindSti)) 1 (here mode p o.κ o.σ ss o.w extra v f) c s.memory
+  -- the activation at an item, where the one before has ended
+  pub record NextItem (ss : ℕ) (v : ℕ → ℕ) (f : Flags) : Type 0 where
+    pub extra : ℕ → ℕ
+    pub place : extra 20 ≡ item_place mode image b.body b.place
+    pub means : InItem mode image (origin_of o.κ) (here mode p o.κ o.σ ss o.w extra v f) o.w b
+    pub at : At code (block mode (body mode AtItem)) 0 (here mode p o.κ o.σ ss o.w extra v f) c s.memory
+    pub enough : edges mode (body mode AtItem) 0 ≤ on.own
+    pub act : Stood on.own b c s.memory
+
+  -- so it is at the end of the block behind `sti`
+  pub to_item : (ss : ℕ) → IsKernelSs mode ss → (extra v : ℕ → ℕ) (f : Flags)
+      → At code (block mode (body mode BehindSti)) 1 (here mode p o.κ o.σ ss o.w extra v f) c s.memory
       → InItem mode image (origin_of o.κ) (here mode p o.κ o.σ ss o.w extra v f) o.w b → HasNextPlace mode image (here mode p o.κ o.σ ss o.w extra v f) b
       → length c.regs ≡ 16 → edges mode (body mode BehindSti) 1 ≤ on.own
-      → (extra' : ℕ → ℕ) × (extra' 20 ≡ item_place mode image b.body b.place) × InItem mode image (origin_of o.κ) (here mode p o.κ o.σ ss o.w extra' v f) o.w b
-      × At code (block mode (body mode AtItem)) 0 (here mode p o.κ o.σ ss o.w extra' v f) c s.memory × (edges mode (body mode AtItem) 0 ≤ on.own)
-      × Stood on.own b c s.memory
+      → NextItem ss v f
   to_item ss ss_is extra v f at means next long enough =
       let way = at_the_item mode in
       let extra' : ℕ → ℕ = λ i. item_place mode image b.body b.place in
@@ -262,13 +273,13 @@ module _ (mode : Mode) (image : Image) (built : IsBuilt image) (good : IsImage i
         locals = means.locals;
         flags = means.flags;
       } in
-      let enough' : edges mode (body mode AtItem) 0 ≤ on.own = omega arith in (
-        extra',
-        refl,
-        item,
-        at_next,
-        enough',
-        record {
+      let enough' : edges mode (body mode AtItem) 0 ≤ on.own = omega arith in record {
+        extra = extra';
+        place = refl;
+        means = item;
+        at = at_next;
+        enough = enough';
+        act = record {
           stands = record {
             spot = body mode AtItem;
             k = 0;
@@ -286,8 +297,8 @@ module _ (mode : Mode) (image : Image) (built : IsBuilt image) (good : IsImage i
           switches = way.off ∙ sym o.off;
           knows = plain_knows mode o.κ on.frame plain (blocks.holds (body mode AtItem));
           means = means_at mode image o.κ plain AtItem u o.w b s.memory.words (item, refl);
-        },
-      )
+        };
+      }
 
   module _ (ss : ℕ) (extra v : ℕ → ℕ) (f : Flags) (a : visible.AtVisible mode image built good facts left s m h p hp o body' is ss extra v f)
       (off : a.offset ≡ 0) (same : a.flags ≡ f) where
@@ -401,7 +412,8 @@ module _ (mode : Mode) (image : Image) (built : IsBuilt image) (good : IsImage i
         = ap (λ n. n + 2) base ∙ at_sti.2 ∙ sym (ap (address_of_item mode b.body (suc b.place)) is) in
         let item : InItem mode image (origin_of o.κ) u o.w b' = record {
           saved = saved_again mode image (origin_of o.κ) (here mode p o.κ o.σ ss o.w extra v f) u o.w (beyond_registers c.regs v) refl refl refl a.means.saved;
-          locals = locals_behind mode image (here mode p o.κ o.σ ss o.w extra v f) c s.memory a.offset a.rax a.rcx a.rdx a.flags a.state b a.means.locals None tt;
+          locals = locals_behind mode image (here mode p o.κ o.σ ss o.w extra v f) c s.memory a.offset a.rax a.rcx a.rdx a.flags a.state b a.means.locals None
+              tt;
           flags = known true;
         } in
         let act : Stood now b' cpu mem = record {
@@ -428,8 +440,8 @@ module _ (mode : Mode) (image : Image) (built : IsBuilt image) (good : IsImage i
         s.memory.words None (step.sends_nothing mode image built good facts left s m h p hp)
         (switches_on c s.memory (c.rip + 1) a.flags a.kernel refl a.state.flags
         (step.masked mode image built good facts left s m h p hp o ∙ was_off) (s.apics p) (s.latches p))
-        (step.blocked mode image built good facts left s m h p hp) [] (none_spares p).allowed (λ y far near. refl) (with_context m p b') [] turned x.tasks x.slots
-        (b' ∷ o.below) makes
+        (step.blocked mode image built good facts left s m h p hp) [] (none_spares p).allowed (λ y far near. refl) (with_context m p b') [] turned x.tasks
+        x.slots (b' ∷ o.below) makes
         (record { calls = (step.quiet mode image built good facts left s m h p hp o).calls }, (step.are_quiet mode image built good facts left s m h p hp o).1)
         (apic_stays true)
         (goes_on_inside false (not (is_user c)) (not (nat_le nmi_entry c.rip && nat_lt c.rip repeat_entry)) (is_jump (Some Sti))

@@ -412,10 +412,10 @@ module _ (mode : Mode) (image : Image) (built : IsBuilt image) (good : IsImage i
           means.0 means.1 means.2 long ctx.item hi
       at_body act BehindSti k ss ss_is extra v f n at means long enough hi =
           let last : k ≡ 1 = n ∙ behind_steps mode in
-          let z = interrupts.to_item mode image built good facts left s m h p hp o body' is ss ss_is extra v f
+          let z : interrupts.NextItem mode image built good facts left s m h p hp o body' is ss v f = interrupts.to_item mode image built good facts left s m h p hp o body' is ss ss_is extra v f
           (subst (λ j. At code (block mode (body mode BehindSti)) j (env ss extra v f) c s.memory) last at) means.0 means.1 long
           (subst (λ j. edges mode (body mode BehindSti) j ≤ on.own) last enough) in
-          items.by_item mode image built good facts left s m h p hp o body' is z.5 ss ss_is z.0 v f z.3 z.2 z.1 long z.4
+          items.by_item mode image built good facts left s m h p hp o body' is z.act ss ss_is z.extra v f z.at z.means z.place long z.enough
           ctx.item (which image built good b.body body' is b.place ctx.item hi) hi
       at_body act _ k ss ss_is extra v f n at means long enough hi = absurd means
 

@@ -621,7 +621,8 @@ module _ (mode : Mode) (image : Image) (built : IsBuilt image) (good : IsImage i
     below_is [] = ap (λ z. if z && not (is_nmi_body image b) then rescheduled (record x { bodies = [] }) else record x { bodies = [] }) domain.resched
     below_is (d ∷ ds) = refl
 
-    pub ret_turn : Unblocked b → item_at (slice_get image.bodies b.body) b.place ≡ Some Ret → turn image m p ≡ (with_processor m p (record x { bodies = below }), [])
+    pub ret_turn : Unblocked b → item_at (slice_get image.bodies b.body) b.place ≡ Some Ret
+        → turn image m p ≡ (with_processor m p (record x { bodies = below }), [])
     unfolding item_step
     ret_turn unblocked hi =
         turns unblocked Ret hi ∙ ap (λ bs. (with_processor m p (dropped image b x (below_last bs)), [])) o.bodies

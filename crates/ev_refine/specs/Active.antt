@@ -138,8 +138,8 @@ module _ (mode : Mode) (image : Image) where
   abbrev pub Saved : (ℕ → ℕ) → Processor → Type 0
   Saved v w = GivesBack (λ r. v (30 + r)) (v 17) (v 18) (v 19) (v 20) (v 21) (v 60) (v 61) (v 63) w
 
-  -- Of a body, which is at an instruction of an item: GS is the kernel's and isn't exchanged, SS stays, and the frame lies below RSP. What a return asks of w is
-  -- said of it here.
+  -- Of a body, which is at an instruction of an item: GS is the kernel's and isn't exchanged, SS stays, and the frame lies below RSP. What a return asks of w
+  -- is said of it here.
   pub record SavedBody (e : Env) (w : Processor) : Type 0 where
     pub regs : w.regs ≡ e.var 30 ∷ e.var 31 ∷ e.var 32 ∷ e.var 33 ∷ e.var 20 ∷ e.var 35 ∷ e.var 36 ∷ e.var 37 ∷ e.var 38 ∷ e.var 39 ∷ e.var 40
         ∷ e.var 41 ∷ e.var 42 ∷ e.var 43 ∷ e.var 44 ∷ e.var 45 ∷ []
