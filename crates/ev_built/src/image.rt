@@ -38,6 +38,7 @@ fn is_built_item(item: &Item) -> bool
             | Item::Sti
             | Item::Cli
             | Item::Eoi
+            | Item::Send(_, Key::Irq(_))
             | Item::Bp
             | Item::Ret
     )

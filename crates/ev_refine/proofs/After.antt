@@ -12,7 +12,7 @@ use Rattle.ev_mem.specs.declared.region.Region.{Region}
 use Rattle.ev_mem.specs.Memory.{Memory, page_map}
 use Rattle.ev_state.specs.Processor.{Processor}
 use Rattle.ev_apic.specs.declared.apic.Apic.{Apic}
-use Rattle.ev_apic.specs.Vectors.{vectors_of}
+use Rattle.ev_apic.specs.declared.inbox.Inbox.{Inbox}
 use Rattle.ev_listing.specs.AddressMap.{pcpu, slot_offset, record_address, cells_base}
 use Rattle.ev_abstract.specs.Boundary.{is_nmi_body}
 use Rattle.ev_abstract.specs.Context.{BodyContext, CallId}
@@ -32,7 +32,7 @@ use Rattle.ev_user.specs.Numbers.{HoldsNumbers}
 use Rattle.ev_user.specs.Sees.{IsUserWord, IsWrite}
 use Rattle.ev_refine.specs.Named.{Named, UserRsp, Top, Current, Mark, Port, Head, TssTop, Slot, RecordWord, CellAt, PageBit, UserWord, address_of, is_task_word, is_call_word, is_slot, is_cell, is_page_bit, is_user_word, have_none, IsWritten, Outside, NotNamed, AreWritten, NoneOf, Changes}
 use Rattle.ev_refine.specs.Domain.{IsInDomain}
-use Rattle.ev_refine.specs.Relation.{ApicIs, Chain, Runs, serves, StandsOn, RecordIs, Linked, Shares, Stands, most_edges}
+use Rattle.ev_refine.specs.Relation.{ApicIs, InboxIs, Chain, Runs, serves, StandsOn, RecordIs, Linked, Shares, Stands, most_edges}
 use Rattle.ev_refine.proofs.Maps.{at_same}
 use Rattle.ev_refine.proofs.Words.{area_word, IsBeside, on_its_stack, fixed_stays, beside_stays, stacks_stay, area_stays, saved_stays}
 use Rattle.ev_symbolic.proofs.Values.{and_left, and_right}
@@ -572,9 +572,12 @@ module _ (mode : Mode) (image : Image) where
         held = a.held;
         pages = λ i lt. at (page_map + 8 * i) ∙ a.pages i lt;
         cells = λ k lt. at (cells_base + 8 * k) ∙ a.cells k lt;
-        mail = λ q v lt l. ap (λ b. vectors_of (b q).vectors v) mv.inboxes ∙ h.mail q v lt l
-            ∙ sym (ap (λ w. w v) (component (λ y. y.mail) p q m m' x words a a.mail));
-        mail_nmi = λ q lt. ap (λ b. (b q).nmi) mv.inboxes ∙ h.mail_nmi q lt ∙ sym (component (λ y. y.mail_nmi) p q m m' x words a a.mail_nmi);
+        mail = λ q lt. subst (λ (z : NatMap Inbox × NatSet × Bool). InboxIs mode image (z.0 q) z.1 z.2)
+            (λ i. (
+              sym mv.inboxes i,
+              sym (component (λ y. y.mail) p q m m' x words a a.mail) i,
+              sym (component (λ y. y.mail_nmi) p q m m' x words a a.mail_nmi) i,
+            )) (h.mail q lt);
         numbers = λ q k lt l. at (record_address q k + 0x28)
             ∙ record_same p σ names hp hs s.memory.words words written changes spared q k 0x28 (omega arith) l (omega arith)
             ∙ h.numbers q k lt l ∙ sym (ap (λ w. (w k).number) (component (λ y. y.records) p q m m' x words a a.records));

@@ -461,7 +461,7 @@ module _ (mode : Mode) (image : Image) (built : IsBuilt image) (good : IsImage i
               ∙ sym (ap (λ q. q k) y.cells);
         })
         legal (turn_bases image m p h.bases (m', entry_of p e (suc (suc n)) ∷ []) y.turns) y.numbers
-        (record { nmi = domain.nmi; resched = domain.resched; bodies = quiet }) there
+        (record { nmi = domain.nmi; mail_nmi = domain.mail_nmi; resched = domain.resched; bodies = quiet }) there
 
     -- the frame's words are as many as before
     frame_fits : begun.frame + 8 * frame_size (middle.cpus p) e ≤ top_at p (seat_under mode r (suc n))

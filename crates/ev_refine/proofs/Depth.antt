@@ -15,6 +15,7 @@ use Rattle.ev_listing.specs.AddressMap.{nmi_entry, repeat_entry, nbody_entry, ve
 use Rattle.ev_listing.specs.Expansion.{item_address}
 use Rattle.ev_state.specs.Processor.{Processor, is_user, rsp}
 use Rattle.ev_apic.specs.declared.apic.Apic.{Apic}
+use Rattle.ev_apic.specs.declared.send.Send.{Send}
 use Rattle.ev_mem.specs.Memory.{Memory}
 use Rattle.ev_proc.specs.ProcessorStep.{next_of, instruction_at}
 use Rattle.ev_abstract.specs.Context.{BodyContext}
@@ -44,7 +45,7 @@ use Rattle.ev_refine.specs.Active.{address_of_item, item_place, HasNextPlace, Ov
 use Rattle.ev_refine.specs.Relation.{IsContext, body_edges, chained, Interrupted, Chain, StandsOn}
 use Rattle.ev_refine.proofs.Facts.{Facts}
 use Rattle.ev_refine.proofs.Spots.{is_elsewhere, entry_elsewhere, kernel_entry_elsewhere, kernel_exit_elsewhere, fred_exit_elsewhere, sys_elsewhere, common_elsewhere, idt_exit_elsewhere, idt_kernel_exit_elsewhere, is_in_stub, stub_inside, is_in_item, number_inside, numbers_inside, address_inside, page_inside, sti_inside}
-use Rattle.ev_refine.proofs.Standing.{after_ran, Runs, ran_step}
+use Rattle.ev_refine.proofs.Standing.{sends, after_went, Went, went_step}
 use Rattle.ev_refine.proofs.CallKinds.{over_any}
 use Rattle.ev_refine.proofs.After.{as_chain}
 
@@ -289,23 +290,36 @@ ends_a_body i c place rip out hu hr =
     ∙ ap (λ u. not u && not (nat_le nmi_entry c.rip && nat_lt c.rip repeat_entry)) hu
     ∙ ap (λ a. not (nat_le nmi_entry a && nat_lt a repeat_entry)) rip ∙ ap not out
 
--- a step that ran an instruction
-told_ran : (s : System) (p : ℕ) (a : Apic) (cpu : Processor) (words : NatMap ℕ) (i : Ins) → Runs s p a cpu words
-    → instruction_at s.memory.words (s.cpus p).rip ≡ Some i
-    → told_bodies s p ≡ (if ends_body (s.cpus p) (Some i) then bodies_on s p - 1
-    else (if begins_body (s.cpus p) (Some i) then suc (bodies_on s p) else bodies_on s p))
+-- where so many bodies stood, behind a step that ran an instruction
+abbrev pub bodies_behind : ℕ → Processor → Ins → Option Send → ℕ
+bodies_behind n c i sent = bodies_after n false (ends_body c (Some i)) (begins_body c (Some i)) (sends sent)
+
+-- one that sends leaves them
+pub sent_inside : (n : ℕ) (c : Processor) (i : Ins) (sent : Option Send)
+    → (if ends_body c (Some i) then n - 1 else (if begins_body c (Some i) then suc n else n)) ≡ n → bodies_behind n c i sent ≡ n
+sent_inside n c i None h = h
+sent_inside n c i (Some m) h = refl
+
+told_went : (s : System) (p : ℕ) (a : Apic) (cpu : Processor) (words : NatMap ℕ) (sent : Option Send) (i : Ins) → Went s p a cpu words sent
+    → instruction_at s.memory.words (s.cpus p).rip ≡ Some i → told_bodies s p ≡ bodies_behind (bodies_on s p) (s.cpus p) i sent
 unfolding told_bodies
-told_ran s p a cpu words i h hi =
+told_went s p a cpu words sent i h hi =
     ap (λ r. bodies_after (bodies_on s p) (starts_inner s p (next_of (s.cpus p) (s.apics p) (s.latches p)))
     (ends_body (s.cpus p) (instruction_at s.memory.words (s.cpus p).rip)) (begins_body (s.cpus p) (instruction_at s.memory.words (s.cpus p).rip)) r.step) h
-    ∙ ap (λ o. if ends_body (s.cpus p) o then bodies_on s p - 1 else (if begins_body (s.cpus p) o then suc (bodies_on s p) else bodies_on s p)) hi
+    ∙ ap (λ o. bodies_after (bodies_on s p) (starts_inner s p (next_of (s.cpus p) (s.apics p) (s.latches p))) (ends_body (s.cpus p) o)
+    (begins_body (s.cpus p) o) (sends sent)) hi
+    ∙ delivers_nothing (bodies_on s p) (starts_inner s p (next_of (s.cpus p) (s.apics p) (s.latches p))) (ends_body (s.cpus p) (Some i))
+    (begins_body (s.cpus p) (Some i)) sent
+  where
+    delivers_nothing : (n : ℕ) (inner ends begins : Bool) (sent : Option Send)
+        → bodies_after n inner ends begins (sends sent) ≡ bodies_after n false ends begins (sends sent)
+    delivers_nothing n inner ends begins None = refl
+    delivers_nothing n inner ends begins (Some m) = refl
 
-pub ran_counts : (n : ℕ) (s : System) (p : ℕ) (a : Apic) (cpu : Processor) (words : NatMap ℕ) (i : Ins) → Runs s p a cpu words
+pub went_counts : (n : ℕ) (s : System) (p : ℕ) (a : Apic) (cpu : Processor) (words : NatMap ℕ) (sent : Option Send) (i : Ins) → Went s p a cpu words sent
     → instruction_at s.memory.words (s.cpus p).rip ≡ Some i
-    → (before after : ℕ) → bodies_on s p ≡ before → bodies_on (after_ran s p a cpu words) p ≡ after
-    → (if ends_body (s.cpus p) (Some i) then before - 1 else (if begins_body (s.cpus p) (Some i) then suc before else before)) ≡ after
-    → bodies_on (concrete_step n s p).0 p ≡ told_bodies s p
-ran_counts n s p a cpu words i h hi before after hb ha ht =
-    ap (λ z. bodies_on z.0 p) (ran_step n s p a cpu words h) ∙ ha
-    ∙ sym (told_ran s p a cpu words i h hi
-    ∙ ap (λ k. if ends_body (s.cpus p) (Some i) then k - 1 else (if begins_body (s.cpus p) (Some i) then suc k else k)) hb ∙ ht)
+    → (before after : ℕ) → bodies_on s p ≡ before → bodies_on (after_went n s p a cpu words sent) p ≡ after
+    → bodies_behind before (s.cpus p) i sent ≡ after → bodies_on (concrete_step n s p).0 p ≡ told_bodies s p
+went_counts n s p a cpu words sent i h hi before after hb ha ht =
+    ap (λ z. bodies_on z.0 p) (went_step n s p a cpu words sent h) ∙ ha
+    ∙ sym (told_went s p a cpu words sent i h hi ∙ ap (λ k. bodies_behind k (s.cpus p) i sent) hb ∙ ht)

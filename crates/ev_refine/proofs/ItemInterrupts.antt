@@ -55,7 +55,7 @@ use Rattle.ev_refine.specs.Relation.{IsContext, ApicIs, switches_at, Chain, Stan
 use Rattle.ev_refine.specs.Claims.{Simulated}
 use Rattle.ev_refine.proofs.Facts.{Facts}
 use Rattle.ev_refine.proofs.Spots.{is_spot, few_edges}
-use Rattle.ev_refine.proofs.Standing.{ran_stays}
+use Rattle.ev_refine.proofs.Standing.{went_stays}
 use Rattle.ev_refine.proofs.Bodies.{body, at_the_item, means_at, nothing_open, saved_again}
 use Rattle.ev_refine.proofs.CallKinds.{origin_of, plain_knows}
 use Rattle.ev_refine.proofs.Depth.{goes_on_inside}
@@ -339,6 +339,8 @@ module _ (mode : Mode) (image : Image) (built : IsBuilt image) (good : IsImage i
           masked = refl;
           words = s.memory.words;
           apic = s.apics p;
+          sent = None;
+          sends = step.sends_nothing mode image built good facts left s m h p hp;
           runs = switches_off c s.memory next a.flags a.kernel (sym (facts.spaced c.rip _ found)) a.state.flags (s.apics p) (s.latches p);
           service = b.service;
           apic_is = apic_stays false;
@@ -354,7 +356,7 @@ module _ (mode : Mode) (image : Image) (built : IsBuilt image) (good : IsImage i
           entries = [];
           turns = steps.turns mode image built good facts left s m h p hp o body' is ss extra v f a Item.Cli hi;
           slots = x.slots;
-          makes = words.makes_context mode image built good facts left s m h p hp o m s.memory.words x.tasks x.slots (with_if_at false)
+          makes = words.makes_context mode image built good facts left s m h p hp o m m s.memory.words x.tasks x.slots (with_if_at false)
               (steps.nothing mode image built good facts left s m h p hp o body' is ss extra v f a);
           shows = refl;
         }
@@ -401,7 +403,7 @@ module _ (mode : Mode) (image : Image) (built : IsBuilt image) (good : IsImage i
         (step.fits mode image built good facts left s m h p hp o body' is (body mode AtItem) way.over ss extra v' g a.place tt (way.told u)) stand agrees in
         let turned : turn image m p ≡ (with_context m p b', [])
         = steps.turns mode image built good facts left s m h p hp o body' is ss extra v f a Item.Sti hi in
-        let makes = words.makes_context mode image built good facts left s m h p hp o m s.memory.words x.tasks x.slots b'
+        let makes = words.makes_context mode image built good facts left s m h p hp o m m s.memory.words x.tasks x.slots b'
         (steps.nothing mode image built good facts left s m h p hp o body' is ss extra v f a) in
         let legal : Legal image (with_context m p b') = turn_legal image good built.accepted m p hp h.legal (with_context m p b', []) turned in
         let ctx : IsContext mode image b' = legal_context image (knows image (with_context m p b')) b' o.below mode
@@ -434,9 +436,9 @@ module _ (mode : Mode) (image : Image) (built : IsBuilt image) (good : IsImage i
           knows = plain_knows mode o.κ on.frame plain (blocks.holds (body mode BehindSti));
           means = means_at mode image o.κ plain BehindSti u o.w b' s.memory.words (item, next_is);
         } in
-        let still_there = ran_stays s p cpu Sti (step.fetches mode image built good facts left s m h p hp c.rip cell at_sti.0).1 refl ∙ o.acts in
+        let still_there = went_stays image.processors s p cpu None Sti (step.fetches mode image built good facts left s m h p hp c.rip cell at_sti.0).1 refl ∙ o.acts in
         step.visible_with mode image built good facts left s m h p hp o (λ on. a.state.blocked ∙ unblocked mode) cell at_sti.0 refl a.kernel (s.apics p) cpu
-        s.memory.words
+        s.memory.words None (step.sends_nothing mode image built good facts left s m h p hp)
         (switches_on c s.memory (c.rip + 1) a.flags a.kernel refl a.state.flags
         (step.masked mode image built good facts left s m h p hp o ∙ was_off) (s.apics p) (s.latches p))
         (step.blocked mode image built good facts left s m h p hp) [] (none_spares p).allowed (λ y far near. refl) (with_context m p b') [] turned x.tasks

@@ -179,6 +179,8 @@ module _ (mode : Mode) (image : Image) (built : IsBuilt image) (good : IsImage i
         masked = known.1 ∙ same_interrupts;
         words = words_with s.memory.words z;
         apic = s.apics p;
+        sent = None;
+        sends = step.sends_nothing mode image built good facts left s m h p hp;
         runs = runs (at_ins ins (at (suc b.place)) here) (s.apics p) (s.latches p);
         service = b.service;
         apic_is = visible.same_apic mode image built good facts left s m h p hp o body' is write (suc b.place) status;
@@ -194,7 +196,7 @@ module _ (mode : Mode) (image : Image) (built : IsBuilt image) (good : IsImage i
         entries = es;
         turns = turns item hi ∙ meaning;
         slots = slots;
-        makes = words.makes_context mode image built good facts left s m h p hp o m1 (words_with s.memory.words z) x.tasks slots
+        makes = words.makes_context mode image built good facts left s m h p hp o m m1 (words_with s.memory.words z) x.tasks slots
             (behind write (suc b.place) status) makes;
         shows = shows;
       }
@@ -362,6 +364,8 @@ module _ (mode : Mode) (image : Image) (built : IsBuilt image) (good : IsImage i
           masked = same_interrupts;
           words = s.memory.words;
           apic = s.apics p;
+          sent = None;
+          sends = step.sends_nothing mode image built good facts left s m h p hp;
           runs = goes_onward c s.memory ins a.flags c.regs (at t) s.memory.words a.state.flags (runs (at_ins ins (at (suc b.place)) here))
               (s.apics p) (s.latches p);
           service = b.service;
@@ -378,7 +382,7 @@ module _ (mode : Mode) (image : Image) (built : IsBuilt image) (good : IsImage i
           entries = [];
           turns = turns item hi ∙ meaning;
           slots = x.slots;
-          makes = words.makes_context mode image built good facts left s m h p hp o m s.memory.words x.tasks x.slots (behind None t b.flags) nothing;
+          makes = words.makes_context mode image built good facts left s m h p hp o m m s.memory.words x.tasks x.slots (behind None t b.flags) nothing;
           shows = shows;
         }
 

@@ -347,6 +347,8 @@ module _ (mode : Mode) (image : Image) (built : IsBuilt image) (good : IsImage i
           masked = steps.same_interrupts mode image built good facts left s m h p hp o body' is ss extra v f a;
           words = ws;
           apic = s.apics p;
+          sent = None;
+          sends = step.sends_nothing mode image built good facts left s m h p hp;
           runs = goes_onward c s.memory ins a.flags c.regs next ws a.state.flags
               (does (steps.at_ins mode image built good facts left s m h p hp o body' is ss extra v f a ins next here)) (s.apics p) (s.latches p);
           service = b.service;
@@ -363,7 +365,7 @@ module _ (mode : Mode) (image : Image) (built : IsBuilt image) (good : IsImage i
           entries = [];
           turns = steps.turns mode image built good facts left s m h p hp o body' is ss extra v f a item hi ∙ meaning;
           slots = x.slots;
-          makes = words.makes_context mode image built good facts left s m h p hp o (with_task_at m p t) ws tasks x.slots b' makes;
+          makes = words.makes_context mode image built good facts left s m h p hp o m (with_task_at m p t) ws tasks x.slots b' makes;
           shows = shows;
         }
 

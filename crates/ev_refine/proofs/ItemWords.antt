@@ -107,7 +107,7 @@ module _ (mode : Mode) (image : Image) (built : IsBuilt image) (good : IsImage i
   in_seat = step.in_seat mode image built good facts left s m h p hp o
 
   abbrev pub Makes : Machine → NatMap ℕ → NatMap Task → NatMap ℕ → List BodyContext → Type 0
-  Makes m' words tasks slots bs = step.Makes mode image built good facts left s m h p hp o m' words tasks slots bs
+  Makes m' words tasks slots bs = step.Makes mode image built good facts left s m h p hp o m m' words tasks slots bs
 
   -- ---- memory
 
@@ -260,11 +260,12 @@ module _ (mode : Mode) (image : Image) (built : IsBuilt image) (good : IsImage i
       }
 
   -- with another last context
-  pub makes_context : (m1 : Machine) (words : NatMap ℕ) (tasks : NatMap Task) (slots : NatMap ℕ) (b : BodyContext) → Makes m1 words tasks slots x.bodies
-      → Makes (with_context m1 p b) words tasks slots (b ∷ o.below)
-  makes_context m1 words tasks slots b y = record {
+  pub makes_context : (from m1 : Machine) (words : NatMap ℕ) (tasks : NatMap Task) (slots : NatMap ℕ) (b : BodyContext)
+      → step.Makes mode image built good facts left s m h p hp o from m1 words tasks slots x.bodies
+      → step.Makes mode image built good facts left s m h p hp o from (with_context m1 p b) words tasks slots (b ∷ o.below)
+  makes_context from m1 words tasks slots b y = record {
     own = at_same m1.processors p p _ refl ∙ ap (λ (z : abstract.Processor). record z { bodies = replace_last b z.bodies }) y.own
-        ∙ ap (λ bs. record x { tasks = tasks; slots = slots; bodies = replace_last b bs }) o.bodies;
+        ∙ ap (λ bs. record (processor from p) { tasks = tasks; slots = slots; bodies = replace_last b bs }) o.bodies;
     others = λ q e. at_other m1.processors p q _ e ∙ y.others q e;
     same_tasks = y.same_tasks;
     good_tasks = y.good_tasks;

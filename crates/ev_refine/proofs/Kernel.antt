@@ -400,8 +400,8 @@ module _ (mode : Mode) (image : Image) (built : IsBuilt image) (good : IsImage i
       at_body act (AtNumbers rcx rax rdx) k ss ss_is extra v f n at means long enough hi =
           items.by_numbers mode image built good facts left s m h p hp o body' is act ss ss_is extra v f rcx rax rdx
           (subst (λ i. At code (block mode (body mode (AtNumbers rcx rax rdx))) i (env ss extra v f) c s.memory) (n ∙ numbers_steps mode rcx rax rdx) at)
-          means.0 means.1 long
-          ctx.item (ap numbers_of (sym hi) ∙ ap (λ o. numbers_of (item_at o b.place)) (sym is) ∙ means.2) hi
+          means.0 means.1 long ctx.item (which image built good b.body body' is b.place ctx.item hi)
+          (ap numbers_of (sym hi) ∙ ap (λ o. numbers_of (item_at o b.place)) (sym is) ∙ means.2) hi
       at_body act AtUserWord k ss ss_is extra v f n at means long enough hi =
           items.by_address mode image built good facts left s m h p hp o body' is ss ss_is extra v f
           (subst (λ i. At code (block mode (body mode AtUserWord)) i (env ss extra v f) c s.memory) (n ∙ address_steps mode) at) means.0 means.1 means.2 long

@@ -10,12 +10,14 @@ use Rattle.ev_isa.specs.declared.instruction.Ins.TheVariants.{Load, Store, Store
 use Rattle.ev_isa.specs.declared.mode.Mode.{Mode}
 use Rattle.ev_effect.specs.Task.{Task}
 use Rattle.ev_body.specs.declared.item.Item.{Item}
-use Rattle.ev_body.specs.declared.item.Item.TheVariants.{Set, Copy, Goto, Log, Cpu, Slot, Put, SetCell, AddCell, SwapCell, Uget, Uput, GetReg, SetReg, SetRip, Eoi, Map, Unmap, Ret}
+use Rattle.ev_body.specs.declared.item.Item.TheVariants.{Set, Copy, Goto, Log, Cpu, Slot, Put, SetCell, AddCell, SwapCell, Uget, Uput, GetReg, SetReg, SetRip, Eoi, Send, Map, Unmap, Ret}
+use Rattle.ev_body.specs.declared.key.Key.TheVariants.{Irq}
+use Rattle.ev_body.specs.Bodies.{key_number}
 use Rattle.ev_body.specs.declared.body.Body.{Body}
 use Rattle.ev_body.specs.declared.image.Image.{Image}
 use Rattle.ev_body.specs.WellFormed.{IsImage, is_local, has_operands}
 use Rattle.ev_listing.specs.AddressMap.{saved_rip}
-use Rattle.ev_listing.specs.Expansion.{item_address}
+use Rattle.ev_listing.specs.Expansion.{command, item_address}
 use Rattle.ev_state.specs.Processor.{Processor, register, is_user}
 use Rattle.ev_state.proofs.FlagLaws.{kept}
 use Rattle.ev_apic.specs.declared.apic.Apic.{Apic}
@@ -335,6 +337,8 @@ module _ (mode : Mode) (image : Image) (built : IsBuilt image) (good : IsImage i
           pick (Unmap q) today hi = page (Unmap q) (StoreImm 0 (pos 0) (pos 0)) refl hi q refl (ruled.operands b.place (Unmap q) hi).2
           pick Eoi today hi = msr.to_numbers mode image built good facts left s m h p hp o body' is act ss ss_is extra v f at means place long enough
               Eoi Wrmsr refl hi 0x80b 0 0 refl
+          pick (Send to (Irq k)) today hi = msr.to_numbers mode image built good facts left s m h p hp o body' is act ss ss_is extra v f at means place long
+              enough (Send to (Irq k)) Wrmsr refl hi 0x830 (command (Irq k)) to refl
           pick Item.Cli today hi = does (interrupts.by_cli mode image built good facts left s m h p hp o body' is ss extra v f a off same hi)
           pick Item.Sti today hi = interrupts.by_sti mode image built good facts left s m h p hp o body' is ss extra v f a off same hi
           pick Item.Bp today hi = breaks.by_bp mode image built good facts left s m h p hp o body' is ss extra v f a off same hi
@@ -384,10 +388,10 @@ module _ (mode : Mode) (image : Image) (built : IsBuilt image) (good : IsImage i
       pub by_numbers : (act : Stood on.own b c s.memory) (ss : ℕ) → IsKernelSs mode ss → (extra v : ℕ → ℕ) (f : Flags) (rcx rax rdx : ℕ)
           → At code (block mode (body mode (AtNumbers rcx rax rdx))) 3 (env ss extra v f) c s.memory
           → InItem mode image (origin_of κ) (env ss extra v f) w b
-          → extra 20 ≡ item_place mode image b.body b.place → length c.regs ≡ 16 → (i : Item) → numbers_of (Some i) ≡ Some (rcx, rax, rdx)
-          → item_at (Some body') b.place ≡ Some i → Result
-      unfolding numbers_of msr.at_numbers eval
-      by_numbers act ss ss_is extra v f rcx rax rdx at means place long i numbers hi = pick i numbers hi
+          → extra 20 ≡ item_place mode image b.body b.place → length c.regs ≡ 16 → (i : Item) → is_built_item i ≡ true
+          → numbers_of (Some i) ≡ Some (rcx, rax, rdx) → item_at (Some body') b.place ≡ Some i → Result
+      unfolding is_built_item numbers_of msr.at_numbers eval key_number
+      by_numbers act ss ss_is extra v f rcx rax rdx at means place long i today numbers hi = pick i today numbers hi
         where
           a : visible.AtVisible mode image built good facts left s m h p hp o body' is ss extra v f
           a = msr.at_numbers mode image built good facts left s m h p hp o body' is act ss ss_is extra v f rcx rax rdx at means place long
@@ -401,13 +405,18 @@ module _ (mode : Mode) (image : Image) (built : IsBuilt image) (good : IsImage i
           in_rdx : register c 2 ≡ rdx
           in_rdx = ap (λ (xs : List ℕ). get_or xs 2 0) a.state.regs
 
-          pick : (i : Item) → numbers_of (Some i) ≡ Some (rcx, rax, rdx) → item_at (Some body') b.place ≡ Some i → Result
-          pick Eoi q hi =
+          pick : (i : Item) → is_built_item i ≡ true → numbers_of (Some i) ≡ Some (rcx, rax, rdx) → item_at (Some body') b.place ≡ Some i → Result
+          pick Eoi today q hi =
               let z : (rcx, rax, rdx) ≡ (0x80b, 0, 0) = sym (unsome _ _ q) in
               visible.visible mode image built good facts left s m h p hp o body' is ss extra v f a
               (msr.by_eoi mode image built good facts left s m h p hp o body' is ss extra v f a refl refl
               (in_rcx ∙ ap (λ (z : ℕ × ℕ × ℕ). z.0) z) (in_rax ∙ ap (λ (z : ℕ × ℕ × ℕ). z.1) z) (in_rdx ∙ ap (λ (z : ℕ × ℕ × ℕ). z.2) z) hi)
-          pick _ q hi = absurd (cc)
+          pick (Send to (Irq k)) today q hi =
+              let z : (rcx, rax, rdx) ≡ (0x830, command (Irq k), to) = sym (unsome _ _ q) in
+              visible.visible mode image built good facts left s m h p hp o body' is ss extra v f a
+              (msr.by_send mode image built good facts left s m h p hp o body' is ss extra v f a to k hi refl refl
+              (in_rcx ∙ ap (λ (z : ℕ × ℕ × ℕ). z.0) z) (in_rax ∙ ap (λ (z : ℕ × ℕ × ℕ). z.1) z) (in_rdx ∙ ap (λ (z : ℕ × ℕ × ℕ). z.2) z))
+          pick _ today q hi = absurd (cc)
 
       -- behind the block that comes to the address of the page's word
       pub by_page : (act : Stood on.own b c s.memory) (ss : ℕ) → IsKernelSs mode ss → (extra v : ℕ → ℕ) (f : Flags) (is_page : Bool)

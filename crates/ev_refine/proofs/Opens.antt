@@ -220,10 +220,10 @@ zeros (suc (suc zero)) = refl
 zeros (suc (suc (suc zero))) = refl
 zeros (suc (suc (suc (suc n)))) = refl
 
-zero_words : (i : ℕ) → get_or no_words i 0 < 2 ^ 64
+pub zero_words : (i : ℕ) → get_or no_words i 0 < 2 ^ 64
 zero_words i = let z = zeros i in omega arith
 
-no_vector : (v : ℕ) → vectors_of no_words v ≡ false
+pub no_vector : (v : ℕ) → vectors_of no_words v ≡ false
 no_vector v = ap (bit (v % 64)) (zeros (v / 64)) ∙ ap (λ q. q % 2 == 1) (zero-div (2 ^ (v % 64)))
 
 none_served : (class : ℕ) (vs : List ℕ) → list_any (λ v. vectors_of no_words v && (v / 16 == class)) vs ≡ false
@@ -420,8 +420,7 @@ module _ (mode : Mode) (image : Image) (given : IsImage image) where
     held = held_first;
     pages = λ i lt. page_word _ mode image i few lt;
     cells = λ k lt. cell_word _ mode image k few lt;
-    mail = λ p v lt l. no_vector v;
-    mail_nmi = λ p lt. refl;
+    mail = λ p lt. record { words = record { four = refl; small = zero_words }; vectors = λ v lv. no_vector v; nmi_is = refl };
     numbers = λ p k lt l. record_word p lt k 0x28 l (inr refl);
     records = λ p k lt l. ap (first_word mode image) (let e : record_address p k ≡ record_address p k + 0 = omega arith in e)
         ∙ record_word p lt k 0 l (inl refl);
@@ -432,6 +431,7 @@ module _ (mode : Mode) (image : Image) (given : IsImage image) where
   unfolding opening
   domain p = record {
     nmi = refl;
+    mail_nmi = refl;
     resched = refl;
     bodies = tt;
   }

@@ -5,7 +5,7 @@ use Rattle.ev_isa.specs.Flags.{Status, Flags, modelled}
 use Rattle.ev_isa.specs.declared.mode.Mode.{Mode}
 use Rattle.ev_isa.specs.declared.mode.Mode.TheVariants.{Idt, Fred}
 use Rattle.ev_body.specs.declared.item.Item.{Item}
-use Rattle.ev_body.specs.declared.item.Item.TheVariants.{SetCell, AddCell, SwapCell, Uget, Uput, SetRip, Eoi, Map, Unmap, Ret}
+use Rattle.ev_body.specs.declared.item.Item.TheVariants.{SetCell, AddCell, SwapCell, Uget, Uput, SetRip, Eoi, Send, Map, Unmap, Ret}
 use Rattle.ev_body.specs.declared.key.Side.{Side}
 use Rattle.ev_body.specs.declared.key.Side.TheVariants.{User, Kernel}
 use Rattle.ev_body.specs.declared.body.Body.{Body}
@@ -15,7 +15,7 @@ use Rattle.ev_state.specs.Processor.{Processor, rsp, selector}
 use Rattle.ev_symbolic.specs.State.{top_tag}
 use Rattle.ev_mem.specs.Memory.{Memory}
 use Rattle.ev_listing.specs.AddressMap.{pcpu, cells_base, body_code}
-use Rattle.ev_listing.specs.Expansion.{item_address}
+use Rattle.ev_listing.specs.Expansion.{command, item_address}
 use Rattle.ev_abstract.specs.Context.{BodyContext, local}
 use Rattle.ev_abstract.specs.Run.{item_at}
 use Rattle.ev_symbolic.specs.Agrees.{Env, untracked, At}
@@ -85,6 +85,7 @@ number_of _ = None
 -- the numbers that an item's code puts into RCX, RAX and RDX first
 unfoldable pub numbers_of : Option Item → Option (ℕ × ℕ × ℕ)
 numbers_of (Some Eoi) = Some (0x80b, 0, 0)
+numbers_of (Some (Send to key)) = Some (0x830, command key, to)
 numbers_of _ = None
 
 -- the local that has its user address
