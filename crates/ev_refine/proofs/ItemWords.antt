@@ -139,6 +139,8 @@ module _ (mode : Mode) (image : Image) (built : IsBuilt image) (good : IsImage i
       → have_none is_slot names ≡ true → have_none is_user_word names ≡ true → have_none is_page_bit names ≡ true → have_none is_cell names ≡ true
       → have_none is_task_word names ≡ true → Makes m words x.tasks x.slots x.bodies
   makes_nothing names allowed words changes slots user pages cells tasks = record {
+    resched = x.resched;
+    asked = λ e. e;
     own = refl;
     others = λ q e. refl;
     same_tasks = λ i d. refl;
@@ -161,6 +163,8 @@ module _ (mode : Mode) (image : Image) (built : IsBuilt image) (good : IsImage i
       let z : Named = Slot p k in
       let allowed = are_names p z (slot_free k l) in
       let changes = writes_name z v in record {
+        resched = x.resched;
+        asked = λ e. e;
         own = at_same m.processors p p (record x { slots = put_at x.slots k v }) refl;
         others = λ q e. at_other m.processors p q (record x { slots = put_at x.slots k v }) e;
         same_tasks = λ i d. refl;
@@ -182,6 +186,8 @@ module _ (mode : Mode) (image : Image) (built : IsBuilt image) (good : IsImage i
       let z : Named = CellAt k in
       let allowed = are_names p z (cell_free k l) in
       let changes = writes_name z v in record {
+        resched = x.resched;
+        asked = λ e. e;
         own = refl;
         others = λ q e. refl;
         same_tasks = λ i d. refl;
@@ -205,6 +211,8 @@ module _ (mode : Mode) (image : Image) (built : IsBuilt image) (good : IsImage i
       let z : Named = PageBit i in
       let allowed = are_names p z (page_free i (omega arith)) in
       let changes = writes_name z (word_of t) in record {
+        resched = x.resched;
+        asked = λ e. e;
         own = refl;
         others = λ q e. refl;
         same_tasks = λ i d. refl;
@@ -224,6 +232,8 @@ module _ (mode : Mode) (image : Image) (built : IsBuilt image) (good : IsImage i
       let z : Named = PageBit 256 in
       let allowed = are_names p z (page_free 256 (omega arith)) in
       let changes = writes_name z v in record {
+        resched = x.resched;
+        asked = λ e. e;
         own = refl;
         others = λ q e. refl;
         same_tasks = λ i d. refl;
@@ -246,6 +256,8 @@ module _ (mode : Mode) (image : Image) (built : IsBuilt image) (good : IsImage i
       let z : Named = UserWord a in
       let allowed = are_names p z (user_free a u w) in
       let changes = writes_name z v in record {
+        resched = x.resched;
+        asked = λ e. e;
         own = refl;
         others = λ q e. refl;
         same_tasks = λ i d. refl;
@@ -263,8 +275,10 @@ module _ (mode : Mode) (image : Image) (built : IsBuilt image) (good : IsImage i
   pub makes_context : (m1 : Machine) (words : NatMap ℕ) (tasks : NatMap Task) (slots : NatMap ℕ) (b : BodyContext) → Makes m1 words tasks slots x.bodies
       → Makes (with_context m1 p b) words tasks slots (b ∷ o.below)
   makes_context m1 words tasks slots b y = record {
+    resched = y.resched;
+    asked = y.asked;
     own = at_same m1.processors p p _ refl ∙ ap (λ (z : abstract.Processor). record z { bodies = replace_last b z.bodies }) y.own
-        ∙ ap (λ bs. record x { tasks = tasks; slots = slots; bodies = replace_last b bs }) o.bodies;
+        ∙ ap (λ bs. record x { tasks = tasks; slots = slots; resched = y.resched; bodies = replace_last b bs }) o.bodies;
     others = λ q e. at_other m1.processors p q _ e ∙ y.others q e;
     same_tasks = y.same_tasks;
     good_tasks = y.good_tasks;

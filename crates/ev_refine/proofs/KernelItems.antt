@@ -68,6 +68,7 @@ use Rattle.ev_refine.proofs.ItemCells.{visible_of}
 use Rattle.ev_law.proofs.Ruled.{IsRuled}
 use Rattle.ev_refine.proofs.KernelStep as step
 use Rattle.ev_refine.proofs.BodyBreak as breaks
+use Rattle.ev_refine.proofs.SwitchOpens as switching
 
 -- ---- numbers
 
@@ -181,11 +182,11 @@ module _ (mode : Mode) (image : Image) (built : IsBuilt image) (good : IsImage i
             state = item_state mode (env ss extra v f) B.ground B.opening c s.memory 0 (X 0) (X 1) (X 2) refl (item_comes mode) a;
           }
 
-      -- the exit: to the task, or to the body that was interrupted
-      exit_from : (act : Stood on.own b c s.memory) (ss : ℕ) (extra v : ℕ → ℕ) (f : Flags)
+      -- the exit: to the task where nothing asks for another one, or to the body that was interrupted
+      exit_from : (is_over_task κ ≡ true → x.resched ≡ false) → (act : Stood on.own b c s.memory) (ss : ℕ) (extra v : ℕ → ℕ) (f : Flags)
           → Agrees (env ss extra v f) (block mode (body mode AtItem)).ground (block mode (body mode AtItem)).opening c s.memory
           → SavedOf mode image (origin_of κ) (env ss extra v f) w → OpensExit mode p κ σ ss w extra v f c (onward c c.regs (other_exit mode)) s.memory
-      exit_from act ss extra v f a saved = by_kind (is_over_task κ) refl (is_over_body κ) refl
+      exit_from calm act ss extra v f a saved = by_kind (is_over_task κ) refl (is_over_body κ) refl
         where
           by_kind : (t : Bool) → is_over_task κ ≡ t → (u : Bool) → is_over_body κ ≡ u
               → OpensExit mode p κ σ ss w extra v f c (onward c c.regs (other_exit mode)) s.memory
@@ -194,7 +195,7 @@ module _ (mode : Mode) (image : Image) (built : IsBuilt image) (good : IsImage i
               = step.alone mode image built good facts left s m h p hp o over in
               let z : Saved mode image v w = saved_task mode image κ over (env ss extra v f) w saved in
               exits image p small κ over σ ss w (ap (λ (y : Processor). y.cs) one.task.is) extra v f c s.memory
-              (on.mark one.still ∙ ap (λ r. if r then 1 else 0) domain.resched) mode z
+              (on.mark one.still ∙ ap (λ r. if r then 1 else 0) (calm over)) mode z
               (subst (λ n. n < 2 ^ 64) (sym z.rip)
               (word_of_canonical w.rip (ap (λ (y : Processor). is_canonical y.rip) one.task.is ∙ one.task.task.canonical)))
               (subst (λ n. n < 2 ^ 64) (sym (z.flags ∙ ap (λ (y : Processor). y.flags) one.task.is)) (word_of_flags t.flags))
@@ -223,7 +224,6 @@ module _ (mode : Mode) (image : Image) (built : IsBuilt image) (good : IsImage i
           let rc : RetCell (code_table mode image) (item_address mode b.body body' b.place) (other_exit mode) = facts.ret_cell b.body b.place body' is hi in
           let hc : code c.rip ≡ Some rc.cell = ap code (at_item ss extra v f a place) ∙ rc.is in
           let cpu : Processor = onward c c.regs (other_exit mode) in
-          let x : OpensExit mode p κ σ ss w extra v f c cpu s.memory = exit_from act ss extra v f a means.saved in
           let at_ret_cell : IsAt c (Jmp rc.distance) rc.cell.next = record {
             kernel = hu;
             flags = kept c.flags _ a.flags;
@@ -232,13 +232,15 @@ module _ (mode : Mode) (image : Image) (built : IsBuilt image) (good : IsImage i
           let does : Executes rc.cell.ins cpu s.memory.words = subst (λ i. Executes i cpu s.memory.words) (sym rc.jump)
           (subst (λ y. Executes (Jmp rc.distance) (onward c c.regs y) s.memory.words) rc.leads
           ((singles c s.memory rc.cell.next).jumps rc.distance at_ret_cell (ap is_canonical rc.leads ∙ exit_canonical mode))) in
-          let falls = x.fewer in
+          let to_task : (is_over_task κ ≡ true → x.resched ≡ false) → Result = λ calm.
+          let y : OpensExit mode p κ σ ss w extra v f c cpu s.memory = exit_from calm act ss extra v f a means.saved in
+          let falls = y.fewer in
           step.edge mode image built good facts left s m h p hp o rc.cell hc rc.unmarked (ap (λ i. is_return (Some i)) rc.jump) hu
           (step.outside mode image built good facts left s m h p hp o act) cpu s.memory.words does blocked [] (none_spares p) refl
-          (step.unknown_none below) (λ y far far'. refl) (edges mode x.spot 0) (omega arith)
+          (step.unknown_none below) (λ n far far'. refl) (edges mode y.spot 0) (omega arith)
           (record {
             stands = record {
-              spot = x.spot;
+              spot = y.spot;
               k = 0;
               extra = extra;
               var = v;
@@ -248,15 +250,26 @@ module _ (mode : Mode) (image : Image) (built : IsBuilt image) (good : IsImage i
               masked = step.masks mode image built good facts left s m h p hp o B 0 e at;
               within = omega arith;
               enough = omega arith;
-              at = begins code (block mode x.spot) e cpu s.memory
-                  (step.fits mode image built good facts left s m h p hp o body' is x.spot x.over ss extra v f place x.entry x.told)
-                  (x.agrees (step.windows mode image built good facts left s m h p hp o body' is x.spot x.over ss extra v f));
+              at = begins code (block mode y.spot) e cpu s.memory
+                  (step.fits mode image built good facts left s m h p hp o body' is y.spot y.over ss extra v f place y.entry y.told)
+                  (y.agrees (step.windows mode image built good facts left s m h p hp o body' is y.spot y.over ss extra v f));
               long = long;
             };
-            switches = x.off ∙ sym o.off;
-            knows = plain_knows mode κ on.frame plain_kind (blocks.holds x.spot);
-            means = x.means image b s.memory.words (record { saved = means.saved; ret = ap (λ o. item_at o b.place) is ∙ hi });
-          })
+            switches = y.off ∙ sym o.off;
+            knows = plain_knows mode κ on.frame plain_kind (blocks.holds y.spot);
+            means = y.means image b s.memory.words (record { saved = means.saved; ret = ap (λ o. item_at o b.place) is ∙ hi });
+          }) in
+          let visible : visible.AtVisible mode image built good facts left s m h p hp o body' is ss extra v f
+          = at_visible act ss ss_is extra v f at means place long in
+          by_mark (is_over_task κ) refl x.resched refl to_task (λ over asked. switching.leaves mode image built good facts left s m h p hp o body' is
+          ss extra v f visible over asked a (ap (λ o. item_at o b.place) is ∙ hi) rc.cell hc rc.unmarked (ap (λ i. is_return (Some i)) rc.jump) does
+          (step.masks mode image built good facts left s m h p hp o B 0 e at) enough)
+        where
+          by_mark : (t : Bool) → is_over_task κ ≡ t → (u : Bool) → x.resched ≡ u → ((is_over_task κ ≡ true → x.resched ≡ false) → Result)
+              → (is_over_task κ ≡ true → x.resched ≡ true → Result) → Result
+          by_mark true q true r leaves switches = switches q r
+          by_mark t q false r leaves switches = leaves (λ over. r)
+          by_mark false q u r leaves switches = leaves (λ over. let clash : false ≡ true = sym q ∙ over in absurd (cc))
 
       pub by_item : (act : Stood on.own b c s.memory) (ss : ℕ) → IsKernelSs mode ss → (extra v : ℕ → ℕ) (f : Flags)
           → At code (block mode (body mode AtItem)) 0 (env ss extra v f) c s.memory → InItem mode image (origin_of κ) (env ss extra v f) w b

@@ -60,7 +60,7 @@ pub arrivals_stand : (mode : Mode) (image : Image) → IsBuilt image → IsImage
 arrivals_stand mode image built given left s m r p v lt small line =
     let domain = r.domain p lt in
     arrival_stands mode image given built.accepted left s m r p v lt small line
-    (record { nmi = domain.nmi; resched = domain.resched; bodies = domain.bodies })
+    (record { nmi = domain.nmi; bodies = domain.bodies })
 
 pub runs_follow : RunsFollow
 runs_follow mode image built h given script i b =

@@ -14,8 +14,7 @@ abbrev pub AreQuiet : List BodyContext → Type 0
 AreQuiet [] = Unit {0}
 AreQuiet (b ∷ below) = IsQuiet b × AreQuiet below
 
--- no NMI arrives, and nothing asks for another task
+-- no NMI arrives
 pub record IsInDomain (x : Processor) : Type 0 where
   pub nmi : x.nmi ≡ false
-  pub resched : x.resched ≡ false
   pub bodies : AreQuiet x.bodies
