@@ -35,6 +35,7 @@ fn is_built_item(item: &Item) -> bool
             | Item::SetRip(_)
             | Item::Map(_)
             | Item::Unmap(_)
+            | Item::Resched
             | Item::Eoi
             | Item::Bp
             | Item::Ret

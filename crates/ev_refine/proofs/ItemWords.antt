@@ -6,6 +6,7 @@ use Rattle.ev_isa.specs.Word.{NatMap, NatSet, put_at}
 use Rattle.ev_mem.specs.Memory.{page_map}
 use Rattle.ev_isa.specs.Flags.{Flags}
 use Rattle.ev_isa.specs.declared.mode.Mode.{Mode}
+use Rattle.ev_isa.specs.declared.mode.Mode.TheVariants.{Idt, Fred}
 use Rattle.ev_effect.specs.Task.{Task}
 use Rattle.ev_body.specs.declared.image.Image.{Image}
 use Rattle.ev_body.specs.WellFormed.{IsImage}
@@ -26,6 +27,7 @@ use Rattle.ev_blocks.specs.Items.{AtItem}
 use Rattle.ev_refine.specs.Named.{Named, UserRsp, Top, Current, Mark, Port, Head, TssTop, Slot, RecordWord, CellAt, PageBit, UserWord, address_of, owner, IsName, IsWritten, is_task_word, is_call_word, is_private, is_slot, is_cell, is_page_bit, is_user_word, have_none, Outside, UnknownTo, Changes}
 use Rattle.ev_user.specs.Sees.{IsPageWord, IsUserWord}
 use Rattle.ev_user.proofs.Words.{put_words}
+use Rattle.ev_refine.specs.Tasks.{TssIs, CurrentIs}
 use Rattle.ev_refine.specs.Active.{here}
 use Rattle.ev_refine.specs.Relation.{StandsOn, Stands}
 use Rattle.ev_refine.proofs.Facts.{Facts}
@@ -80,9 +82,20 @@ pub record IsFree (p : ℕ) (z : Named) : Type 0 where
   pub name : IsName z
   pub written : IsWritten z
   pub own : (q : ℕ) → (q ≡ p → ⊥) → owner z ≢ Some q
-  pub tasks : is_task_word z ≡ false
   pub calls : is_call_word z ≡ false
   pub private : is_private z ≡ false
+
+-- the words that name the running task are no mark
+tss_beside : (mode : Mode) (p r : ℕ) (words : NatMap ℕ) (v : ℕ) → TssIs mode p r words → TssIs mode p r (put_at words (pcpu p + 0x20) v)
+tss_beside Fred p r words v h = h
+tss_beside Idt p r words v h = put_other words (pcpu p + 0x20) v (pcpu p + 0x408) (λ e. omega arith) ∙ h
+
+current_beside : (mode : Mode) (p r : ℕ) (words : NatMap ℕ) (v : ℕ) → CurrentIs mode p r words → CurrentIs mode p r (put_at words (pcpu p + 0x20) v)
+current_beside mode p r words v h = record {
+  top = put_other words (pcpu p + 0x20) v (pcpu p + 0x10) (λ e. omega arith) ∙ h.top;
+  current = put_other words (pcpu p + 0x20) v (pcpu p + 0x18) (λ e. omega arith) ∙ h.current;
+  tss = tss_beside mode p r words v h.tss;
+}
 
 pub are_names : (p : ℕ) (z : Named) → IsFree p z → AreNames p (z ∷ [])
 are_names p z f = record { written = (f.written, tt); own = λ q d. (f.own q d, tt); calls = ap (λ b. not b && true) f.calls }
@@ -155,7 +168,7 @@ module _ (mode : Mode) (image : Image) (built : IsBuilt image) (good : IsImage i
   }
 
   pub slot_free : (k : ℕ) → k < 64 → IsFree p (Slot p k)
-  slot_free k l = record { name = (small, l); written = (small, l); own = λ q d. own_word p q d; tasks = refl; calls = refl; private = refl }
+  slot_free k l = record { name = (small, l); written = (small, l); own = λ q d. own_word p q d; calls = refl; private = refl }
 
   pub makes_slot : (k v : ℕ) → k < 64
       → Makes (with_slot m p k v) (put_at s.memory.words (address_of (Slot p k)) v) x.tasks (put_at x.slots k v) x.bodies
@@ -179,7 +192,7 @@ module _ (mode : Mode) (image : Image) (built : IsBuilt image) (good : IsImage i
       }
 
   pub cell_free : (k : ℕ) → k < 256 → IsFree p (CellAt k)
-  cell_free k l = record { name = l; written = l; own = λ q d f. absurd (cc); tasks = refl; calls = refl; private = refl }
+  cell_free k l = record { name = l; written = l; own = λ q d f. absurd (cc); calls = refl; private = refl }
 
   pub makes_cell : (k v : ℕ) → k < 256 → Makes (with_cell m k v) (put_at s.memory.words (address_of (CellAt k)) v) x.tasks x.slots x.bodies
   makes_cell k v l =
@@ -203,7 +216,7 @@ module _ (mode : Mode) (image : Image) (built : IsBuilt image) (good : IsImage i
 
   -- the presence of a page, and the word behind those of pages
   pub page_free : (i : ℕ) → i ≤ 256 → IsFree p (PageBit i)
-  page_free i l = record { name = l; written = l; own = λ q d f. absurd (cc); tasks = refl; calls = refl; private = refl }
+  page_free i l = record { name = l; written = l; own = λ q d f. absurd (cc); calls = refl; private = refl }
 
   pub makes_page : (i : ℕ) (t : Bool) → i < 256
       → Makes (record m { present = put_at m.present i t }) (put_at s.memory.words (address_of (PageBit i)) (word_of t)) x.tasks x.slots x.bodies
@@ -248,7 +261,7 @@ module _ (mode : Mode) (image : Image) (built : IsBuilt image) (good : IsImage i
       }
 
   pub user_free : (a : ℕ) → IsUserWord a → IsPageWord a → IsFree p (UserWord a)
-  user_free a u w = record { name = u; written = w; own = λ q d f. absurd (cc); tasks = refl; calls = refl; private = refl }
+  user_free a u w = record { name = u; written = w; own = λ q d f. absurd (cc); calls = refl; private = refl }
 
   pub makes_user : (a v : ℕ) → IsUserWord a → IsPageWord a → v < 2 ^ 64
       → Makes (record m { words = put_at m.words a v }) (put_at s.memory.words (address_of (UserWord a)) v) x.tasks x.slots x.bodies
@@ -267,6 +280,30 @@ module _ (mode : Mode) (image : Image) (built : IsBuilt image) (good : IsImage i
         slots_are = step.same_slots mode image built good facts left s m h p hp o (z ∷ []) allowed _ changes refl;
         user = λ i b. put_through (λ i. i) s.memory.words m.words a v i (λ e. e) (h.shares.user i b);
         held = put_words m.words a v h.shares.held l;
+        pages = step.same_pages mode image built good facts left s m h p hp o (z ∷ []) allowed _ changes refl;
+        cells = step.same_cells mode image built good facts left s m h p hp o (z ∷ []) allowed _ changes refl;
+      }
+
+  -- the mark
+  pub mark_free : IsFree p (Mark p)
+  mark_free = record { name = small; written = small; own = λ q d. own_word p q d; calls = refl; private = refl }
+
+  pub makes_mark : Makes (with_processor m p (record x { resched = true })) (put_at s.memory.words (address_of (Mark p)) 1) x.tasks x.slots x.bodies
+  makes_mark =
+      let z : Named = Mark p in
+      let allowed = are_names p z mark_free in
+      let changes = writes_name z 1 in record {
+        resched = true;
+        asked = λ e. refl;
+        own = at_same m.processors p p (record x { resched = true }) refl;
+        others = λ q e. at_other m.processors p q (record x { resched = true }) e;
+        same_tasks = λ i d. refl;
+        good_tasks = on.tasks;
+        current = λ e. current_beside mode p x.running s.memory.words 1 (on.current e);
+        mark = λ e. put_same s.memory.words (pcpu p + 0x20) 1;
+        slots_are = step.same_slots mode image built good facts left s m h p hp o (z ∷ []) allowed _ changes refl;
+        user = step.same_user mode image built good facts left s m h p hp o (z ∷ []) allowed _ changes refl;
+        held = h.shares.held;
         pages = step.same_pages mode image built good facts left s m h p hp o (z ∷ []) allowed _ changes refl;
         cells = step.same_cells mode image built good facts left s m h p hp o (z ∷ []) allowed _ changes refl;
       }

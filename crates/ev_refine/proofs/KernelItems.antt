@@ -6,15 +6,15 @@ use Rattle.ev_isa.specs.Word.{NatMap, is_canonical}
 use Rattle.ev_isa.specs.Flags.{Flags}
 use Rattle.ev_isa.specs.Spelling.{spelling}
 use Rattle.ev_isa.specs.declared.instruction.Ins.{Ins}
-use Rattle.ev_isa.specs.declared.instruction.Ins.TheVariants.{Load, Store, StoreImm, Xchg, Xadd, Jmp, Wrmsr}
+use Rattle.ev_isa.specs.declared.instruction.Ins.TheVariants.{Load, Store, StoreImm, GsStore, Xchg, Xadd, Jmp, Wrmsr}
 use Rattle.ev_isa.specs.declared.mode.Mode.{Mode}
 use Rattle.ev_effect.specs.Task.{Task}
 use Rattle.ev_body.specs.declared.item.Item.{Item}
-use Rattle.ev_body.specs.declared.item.Item.TheVariants.{Set, Copy, Goto, Log, Cpu, Slot, Put, SetCell, AddCell, SwapCell, Uget, Uput, GetReg, SetReg, SetRip, Eoi, Map, Unmap, Ret}
+use Rattle.ev_body.specs.declared.item.Item.TheVariants.{Set, Copy, Goto, Log, Cpu, Slot, Put, SetCell, AddCell, SwapCell, Uget, Uput, GetReg, SetReg, SetRip, Resched, Eoi, Map, Unmap, Ret}
 use Rattle.ev_body.specs.declared.body.Body.{Body}
 use Rattle.ev_body.specs.declared.image.Image.{Image}
 use Rattle.ev_body.specs.WellFormed.{IsImage, is_local, has_operands}
-use Rattle.ev_listing.specs.AddressMap.{saved_rip}
+use Rattle.ev_listing.specs.AddressMap.{mark_offset, saved_rip}
 use Rattle.ev_listing.specs.Expansion.{item_address}
 use Rattle.ev_state.specs.Processor.{Processor, register, is_user}
 use Rattle.ev_state.proofs.FlagLaws.{kept}
@@ -58,6 +58,7 @@ use Rattle.ev_refine.proofs.ItemVisible as visible
 use Rattle.ev_refine.proofs.ItemSteps as steps
 use Rattle.ev_refine.proofs.ItemTask as task
 use Rattle.ev_refine.proofs.ItemNumbers as numbers
+use Rattle.ev_refine.proofs.ItemResched as resched
 use Rattle.ev_refine.proofs.ItemInside as inside
 use Rattle.ev_refine.proofs.ItemMsr as msr
 use Rattle.ev_refine.proofs.ItemAddress as addresses
@@ -336,6 +337,7 @@ module _ (mode : Mode) (image : Image) (built : IsBuilt image) (good : IsImage i
           pick (AddCell k d) today hi = number (AddCell k d) (Xadd 0 (pos 0) d) refl hi _ refl
           pick (SwapCell k d) today hi = number (SwapCell k d) (Xchg 0 (pos 0) d) refl hi _ refl
           pick (SetRip n) today hi = number (SetRip n) (Store 4 (pos saved_rip) 0) refl hi n refl
+          pick Resched today hi = number Resched (GsStore (pos mark_offset) 0) refl hi _ refl
           pick (Uget d q) today hi = address (Uget d q) (Load d 0 (pos 0)) refl hi q refl (and_right (is_local d) _ (ruled.operands b.place (Uget d q) hi).2)
           pick (Uput q r) today hi = address (Uput q r) (Store 0 (pos 0) r) refl hi q refl (and_left (is_local q) _ (ruled.operands b.place (Uput q r) hi).2)
           pick (Map q) today hi = page (Map q) (StoreImm 0 (pos 0) (pos 1)) refl hi q refl (ruled.operands b.place (Map q) hi).2
@@ -382,6 +384,8 @@ module _ (mode : Mode) (image : Image) (built : IsBuilt image) (good : IsImage i
           pick (SwapCell k d) q hi = does (numbers.by_swapcell mode image built good facts left s m h p hp o body' is ss extra v f a off refl k
               (low k (ruled.slots b.place (SwapCell k d) hi)) (rax ∙ sym (unsome _ _ q)) d hi)
           pick (SetRip j) q hi = does (task.by_setrip mode image built good facts left s m h p hp o body' is ss extra v f a off refl j
+              (rax ∙ sym (unsome _ _ q)) hi)
+          pick Resched q hi = does (resched.by_resched mode image built good facts left s m h p hp o body' is ss extra v f a off refl
               (rax ∙ sym (unsome _ _ q)) hi)
           pick _ q hi = absurd (cc)
 

@@ -39,6 +39,7 @@ pub mod ItemSteps
 pub mod ItemTask
 pub mod SwitchOpens
 pub mod ItemNumbers
+pub mod ItemResched
 pub mod ItemMsr
 pub mod ItemUser
 pub mod ItemPage

@@ -1,9 +1,8 @@
 -- The next task, by its words, its descriptor and its saved area; and how an exit opens that switches to it.
-use Rattle.std.proofs.Common.{◌≡◌, ℕ, zero, suc, ◌+◌, ◌-◌, ◌*◌, ◌/◌, ◌%◌, ◌^◌, ◌<◌, ◌≤◌, Bool, true, false, ◌&&◌, List, [], ◌∷◌, ◌++◌, get_or, length, Option, Some, refl, sym, ap, ◌∙◌, subst, arith}
+use Rattle.std.proofs.Common.{◌≡◌, ℕ, zero, suc, ◌+◌, ◌-◌, ◌*◌, ◌/◌, ◌%◌, ◌^◌, ◌<◌, ◌≤◌, Bool, true, false, ◌&&◌, List, [], ◌∷◌, ◌++◌, get_or, length, Some, refl, sym, ap, ◌∙◌, arith}
 use Rattle.std.specs.Prelude.{◌==◌, nat_lt, nat_le, if◌then◌else◌}
 use Rattle.std.proofs.lemmas.Bool.{eq-eqb, ne_eqb, le-leb, lt-ltb, lt-leb, le-ltb}
 use Rattle.ev_isa.specs.Word.{NatMap, is_aligned, bit}
-use Rattle.ev_isa.specs.Flags.{flags_word}
 use Rattle.ev_isa.specs.declared.mode.Mode.{Mode}
 use Rattle.ev_isa.specs.declared.mode.Mode.TheVariants.{Idt, Fred}
 use Rattle.ev_body.specs.declared.image.Image.{Image}
@@ -11,7 +10,7 @@ use Rattle.ev_body.specs.declared.image.TaskSpec.{TaskSpec}
 use Rattle.ev_effect.specs.Task.{Task}
 use Rattle.ev_state.specs.Descriptors.{base_of}
 use Rattle.ev_state.specs.Msr.{is_level_rsp}
-use Rattle.ev_state.specs.Processor.{Processor, selector}
+use Rattle.ev_state.specs.Processor.{selector}
 use Rattle.ev_listing.specs.AddressMap.{pcpu, task_words, task_selector, stack_top, fred_page}
 use Rattle.ev_listing.specs.Expansion.{saved_offset}
 use Rattle.ev_abstract.specs.Machine.{no_task}

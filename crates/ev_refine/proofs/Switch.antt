@@ -1,23 +1,22 @@
 -- Exits that switch to another task: their windows, what their steps write, and where their blocks end.
-use Rattle.std.proofs.Common.{◌≡◌, ◌⊎◌, inl, inr, ⊎_elim, ℕ, ◌+◌, ◌-◌, ◌%◌, ◌<◌, ◌≤◌, Bool, true, false, List, [], ◌∷◌, Some, refl, sym, ap, ◌∙◌, subst, arith}
+use Rattle.std.proofs.Common.{◌≡◌, ◌⊎◌, inl, inr, ⊎_elim, ℕ, ◌+◌, ◌<◌, ◌≤◌, Bool, true, false, List, [], ◌∷◌, Some, refl, sym, ap, ◌∙◌, subst, arith}
 use Rattle.ev_isa.specs.Word.{NatMap}
 use Rattle.ev_isa.specs.Flags.{Flags}
 use Rattle.ev_isa.specs.declared.mode.Mode.{Mode}
 use Rattle.ev_isa.specs.declared.mode.Mode.TheVariants.{Idt, Fred}
 use Rattle.ev_body.specs.declared.image.Image.{Image}
-use Rattle.ev_listing.specs.AddressMap.{pcpu, task_words, stack_top, stack_bytes}
+use Rattle.ev_listing.specs.AddressMap.{pcpu, task_words, stack_top}
 use Rattle.ev_state.specs.Processor.{Processor}
 use Rattle.ev_mem.specs.Memory.{Memory}
 use Rattle.ev_proc.specs.ProcessorStep.{has_fred}
 use Rattle.ev_abstract.specs.Context.{BodyContext}
 use Rattle.ev_concrete.specs.Opening.{regions}
-use Rattle.ev_concrete.specs.LiveWords.{area_bytes}
 use Rattle.ev_symbolic.specs.State.{SS, Loc, in_win}
 use Rattle.ev_symbolic.specs.Run.{brun, every}
 use Rattle.ev_symbolic.specs.Agrees.{Env, addr, FactsHold, Described, AreTops, Open, Within, Stands, Fits}
 use Rattle.ev_symbolic.specs.Names.{next_top_tag}
 use Rattle.ev_distances.specs.Span.{IsSpan, InSpan}
-use Rattle.ev_distances.specs.Form.{Form, OnStack, Stretch, InArea, OnTask, OnNextTask, OnNextStack, Where, span_of, IsWhere, Fitting}
+use Rattle.ev_distances.specs.Form.{Form, InArea, Where, span_of, IsWhere, Fitting}
 use Rattle.ev_distances.proofs.ByForm.{located, forms_open}
 use Rattle.ev_blocks.specs.Fred.{FredToNext}
 use Rattle.ev_blocks.specs.Fred as fred
@@ -35,11 +34,10 @@ use Rattle.ev_activation.specs.Seat.{Kind, SystemCall, FromTask, FromBody, NmiFr
 use Rattle.ev_table.specs.Table.{code_table}
 use Rattle.ev_refine.specs.Named.{Named, Top, Current, Mark, TssTop, Outside, NotNamed, Changes}
 use Rattle.ev_refine.specs.Active.{here, ToNext, OverTask, OverBody, Means}
-use Rattle.ev_refine.specs.Relation.{body_edges}
 use Rattle.ev_refine.proofs.Facts.{Facts}
 use Rattle.ev_refine.proofs.ModeFacts.{is_fred}
-use Rattle.ev_refine.proofs.Spots.{is_elsewhere, fred_switch_elsewhere, idt_switch_elsewhere, area_small}
-use Rattle.ev_refine.proofs.Fits.{IsSeat, InSome, IsThere, which_form}
+use Rattle.ev_refine.proofs.Spots.{is_elsewhere, fred_switch_elsewhere, idt_switch_elsewhere}
+use Rattle.ev_refine.proofs.Fits.{IsSeat, InSome, which_form}
 
 -- ---- which they are, and what their variables mean
 

@@ -4,7 +4,6 @@ use Rattle.std.specs.Prelude.{◌==◌, if◌then◌else◌, slice_get}
 use Rattle.std.proofs.lemmas.Bool.{eqb-true}
 use Rattle.std.proofs.lemmas.Bool.Decides.{eqb_tells}
 use Rattle.std.proofs.Math.Nat.{mod-lt}
-use Rattle.std.specs.List.{list_any}
 use Rattle.ev_isa.specs.Word.{NatMap, bit}
 use Rattle.ev_isa.specs.Flags.{Flags}
 use Rattle.ev_isa.specs.declared.mode.Mode.{Mode}
@@ -18,22 +17,21 @@ use Rattle.ev_listing.specs.AddressMap.{pcpu, task_words, task_selector, stack_t
 use Rattle.ev_listing.specs.Expansion.{saved_offset}
 use Rattle.ev_state.specs.Descriptors.{base_of}
 use Rattle.ev_state.specs.Msr.{is_level_rsp}
-use Rattle.ev_state.specs.Processor.{Processor, selector, is_user}
+use Rattle.ev_state.specs.Processor.{Processor, selector}
 use Rattle.ev_mem.specs.Memory.{Memory}
 use Rattle.ev_apic.specs.declared.apic.Apic.{Apic}
 use Rattle.ev_proc.specs.ProcessorStep.{has_fred, executed, ran}
 use Rattle.ev_proc.specs.declared.stepped.Stepped.{Stepped}
-use Rattle.ev_abstract.specs.Boundary.{is_nmi_body}
 use Rattle.ev_abstract.specs.Context.{BodyContext}
 use Rattle.ev_abstract.specs.Machine.{Machine, processor, task}
 use Rattle.ev_abstract.specs.Machine as abstract
 use Rattle.ev_abstract.specs.Run.{item_at}
-use Rattle.ev_concrete.specs.ConcreteRun.{System, Activation, activations_by, is_return}
+use Rattle.ev_concrete.specs.ConcreteRun.{System, activations_by, is_return}
 use Rattle.ev_concrete.specs.LiveWords.{area_bytes}
 use Rattle.ev_concrete.specs.Opening.{listings, code_of, tasks_of}
 use Rattle.ev_built.specs.Built.{IsBuilt}
-use Rattle.ev_symbolic.specs.Value.{M, V}
-use Rattle.ev_symbolic.specs.Names.{frame_cs, next_rip, next_flags, next_saved, says_ring}
+use Rattle.ev_symbolic.specs.Value.{M}
+use Rattle.ev_symbolic.specs.Names.{next_rip, next_flags, next_saved, says_ring}
 use Rattle.ev_symbolic.specs.State.{Block}
 use Rattle.ev_symbolic.specs.Agrees.{Env, Cell, Code, untracked, eval, eval_flags, addr, FactsHold, Described, AreTops, Open, Fits, Agrees}
 use Rattle.ev_symbolic.specs.Single.{onward}
@@ -54,9 +52,8 @@ use Rattle.ev_table.specs.Table.{code_table, other_exit}
 use Rattle.ev_user.specs.Tasks.{IsTask, RunsTask, level_zero, task_processor}
 use Rattle.ev_refine.specs.Tasks.{order, IsSaved, CurrentIs}
 use Rattle.ev_refine.specs.Nmi.{Leads, inner_edges}
-use Rattle.ev_refine.specs.Named.{Changes}
 use Rattle.ev_refine.specs.Active.{here, level_in, rest_in, GivesBack, Matches, ToNext, OverTask, Saved, Active}
-use Rattle.ev_refine.specs.Relation.{InTasks, IsContext, Beneath, keeps_cr2, switches_at, chained, body_edges, Chain, StandsOn, Stands}
+use Rattle.ev_refine.specs.Relation.{InTasks, Beneath, keeps_cr2, switches_at, chained, body_edges, Chain, StandsOn, Stands}
 use Rattle.ev_refine.specs.Claims.{Simulated}
 use Rattle.ev_refine.proofs.Facts.{Facts, word_of_flags, word_of_canonical}
 use Rattle.ev_refine.proofs.Maps.{at_same}
@@ -65,11 +62,11 @@ use Rattle.ev_refine.proofs.Domains.{four_tasks}
 use Rattle.ev_refine.proofs.Opens.{words_map}
 use Rattle.ev_refine.proofs.Chains.{chain_kept}
 use Rattle.ev_refine.proofs.CallKinds.{is_over_task, means_by, plain_over, plain_knows, level_of, over_kind, seat_under}
-use Rattle.ev_refine.proofs.Bodies.{layout_of, body, known_and, nothing_open, unlike}
+use Rattle.ev_refine.proofs.Bodies.{body, known_and, nothing_open, unlike}
 use Rattle.ev_refine.proofs.Fits.{IsSeat}
 use Rattle.ev_refine.proofs.Switch.{is_switch, next_level, NamesTasks, switch_fits, switch_opens}
 use Rattle.ev_refine.proofs.Standing.{after_ran, ran_stays}
-use Rattle.ev_refine.proofs.After.{none_spares, few_inner, apic_again, own_stands}
+use Rattle.ev_refine.proofs.After.{none_spares, apic_again, own_stands}
 use Rattle.ev_refine.proofs.ItemSaved.{rip_variable, saved_place, saved_ring, saved_status, saved_stack, saved_at, IsSavedWord, saved_register, each_below, saved_is}
 use Rattle.ev_refine.proofs.ItemVisible as visible
 use Rattle.ev_refine.proofs.ItemTask as task_items

@@ -1,20 +1,18 @@
 -- A step in an exit that switches to another task: an instruction of it, or the return to that task, with which the abstract machine switches.
-use Rattle.std.proofs.Common.{◌≡◌, inr, ℕ, zero, suc, ◌+◌, ◌-◌, ◌%◌, ◌<◌, ◌≤◌, Bool, true, false, not, ◌&&◌, ◌||◌, List, [], ◌∷◌, ◌++◌, get_or, map, length, Option, Some, None, refl, sym, ap, ◌∙◌, subst, arith}
-use Rattle.std.specs.Prelude.{◌==◌, if◌then◌else◌, nat_le, slice_get}
+use Rattle.std.proofs.Common.{◌≡◌, inr, ℕ, zero, suc, ◌+◌, ◌-◌, ◌%◌, ◌<◌, ◌≤◌, Bool, true, false, not, ◌&&◌, ◌||◌, List, [], ◌∷◌, ◌++◌, get_or, map, length, Some, None, refl, sym, ap, ◌∙◌, subst, arith}
+use Rattle.std.specs.Prelude.{◌==◌, if◌then◌else◌, nat_le}
 use Rattle.std.proofs.lemmas.Bool.{leb-true, leb-false}
 use Rattle.std.specs.List.{list_any}
 use Rattle.ev_isa.specs.Word.{NatMap, numbers_from}
 use Rattle.ev_isa.specs.Flags.{Flags}
 use Rattle.ev_isa.specs.declared.mode.Mode.{Mode}
 use Rattle.ev_isa.specs.declared.mode.Mode.TheVariants.{Idt, Fred}
-use Rattle.ev_effect.specs.Task.{Task}
 use Rattle.ev_event.specs.declared.boundary.Next.{Next}
 use Rattle.ev_body.specs.declared.item.Item.TheVariants.{Ret}
 use Rattle.ev_body.specs.declared.image.Image.{Image}
 use Rattle.ev_body.specs.WellFormed.{IsImage}
 use Rattle.ev_listing.specs.AddressMap.{pcpu, task_words, task_selector, stack_top, nlast_entry, repeat_entry}
-use Rattle.ev_state.specs.Processor.{Processor, is_user, interrupts_on}
-use Rattle.ev_apic.specs.declared.apic.Apic.{Apic}
+use Rattle.ev_state.specs.Processor.{Processor, is_user}
 use Rattle.ev_mem.specs.Memory.{Memory}
 use Rattle.ev_proc.specs.ProcessorStep.{next_of}
 use Rattle.ev_proc.specs.declared.stepped.Stepped.{Stepped}
@@ -24,9 +22,9 @@ use Rattle.ev_abstract.specs.Delivery.{switched, rescheduled, dropped}
 use Rattle.ev_abstract.specs.ItemMeaning.{item_step, below_last}
 use Rattle.ev_abstract.specs.Machine.{Machine, processor, with_processor}
 use Rattle.ev_abstract.specs.Machine as abstract
-use Rattle.ev_abstract.specs.Run.{item_at, turn}
+use Rattle.ev_abstract.specs.Run.{turn}
 use Rattle.ev_concrete.specs.ConcreteRun.{System, Activation, without_last, activations_by, is_return}
-use Rattle.ev_concrete.specs.Depth.{is_in_repeat, bodies_on, begins_body, ends_body}
+use Rattle.ev_concrete.specs.Depth.{is_in_repeat, bodies_on, begins_body}
 use Rattle.ev_concrete.specs.LiveWords.{area_bytes}
 use Rattle.ev_concrete.specs.Opening.{tasks_of}
 use Rattle.ev_built.specs.Built.{IsBuilt}
@@ -35,7 +33,7 @@ use Rattle.ev_symbolic.specs.State.{SS, Block, find}
 use Rattle.ev_symbolic.specs.Run.{brun}
 use Rattle.ev_symbolic.specs.Openings.{gs_word}
 use Rattle.ev_symbolic.specs.Names.{next_task_tag, next_top_tag}
-use Rattle.ev_symbolic.specs.Agrees.{Env, Cell, Code, edge_cell, eval, addr, At, with_words}
+use Rattle.ev_symbolic.specs.Agrees.{Env, Cell, Code, edge_cell, eval, At, with_words}
 use Rattle.ev_symbolic.specs.Machine.{Inside}
 use Rattle.ev_symbolic.proofs.Blocks.{earlier, goes_on}
 use Rattle.ev_blocks.specs.Fred.{FredToNext, fred_block}
@@ -56,12 +54,12 @@ use Rattle.ev_refine.specs.Tasks.{CurrentIs}
 use Rattle.ev_refine.specs.Nmi.{inner_edges}
 use Rattle.ev_refine.specs.Named.{Changes}
 use Rattle.ev_refine.specs.Domain.{IsInDomain}
-use Rattle.ev_refine.specs.Active.{here, level_in, ToNext, Matches, OverTask, Active}
-use Rattle.ev_refine.specs.Relation.{body_edges, most_edges, Chain, serves, StandsOn, Stands, IsContext}
+use Rattle.ev_refine.specs.Active.{here, ToNext, Matches, OverTask, Active}
+use Rattle.ev_refine.specs.Relation.{body_edges, Chain, serves, StandsOn, Stands}
 use Rattle.ev_refine.specs.Claims.{Simulated}
 use Rattle.ev_refine.proofs.Facts.{Facts}
 use Rattle.ev_refine.proofs.Maps.{at_same, at_other}
-use Rattle.ev_refine.proofs.Domains.{with_cr2, with_cr2_open, four_tasks}
+use Rattle.ev_refine.proofs.Domains.{with_cr2_open, four_tasks}
 use Rattle.ev_refine.proofs.Fits.{IsSeat}
 use Rattle.ev_refine.proofs.Switch.{is_switch, next_level, means_switch, switch_ends, NamesTasks, names_tasks, switch_names, switch_changes}
 use Rattle.ev_refine.proofs.Instructions.{stays_inside}

@@ -5,7 +5,7 @@ use Rattle.ev_isa.specs.Flags.{Status, Flags, modelled}
 use Rattle.ev_isa.specs.declared.mode.Mode.{Mode}
 use Rattle.ev_isa.specs.declared.mode.Mode.TheVariants.{Idt, Fred}
 use Rattle.ev_body.specs.declared.item.Item.{Item}
-use Rattle.ev_body.specs.declared.item.Item.TheVariants.{SetCell, AddCell, SwapCell, Uget, Uput, SetRip, Eoi, Map, Unmap, Ret}
+use Rattle.ev_body.specs.declared.item.Item.TheVariants.{SetCell, AddCell, SwapCell, Uget, Uput, SetRip, Resched, Eoi, Map, Unmap, Ret}
 use Rattle.ev_body.specs.declared.key.Side.{Side}
 use Rattle.ev_body.specs.declared.key.Side.TheVariants.{User, Kernel}
 use Rattle.ev_body.specs.declared.body.Body.{Body}
@@ -81,6 +81,7 @@ number_of (Some (SetCell k s)) = Some (cells_base + 8 * k)
 number_of (Some (AddCell k d)) = Some (cells_base + 8 * k)
 number_of (Some (SwapCell k d)) = Some (cells_base + 8 * k)
 number_of (Some (SetRip a)) = Some a
+number_of (Some Resched) = Some 1
 number_of _ = None
 
 -- the numbers that an item's code puts into RCX, RAX and RDX first
