@@ -16,7 +16,7 @@ fn bodies(rt: HostRuntime) -> Result<(), Fail> {
             "body irq31 both\nsti\nnop\ncli\neoi\nret\nendbody\nfill\n",
             false,
         ),
-        ("body sys user\nresched\nret\nendbody\nfill\n", false),
+        ("body sys user\nresched\nret\nendbody\nfill\n", true),
         ("body nmi user\nret\nendbody\nfill\n", false),
     ];
     for (bodies, taken) in cases {
