@@ -37,6 +37,7 @@ fn is_built_item(item: &Item) -> bool
             | Item::Unmap(_)
             | Item::Sti
             | Item::Cli
+            | Item::Resched
             | Item::Eoi
             | Item::Send(_, Key::Irq(_))
             | Item::Bp

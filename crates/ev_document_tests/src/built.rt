@@ -21,7 +21,7 @@ fn bodies(rt: HostRuntime) -> Result<(), Fail> {
             true,
         ),
         ("body sys user\nsend 0 nmi\nret\nendbody\nfill\n", false),
-        ("body sys user\nresched\nret\nendbody\nfill\n", false),
+        ("body sys user\nresched\nret\nendbody\nfill\n", true),
         ("body nmi user\nret\nendbody\nfill\n", false),
     ];
     for (bodies, taken) in cases {

@@ -41,7 +41,7 @@ use Rattle.ev_refine.proofs.Legality.{legal_few}
 use Rattle.ev_body.specs.WellFormed.{IsImage}
 use Rattle.ev_abstract.specs.Accepted.{IsAccepted}
 use Rattle.ev_refine.proofs.Standing.{Moves}
-use Rattle.ev_refine.proofs.Stays.{chain_stays, others_spared}
+use Rattle.ev_refine.proofs.Stays.{mark_spared, chain_stays, others_spared}
 
 -- SYSCALL's RSP and the port: what blocks and `log` write of the words with a name
 abbrev pub kernel_names : ℕ → List Named
@@ -414,24 +414,25 @@ module _ (mode : Mode) (image : Image) where
 
   -- Its tasks, slots, bodies and pending vectors may be others; the running task, and that to which the bodies return, are the same.
   pub own_becomes : (p left : ℕ) (s s' : System) (x : abstract.Processor) (σ : Seat) (cpu : Processor) (as' : List Activation) (words : NatMap ℕ)
-      (ts : NatMap Task) (slots : NatMap ℕ) (bs : List BodyContext) (own : ℕ) (on : StandsOn mode image p left s x) → p < 32
+      (ts : NatMap Task) (slots : NatMap ℕ) (asks : Bool) (bs : List BodyContext) (own : ℕ) (on : StandsOn mode image p left s x) → p < 32
       → length (tasks_of image p) ≤ 4 → Moves p s s' cpu as' words → ((i : ℕ) → (i ≡ on.returning → ⊥) → IsBeside mode σ i) → σ.stack < 7
       → (names : List Named) → AreNames p names → Changes p σ names s.memory.words words
-      → (on.switching ≡ false → CurrentIs mode p x.running words) → (on.switching ≡ false → words (pcpu p + 0x20) ≡ (if x.resched then 1 else 0))
+      → (on.switching ≡ true → asks ≡ true)
+      → (on.switching ≡ false → CurrentIs mode p x.running words) → (on.switching ≡ false → words (pcpu p + 0x20) ≡ (if asks then 1 else 0))
       → ((k : ℕ) → k < 64 → words (pcpu p + slot_offset k) ≡ slots k)
       → ((i : ℕ) → (i ≡ on.returning → ⊥) → ts i ≡ x.tasks i) → ((i : ℕ) → i < length (tasks_of image p) → IsTask (ts i))
       → cpu.nmi_blocked ≡ list_any (is_nmi_body image) bs
       → (set : NatSet) → ApicIs mode image (s'.apics p) set bs
       → own + inner_edges (s.latches p) ≤ most_edges mode image
       → Chain mode image p own x.running on.returning (ts on.returning) on.frame on.switching bs as' cpu (with_words s.memory words)
-      → StandsOn mode image p (own + inner_edges (s.latches p)) s' (record x { tasks = ts; slots = slots; bodies = bs; pending = set })
-  own_becomes p left s s' x σ cpu as' words ts slots bs own on hp four mv beside hs names good_names changes current mark slots_are same good blocked set apic
-      few chain =
-      own_stands p left own s s' x (record x { tasks = ts; slots = slots; bodies = bs; pending = set }) cpu as' words on mv (record {
+      → StandsOn mode image p (own + inner_edges (s.latches p)) s' (record x { tasks = ts; slots = slots; resched = asks; bodies = bs; pending = set })
+  own_becomes p left s s' x σ cpu as' words ts slots asks bs own on hp four mv beside hs names good_names changes marked current mark slots_are same good
+      blocked set apic few chain =
+      own_stands p left own s s' x (record x { tasks = ts; slots = slots; resched = asks; bodies = bs; pending = set }) cpu as' words on mv (record {
         running = on.running;
         waiting = on.waiting;
         switching = on.switching;
-        marked = on.marked;
+        marked = marked;
         returning = on.returning;
         is_returning = on.is_returning;
         current = current;
@@ -462,7 +463,7 @@ module _ (mode : Mode) (image : Image) where
   own_after p left s s' x σ cpu as' words ts bs own on hp four mv beside hs names sparing changes same good blocked set apic few chain =
       let words_same : AreSameWords p σ names hp hs s.memory.words words sparing.allowed.written changes p
       = tasks_same p σ names hp hs s.memory.words words sparing.allowed.written changes sparing.tasks p hp in
-      own_becomes p left s s' x σ cpu as' words ts x.slots bs own on hp four mv beside hs names sparing.allowed changes
+      own_becomes p left s s' x σ cpu as' words ts x.slots x.resched bs own on hp four mv beside hs names sparing.allowed changes on.marked
       (λ e. current_is p σ names hp hs s.memory.words words sparing.allowed.written changes p words_same mode x.running (on.current e))
       (λ e. mark_is p σ names hp hs s.memory.words words sparing.allowed.written changes p words_same ∙ on.mark e)
       (λ k lt. slot_same p σ names hp hs s.memory.words words sparing.allowed.written changes sparing.slots p k hp lt ∙ on.slots k lt)
@@ -515,6 +516,8 @@ module _ (mode : Mode) (image : Image) where
             (chain_plain mode image q on.own x.running on.returning (x.tasks on.returning) on.frame on.switching x.bodies (s.activations q)
             (s.cpus q) s.memory chain)
             running_small deep)
+            (mark_spared q x.bodies (s.cpus q) s.memory.words words
+            (λ a h k. area_stays p σ names s.memory.words words hp hs good_names.written changes q hq (good_names.own q d) a (omega arith) (omega arith)))
             chain));
       }
     where

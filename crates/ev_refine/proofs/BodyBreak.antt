@@ -202,6 +202,7 @@ module _ (mode : Mode) (image : Image) (built : IsBuilt image) (good : IsImage i
           quiet = record { calls = (step.quiet mode image built good facts left s m h p hp o).calls };
           canonical = (facts.item_small o.b.body (suc o.b.place) body' is).0;
           outside = step.outside mode image built good facts left s m h p hp o a.act ∙ sym (behind_repeat next (let low = spread.0 in omega arith));
+          inside = let low = spread.0 in omega arith;
           stood = stood;
           machine = with_context m p (context.onward o.b);
           own = at_same m.processors p p _ refl ∙ ap (λ bs. record x { bodies = replace_last (context.onward o.b) bs }) o.bodies;

@@ -17,7 +17,7 @@ use Rattle.ev_body.specs.declared.key.Side.TheVariants.{Kernel}
 use Rattle.ev_body.specs.declared.image.Image.{Image}
 use Rattle.ev_body.specs.Bodies.{first_body}
 use Rattle.ev_body.specs.WellFormed.{IsImage}
-use Rattle.ev_listing.specs.AddressMap.{pcpu}
+use Rattle.ev_listing.specs.AddressMap.{pcpu, code_end}
 use Rattle.ev_state.specs.Processor.{Processor, is_user, rsp, interrupts_on}
 use Rattle.ev_state.proofs.FlagLaws.{kept}
 use Rattle.ev_apic.specs.Apic.{next_vector, begun}
@@ -46,13 +46,14 @@ use Rattle.ev_symbolic.specs.Openings.{gs_tag}
 use Rattle.ev_symbolic.proofs.Values.{v_same, and_left, and_right}
 use Rattle.ev_symbolic.proofs.Blocks.{every_ok}
 use Rattle.ev_blocks.specs.Shapes.{Origin, UserCode, KernelCode, FredFrame, IdtFrame, body_bytes}
-use Rattle.ev_blocks.specs.Fred.{FromUser, FromKernel, FredToKernel, FredToTask}
+use Rattle.ev_blocks.specs.Fred.{FromUser, FromKernel, FredToKernel, FredToTask, FredToNext}
 use Rattle.ev_blocks.specs.Fred as fred
-use Rattle.ev_blocks.specs.Idt.{Stub, Sys, Common, IdtToKernel, IdtToTask}
+use Rattle.ev_blocks.specs.Idt.{Stub, Sys, Common, IdtToKernel, IdtToTask, IdtToNext}
 use Rattle.ev_blocks.specs.Idt as idt
 use Rattle.ev_blocks.specs.Items.{BodySpot, AtTable, AtJump, AtNumber, AtNumbers, AtUserWord, AtPageWord, BehindSti}
 use Rattle.ev_blocks.specs.Items as items
 use Rattle.ev_blocks.specs.Blocks.{Spot, InFred, InIdt, InBody, block}
+use Rattle.ev_blocks.specs.Blocks as blocks
 use Rattle.ev_paths.specs.Ends.{TellsNoCr2}
 use Rattle.ev_paths.proofs.BodyEnds.{body_untold}
 use Rattle.ev_activation.specs.Seat.{Kind, SystemCall, FromTask, FromBody, NmiFromTask, NmiFromBody, Seat, kind_of, seat_of, top_at}
@@ -118,6 +119,7 @@ stays_open mode _ h = let clash : false ≡ true = h in absurd (cc)
 record IsOpen (mode : Mode) (image : Image) (m : Mode) (spot : Spot) (e : Env) (b : BodyContext) : Type 0 where
   stays : every (is_open m) (block m spot) ≡ true
   base : HasPlace mode image e b ⊎ HasNextPlace mode image e b
+  off : blocks.switches spot ≡ false
   untold : TellsNoCr2 (block m spot)
 
 in_item : (mode : Mode) (image : Image) (o : Origin) (s : BodySpot) (e : Env) (w : Processor) (b : BodyContext) → InSpot mode image o s e w b
@@ -135,9 +137,9 @@ in_item mode image o _ e w b h on = absurd h
 in_body : (mode : Mode) (image : Image) (o : Origin) (m : Mode) (s : BodySpot) (e : Env) (w : Processor) (b : BodyContext) → InSpot mode image o s e w b
     → b.interrupts ≡ true → IsOpen mode image m (body m s) e b
 in_body mode image o Fred s e w b h on =
-    let z = in_item mode image o s e w b h on in record { stays = stays_open Fred s z.0; base = z.1; untold = body_untold true FredFrame s }
+    let z = in_item mode image o s e w b h on in record { stays = stays_open Fred s z.0; base = z.1; off = refl; untold = body_untold true FredFrame s }
 in_body mode image o Idt s e w b h on =
-    let z = in_item mode image o s e w b h on in record { stays = stays_open Idt s z.0; base = z.1; untold = body_untold false IdtFrame s }
+    let z = in_item mode image o s e w b h on in record { stays = stays_open Idt s z.0; base = z.1; off = refl; untold = body_untold false IdtFrame s }
 
 -- IF is off in an entry and in an exit
 never_off : {X : Type 0} (b : BodyContext) → b.interrupts ≡ false → b.interrupts ≡ true → X
@@ -147,11 +149,13 @@ task_open : (mode : Mode) (image : Image) (m : Mode) (spot : Spot) (e : Env) (w 
     → b.interrupts ≡ true → IsOpen mode image m spot e b
 task_open mode image Fred (InFred (FromUser way)) e w b h on = never_off b h.0.off on
 task_open mode image Fred (InFred (fred.Leaves FredToTask)) e w b h on = never_off b h.off on
+task_open mode image Fred (InFred (fred.Leaves FredToNext)) e w b h on = never_off b h.off on
 task_open mode image Fred (InBody FredFrame s) e w b h on = in_body mode image UserCode Fred s e w b h on
 task_open mode image Idt (InIdt Sys) e w b h on = never_off b h.0.off on
 task_open mode image Idt (InIdt (Stub UserCode has v)) e w b h on = never_off b h.1.off on
 task_open mode image Idt (InIdt (Common UserCode pf)) e w b h on = never_off b h.0.off on
 task_open mode image Idt (InIdt (idt.Leaves (IdtToTask by))) e w b h on = never_off b h.0.off on
+task_open mode image Idt (InIdt (idt.Leaves (IdtToNext by))) e w b h on = never_off b h.0.off on
 task_open mode image Idt (InBody IdtFrame s) e w b h on = in_body mode image UserCode Idt s e w b h on
 task_open mode image m _ e w b h on = absurd h
 
@@ -238,11 +242,8 @@ module _ (mode : Mode) (image : Image) (built : IsBuilt image) (good : IsImage i
 
     -- what the abstract machine chooses, by IF and the next vector
     chooses : choice image x ≡ (if b.interrupts then interrupt_or_next (next_vector (s.apics p)) else Choice.Next)
-    unfolding choice
     chooses =
-        ap (λ z. if z && not (list_any (is_nmi_body image) x.bodies) then Choice.Nmi else maskable x)
-        (step.domain mode image built good facts left s m h p hp).nmi
-        ∙ ap (λ bs. if open_to_interrupts bs then interrupt_or_next (greatest_below 256 (deliverable x)) else Choice.Next) hb
+        step.context_choice mode image built good facts left s m h p hp b below hb
         ∙ ap (λ z. if b.interrupts then interrupt_or_next z else Choice.Next)
         (sym (next_is mode image (s.apics p) x on.apic (λ v e. ((h.legal.each p).pending.each v e).from)))
 
@@ -287,8 +288,9 @@ module _ (mode : Mode) (image : Image) (built : IsBuilt image) (good : IsImage i
           ∙ body_gs mode p κ σ act.stands.ss w act.stands.extra act.stands.var act.stands.flags
           ∙ (let l = small in let q : (pcpu p + 0) % M ≡ pcpu p = omega arith in q)
 
-      canonical : is_canonical c.rip ≡ true
-      canonical =
+      -- in the bodies' code
+      upper : (code_end ≤ c.rip) × (c.rip < M)
+      upper =
           let inside = and_left (is_in_item state) _ open_state in
           let tag : state.rip.tag ≡ item_tag = eqb-true state.rip.tag item_tag (and_left _ _ inside) in
           let near : state.rip.off < 0x40 = ltb-true state.rip.off 0x40 (and_right (state.rip.tag == item_tag) _ inside) in
@@ -297,10 +299,13 @@ module _ (mode : Mode) (image : Image) (built : IsBuilt image) (good : IsImage i
           let range = facts.item_range b.body b.place found.0 found.1 in
           let low = range.0 in let high = range.1 in
           let at : item_place mode image b.body b.place ≡ _ = ap (address_of_item mode b.body b.place) found.1 in
-          let base : (0xffffffff80000000 ≤ e.base item_tag) × (e.base item_tag + 0x100 ≤ M)
+          let base : (code_end ≤ e.base item_tag) × (e.base item_tag + 0x100 ≤ M)
           = ⊎_elim (λ q. let z = q ∙ at in (omega arith, omega arith)) (λ q. let z = q ∙ at in (omega arith, omega arith)) in_it.base in
           let from = base.0 in let to = base.1 in
-          upper_canonical c.rip (omega arith) (omega arith)
+          (omega arith, omega arith)
+
+      canonical : is_canonical c.rip ≡ true
+      canonical = let low = upper.0 in upper_canonical c.rip (omega arith) upper.1
 
       at_item : AtItem mode p r n c
       at_item =
@@ -339,6 +344,7 @@ module _ (mode : Mode) (image : Image) (built : IsBuilt image) (good : IsImage i
         plain = plain;
         quiet = subst AreQuiet hb (step.domain mode image built good facts left s m h p hp).bodies;
         outside = refl;
+        inside = upper.0;
         chain = λ a. (
           k.0,
           k.1,
@@ -346,7 +352,7 @@ module _ (mode : Mode) (image : Image) (built : IsBuilt image) (good : IsImage i
           k.3,
           k.4,
           k.5,
-          stands_any mode image p on.own κ σ on.frame (switches_at mode image on.switching below) w b c s.memory act in_it.untold a,
+          stands_any mode image p on.own κ σ on.frame (switches_at mode image on.switching below) w b c s.memory act in_it.off in_it.untold a,
         );
       }
 

@@ -1,5 +1,5 @@
 -- A turn in which an item of a body raises an event: the activation that begins on it, what the abstract machine enters, and what is shown.
-use Rattle.std.proofs.Common.{◌≡◌, inr, ℕ, suc, ◌+◌, ◌-◌, ◌*◌, ◌%◌, ◌<◌, ◌≤◌, Bool, true, false, not, ◌&&◌, List, [], ◌∷◌, get_or, length, Option, Some, None, refl, sym, ap, ◌∙◌, subst, arith, ◌||◌}
+use Rattle.std.proofs.Common.{◌≡◌, inl, inr, ℕ, suc, ◌+◌, ◌-◌, ◌*◌, ◌%◌, ◌<◌, ◌≤◌, Bool, true, false, not, ◌&&◌, List, [], ◌∷◌, get_or, length, Option, Some, None, refl, sym, ap, ◌∙◌, subst, arith, ◌||◌}
 use Rattle.std.specs.Prelude.{◌==◌, if◌then◌else◌, slice_get}
 use Rattle.std.specs.List.{list_any}
 use Rattle.ev_isa.specs.Word.{NatMap, NatSet, put_at, is_canonical}
@@ -23,7 +23,7 @@ use Rattle.ev_mem.specs.Memory.{Memory}
 use Rattle.ev_proc.specs.ProcessorStep.{After, has_fred, next_of, executed, delivering}
 use Rattle.ev_proc.specs.ProcessorStep as processing
 use Rattle.ev_proc.specs.declared.stepped.Stepped.{Stepped}
-use Rattle.ev_listing.specs.AddressMap.{pcpu, stack_top, stack_bytes}
+use Rattle.ev_listing.specs.AddressMap.{pcpu, stack_top, stack_bytes, code_end}
 use Rattle.ev_abstract.specs.Context.{BodyContext}
 use Rattle.ev_abstract.specs.declared.entry.Entry.{Entry}
 use Rattle.ev_abstract.specs.declared.entry.Entry.TheVariants.{Enter}
@@ -44,6 +44,7 @@ use Rattle.ev_symbolic.specs.State.{Block}
 use Rattle.ev_symbolic.specs.Agrees.{Env, eval, Cell, IsTold, At, with_words}
 use Rattle.ev_symbolic.proofs.Blocks.{cell_step, every_ok}
 use Rattle.ev_blocks.specs.Blocks.{block}
+use Rattle.ev_blocks.specs.Blocks as blocks
 use Rattle.ev_paths.specs.Ends.{is_untold, TellsNoCr2}
 use Rattle.ev_table.specs.Table.{code_table}
 use Rattle.ev_refine.proofs.Spots.{few_edges, means_over}
@@ -187,9 +188,9 @@ module _ (mode : Mode) (image : Image) where
 
   -- with the edges of a body
   pub stands_any : (p left : ℕ) (κ : Kind) (σ : Seat) (f : Frame) (sw : Bool) (w : Processor) (b : BodyContext) (c : Processor) (m : Memory)
-      → (act : Active mode image p left κ σ f sw w b c m) → TellsNoCr2 (block mode act.stands.spot) → (a : ℕ)
+      → (act : Active mode image p left κ σ f sw w b c m) → blocks.switches act.stands.spot ≡ false → TellsNoCr2 (block mode act.stands.spot) → (a : ℕ)
       → Active mode image p (body_edges mode image) κ σ f sw w b (record c { cr2 = a }) m
-  stands_any p left κ σ f sw w b c m act none a = record {
+  stands_any p left κ σ f sw w b c m act off none a = record {
     stands = record {
       spot = act.stands.spot;
       k = act.stands.k;
@@ -200,7 +201,7 @@ module _ (mode : Mode) (image : Image) where
       ss_is = act.stands.ss_is;
       masked = act.stands.masked;
       within = act.stands.within;
-      enough = few_edges mode image act.stands.spot (means_over mode image κ act.stands.spot _ w b m.words act.means) act.stands.k;
+      enough = few_edges mode image act.stands.spot (means_over mode image κ act.stands.spot _ w b m.words act.means off) act.stands.k;
       at = at_any_cr2 (block mode act.stands.spot) act.stands.k _ c m a none act.stands.within act.stands.at;
       long = act.stands.long;
     };
@@ -245,6 +246,7 @@ module _ (mode : Mode) (image : Image) (built : IsBuilt image) (good : IsImage i
     pub plain : ArePlain image (b ∷ below)
     pub quiet : AreQuiet (b ∷ below)
     pub outside : is_in_repeat c.rip ≡ is_in_repeat saved
+    pub inside : code_end ≤ saved  -- it stands in the bodies' code
     pub chain : (a : ℕ) → Chain mode image p (body_edges mode image) r to (x.tasks to) on.frame on.switching (b ∷ below) (last ∷ others)
         (record c { rip = saved; cr2 = a }) s.memory
 
@@ -400,7 +402,7 @@ module _ (mode : Mode) (image : Image) (built : IsBuilt image) (good : IsImage i
     under a =
         let k = u.chain a in
         chain_stays mode image p (body_edges mode image) r to (x.tasks to) on.frame on.switching (u.b ∷ u.below) (under_now ∷ u.others) (record w { cr2 = a })
-        s.memory words' hp good.count.1 spared (k.0, k.1, k.2, k.3, k.4, k.5, k.6)
+        s.memory words' hp good.count.1 spared (inl u.inside) (k.0, k.1, k.2, k.3, k.4, k.5, k.6)
 
     chain : Chain mode image p (body_edges mode image) r to (x.tasks to) on.frame on.switching now_bodies (last_now ∷ under_now ∷ u.others) d mem
     chain =
@@ -416,7 +418,7 @@ module _ (mode : Mode) (image : Image) (built : IsBuilt image) (good : IsImage i
               (sym (ap (λ k. seat_by mode k r (seat_of mode image r (u.b ∷ u.below)) (room_of mode image (u.b ∷ u.below))) (sym no_nmi) ∙ seat_now))
               (begun.active on.frame),
         ) in
-        (w, is_context, refl, (refl, u.outside), at_kind.0, at_kind.1, at_kind.2)
+        (w, is_context, refl, (refl, u.outside, u.inside), at_kind.0, at_kind.1, at_kind.2)
 
     -- ---- the relation behind it
 
@@ -430,8 +432,8 @@ module _ (mode : Mode) (image : Image) (built : IsBuilt image) (good : IsImage i
     words_same = tasks_same p (seat_under mode r (suc n)) [] small narrow s.memory.words words' tt changes refl p small
 
     there : StandsOn mode image p now s' z
-    there = own_becomes mode image p (left p) s s' x (seat_under mode r (suc n)) d as' words' x.tasks x.slots now_bodies (body_edges mode image) on small
-        (four_tasks image good p hp) mv (λ i d. inr (area_under mode r n)) narrow [] (none_spares p).allowed changes
+    there = own_becomes mode image p (left p) s s' x (seat_under mode r (suc n)) d as' words' x.tasks x.slots x.resched now_bodies (body_edges mode image) on small
+        (four_tasks image good p hp) mv (λ i d. inr (area_under mode r n)) narrow [] (none_spares p).allowed changes on.marked
         (λ f. current_is p (seat_under mode r (suc n)) [] small narrow s.memory.words words' tt changes p words_same mode x.running (on.current f))
         (λ f. mark_is p (seat_under mode r (suc n)) [] small narrow s.memory.words words' tt changes p words_same ∙ on.mark f)
         (λ k l. slot_same p (seat_under mode r (suc n)) [] small narrow s.memory.words words' tt changes refl p k small l ∙ on.slots k l)
@@ -461,7 +463,7 @@ module _ (mode : Mode) (image : Image) (built : IsBuilt image) (good : IsImage i
               ∙ sym (ap (λ q. q k) y.cells);
         })
         legal (turn_bases image m p h.bases (m', entry_of p e (suc (suc n)) ∷ []) y.turns) y.numbers
-        (record { nmi = domain.nmi; mail_nmi = domain.mail_nmi; resched = domain.resched; bodies = quiet }) there
+        (record { nmi = domain.nmi; mail_nmi = domain.mail_nmi; bodies = quiet }) there
 
     -- the frame's words are as many as before
     frame_fits : begun.frame + 8 * frame_size (middle.cpus p) e ≤ top_at p (seat_under mode r (suc n))
@@ -559,6 +561,7 @@ module _ (mode : Mode) (image : Image) (built : IsBuilt image) (good : IsImage i
     pub quiet : IsQuiet b
     pub canonical : is_canonical saved ≡ true
     pub outside : is_in_repeat (s.cpus p).rip ≡ is_in_repeat saved
+    pub inside : code_end ≤ saved
     pub stood : (a : ℕ) → Stood (body_edges mode image) b (record (s.cpus p) { rip = saved; cr2 = a }) s.memory
     pub machine : Machine
     pub own : processor machine p ≡ record (processor m p) { bodies = b ∷ o.below }
@@ -610,6 +613,7 @@ module _ (mode : Mode) (image : Image) (built : IsBuilt image) (good : IsImage i
       );
       quiet = (y.quiet, (step.are_quiet mode image built good facts left s m h p hp o).1);
       outside = y.outside;
+      inside = y.inside;
       chain = λ a. step.with_last mode image built good facts left s m h p hp o b kind is_context_below (body_edges mode image)
           (record was { rip = saved; cr2 = a }) s.memory.words [] (none_spares p).allowed (step.unknown_none o.below) (λ i off off'. refl) (y.stood a);
     }

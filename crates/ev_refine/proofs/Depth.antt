@@ -11,7 +11,7 @@ use Rattle.ev_body.specs.declared.item.Item.{Item}
 use Rattle.ev_body.specs.declared.body.Body.{Body}
 use Rattle.ev_body.specs.declared.image.Image.{Image}
 use Rattle.ev_effect.specs.Task.{Task}
-use Rattle.ev_listing.specs.AddressMap.{nmi_entry, repeat_entry, nbody_entry, vector_stub}
+use Rattle.ev_listing.specs.AddressMap.{nmi_entry, repeat_entry, nbody_entry, vector_stub, code_end}
 use Rattle.ev_listing.specs.Expansion.{item_address}
 use Rattle.ev_state.specs.Processor.{Processor, is_user, rsp}
 use Rattle.ev_apic.specs.declared.apic.Apic.{Apic}
@@ -33,9 +33,9 @@ use Rattle.ev_symbolic.proofs.Values.{and_left, and_right}
 use Rattle.ev_symbolic.proofs.Blocks.{unsome, every_ok}
 use Rattle.ev_activation.specs.Seat.{Kind, SystemCall, FromTask, FromBody, NmiFromTask, NmiFromBody, Seat}
 use Rattle.ev_blocks.specs.Shapes.{Origin, UserCode, KernelCode, FredFrame, IdtFrame}
-use Rattle.ev_blocks.specs.Fred.{FromUser, FromKernel, FredToKernel, FredToTask, fred_block}
+use Rattle.ev_blocks.specs.Fred.{FromUser, FromKernel, FredToKernel, FredToTask, FredToNext, fred_block}
 use Rattle.ev_blocks.specs.Fred as fred
-use Rattle.ev_blocks.specs.Idt.{Stub, Sys, Common, IdtToKernel, IdtToTask, idt_block}
+use Rattle.ev_blocks.specs.Idt.{Stub, Sys, Common, IdtToKernel, IdtToTask, IdtToNext, idt_block}
 use Rattle.ev_blocks.specs.Idt as idt
 use Rattle.ev_blocks.specs.Items.{AtTable, AtJump, AtItem, AtNumber, AtNumbers, AtUserWord, AtPageWord, BehindSti, body_block}
 use Rattle.ev_blocks.specs.Blocks.{Spot, InFred, InIdt, InBody, block}
@@ -44,7 +44,7 @@ use Rattle.ev_refine.specs.Nmi.{Frame}
 use Rattle.ev_refine.specs.Active.{address_of_item, item_place, HasNextPlace, OverTask, OverBody, Active}
 use Rattle.ev_refine.specs.Relation.{IsContext, body_edges, chained, Interrupted, Chain, StandsOn}
 use Rattle.ev_refine.proofs.Facts.{Facts}
-use Rattle.ev_refine.proofs.Spots.{is_elsewhere, entry_elsewhere, kernel_entry_elsewhere, kernel_exit_elsewhere, fred_exit_elsewhere, sys_elsewhere, common_elsewhere, idt_exit_elsewhere, idt_kernel_exit_elsewhere, is_in_stub, stub_inside, is_in_item, number_inside, numbers_inside, address_inside, page_inside, sti_inside}
+use Rattle.ev_refine.proofs.Spots.{is_elsewhere, entry_elsewhere, kernel_entry_elsewhere, kernel_exit_elsewhere, fred_exit_elsewhere, sys_elsewhere, common_elsewhere, idt_exit_elsewhere, idt_kernel_exit_elsewhere, is_in_stub, stub_inside, is_in_item, number_inside, numbers_inside, address_inside, page_inside, sti_inside, fred_switch_elsewhere, idt_switch_elsewhere}
 use Rattle.ev_refine.proofs.Standing.{sends, after_went, Went, went_step}
 use Rattle.ev_refine.proofs.CallKinds.{over_any}
 use Rattle.ev_refine.proofs.After.{as_chain}
@@ -72,10 +72,10 @@ elsewhere : (e : Env) → e.base 1000 ≡ 0 → (s : SS) → is_elsewhere s ≡ 
 elsewhere e z s h =
     let tag : s.rip.tag ≡ 1000 = eqb-true s.rip.tag 1000 (and_left _ _ h) in
     let rest = and_right (s.rip.tag == 1000) _ h in
-    let small : s.rip.off < M = ltb-true s.rip.off M (and_left _ _ rest) in
+    let small : s.rip.off < code_end = ltb-true s.rip.off code_end (and_left _ _ rest) in
     let is : addr e s.rip ≡ s.rip.off = ap (λ t. (e.base t + s.rip.off) % M) tag
     ∙ (let q : (e.base 1000 + s.rip.off) % M ≡ s.rip.off = omega arith in q) in
-    ap is_in_repeat is ∙ not_true (is_in_repeat s.rip.off) (and_right (nat_lt s.rip.off M) _ rest)
+    ap is_in_repeat is ∙ not_true (is_in_repeat s.rip.off) (and_right (nat_lt s.rip.off code_end) _ rest)
 
 module _ (mode : Mode) (image : Image) (facts : Facts mode image) where
   at_elsewhere : (b : Block) (k : ℕ) (e : Env) (c : Processor) (m : Memory) → At (code_table mode image) b k e c m → e.base 1000 ≡ 0 → k ≤ b.steps
@@ -145,6 +145,8 @@ module _ (mode : Mode) (image : Image) (facts : Facts mode image) where
   over_task_outside Fred (InFred (FromUser way)) k e w c mem b ctx z l at h = at_elsewhere (fred_block (FromUser way)) k e c mem at z l (entry_elsewhere way)
   over_task_outside Fred (InFred (fred.Leaves FredToTask)) k e w c mem b ctx z l at h =
       at_elsewhere (fred_block (fred.Leaves FredToTask)) k e c mem at z l fred_exit_elsewhere
+  over_task_outside Fred (InFred (fred.Leaves FredToNext)) k e w c mem b ctx z l at h =
+      at_elsewhere (fred_block (fred.Leaves FredToNext)) k e c mem at z l fred_switch_elsewhere
   over_task_outside Fred (InBody FredFrame AtTable) k e w c mem b ctx z l at h = at_elsewhere (body_block true FredFrame AtTable) k e c mem at z l refl
   over_task_outside Fred (InBody FredFrame AtJump) k e w c mem b ctx z l at h = at_elsewhere (body_block true FredFrame AtJump) k e c mem at z l refl
   over_task_outside Fred (InBody FredFrame AtItem) k e w c mem b ctx z l at h =
@@ -165,6 +167,8 @@ module _ (mode : Mode) (image : Image) (facts : Facts mode image) where
       at_elsewhere (idt_block (Common UserCode pf)) k e c mem at z l (common_elsewhere UserCode pf)
   over_task_outside Idt (InIdt (idt.Leaves (IdtToTask by))) k e w c mem b ctx z l at h =
       at_elsewhere (idt_block (idt.Leaves (IdtToTask by))) k e c mem at z l (idt_exit_elsewhere by)
+  over_task_outside Idt (InIdt (idt.Leaves (IdtToNext by))) k e w c mem b ctx z l at h =
+      at_elsewhere (idt_block (idt.Leaves (IdtToNext by))) k e c mem at z l (idt_switch_elsewhere by)
   over_task_outside Idt (InBody IdtFrame AtTable) k e w c mem b ctx z l at h = at_elsewhere (body_block false IdtFrame AtTable) k e c mem at z l refl
   over_task_outside Idt (InBody IdtFrame AtJump) k e w c mem b ctx z l at h = at_elsewhere (body_block false IdtFrame AtJump) k e c mem at z l refl
   over_task_outside Idt (InBody IdtFrame AtItem) k e w c mem b ctx z l at h =

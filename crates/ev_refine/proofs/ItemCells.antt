@@ -8,9 +8,9 @@ use Rattle.ev_isa.specs.declared.instruction.Ins.TheVariants.{MovImm, MovReg, Lo
 use Rattle.ev_isa.specs.declared.mode.Mode.{Mode}
 use Rattle.ev_body.specs.declared.key.Key.{Key}
 use Rattle.ev_body.specs.declared.item.Item.{Item}
-use Rattle.ev_body.specs.declared.item.Item.TheVariants.{Set, Copy, Alu, Nop, Log, Cpu, Slot, Put, Cell, SetCell, AddCell, SwapCell, Uget, Uput, GetReg, SetReg, SetRip, Eoi, Send, Map, Unmap}
+use Rattle.ev_body.specs.declared.item.Item.TheVariants.{Set, Copy, Alu, Nop, Log, Cpu, Slot, Put, Cell, SetCell, AddCell, SwapCell, Uget, Uput, GetReg, SetReg, SetRip, Eoi, Send, Map, Unmap, Resched}
 use Rattle.ev_asm.specs.Assembly.{Places, place, distance, size, total_size}
-use Rattle.ev_listing.specs.AddressMap.{slot_offset, cells_base, saved_rip}
+use Rattle.ev_listing.specs.AddressMap.{slot_offset, mark_offset, cells_base, saved_rip}
 use Rattle.ev_mem.specs.Memory.{page_map}
 use Rattle.ev_isa.specs.declared.instruction.AluOp.TheVariants.{Add}
 use Rattle.ev_isa.specs.declared.instruction.Cond.TheVariants.{C}
@@ -64,6 +64,7 @@ before (SwapCell k d) = MovImm 0 (cells_base + 8 * k) ∷ []
 before (Uget d s) = MovReg 0 s ∷ mask_code
 before (Uput s t) = MovReg 0 s ∷ mask_code
 before (SetRip a) = MovImm 0 a ∷ []
+before Resched = MovImm 0 1 ∷ []
 before Eoi = numbers_code 0x80b 0 0
 before (Send to key) = numbers_code 0x830 (command key) to
 before (Map s) = MovReg 0 s ∷ page_code
@@ -90,6 +91,7 @@ visible_of (GetReg d r) = Some (Load d 4 (pos (saved_offset r)))
 visible_of (SetReg r s) = Some (Store 4 (pos (saved_offset r)) s)
 visible_of (SetRip a) = Some (Store 4 (pos saved_rip) 0)
 visible_of Item.Cli = Some Ins.Cli
+visible_of Resched = Some (GsStore (pos mark_offset) 0)
 visible_of Eoi = Some Wrmsr
 visible_of (Send to key) = Some Wrmsr
 visible_of (Map s) = Some (StoreImm 0 (pos 0) (pos 1))
@@ -207,6 +209,8 @@ item_cells mode n k key f code env a next (SetRip x) i q branch h e =
     record { edges = (h.0, tt); seen = seen_at code (a + 10) (a + 10) 8 next (Store 4 (pos saved_rip) 0) i q h.1.0 refl (omega arith) }
 item_cells mode n k key f code env a next Item.Cli i q branch h e =
     record { edges = tt; seen = seen_at code a (a + 0) 1 next Ins.Cli i q h.0 (omega arith) (omega arith) }
+item_cells mode n k key f code env a next Resched i q branch h e =
+    record { edges = (h.0, tt); seen = seen_at code (a + 10) (a + 10) 9 next (GsStore (pos mark_offset) 0) i q h.1.0 refl (omega arith) }
 item_cells mode n k key f code env a next Eoi i q branch h e =
     let seen = seen_at code (a + 10 + 10 + 10) (a + 30) 2 next Wrmsr i q h.1.1.1.0 (omega arith) (omega arith) in
     record { edges = (h.0, (h.1.0, (h.1.1.0, tt))); seen = seen }

@@ -376,12 +376,19 @@ module _ (mode : Mode) (image : Image) (built : IsBuilt image) (good : IsImage i
       still : step.Makes mode image built good facts left s m h p hp o mailed_to mailed_to s.memory.words x.tasks x.slots x.bodies
       still =
           let none = steps.nothing mode image built good facts left s m h p hp o body' is ss extra v f a in record {
-            own = λ i. record (processor mailed_to p) { tasks = (sender i).tasks; slots = (sender i).slots; bodies = (sender i).bodies };
+            resched = x.resched;
+            asked = λ e. e;
+            own = λ i. record (processor mailed_to p) {
+              tasks = (sender i).tasks;
+              slots = (sender i).slots;
+              resched = (sender i).resched;
+              bodies = (sender i).bodies;
+            };
             others = λ q e. refl;
             same_tasks = none.same_tasks;
             good_tasks = none.good_tasks;
             current = none.current;
-            mark = none.mark;
+            mark = (step.on mode image built good facts left s m h p hp).mark;
             slots_are = none.slots_are;
             user = none.user;
             held = none.held;

@@ -329,7 +329,7 @@ module _ (mode : Mode) (image : Image) (built : IsBuilt image) (good : IsImage i
         let value : register c r ≡ local b r = is_the_local r (ruled.operands b.place (Log r) hi).2 in
         let few = good.count.1 in
         let z : Named = Port p in
-        let free : IsFree p z = record { name = small; written = small; own = λ q d. own_word p q d; tasks = refl; calls = refl; private = refl } in
+        let free : IsFree p z = record { name = small; written = small; own = λ q d. own_word p q d; calls = refl; private = refl } in
         does (Log r) hi (GsStore (pos 0x28) r) refl off near refl None tt a.flags b.flags (known_flags same) (Some (z, local b r))
         free
         (λ i. onward_by (GsStore (pos 0x28) r) _ _

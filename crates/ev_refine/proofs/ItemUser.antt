@@ -188,7 +188,7 @@ module _ (mode : Mode) (image : Image) (built : IsBuilt image) (good : IsImage i
         let range = facts.item_range b.body b.place body' is in
         let lower = range.0 in let upper = range.1 in
         faults.by_fault mode image built good facts left s m h p hp o body' is act untold ss a.ss_is extra v f a.offset a.rax a.rcx a.rdx a.flags a.state a.long
-        (upper_canonical c.rip (omega arith) (omega arith)) (record { ins = ins; next = next; mark = Always }) found refl fault address
+        (upper_canonical c.rip (omega arith) (omega arith)) (omega arith) (record { ins = ins; next = next; mark = Always }) found refl fault address
         (runs (steps.at_ins mode image built good facts left s m h p hp o body' is ss extra v f a ins next found))
         (any_at is_user_access (body_items body') b.place item hi accesses)
         (steps.turns mode image built good facts left s m h p hp o body' is ss extra v f a item hi ∙ meaning)

@@ -2,7 +2,7 @@
 use Rattle.std.proofs.Common.{◌≡◌, inl, inr, ℕ, suc, ◌+◌, ◌-◌, ◌*◌, ◌<◌, ◌≤◌, Bool, true, false, not, ◌&&◌, List, [], ◌∷◌, length, Option, Some, refl, sym, ap, ◌∙◌, subst, arith, None}
 use Rattle.std.specs.Prelude.{if◌then◌else◌, ◌==◌, get_or, slice_get, nat_le, nat_lt}
 use Rattle.std.specs.List.{list_any}
-use Rattle.ev_isa.specs.Word.{NatMap, put_at}
+use Rattle.ev_isa.specs.Word.{NatMap, put_at, greatest_below}
 use Rattle.ev_isa.specs.Flags.{Flags, flags_word}
 use Rattle.ev_isa.specs.declared.instruction.Ins.{Ins}
 use Rattle.ev_isa.specs.declared.mode.Mode.{Mode}
@@ -21,7 +21,7 @@ use Rattle.ev_apic.specs.declared.send.Send.{Send}
 use Rattle.ev_mem.specs.Memory.{Memory, page_map}
 use Rattle.ev_proc.specs.ProcessorStep.{has_fred, next_of, executed, ran}
 use Rattle.ev_proc.specs.declared.stepped.Stepped.{Stepped}
-use Rattle.ev_abstract.specs.Boundary.{Choice, choice, is_nmi_body}
+use Rattle.ev_abstract.specs.Boundary.{Choice, choice, is_nmi_body, maskable, open_to_interrupts, interrupt_or_next, deliverable}
 use Rattle.ev_abstract.specs.Context.{BodyContext}
 use Rattle.ev_abstract.specs.Delivery.{dropped, rescheduled}
 use Rattle.ev_abstract.specs.ItemMeaning.{Step, item_step, below_last}
@@ -63,8 +63,8 @@ use Rattle.ev_refine.proofs.Spots.{is_spot, IsAtEntry, keeps_rsp, names_if, name
 use Rattle.ev_refine.proofs.Fits.{IsSeat, InBodies, fits_at, opens_at, kernel_changes}
 use Rattle.ev_refine.proofs.Bodies.{Goes}
 use Rattle.ev_refine.proofs.Instructions.{stays_inside}
-use Rattle.ev_refine.proofs.Standing.{hidden, seen, inboxes_by, posted_by, went, after_went, Went, went_step, went_writes, went_safe, went_shows, went_shown, went_activations, went_stays, Moves, step_moves}
-use Rattle.ev_refine.proofs.Stays.{means_again, leads_again, AreSpared, chain_stays, seat_fits, below_spared}
+use Rattle.ev_refine.proofs.Standing.{hidden, seen, inboxes_by, posted_by, went, after_went, Went, went_step, went_writes, went_safe, went_shows, went_shown, went_activations, went_stays, Moves, step_moves, masked_first}
+use Rattle.ev_refine.proofs.Stays.{means_again, leads_again, AreSpared, chain_stays, seat_fits, below_spared, marks_under}
 use Rattle.ev_refine.proofs.Chains.{Kept, chain_kept, chain_plain, chain_open, chain_masked, word_interrupts, at_interrupts}
 use Rattle.ev_refine.proofs.After.{AreNames, AreSparing, own_word, none_spares, tasks_same, current_is, mark_is, slot_same, cell_same, page_same, user_same, few_inner, latch_parts, as_chain, apic_again, own_becomes, own_after, Becomes, stands_become}
 use Rattle.ev_refine.proofs.CallKinds.{is_over_task, is_plain_kind, over_any, beneath_as, stands_alone, ArePlain, none_nmi, seat_under, area_under, plain_seat, plain_knows}
@@ -117,7 +117,7 @@ module _ (mode : Mode) (image : Image) (built : IsBuilt image) (good : IsImage i
   pub domain : IsInDomain x
   domain = h.domain p hp
 
-  depth : bodies_on s p ≡ length x.bodies
+  pub depth : bodies_on s p ≡ length x.bodies
   depth = stands_depth mode image facts p (left p) s x on
 
   pub small : p < 32
@@ -179,7 +179,7 @@ module _ (mode : Mode) (image : Image) (built : IsBuilt image) (good : IsImage i
   abbrev pub Posted : Option Send → System
   Posted sent = posted_by image.processors s p sent
 
-  moves : (a : Apic) (cpu : Processor) (words : NatMap ℕ) (sent : Option Send)
+  pub moves : (a : Apic) (cpu : Processor) (words : NatMap ℕ) (sent : Option Send)
       → Moves p (Posted sent) (Behind a cpu words sent) cpu (went_activations image.processors s p cpu sent) words
   moves a cpu words sent = step_moves (Posted sent) p (went cpu a words (s.latches p) sent) refl
 
@@ -193,72 +193,13 @@ module _ (mode : Mode) (image : Image) (built : IsBuilt image) (good : IsImage i
   abbrev pub sends_nothing : Sends None
   sends_nothing = record { machine = m; own = refl; stands = h }
 
-  -- ---- the last context, on any contexts below, where no interrupt comes
-
-  -- STI doesn't hold back the interrupts to which the context is open
+  -- STI doesn't hold back the interrupts to which a context is open
   abbrev pub Unblocked : BodyContext → Type 0
   Unblocked b = b.interrupts ≡ true → c.sti_blocked ≡ false
 
-  pub record Top : Type 0 where
-    pub b : BodyContext
-    pub below : List BodyContext
-    pub bodies : x.bodies ≡ b ∷ below
-    pub κ : Kind
-    pub kind : kind_of image b below ≡ κ
-    pub σ : Seat
-    pub seat : seat_by mode κ r (seat_of mode image r below) (room_of mode image below) ≡ σ
-    pub ctx : IsContext mode image b
-    pub last : Activation
-    pub others : List Activation
-    pub acts : s.activations p ≡ last ∷ others
-    pub outer : last.inner ≡ false
-    pub w : Processor
-    pub interrupted : Interrupted mode image below w others
-    pub under : Beneath mode image (keeps_cr2 mode image κ)
-        (λ v. Chain mode image p (body_edges mode image) r to t on.frame (chained mode image on.switching below) below others v s.memory) w
-    pub leads : Leads mode p κ on.frame w s.memory.words
-    pub off : switches_at mode image on.switching below ≡ false  -- its exit, if it is in it, switches to no other task
-    pub first : next_of c (s.apics p) (s.latches p) ≡ Next.Instruction
-    pub chosen : Unblocked b → choice image x ≡ Choice.Next
+  -- ---- what a step of kernel code gives, where an instruction comes first
 
-  module _ (o : Top) where
-    abbrev pub b : BodyContext
-    b = o.b
-
-    abbrev pub below : List BodyContext
-    below = o.below
-
-    abbrev pub κ : Kind
-    κ = o.κ
-
-    abbrev pub σ : Seat
-    σ = o.σ
-
-    abbrev pub w : Processor
-    w = o.w
-
-    abbrev pub ctx : IsContext mode image b
-    ctx = o.ctx
-
-    abbrev pub env : ℕ → (extra v : ℕ → ℕ) → Flags → Env
-    env ss extra v f = here mode p κ σ ss w extra v f
-
-    -- ---- IF is the context's
-
-    pub masked : interrupts_on c ≡ b.interrupts
-    masked = chain_masked mode image p on.own r to t on.frame on.switching b below (s.activations p) c s.memory
-        (subst (λ bs. Chained on.own t bs (s.activations p) c s.memory) o.bodies chain)
-
-    -- so it is in the flags of each block where the processor is
-    pub masks : (B : Block) (k : ℕ) (e : Env) → At code B k e c s.memory → e.flags.interrupts ≡ b.interrupts
-    masks B k e at = sym (at_interrupts code B k e c s.memory at) ∙ masked
-
-    pub masks_flags : (f : Flags) → c.flags ≡ flags_word f → f.interrupts ≡ b.interrupts
-    masks_flags f is = sym (word_interrupts c f is) ∙ masked
-
-    pub first : next_of c (s.apics p) (s.latches p) ≡ Next.Instruction
-    first = o.first
-
+  module _ (first : next_of c (s.apics p) (s.latches p) ≡ Next.Instruction) where
     runs : (cell : Cell) → code c.rip ≡ Some cell → is_user c ≡ false → (a : Apic) (cpu : Processor) (words : NatMap ℕ) (sent : Option Send)
         → executed c (s.apics p) s.memory (s.latches p) (Some cell.ins) ≡ went cpu a words (s.latches p) sent → Went s p a cpu words sent
     runs cell hc hu a cpu words sent he = cell_step code c (s.apics p) s.memory (s.latches p) cell fetches hc first hu ∙ he
@@ -333,6 +274,99 @@ module _ (mode : Mode) (image : Image) (built : IsBuilt image) (good : IsImage i
                 ∙ hes ∙ sym (ap (λ (q : Step). q.1) ht);
           });
         }
+
+  -- ---- what the abstract machine does at the item of its last context, where nothing comes before it
+
+  module _ (b : BodyContext) (below : List BodyContext) (bodies : x.bodies ≡ b ∷ below) where
+    pub contexts_quiet : AreQuiet (b ∷ below)
+    contexts_quiet = subst AreQuiet bodies domain.bodies
+
+    -- what it chooses, by IF of the context: an interrupt, or the item
+    pub context_choice : choice image x ≡ (if b.interrupts then interrupt_or_next (greatest_below 256 (deliverable x)) else Choice.Next)
+    unfolding choice
+    context_choice =
+        ap (λ n. if n && not (list_any (is_nmi_body image) x.bodies) then Choice.Nmi else maskable x) domain.nmi
+        ∙ ap (λ bs. if open_to_interrupts bs then interrupt_or_next (greatest_below 256 (deliverable x)) else Choice.Next) bodies
+
+    pub masked_choice : b.interrupts ≡ false → choice image x ≡ Choice.Next
+    masked_choice off = context_choice ∙ ap (λ t. if t then interrupt_or_next (greatest_below 256 (deliverable x)) else Choice.Next) off
+
+    pub context_turns : choice image x ≡ Choice.Next → (i : Item) → item_at (slice_get image.bodies b.body) b.place ≡ Some i
+        → turn image m p ≡ item_step image m p b i
+    unfolding turn
+    context_turns chosen i hi = ap (chosen_step image m p) chosen ∙ ap (next_step image m p) bodies ∙ ap (item_or_nothing image m p b) hi
+
+    -- its numbers stay words
+    pub context_numbers : choice image x ≡ Choice.Next → (i : Item) → item_at (slice_get image.bodies b.body) b.place ≡ Some i
+        → (m' : Machine) (es : List Entry) → turn image m p ≡ (m', es) → HoldsNumbers m'
+    context_numbers chosen i hi m' es ht =
+        let found = body_at (slice_get image.bodies b.body) b.place i hi in
+        let ops = (body_ruled image good built.accepted.1.kept b.body found.0 found.1).operands b.place i found.2 in
+        subst (λ (z : Step). HoldsNumbers z.0) (sym (context_turns chosen i hi) ∙ ht)
+        (items_keep_numbers image m p b i (length image.text) ops.0 ops.1 ops.2 (omega arith) h.numbers h.shares.held
+        (on.tasks x.running on.running).words (subst AreOfWords bodies (h.numbers.each p).bodies).0)
+
+  -- ---- the last context, on any contexts below, where no interrupt comes
+
+  pub record Top : Type 0 where
+    pub b : BodyContext
+    pub below : List BodyContext
+    pub bodies : x.bodies ≡ b ∷ below
+    pub κ : Kind
+    pub kind : kind_of image b below ≡ κ
+    pub σ : Seat
+    pub seat : seat_by mode κ r (seat_of mode image r below) (room_of mode image below) ≡ σ
+    pub ctx : IsContext mode image b
+    pub last : Activation
+    pub others : List Activation
+    pub acts : s.activations p ≡ last ∷ others
+    pub outer : last.inner ≡ false
+    pub w : Processor
+    pub interrupted : Interrupted mode image below w others
+    pub under : Beneath mode image (keeps_cr2 mode image κ)
+        (λ v. Chain mode image p (body_edges mode image) r to t on.frame (chained mode image on.switching below) below others v s.memory) w
+    pub leads : Leads mode p κ on.frame w s.memory.words
+    pub off : switches_at mode image on.switching below ≡ false  -- its exit, if it is in it, switches to no other task
+    pub first : next_of c (s.apics p) (s.latches p) ≡ Next.Instruction
+    pub chosen : Unblocked b → choice image x ≡ Choice.Next
+
+  module _ (o : Top) where
+    abbrev pub b : BodyContext
+    b = o.b
+
+    abbrev pub below : List BodyContext
+    below = o.below
+
+    abbrev pub κ : Kind
+    κ = o.κ
+
+    abbrev pub σ : Seat
+    σ = o.σ
+
+    abbrev pub w : Processor
+    w = o.w
+
+    abbrev pub ctx : IsContext mode image b
+    ctx = o.ctx
+
+    abbrev pub env : ℕ → (extra v : ℕ → ℕ) → Flags → Env
+    env ss extra v f = here mode p κ σ ss w extra v f
+
+    -- ---- IF is the context's
+
+    pub masked : interrupts_on c ≡ b.interrupts
+    masked = chain_masked mode image p on.own r to t on.frame on.switching b below (s.activations p) c s.memory
+        (subst (λ bs. Chained on.own t bs (s.activations p) c s.memory) o.bodies chain)
+
+    -- so it is in the flags of each block where the processor is
+    pub masks : (B : Block) (k : ℕ) (e : Env) → At code B k e c s.memory → e.flags.interrupts ≡ b.interrupts
+    masks B k e at = sym (at_interrupts code B k e c s.memory at) ∙ masked
+
+    pub masks_flags : (f : Flags) → c.flags ≡ flags_word f → f.interrupts ≡ b.interrupts
+    masks_flags f is = sym (word_interrupts c f is) ∙ masked
+
+    pub first : next_of c (s.apics p) (s.latches p) ≡ Next.Instruction
+    first = o.first
 
     abbrev pub Stood : ℕ → BodyContext → Processor → Memory → Type 0
     Stood now b' cpu mem = Active mode image p now κ σ on.frame (switches_at mode image on.switching below) w b' cpu mem
@@ -432,9 +466,9 @@ module _ (mode : Mode) (image : Image) (built : IsBuilt image) (good : IsImage i
         let spared : AreSpared mode image p r below s.memory.words words
         = below_spared mode image p r names s.memory.words words b below small (omega arith) shallow allowed.written unknown
         (subst (λ y. Changes p y names s.memory.words words) (sym seat_is) changes) all_plain in
-        beneath_as mode image (keeps_cr2 mode image κ) _ _
-        (λ v k. chain_stays mode image p (body_edges mode image) r to t on.frame (chained mode image on.switching below) below o.others v s.memory words hp
-        good.count.1 spared k) w o.under
+        beneath_as mode image (keeps_cr2 mode image κ) _ _ w
+        (λ v e k. chain_stays mode image p (body_edges mode image) r to t on.frame (chained mode image on.switching below) below o.others v s.memory words hp
+        good.count.1 spared (marks_under mode image p below w v o.others s.memory.words words o.interrupted e) k) o.under
 
     -- the chain with another last context of the same kind
     pub with_last : (b' : BodyContext) → kind_of image b' below ≡ κ → IsContext mode image b' → (now : ℕ) (cpu : Processor) (words : NatMap ℕ)
@@ -472,19 +506,18 @@ module _ (mode : Mode) (image : Image) (built : IsBuilt image) (good : IsImage i
         (hb ∙ sym none_is_nmi) x.pending
         (apic_again mode image (s.apics p) _ x.pending x.bodies x.bodies (at_same s.apics p p (s.apics p) refl) (λ class. refl) on.apic)
         (let l = on.enough in let f = on.few in omega arith) goes_on in
-        edge_to cell hc hm hr hu out cpu words he σ narrow names sparing.allowed sparing.pages sparing.cells no_user changes now fewer there
+        edge_to first cell hc hm hr hu out cpu words he σ narrow names sparing.allowed sparing.pages sparing.cells no_user changes now fewer there
 
     -- ---- what the abstract machine does
 
     pub are_quiet : AreQuiet (b ∷ below)
-    are_quiet = subst AreQuiet o.bodies domain.bodies
+    are_quiet = contexts_quiet b below o.bodies
 
     pub quiet : IsQuiet b
     quiet = are_quiet.0
 
     pub turns : Unblocked b → (i : Item) → item_at (slice_get image.bodies b.body) b.place ≡ Some i → turn image m p ≡ item_step image m p b i
-    unfolding turn
-    turns unblocked i hi = ap (chosen_step image m p) (o.chosen unblocked) ∙ ap (next_step image m p) o.bodies ∙ ap (item_or_nothing image m p b) hi
+    turns unblocked i hi = context_turns b below o.bodies (o.chosen unblocked) i hi
 
     -- at `ret` it has no interrupt in service
     pub ret_serves : item_at (slice_get image.bodies b.body) b.place ≡ Some Ret → b.service ≡ None
@@ -492,23 +525,20 @@ module _ (mode : Mode) (image : Image) (built : IsBuilt image) (good : IsImage i
 
     -- its numbers stay words
     pub numbers_behind : Unblocked b → (m' : Machine) (es : List Entry) → turn image m p ≡ (m', es) → HoldsNumbers m'
-    numbers_behind unblocked m' es ht =
-        let found = body_at (slice_get image.bodies b.body) b.place ctx.item ctx.is in
-        let ops = (body_ruled image good built.accepted.1.kept b.body found.0 found.1).operands b.place ctx.item found.2 in
-        subst (λ (z : Step). HoldsNumbers z.0) (sym (turns unblocked ctx.item ctx.is) ∙ ht)
-        (items_keep_numbers image m p b ctx.item (length image.text) ops.0 ops.1 ops.2 (omega arith) h.numbers h.shares.held
-        (on.tasks x.running on.running).words (subst AreOfWords o.bodies (h.numbers.each p).bodies).0)
+    numbers_behind unblocked m' es ht = context_numbers b below o.bodies (o.chosen unblocked) ctx.item ctx.is m' es ht
 
     -- What a visible step makes of the abstract machine, with what it sends in the mail: these are processor p's tasks, slots and bodies behind it, of which
-    -- the returning task may be another; other processors are as they were, and memory holds these slots, and the cells, pages and user words of the machine
-    -- behind it.
+    -- the returning task may be another, and it may ask for another task; other processors are as they were, and memory holds these slots, and the cells,
+    -- pages and user words of the machine behind it.
     pub record Makes (from m' : Machine) (words : NatMap ℕ) (tasks : NatMap Task) (slots : NatMap ℕ) (bodies : List BodyContext) : Type 0 where
-      pub own : processor m' p ≡ record (processor from p) { tasks = tasks; slots = slots; bodies = bodies }
+      pub resched : Bool
+      pub asked : x.resched ≡ true → resched ≡ true
+      pub own : processor m' p ≡ record (processor from p) { tasks = tasks; slots = slots; resched = resched; bodies = bodies }
       pub others : (q : ℕ) → (q == p) ≡ false → processor m' q ≡ processor from q
       pub same_tasks : (i : ℕ) → (i ≡ to → ⊥) → tasks i ≡ x.tasks i
       pub good_tasks : (i : ℕ) → i < length (tasks_of image p) → IsTask (tasks i)
       pub current : on.switching ≡ false → CurrentIs mode p r words
-      pub mark : on.switching ≡ false → words (pcpu p + 0x20) ≡ (if x.resched then 1 else 0)
+      pub mark : on.switching ≡ false → words (pcpu p + 0x20) ≡ (if resched then 1 else 0)
       pub slots_are : (k : ℕ) → k < 64 → words (pcpu p + slot_offset k) ≡ slots k
       pub user : (a : ℕ) → IsUserWord a → words a ≡ m'.words a
       pub held : HoldsWords m'.words
@@ -530,25 +560,24 @@ module _ (mode : Mode) (image : Image) (built : IsBuilt image) (good : IsImage i
     visible_with unblocked cell hc hm hu a cpu words sent z he hb names allowed changes m' es ht tasks slots bs y quiet apic told now few goes_on hes =
         let sender : abstract.Processor = processor z.machine p in
         let was : abstract.Processor = record x { mail = sender.mail; mail_nmi = sender.mail_nmi } in
-        let x' : abstract.Processor = record was { tasks = tasks; slots = slots; bodies = bs } in
+        let x' : abstract.Processor = record was { tasks = tasks; slots = slots; resched = y.resched; bodies = bs } in
         let none : list_any (is_nmi_body image) bs ≡ false
         = none_nmi image bs (chain_plain mode image p now r to (tasks to) on.frame on.switching bs _ cpu (with_words s.memory words) goes_on) in
         let there : StandsOn mode image p (now + inner_edges (s.latches p)) (Behind a cpu words sent) x'
-        = own_becomes mode image p (left p) (Posted sent) (Behind a cpu words sent) was σ cpu _ words tasks slots bs now
+        = own_becomes mode image p (left p) (Posted sent) (Behind a cpu words sent) was σ cpu _ words tasks slots y.resched bs now
         (comes_to mode image p (left p) s s.apics s.latches (inboxes_by image.processors s p sent) x x.pending sender.mail x.nmi sender.mail_nmi refl refl on
-        on.apic) small (four_tasks image good p hp) (moves a cpu words sent) beside narrow names allowed changes y.current y.mark y.slots_are y.same_tasks
-        y.good_tasks (hb ∙ sym none)
+        on.apic) small (four_tasks image good p hp) (moves a cpu words sent) beside narrow names allowed changes
+        (λ e. y.asked (on.marked e)) y.current y.mark y.slots_are y.same_tasks y.good_tasks (hb ∙ sym none)
         x.pending (subst (λ y. ApicIs mode image y x.pending bs) (sym (at_same s.apics p p a refl)) apic)
         (let f = few_inner mode image (s.latches p) in omega arith) goes_on in
         let inside : IsInDomain x' = record {
           nmi = domain.nmi;
           mail_nmi = (z.stands.domain p hp).mail_nmi;
-          resched = domain.resched;
           bodies = quiet;
         } in
-        turn_to cell hc hm hu a cpu words sent z he σ narrow names allowed changes m' es ht x'
+        turn_to first cell hc hm hu a cpu words sent z he σ narrow names allowed changes m' es ht x'
         (record {
-          own = y.own ∙ ap (λ (q : abstract.Processor). record q { tasks = tasks; slots = slots; bodies = bs }) z.own;
+          own = y.own ∙ ap (λ (q : abstract.Processor). record q { tasks = tasks; slots = slots; resched = y.resched; bodies = bs }) z.own;
           others = y.others;
           mail = refl;
           mail_nmi = refl;
@@ -602,6 +631,8 @@ module _ (mode : Mode) (image : Image) (built : IsBuilt image) (good : IsImage i
       pub bodies_alone : AreSparing p names → have_none is_user_word names ≡ true → (bs : List BodyContext)
           → Makes m (with_processor m p (record x { bodies = bs })) words x.tasks x.slots bs
       bodies_alone sparing no_user bs = record {
+        resched = x.resched;
+        asked = λ e. e;
         own = at_same m.processors p p (record x { bodies = bs }) refl;
         others = λ q e. at_other m.processors p q (record x { bodies = bs }) e;
         same_tasks = λ i d. refl;
@@ -617,22 +648,22 @@ module _ (mode : Mode) (image : Image) (built : IsBuilt image) (good : IsImage i
 
     -- ---- the abstract machine's step
 
-    -- the processor without its last context
-    below_is : (ds : List BodyContext) → dropped image b x ds ≡ record x { bodies = ds }
-    below_is [] = ap (λ z. if z && not (is_nmi_body image b) then rescheduled (record x { bodies = [] }) else record x { bodies = [] }) domain.resched
-    below_is (d ∷ ds) = refl
+    -- the processor without its last context, where nothing asks for another task, or the context stands on another one
+    below_is : (ds : List BodyContext) → (ds ≡ [] → x.resched ≡ false) → dropped image b x ds ≡ record x { bodies = ds }
+    below_is [] calm = ap (λ z. if z && not (is_nmi_body image b) then rescheduled (record x { bodies = [] }) else record x { bodies = [] }) (calm refl)
+    below_is (d ∷ ds) calm = refl
 
-    pub ret_turn : Unblocked b → item_at (slice_get image.bodies b.body) b.place ≡ Some Ret
+    pub ret_turn : Unblocked b → (below ≡ [] → x.resched ≡ false) → item_at (slice_get image.bodies b.body) b.place ≡ Some Ret
         → turn image m p ≡ (with_processor m p (record x { bodies = below }), [])
     unfolding item_step
-    ret_turn unblocked hi =
+    ret_turn unblocked calm hi =
         turns unblocked Ret hi ∙ ap (λ bs. (with_processor m p (dropped image b x (below_last bs)), [])) o.bodies
-        ∙ ap (λ y. (with_processor m p y, [])) (below_is below)
+        ∙ ap (λ y. (with_processor m p y, [])) (below_is below calm)
 
     -- ---- inside a block
 
     pub over_spot : (act : Stood on.own b c s.memory) → is_spot mode act.stands.spot ≡ true
-    over_spot act = means_over mode image κ act.stands.spot _ w b s.memory.words act.means
+    over_spot act = means_over mode image κ act.stands.spot _ w b s.memory.words act.means (act.switches ∙ o.off)
 
     pub outside : (act : Stood on.own b c s.memory) → is_in_repeat c.rip ≡ false
     outside act = active_outside mode image facts p on.own κ σ on.frame (switches_at mode image on.switching below) w b c s.memory ctx act

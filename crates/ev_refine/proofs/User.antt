@@ -298,7 +298,7 @@ module _ (mode : Mode) (image : Image) (formed : IsImage image) (built : IsBuilt
       × Leads mode p k u.on.frame w mem.words
       × Active mode image p entry_edges k (seat_by mode k n (seat_of mode image n []) (room_of mode image [])) u.on.frame
       (switches_at mode image u.on.switching []) w b d mem) (sym kind)
-      (over_kind mode image p entry_edges n n back u.on.frame u.on.switching w b d mem κ (over_one cause is_cause) under u.rest.still stood) in
+      (over_kind mode image p entry_edges n n back u.on.frame u.on.switching w b d mem κ (over_one cause is_cause) under stood) in
       let is_context : IsContext mode image b = record { item = holder.item; is = holder.first } in
       let chain : Chain mode image p entry_edges n n back u.on.frame u.on.switching (b ∷ []) (last ∷ []) d mem =
       (w, is_context, refl, tt, tail.0, tail.1, tail.2) in

@@ -164,7 +164,6 @@ module _ (mode : Mode) (image : Image) (formed : IsImage image) (built : IsBuilt
       let inside : IsInDomain y = record {
         nmi = u.domain.nmi;
         mail_nmi = u.domain.mail_nmi;
-        resched = u.domain.resched;
         bodies = quiet;
       } in
       let has = h.numbers.each p in

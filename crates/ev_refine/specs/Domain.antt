@@ -13,9 +13,8 @@ abbrev pub AreQuiet : List BodyContext → Type 0
 AreQuiet [] = Unit {0}
 AreQuiet (b ∷ below) = IsQuiet b × AreQuiet below
 
--- no NMI arrives or is sent, and nothing asks for another task
+-- no NMI arrives or is sent
 pub record IsInDomain (x : Processor) : Type 0 where
   pub nmi : x.nmi ≡ false
   pub mail_nmi : x.mail_nmi ≡ false
-  pub resched : x.resched ≡ false
   pub bodies : AreQuiet x.bodies

@@ -16,7 +16,7 @@ use Rattle.ev_mem.specs.Memory.{Memory, page_map}
 use Rattle.ev_apic.specs.declared.apic.Apic.{Apic}
 use Rattle.ev_apic.specs.declared.inbox.Inbox.{Inbox}
 use Rattle.ev_apic.specs.Vectors.{vectors_of}
-use Rattle.ev_listing.specs.AddressMap.{pcpu, slot_offset, record_address, user_table, idt_base, cells_base, task_words, fred_page}
+use Rattle.ev_listing.specs.AddressMap.{pcpu, slot_offset, record_address, user_table, idt_base, cells_base, task_words, fred_page, code_end}
 use Rattle.ev_abstract.specs.Boundary.{is_nmi_body}
 use Rattle.ev_abstract.specs.Context.{BodyContext, CallId}
 use Rattle.ev_abstract.specs.Machine.{Machine, processor, CallRecord, CallState, Free, Queued, Taken}
@@ -106,12 +106,12 @@ module _ (mode : Mode) (image : Image) where
   chained switching [] = false
   chained switching (b ∷ below) = switching
 
-  -- An activation under another one was interrupted with the stack to which that one returns; behind INT 3 at the next instruction, so only whether that is in
-  -- REPEAT is told of RIP.
+  -- An activation under another one was interrupted with the stack to which that one returns, in the bodies' code; behind INT 3 at the next instruction, so of
+  -- what was interrupted only whether that is in REPEAT is told of RIP.
   abbrev pub Interrupted : List BodyContext → Processor → List Activation → Type 0
   Interrupted [] w as' = Unit {0}
   Interrupted (b ∷ below) w [] = ⊥
-  Interrupted (b ∷ below) w (a ∷ as') = (a.rsp ≡ rsp w) × (is_in_repeat a.rip ≡ is_in_repeat w.rip)
+  Interrupted (b ∷ below) w (a ∷ as') = (a.rsp ≡ rsp w) × (is_in_repeat a.rip ≡ is_in_repeat w.rip) × (code_end ≤ w.rip)
 
   -- Each context stands on the one before it, and the first on a task: all on the stack of task r, which runs, and the first returns to task `to`, which is t:
   -- to the same, or where its exit switches, to the next one. Each has an activation of its own, which isn't an inner NMI's.
