@@ -32,4 +32,5 @@ mod WellFormedImages
 mod FramesOverNoLiveWord
 mod AgreementOfMachines
 mod ShownEntries
+mod CallsOnBothMachines
 mod PlacesOfInstructions

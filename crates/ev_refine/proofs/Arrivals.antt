@@ -25,8 +25,9 @@ use Rattle.ev_law.proofs.Bases.{lines_keep_bases}
 use Rattle.ev_law.proofs.Lines.{lines_keep_legal}
 use Rattle.ev_user.specs.Numbers.{AreCallers, AreOfWords, HasWords}
 use Rattle.ev_user.specs.Words.{HoldsWords}
+use Rattle.ev_calls.specs.Records.{RecordIs, Linked}
 use Rattle.ev_refine.specs.Domain.{IsInDomain}
-use Rattle.ev_refine.specs.Relation.{ApicIs, Linked, RecordIs, Stands, StandsOn}
+use Rattle.ev_refine.specs.Relation.{ApicIs, Stands, StandsOn}
 use Rattle.ev_refine.proofs.Maps.{at_same, at_other}
 
 module _ (mode : Mode) (image : Image) where

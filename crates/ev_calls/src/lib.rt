@@ -1,0 +1,6 @@
+//! Call records in memory: what their words are, and what they say of a site's call.
+#![tactic(auto)]
+
+mod record;
+
+pub use record::{RecordView, call_view};
