@@ -1,13 +1,13 @@
 -- Lists of call records stay, grow, are taken and are turned.
-use Rattle.std.proofs.Common.{◌≡◌, ◌≢◌, ◌⊎◌, inl, inr, ⊎_elim, ℕ, ◌+◌, ◌<◌, false, List, [], ◌∷◌, ◌++◌, refl, sym, ap, ◌∙◌, subst, append_assoc, append-nil, arith}
-use Rattle.std.specs.Prelude.{◌==◌, reverse}
+use Rattle.std.proofs.Common.{◌≡◌, ◌≢◌, inl, inr, ℕ, ◌+◌, List, [], ◌∷◌, ◌++◌, refl, sym, ap, ◌∙◌, subst, append_assoc, append-nil, arith}
+use Rattle.std.specs.Prelude.{reverse}
 use Rattle.std.proofs.lemmas.Bool.{eq-eqb, ne_eqb}
 use Rattle.std.proofs.lemmas.List.{reverse-append, reverse-reverse}
 use Rattle.ev_isa.specs.Word.{NatMap, put_at}
 use Rattle.ev_abstract.specs.Context.{CallId}
 use Rattle.ev_listing.specs.AddressMap.{pcpu, head_offset}
 use Rattle.ev_calls.specs.Records.{Linked}
-use Rattle.ev_calls.specs.Lists.{address_of, link_of, IsCall, IsNoneOf, KeepLinks, HasFirst, AddressesDiffer, ListsStay, EmptyAtZero, FirstElsewhere, QueuesGrow, QueuesAreTaken, ListsTurn, ListsAreTurned}
+use Rattle.ev_calls.specs.Lists.{address_of, link_of, IsCall, IsNoneOf, KeepLinks, AddressesDiffer, ListsStay, EmptyAtZero, FirstElsewhere, QueuesGrow, QueuesAreTaken, ListsTurn, ListsAreTurned}
 
 -- ---- words
 
@@ -31,9 +31,13 @@ head_is_no_link p k c e = let s = c.1 in omega (arith, s, e)
 
 pub lists_stay : ListsStay
 lists_stay m n a [] keep h = h
-lists_stay m n a (k ∷ ks) keep h =
-    (h.0, h.1, h.2, subst (λ x. Linked n x ks) (sym (ap (λ x. n (x + 0x18)) h.2 ∙ keep.0 ∙ sym (ap (λ x. m (x + 0x18)) h.2)))
-    (lists_stay m n (m (a + 0x18)) ks keep.1 h.3))
+lists_stay m n a (k ∷ ks) keep h = (
+  h.0,
+  h.1,
+  h.2,
+  subst (λ x. Linked n x ks) (sym (ap (λ x. n (x + 0x18)) h.2 ∙ keep.0 ∙ sym (ap (λ x. m (x + 0x18)) h.2)))
+      (lists_stay m n (m (a + 0x18)) ks keep.1 h.3),
+)
 
 pub empty_at_zero : EmptyAtZero
 empty_at_zero words [] h = refl
@@ -105,8 +109,13 @@ lists_turn words left turned calls t h none_ahead none_behind =
       behind = k ∷ t.behind;
       are = t.are ∙ ap (λ ks. reverse ks ++ t.behind) h.are ∙ turn_order k h.rest t.behind;
       lead = lists_stay words n (words (link_of k)) h.rest (link_keeps words k turned (words (link_of k)) h.rest h.is_call none_ahead h.linked) h.linked;
-      follow = (h.is_call.0, h.is_call.1, h.at, subst (λ a. Linked n a t.behind) (sym (ap (λ a. n (a + 0x18)) h.at ∙ written words (link_of k) turned))
-          (lists_stay words n turned t.behind (link_keeps words k turned turned t.behind h.is_call none_behind t.follow) t.follow));
+      follow = (
+        h.is_call.0,
+        h.is_call.1,
+        h.at,
+        subst (λ a. Linked n a t.behind) (sym (ap (λ a. n (a + 0x18)) h.at ∙ written words (link_of k) turned))
+            (lists_stay words n turned t.behind (link_keeps words k turned turned t.behind h.is_call none_behind t.follow) t.follow),
+      );
     }
 
 pub lists_are_turned : ListsAreTurned

@@ -1,8 +1,8 @@
 //! Call records in memory: what their words are, and what they say of a site's call.
 #![tactic(auto)]
 
-mod lists;
+mod laws;
 mod record;
 
-pub use lists::lists;
+pub use laws::list_laws;
 pub use record::{RecordView, call_view};

@@ -7,7 +7,7 @@ ghost use Rattle.ev_calls.specs.Lists.{ListsAreTurned, ListsTurn, QueuesAreTaken
 /// where it begins at 0. The exchange of `call` puts its record behind all calls of the queue, that
 /// of `take` leaves the queue empty and its calls to be turned round, and each turn keeps them and
 /// their order, until they are linked in the order in which they run. Own.
-pub fn lists()
+pub fn list_laws()
     ensures addresses { AddressesDiffer }
     ensures stay { ListsStay }
     ensures empty { EmptyAtZero }
