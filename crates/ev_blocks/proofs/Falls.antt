@@ -1,5 +1,5 @@
 -- Edges fall from block to block.
-use Rattle.std.proofs.Common.{◌≡◌, ℕ, ◌<◌, ◌≤◌, Bool, true, false, arith}
+use Rattle.std.proofs.Common.{◌≡◌, ℕ, zero, suc, ◌<◌, ◌≤◌, Bool, true, false, arith}
 use Rattle.ev_isa.specs.declared.mode.Mode.{Mode}
 use Rattle.ev_isa.specs.declared.mode.Mode.TheVariants.{Idt, Fred}
 use Rattle.ev_blocks.specs.Shapes.{Origin, UserCode, KernelCode, Layout, FredFrame, IdtFrame, NmiFrame}
@@ -9,7 +9,8 @@ use Rattle.ev_blocks.specs.Idt.{BySysret, ByOtherRip, ByOtherFlags, IdtExit, Idt
 use Rattle.ev_blocks.specs.Idt as idt
 use Rattle.ev_blocks.specs.Nmi.{Choice, FirstFromTask, FirstLow, FirstHigh, InnerLow, InnerHigh, InnerAtLast, InnerInRepeat, GsBase, BodyBegin, FromTask, FromKernel as Kernel, FromKernelInTaskGs, NmiExit, Exchanging, Staying, Choosing, Begins, is_first}
 use Rattle.ev_blocks.specs.Nmi as nmi
-use Rattle.ev_blocks.specs.Items.{BodySpot, AtTable, AtJump, AtItem, AtNumber, AtNumbers, AtKick, AtUserWord, AtPageWord, BehindSti, BehindKick}
+use Rattle.ev_blocks.specs.Items.{BodySpot, AtTable, AtJump, AtItem, AtNumber, AtNumbers, AtKick, AtUserWord, AtPageWord, BehindSti, BehindKick, InCall}
+use Rattle.ev_blocks.specs.Calls.{AtRecord, BehindWait, BehindBusy, AtFill, AtHead, AtLink, BehindFailure, BehindCall, AtTake, BehindTake, AtTurn, BehindTurn, AtTaken, AtFinish, BehindNext, AtOffset}
 use Rattle.ev_blocks.specs.Blocks.{InFred, InIdt, InNmi, InBody, behind_body, edges_behind, edges_from, AllEdgesFall}
 
 from_user : (mode : Mode) → (w : FredWay) → edges_from mode (InBody FredFrame AtTable) ≤ edges_behind mode (InFred (FromUser w))
@@ -108,6 +109,25 @@ item Idt l AtJump h = absurd (omega arith)
 item Idt l AtItem h = absurd (omega arith)
 item Idt l BehindSti h = absurd (omega arith)
 item Idt l BehindKick h = absurd (omega arith)
+item Idt l (InCall (AtRecord site)) h = absurd (omega arith)
+item Idt l (InCall (BehindWait d)) h = absurd (omega arith)
+item Idt l (InCall (BehindBusy r)) h = absurd (omega arith)
+item Idt l (InCall (AtFill address func to r)) h = absurd (omega arith)
+item Idt l (InCall (AtHead address func to)) h = absurd (omega arith)
+item Idt l (InCall (AtLink address func to true)) h = absurd (omega arith)
+item Idt l (InCall (AtLink address func to false)) h = omega arith
+item Idt l (InCall (BehindFailure address func to)) h = absurd (omega arith)
+item Idt l (InCall (BehindCall r true)) h = absurd (omega arith)
+item Idt l (InCall (BehindCall r false)) h = absurd (omega arith)
+item Idt l (InCall AtTake) h = omega arith
+item Idt l (InCall (BehindTake n)) h = absurd (omega arith)
+item Idt l (InCall (AtTurn zero)) h = absurd (omega arith)
+item Idt l (InCall (AtTurn (suc n))) h = absurd (omega arith)
+item Idt l (InCall (BehindTurn n)) h = absurd (omega arith)
+item Idt l (InCall (AtTaken some)) h = absurd (omega arith)
+item Idt l (InCall AtFinish) h = absurd (omega arith)
+item Idt l (InCall BehindNext) h = omega arith
+item Idt l (InCall (AtOffset o e)) h = omega arith
 item Fred l (AtNumber n) h = omega arith
 item Fred l (AtNumbers rcx rax rdx) h = omega arith
 item Fred l (AtKick to) h = omega arith
@@ -119,6 +139,25 @@ item Fred l AtJump h = absurd (omega arith)
 item Fred l AtItem h = absurd (omega arith)
 item Fred l BehindSti h = absurd (omega arith)
 item Fred l BehindKick h = absurd (omega arith)
+item Fred l (InCall (AtRecord site)) h = absurd (omega arith)
+item Fred l (InCall (BehindWait d)) h = absurd (omega arith)
+item Fred l (InCall (BehindBusy r)) h = absurd (omega arith)
+item Fred l (InCall (AtFill address func to r)) h = absurd (omega arith)
+item Fred l (InCall (AtHead address func to)) h = absurd (omega arith)
+item Fred l (InCall (AtLink address func to true)) h = absurd (omega arith)
+item Fred l (InCall (AtLink address func to false)) h = omega arith
+item Fred l (InCall (BehindFailure address func to)) h = absurd (omega arith)
+item Fred l (InCall (BehindCall r true)) h = absurd (omega arith)
+item Fred l (InCall (BehindCall r false)) h = absurd (omega arith)
+item Fred l (InCall AtTake) h = omega arith
+item Fred l (InCall (BehindTake n)) h = absurd (omega arith)
+item Fred l (InCall (AtTurn zero)) h = absurd (omega arith)
+item Fred l (InCall (AtTurn (suc n))) h = absurd (omega arith)
+item Fred l (InCall (BehindTurn n)) h = absurd (omega arith)
+item Fred l (InCall (AtTaken some)) h = absurd (omega arith)
+item Fred l (InCall AtFinish) h = absurd (omega arith)
+item Fred l (InCall BehindNext) h = omega arith
+item Fred l (InCall (AtOffset o e)) h = omega arith
 
 sti : (mode : Mode) → (layout : Layout) → edges_from mode (InBody layout AtItem) ≤ edges_behind mode (InBody layout BehindSti)
 sti Idt l = omega arith

@@ -1,5 +1,5 @@
 -- Every place of kernel code where an activation stands, its block, its windows, and how many edges are left there until a visible step. Own.
-use Rattle.std.specs.Prelude.{◌≡◌, ℕ, ◌+◌, ◌-◌, ◌<◌, ◌≤◌, Bool, true, false}
+use Rattle.std.specs.Prelude.{◌≡◌, ℕ, zero, suc, ◌+◌, ◌-◌, ◌<◌, ◌≤◌, Bool, true, false}
 use Rattle.ev_isa.specs.declared.mode.Mode.{Mode}
 use Rattle.ev_isa.specs.declared.mode.Mode.TheVariants.{Idt, Fred}
 use Rattle.ev_symbolic.specs.State.{Block}
@@ -10,7 +10,8 @@ use Rattle.ev_blocks.specs.Idt.{IdtExit, IdtToNext, IdtSpot, Stub, Sys, Common, 
 use Rattle.ev_blocks.specs.Idt as idt
 use Rattle.ev_blocks.specs.Nmi.{Choice, GsBase, BodyBegin, NmiExit, NmiSpot, Choosing, Repeats, Begins, nmi_block, nmi_forms, is_first}
 use Rattle.ev_blocks.specs.Nmi as nmi
-use Rattle.ev_blocks.specs.Items.{BodySpot, AtTable, AtJump, AtItem, BehindSti, BehindKick, body_block, forms_of}
+use Rattle.ev_blocks.specs.Calls.{AtRecord, BehindWait, BehindBusy, AtFill, AtHead, AtLink, BehindFailure, BehindCall, AtTake, BehindTake, AtTurn, BehindTurn, AtTaken, AtFinish, BehindNext, behind_call}
+use Rattle.ev_blocks.specs.Items.{BodySpot, AtTable, AtJump, AtItem, BehindSti, BehindKick, InCall, body_block, body_spot_forms}
 
 -- in the code of FRED, in that of IDT, in the NMI code of IDT, and in a body
 pub data Spot : Type 0 where
@@ -32,7 +33,7 @@ abbrev pub forms : Spot → Forms
 forms (InFred s) = fred_forms s
 forms (InIdt s) = idt_forms s
 forms (InNmi s) = nmi_forms s
-forms (InBody layout s) = forms_of layout
+forms (InBody layout s) = body_spot_forms layout s
 
 -- whether the exit is changing the words of the current task, and whether the block knows the return frame of its NMI
 abbrev pub switches : Spot → Bool
@@ -59,6 +60,7 @@ behind_body AtJump = item_edges + 1
 behind_body AtItem = item_edges
 behind_body BehindSti = item_edges
 behind_body BehindKick = item_edges
+behind_body (InCall s) = behind_call item_edges s
 behind_body s = 0
 
 -- at the end of a vector's entry come its jump and the code in common
@@ -128,3 +130,35 @@ pub record EdgesFall (mode : Mode) : Type 0 where
 -- in both modes
 abbrev pub AllEdgesFall : Type 0
 AllEdgesFall = (mode : Mode) → EdgesFall mode
+
+-- From one spot of a call item to the next one fewer edges are left, where an instruction leads there; and no more, where the same place is seen anew.
+pub record CallEdgesFall (mode : Mode) (layout : Layout) : Type 0 where
+  pub at_record : (site : ℕ) → edges_from mode (InBody layout (InCall (AtRecord site))) < edges_from mode (InBody layout AtItem)
+  pub fill : (site address func to s : ℕ)
+      → edges_from mode (InBody layout (InCall (AtFill address func to s))) < edges_behind mode (InBody layout (InCall (AtRecord site)))
+  pub head : (address func to s : ℕ)
+      → edges_from mode (InBody layout (InCall (AtHead address func to))) ≤ edges_behind mode (InBody layout (InCall (AtFill address func to s)))
+  pub link : (address func to : ℕ)
+      → edges_from mode (InBody layout (InCall (AtLink address func to false))) < edges_behind mode (InBody layout (InCall (AtHead address func to)))
+  pub failure : (address func to : ℕ)
+      → edges_from mode (InBody layout (InCall (BehindFailure address func to))) < edges_behind mode (InBody layout (InCall (AtLink address func to true)))
+  pub again : (address func to : ℕ)
+      → edges_from mode (InBody layout (InCall (AtHead address func to))) < edges_behind mode (InBody layout (InCall (BehindFailure address func to)))
+  pub turn : (left : ℕ) → edges_from mode (InBody layout (InCall (AtTurn left))) ≤ edges_behind mode (InBody layout (InCall (BehindTake left)))
+  pub turn_again : (left : ℕ) → edges_from mode (InBody layout (InCall (AtTurn left))) ≤ edges_behind mode (InBody layout (InCall (BehindTurn left)))
+  -- the load of the old link and the store of the new one
+  pub turned : (left : ℕ) → edges_from mode (InBody layout (InCall (BehindTurn left))) + 2 ≤ edges_behind mode (InBody layout (InCall (AtTurn (suc left))))
+  pub taken : (is_some : Bool) → edges_from mode (InBody layout (InCall (AtTaken is_some))) ≤ edges_behind mode (InBody layout (InCall (AtTurn zero)))
+  -- three loads and the jump
+  pub function : edges_from mode (InBody layout AtItem) + 4 ≤ edges_behind mode (InBody layout (InCall (AtTaken true)))
+  pub none : edges_from mode (InBody layout AtItem) ≤ edges_behind mode (InBody layout (InCall (AtTaken false)))
+  pub wait : (is_done : Bool) → edges_from mode (InBody layout AtItem) ≤ edges_behind mode (InBody layout (InCall (BehindWait is_done)))
+  pub busy : (s : ℕ) → edges_from mode (InBody layout AtItem) ≤ edges_behind mode (InBody layout (InCall (BehindBusy s)))
+  pub answer : (s : ℕ) (is_first : Bool) → edges_from mode (InBody layout AtItem) ≤ edges_behind mode (InBody layout (InCall (BehindCall s is_first)))
+  pub take : edges_from mode (InBody layout (InCall AtTake)) < edges_from mode (InBody layout AtItem)
+  pub finish : edges_from mode (InBody layout (InCall AtFinish)) < edges_from mode (InBody layout AtItem)
+  pub next : edges_from mode (InBody layout (InCall BehindNext)) < edges_behind mode (InBody layout (InCall AtFinish))
+
+-- in every layout and mode
+abbrev pub AllCallEdgesFall : Type 0
+AllCallEdgesFall = (mode : Mode) (layout : Layout) → CallEdgesFall mode layout

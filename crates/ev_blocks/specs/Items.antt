@@ -1,5 +1,5 @@
 -- Blocks of bodies: the way from the table of bodies to the first item, items, and the instructions before and behind an item's visible one.
-use Rattle.std.specs.Prelude.{ℕ, pos, ◌+◌, Bool, true, false, List, [], ◌∷◌}
+use Rattle.std.specs.Prelude.{ℕ, pos, ◌+◌, Bool, true, false, if◌then◌else◌, List, [], ◌∷◌}
 use Rattle.ev_isa.specs.declared.instruction.Ins.{Ins}
 use Rattle.ev_isa.specs.declared.instruction.Ins.TheVariants.{MovImm, Alu, AluImm, Shl, Shr, Jmp, Jcc}
 use Rattle.ev_isa.specs.declared.instruction.AluOp.TheVariants.{Add, And, Sub, Cmp}
@@ -10,11 +10,12 @@ use Rattle.ev_symbolic.specs.State.{Block}
 use Rattle.ev_symbolic.specs.Listed.{lines_at}
 use Rattle.ev_symbolic.specs.Openings.{at_base}
 use Rattle.ev_symbolic.specs.Names.{item_tag, says, top_less, opens}
+use Rattle.ev_blocks.specs.Calls.{CallSpot, fills_record, record_forms, block_of_call}
 use Rattle.ev_blocks.specs.Shapes.{Layout, FredFrame, IdtFrame, NmiFrame, Forms, private, body_forms, body_bytes, kernel_text, item_text, ground_over, over, body_words}
 
 -- At the load of the body's address from its table; at the jump to it; at an item; and in an item: at a number for RAX, or at numbers for RCX, RAX and RDX; at
--- those of `kick`, which sends; at the mask of a user address; at the page's word, for a page of the map or for another number; and behind the visible
--- instruction of `sti` and of `kick`.
+-- those of `kick`, which sends; at the mask of a user address; at the page's word, for a page of the map or for another number; behind the visible
+-- instruction of `sti` and of `kick`; and in the items of cross calls.
 pub data BodySpot : Type 0 where
   AtTable AtJump AtItem : BodySpot
   AtNumber : (n : ℕ) → BodySpot
@@ -23,6 +24,7 @@ pub data BodySpot : Type 0 where
   AtUserWord : BodySpot
   AtPageWord : (is_page : Bool) → BodySpot
   BehindSti BehindKick : BodySpot
+  InCall : CallSpot → BodySpot
 
 -- the instructions that load the body's address and jump to it
 abbrev pub table_load : Layout → ℕ
@@ -39,6 +41,15 @@ body_jump NmiFrame = 0xffffffff81004aa7
 -- a body's windows
 abbrev pub forms_of : Layout → Forms
 forms_of layout = private (body_forms layout)
+
+-- whether the spot's call record is the activation's own too
+abbrev pub fills : BodySpot → Bool
+fills (InCall s) = fills_record s
+fills s = false
+
+-- the windows of a spot
+abbrev pub body_spot_forms : Layout → BodySpot → Forms
+body_spot_forms layout s = if fills s then record_forms layout else forms_of layout
 
 -- at a place of the kernel's own code
 abbrev pub at_code : Bool → Layout → ℕ → Block
@@ -118,3 +129,4 @@ body_block fred layout AtUserWord = in_item fred layout [] behind_move mask_code
 body_block fred layout (AtPageWord is_page) = in_item fred layout (is_page_fact is_page ∷ []) behind_move page_code (page_steps is_page)
 body_block fred layout BehindSti = blocked (in_item fred layout [] behind_sti (Ins.Nop ∷ []) 1)
 body_block fred layout BehindKick = in_item fred layout [] behind_kick (Jmp (pos 1) ∷ []) 1
+body_block fred layout (InCall s) = block_of_call fred layout s

@@ -3,9 +3,10 @@
 //! activation: what the event was is in its variables, and which way a path goes is a fact.
 #![tactic(auto)]
 
-ghost use Rattle.ev_blocks.specs.Blocks.{AllEdgesFall};
+ghost use Rattle.ev_blocks.specs.Blocks.{AllCallEdgesFall, AllEdgesFall};
 
 /// From block to block fewer edges are left. Own.
 pub fn edges()
     ensures fall { AllEdgesFall }
+    ensures calls { AllCallEdgesFall }
 {}

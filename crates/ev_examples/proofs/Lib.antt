@@ -32,4 +32,6 @@ mod WellFormedImages
 mod FramesOverNoLiveWord
 mod AgreementOfMachines
 mod ShownEntries
+mod CallsOnBothMachines
+mod PlacesOfCallRecords
 mod PlacesOfInstructions

@@ -10,17 +10,19 @@ use Rattle.ev_symbolic.specs.Agrees.{Env, addr, Apart, Far, Grounded}
 use Rattle.ev_symbolic.specs.Names.{item_tag}
 use Rattle.ev_distances.specs.Span.{Codes}
 use Rattle.ev_symbolic.proofs.Values.{and_left, and_right}
-use Rattle.ev_distances.specs.Form.{Form, OnStack, Stretch, InArea, OnTask, OnNextTask, OnNextStack, InRecord, Where, wins_of, Fitting, is_own, all_apart, apart_from_all, apart_off_stack, apart_on_two_stacks, apart_by_depth, apart_at_one_top}
+use Rattle.ev_distances.specs.Form as form
+use Rattle.ev_distances.specs.Form.{Form, OnStack, Stretch, InArea, OnTask, OnNextTask, OnNextStack, InRecord, Where, wins_of, Fitting, is_own, all_apart, apart_from_all, apart_off_stack, apart_in_one, apart_on_two_stacks, apart_by_depth, apart_at_one_top}
 use Rattle.ev_distances.proofs.ByForm.{forms_apart}
 use Rattle.ev_distances.proofs.Windows.{text_ok, in_code}
-use Rattle.ev_blocks.specs.Shapes.{Layout, FredFrame, IdtFrame, NmiFrame, kernel_text, item_text, body_forms}
+use Rattle.ev_blocks.specs.Shapes.{Layout, Forms, FredFrame, IdtFrame, NmiFrame, kernel_text, item_text, body_forms}
 use Rattle.ev_blocks.specs.Fred.{ByCall, ByInt3, ByIntN, ByOther, FredToKernel, FredToTask, FredToNext, FromUser, FromKernel, LeavesNmi}
 use Rattle.ev_blocks.specs.Fred as fred
 use Rattle.ev_blocks.specs.Idt.{BySysret, ByOtherRip, ByOtherFlags, IdtToKernel, IdtToTask, IdtToNext, Stub, Sys, Common}
 use Rattle.ev_blocks.specs.Idt as idt
 use Rattle.ev_blocks.specs.Nmi.{Choice, FirstFromTask, FirstLow, FirstHigh, InnerLow, InnerHigh, InnerAtLast, InnerInRepeat, TaskGs, KernelGs, FromTask, FromKernel as Kernel, FromKernelInTaskGs, Exchanging, Staying, Choosing, Repeats, Begins, is_first, choice_forms, repeat_forms}
 use Rattle.ev_blocks.specs.Nmi as nmi
-use Rattle.ev_blocks.specs.Items.{AtTable, AtJump, AtItem, AtNumber, AtNumbers, AtKick, AtUserWord, AtPageWord, BehindSti, BehindKick}
+use Rattle.ev_blocks.specs.Calls.{AtRecord, BehindWait, BehindBusy, AtFill, AtHead, AtLink, BehindFailure, BehindCall, AtTake, BehindTake, AtTurn, BehindTurn, AtTaken, AtFinish, BehindNext, AtOffset, record_forms}
+use Rattle.ev_blocks.specs.Items.{AtTable, AtJump, AtItem, AtNumber, AtNumbers, AtKick, AtUserWord, AtPageWord, BehindSti, BehindKick, InCall, fills, forms_of}
 use Rattle.ev_blocks.specs.Blocks.{Spot, InFred, InIdt, InNmi, InBody, block, forms}
 use Rattle.ev_grounds.specs.Grounds.{HasForms, AreForms, WindowsFit, InnerIsApart, WritesItsStack, OthersAreApart, DeeperAreApart, HasItem, IsHere, AllGrounded}
 
@@ -29,6 +31,10 @@ both true b h k = k
 both false b h k = h
 
 -- ---- forms
+
+-- a body's windows, with a call record of its own or without
+abbrev body_windows : Layout → Bool → Forms
+body_windows layout own_record = if own_record then record_forms layout else forms_of layout
 
 has_forms : (mode : Mode) (s : Spot) → HasForms mode s
 has_forms mode (InFred (FromUser w)) = record { known = refl; own = refl; shared = refl }
@@ -58,6 +64,22 @@ has_forms Idt (InBody layout AtUserWord) = record { known = refl; own = refl; sh
 has_forms Idt (InBody layout (AtPageWord is_page)) = record { known = refl; own = refl; shared = refl }
 has_forms Idt (InBody layout BehindSti) = record { known = refl; own = refl; shared = refl }
 has_forms Idt (InBody layout BehindKick) = record { known = refl; own = refl; shared = refl }
+has_forms Idt (InBody layout (InCall (AtRecord site))) = record { known = refl; own = refl; shared = refl }
+has_forms Idt (InBody layout (InCall (BehindWait d))) = record { known = refl; own = refl; shared = refl }
+has_forms Idt (InBody layout (InCall (BehindBusy r))) = record { known = refl; own = refl; shared = refl }
+has_forms Idt (InBody layout (InCall (AtFill address func to r))) = record { known = refl; own = refl; shared = refl }
+has_forms Idt (InBody layout (InCall (AtHead address func to))) = record { known = refl; own = refl; shared = refl }
+has_forms Idt (InBody layout (InCall (AtLink address func to stale))) = record { known = refl; own = refl; shared = refl }
+has_forms Idt (InBody layout (InCall (BehindFailure address func to))) = record { known = refl; own = refl; shared = refl }
+has_forms Idt (InBody layout (InCall (BehindCall r first))) = record { known = refl; own = refl; shared = refl }
+has_forms Idt (InBody layout (InCall AtTake)) = record { known = refl; own = refl; shared = refl }
+has_forms Idt (InBody layout (InCall (BehindTake n))) = record { known = refl; own = refl; shared = refl }
+has_forms Idt (InBody layout (InCall (AtTurn n))) = record { known = refl; own = refl; shared = refl }
+has_forms Idt (InBody layout (InCall (BehindTurn n))) = record { known = refl; own = refl; shared = refl }
+has_forms Idt (InBody layout (InCall (AtTaken some))) = record { known = refl; own = refl; shared = refl }
+has_forms Idt (InBody layout (InCall AtFinish)) = record { known = refl; own = refl; shared = refl }
+has_forms Idt (InBody layout (InCall BehindNext)) = record { known = refl; own = refl; shared = refl }
+has_forms Idt (InBody layout (InCall (AtOffset o e))) = record { known = refl; own = refl; shared = refl }
 has_forms Fred (InBody layout AtTable) = record { known = refl; own = refl; shared = refl }
 has_forms Fred (InBody layout AtJump) = record { known = refl; own = refl; shared = refl }
 has_forms Fred (InBody layout AtItem) = record { known = refl; own = refl; shared = refl }
@@ -68,6 +90,22 @@ has_forms Fred (InBody layout AtUserWord) = record { known = refl; own = refl; s
 has_forms Fred (InBody layout (AtPageWord is_page)) = record { known = refl; own = refl; shared = refl }
 has_forms Fred (InBody layout BehindSti) = record { known = refl; own = refl; shared = refl }
 has_forms Fred (InBody layout BehindKick) = record { known = refl; own = refl; shared = refl }
+has_forms Fred (InBody layout (InCall (AtRecord site))) = record { known = refl; own = refl; shared = refl }
+has_forms Fred (InBody layout (InCall (BehindWait d))) = record { known = refl; own = refl; shared = refl }
+has_forms Fred (InBody layout (InCall (BehindBusy r))) = record { known = refl; own = refl; shared = refl }
+has_forms Fred (InBody layout (InCall (AtFill address func to r))) = record { known = refl; own = refl; shared = refl }
+has_forms Fred (InBody layout (InCall (AtHead address func to))) = record { known = refl; own = refl; shared = refl }
+has_forms Fred (InBody layout (InCall (AtLink address func to stale))) = record { known = refl; own = refl; shared = refl }
+has_forms Fred (InBody layout (InCall (BehindFailure address func to))) = record { known = refl; own = refl; shared = refl }
+has_forms Fred (InBody layout (InCall (BehindCall r first))) = record { known = refl; own = refl; shared = refl }
+has_forms Fred (InBody layout (InCall AtTake)) = record { known = refl; own = refl; shared = refl }
+has_forms Fred (InBody layout (InCall (BehindTake n))) = record { known = refl; own = refl; shared = refl }
+has_forms Fred (InBody layout (InCall (AtTurn n))) = record { known = refl; own = refl; shared = refl }
+has_forms Fred (InBody layout (InCall (BehindTurn n))) = record { known = refl; own = refl; shared = refl }
+has_forms Fred (InBody layout (InCall (AtTaken some))) = record { known = refl; own = refl; shared = refl }
+has_forms Fred (InBody layout (InCall AtFinish)) = record { known = refl; own = refl; shared = refl }
+has_forms Fred (InBody layout (InCall BehindNext)) = record { known = refl; own = refl; shared = refl }
+has_forms Fred (InBody layout (InCall (AtOffset o e))) = record { known = refl; own = refl; shared = refl }
 
 are_forms : (s : Spot) → AreForms s
 are_forms (InFred (FromUser w)) = record { known = refl; own = refl; apart = refl }
@@ -92,9 +130,16 @@ are_forms (InNmi (Choosing InnerInRepeat g)) = record { known = refl; own = refl
 are_forms (InNmi (Repeats g)) = record { known = refl; own = refl; apart = refl }
 are_forms (InNmi (Begins b)) = record { known = refl; own = refl; apart = refl }
 are_forms (InNmi (nmi.Leaves x)) = record { known = refl; own = refl; apart = refl }
-are_forms (InBody FredFrame s) = record { known = refl; own = refl; apart = refl }
-are_forms (InBody IdtFrame s) = record { known = refl; own = refl; apart = refl }
-are_forms (InBody NmiFrame s) = record { known = refl; own = refl; apart = refl }
+are_forms (InBody layout s) = let t = both_layouts layout (fills s) in record { known = t.0; own = t.1; apart = t.2 }
+  where
+    both_layouts : (layout : Layout) (own_record : Bool) → (form.are_forms (body_windows layout own_record).known ≡ true) × (form.are_forms (body_windows layout own_record).own ≡ true)
+        × (all_apart apart_in_one (body_windows layout own_record).known (body_windows layout own_record).own ≡ true)
+    both_layouts FredFrame true = (refl, refl, refl)
+    both_layouts FredFrame false = (refl, refl, refl)
+    both_layouts IdtFrame true = (refl, refl, refl)
+    both_layouts IdtFrame false = (refl, refl, refl)
+    both_layouts NmiFrame true = (refl, refl, refl)
+    both_layouts NmiFrame false = (refl, refl, refl)
 
 pub windows_fit : WindowsFit
 windows_fit mode s = (has_forms mode s, are_forms s)
@@ -159,6 +204,11 @@ depth_all : (fs gs : List Form) → all_own fs ≡ true → all_own gs ≡ true 
 depth_all [] gs k h = refl
 depth_all (f ∷ fs) gs k h = both _ _ (depth_from f gs (and_left (is_own f) _ k) h) (depth_all fs gs (and_right (is_own f) _ k) h)
 
+body_own : (layout : Layout) → all_own (body_forms layout) ≡ true
+body_own FredFrame = refl
+body_own IdtFrame = refl
+body_own NmiFrame = refl
+
 writes_own : (s : Spot) → WritesItsStack s → all_own (forms s).own ≡ true
 writes_own (InFred (FromUser w)) h = refl
 writes_own (InFred FromKernel) h = refl
@@ -182,17 +232,10 @@ writes_own (InNmi (Choosing InnerInRepeat g)) h = refl
 writes_own (InNmi (Repeats g)) h = refl
 writes_own (InNmi (Begins b)) h = refl
 writes_own (InNmi (nmi.Leaves x)) h = refl
-writes_own (InBody FredFrame s) h = refl
-writes_own (InBody IdtFrame s) h = refl
-writes_own (InBody NmiFrame s) h = refl
+writes_own (InBody layout s) h = ap (λ t. all_own (body_windows layout t).own) h ∙ body_own layout
 
 pub others_apart : OthersAreApart
 others_apart s t h = two_stacks_all (forms s).known (forms t).own (writes_own t h)
-
-body_own : (layout : Layout) → all_own (body_forms layout) ≡ true
-body_own FredFrame = refl
-body_own IdtFrame = refl
-body_own NmiFrame = refl
 
 pub deeper_apart : DeeperAreApart
 deeper_apart layout t h = depth_all (body_forms layout) (forms t).own (body_own layout) (writes_own t h)
@@ -227,9 +270,11 @@ module _ (n : ℕ) (e : Env) (x : Where) where
   own_fitting (InNmi (Repeats g)) f = f
   own_fitting (InNmi (Begins b)) f = f
   own_fitting (InNmi (nmi.Leaves x)) f = f
-  own_fitting (InBody FredFrame s) f = f
-  own_fitting (InBody IdtFrame s) f = f
-  own_fitting (InBody NmiFrame s) f = f
+  own_fitting (InBody layout s) f = same (fills s) f
+    where
+      same : (own_record : Bool) → Fitting n e x (body_windows layout own_record).known → Fitting n e x (body_windows layout own_record).own
+      same true f = f
+      same false f = f
 
   -- ---- code
 
@@ -278,6 +323,22 @@ module _ (n : ℕ) (e : Env) (x : Where) where
   text_is Idt (InBody layout (AtPageWord is_page)) z i = item_code i.0 i.1
   text_is Idt (InBody layout BehindSti) z i = item_code i.0 i.1
   text_is Idt (InBody layout BehindKick) z i = item_code i.0 i.1
+  text_is Idt (InBody layout (InCall (AtRecord site))) z i = item_code i.0 i.1
+  text_is Idt (InBody layout (InCall (BehindWait d))) z i = item_code i.0 i.1
+  text_is Idt (InBody layout (InCall (BehindBusy r))) z i = item_code i.0 i.1
+  text_is Idt (InBody layout (InCall (AtFill address func to r))) z i = item_code i.0 i.1
+  text_is Idt (InBody layout (InCall (AtHead address func to))) z i = item_code i.0 i.1
+  text_is Idt (InBody layout (InCall (AtLink address func to stale))) z i = item_code i.0 i.1
+  text_is Idt (InBody layout (InCall (BehindFailure address func to))) z i = item_code i.0 i.1
+  text_is Idt (InBody layout (InCall (BehindCall r first))) z i = item_code i.0 i.1
+  text_is Idt (InBody layout (InCall AtTake)) z i = item_code i.0 i.1
+  text_is Idt (InBody layout (InCall (BehindTake n))) z i = item_code i.0 i.1
+  text_is Idt (InBody layout (InCall (AtTurn n))) z i = item_code i.0 i.1
+  text_is Idt (InBody layout (InCall (BehindTurn n))) z i = item_code i.0 i.1
+  text_is Idt (InBody layout (InCall (AtTaken some))) z i = item_code i.0 i.1
+  text_is Idt (InBody layout (InCall AtFinish)) z i = item_code i.0 i.1
+  text_is Idt (InBody layout (InCall BehindNext)) z i = item_code i.0 i.1
+  text_is Idt (InBody layout (InCall (AtOffset o e))) z i = item_code i.0 i.1
   text_is Fred (InBody layout AtTable) z i = kernel_code z
   text_is Fred (InBody layout AtJump) z i = kernel_code z
   text_is Fred (InBody layout AtItem) z i = item_code i.0 i.1
@@ -288,6 +349,22 @@ module _ (n : ℕ) (e : Env) (x : Where) where
   text_is Fred (InBody layout (AtPageWord is_page)) z i = item_code i.0 i.1
   text_is Fred (InBody layout BehindSti) z i = item_code i.0 i.1
   text_is Fred (InBody layout BehindKick) z i = item_code i.0 i.1
+  text_is Fred (InBody layout (InCall (AtRecord site))) z i = item_code i.0 i.1
+  text_is Fred (InBody layout (InCall (BehindWait d))) z i = item_code i.0 i.1
+  text_is Fred (InBody layout (InCall (BehindBusy r))) z i = item_code i.0 i.1
+  text_is Fred (InBody layout (InCall (AtFill address func to r))) z i = item_code i.0 i.1
+  text_is Fred (InBody layout (InCall (AtHead address func to))) z i = item_code i.0 i.1
+  text_is Fred (InBody layout (InCall (AtLink address func to stale))) z i = item_code i.0 i.1
+  text_is Fred (InBody layout (InCall (BehindFailure address func to))) z i = item_code i.0 i.1
+  text_is Fred (InBody layout (InCall (BehindCall r first))) z i = item_code i.0 i.1
+  text_is Fred (InBody layout (InCall AtTake)) z i = item_code i.0 i.1
+  text_is Fred (InBody layout (InCall (BehindTake n))) z i = item_code i.0 i.1
+  text_is Fred (InBody layout (InCall (AtTurn n))) z i = item_code i.0 i.1
+  text_is Fred (InBody layout (InCall (BehindTurn n))) z i = item_code i.0 i.1
+  text_is Fred (InBody layout (InCall (AtTaken some))) z i = item_code i.0 i.1
+  text_is Fred (InBody layout (InCall AtFinish)) z i = item_code i.0 i.1
+  text_is Fred (InBody layout (InCall BehindNext)) z i = item_code i.0 i.1
+  text_is Fred (InBody layout (InCall (AtOffset o e))) z i = item_code i.0 i.1
 
   -- ---- grounded
 

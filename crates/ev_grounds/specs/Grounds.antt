@@ -12,6 +12,7 @@ use Rattle.ev_blocks.specs.Idt.{Sys, IdtToNext}
 use Rattle.ev_blocks.specs.Idt as idt
 use Rattle.ev_blocks.specs.Fred.{FredToNext}
 use Rattle.ev_blocks.specs.Fred as fred
+use Rattle.ev_blocks.specs.Items.{fills}
 use Rattle.ev_blocks.specs.Nmi.{Choice, InnerInRepeat, is_first, choice_forms, repeat_forms}
 use Rattle.ev_blocks.specs.Blocks.{Spot, InFred, InIdt, InBody, block, forms}
 
@@ -37,11 +38,12 @@ InnerIsApart =
     ((c : Choice) → is_first c ≡ false → all_apart apart_at_one_top (body_forms NmiFrame) (choice_forms c).own ≡ true)
     × (all_apart apart_at_one_top repeat_forms.known (choice_forms InnerInRepeat).own ≡ true)
 
--- what writes its own stack alone, so that it may stand on any other: all but SYSCALL's entry and the exits to another task
+-- what writes its own stack alone, so that it may stand on any other: all but SYSCALL's entry, the exits to another task, and who fills a call record
 abbrev pub WritesItsStack : Spot → Type 0
 WritesItsStack (InIdt Sys) = ⊥
 WritesItsStack (InIdt (idt.Leaves (IdtToNext r))) = ⊥
 WritesItsStack (InFred (fred.Leaves FredToNext)) = ⊥
+WritesItsStack (InBody layout s) = fills s ≡ false
 WritesItsStack s = Unit {0}
 
 -- such a spot on another stack writes nothing that any spot knows; and on one stack, below a body, nothing that the body knows

@@ -7,6 +7,8 @@ mod apic;
 #[cfg(test)]
 mod asm;
 #[cfg(test)]
+mod calls;
+#[cfg(test)]
 mod code;
 #[cfg(test)]
 mod event;

@@ -7,6 +7,8 @@ ghost use Rattle.ev_isa.specs.declared.mode.Mode.{Mode};
 ghost use Rattle.ev_isa.specs.declared.mode.Mode.TheVariants.{Idt, Fred};
 ghost use Rattle.ev_body.specs.declared.image.Image.{Image};
 ghost use Rattle.ev_io.specs.Transfer.{Rose, TookPrefix};
+ghost use Rattle.ev_abstract.specs.CallLaws.{KeepsCalls};
+ghost use Rattle.ev_abstract.specs.Run.{trace};
 ghost use Rattle.ev_abstract.specs.Script.{IsScript};
 ghost use Rattle.ev_built.specs.Built.{IsBuilt, line_is_built, mode_is_built};
 ghost use Rattle.ev_concrete.specs.RunText.{run_text};
@@ -204,7 +206,8 @@ fn run_counted<L: Ledger, K: Sink>(
 /// frames where they are asked for. Each line goes into the sink as it is made: a fault leaves a
 /// prefix of the text there. WriteFault means that the sink failed, NoMemory that memory was refused.
 /// In either mode no frame of the run holds a word that was live just before its step, and behind
-/// each line the bodies on a processor are a legal chain, no longer than the image's bound.
+/// each line the bodies on a processor are a legal chain, no longer than the image's bound. In the
+/// trace each call runs at most once, was queued before it ran, and ran before it is reported as done.
 pub fn run_modes<K: Sink>(
     alloc: Global,
     accepted: &Accepted,
@@ -224,6 +227,7 @@ pub fn run_modes<K: Sink>(
         (run_text accepted.now.image script.now (modes_of modes) frames)) }
     ensures safe { (mode : Mode) → RunIsSafe mode accepted.now.image script.now }
     ensures chains { KeepsChains accepted.now.image script.now }
+    ensures calls { KeepsCalls (trace accepted.now.image script.now) }
     ensures later { K.faults sink.old ≤ K.faults sink.new }
     ensures cause { OnWriteFault result (Rose (K.faults sink.old) (K.faults sink.new)) }
 {

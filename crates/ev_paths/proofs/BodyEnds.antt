@@ -1,11 +1,15 @@
 -- What the blocks of bodies come to: closed facts, each by computation, with the numbers of items as variables.
-use Rattle.std.proofs.Common.{ℕ, ◌+◌, Bool, true, false, refl}
+use Rattle.std.proofs.Common.{◌≡◌, ℕ, zero, suc, ◌+◌, Bool, true, false, refl}
 use Rattle.ev_isa.specs.Spelling.{spelling, four_bytes}
 use Rattle.ev_mem.specs.Memory.{page_map}
 use Rattle.ev_symbolic.specs.Value.{K, X}
+use Rattle.ev_symbolic.specs.Run.{every}
 use Rattle.ev_blocks.specs.Shapes.{Layout, FredFrame, IdtFrame, NmiFrame}
-use Rattle.ev_blocks.specs.Items.{AtTable, AtJump, AtItem, AtNumber, AtNumbers, AtKick, AtUserWord, AtPageWord, BehindSti, BehindKick, masked, page_word, behind_move, behind_sti, behind_branch, behind_kick}
+use Rattle.ev_blocks.specs.Calls.{CallSpot, AtRecord, BehindWait, BehindBusy, AtFill, AtHead, AtLink, BehindFailure, BehindCall, AtTake, BehindTake, AtTurn, BehindTurn, AtTaken, AtFinish, BehindNext, AtOffset, block_of_call}
+use Rattle.ev_blocks.specs.Items.{AtTable, AtJump, AtItem, AtNumber, AtNumbers, AtKick, AtUserWord, AtPageWord, BehindSti, BehindKick, InCall, masked, page_word, behind_move, behind_sti, behind_branch, behind_kick}
+use Rattle.ev_paths.specs.Ends.{is_untold}
 use Rattle.ev_paths.specs.BodyEnds.{Comes, BodyEnds, BodyTellsNoCr2, ItemOffsets}
+use Rattle.ev_paths.proofs.Locals.{from_zero}
 
 number : (fred : Bool) (layout : Layout) (n : ℕ) → Comes fred layout (AtNumber n) 10 (K n) (X 1) (X 2)
 unfolding spelling four_bytes
@@ -89,6 +93,38 @@ body_ends fred layout = record {
 
 -- ---- CR2
 
+abbrev Untold : Bool → Layout → CallSpot → Type 0
+Untold fred layout s = every (λ s. is_untold s.cr2) (block_of_call fred layout s) ≡ true
+
+answer_untold : (fred : Bool) (layout : Layout) (is_first : Bool) (s : ℕ) → Untold fred layout (BehindCall s is_first)
+unfolding spelling four_bytes
+answer_untold fred layout true = from_zero (λ s. Untold fred layout (BehindCall s true))
+    refl refl refl refl refl refl refl refl refl refl refl refl refl refl refl refl (λ n. refl)
+answer_untold fred layout false = from_zero (λ s. Untold fred layout (BehindCall s false))
+    refl refl refl refl refl refl refl refl refl refl refl refl refl refl refl refl (λ n. refl)
+
+call_untold : (fred : Bool) (layout : Layout) (s : CallSpot) → Untold fred layout s
+unfolding spelling four_bytes
+call_untold fred layout (AtRecord site) = refl
+call_untold fred layout (BehindWait true) = refl
+call_untold fred layout (BehindWait false) = refl
+call_untold fred layout (BehindBusy r) = refl
+call_untold fred layout (AtFill address func to r) = refl
+call_untold fred layout (AtHead address func to) = refl
+call_untold fred layout (AtLink address func to stale) = refl
+call_untold fred layout (BehindFailure address func to) = refl
+call_untold fred layout (BehindCall r is_first) = answer_untold fred layout is_first r
+call_untold fred layout AtTake = refl
+call_untold fred layout (BehindTake n) = refl
+call_untold fred layout (AtTurn zero) = refl
+call_untold fred layout (AtTurn (suc n)) = refl
+call_untold fred layout (BehindTurn n) = refl
+call_untold fred layout (AtTaken true) = refl
+call_untold fred layout (AtTaken false) = refl
+call_untold fred layout AtFinish = refl
+call_untold fred layout BehindNext = refl
+call_untold fred layout (AtOffset o e) = refl
+
 pub body_untold : BodyTellsNoCr2
 unfolding spelling four_bytes
 body_untold true FredFrame AtTable = refl
@@ -102,6 +138,7 @@ body_untold true FredFrame (AtPageWord true) = refl
 body_untold true FredFrame (AtPageWord false) = refl
 body_untold true FredFrame BehindSti = refl
 body_untold true FredFrame BehindKick = refl
+body_untold true FredFrame (InCall c) = call_untold true FredFrame c
 body_untold true IdtFrame AtTable = refl
 body_untold true IdtFrame AtJump = refl
 body_untold true IdtFrame AtItem = refl
@@ -113,6 +150,7 @@ body_untold true IdtFrame (AtPageWord true) = refl
 body_untold true IdtFrame (AtPageWord false) = refl
 body_untold true IdtFrame BehindSti = refl
 body_untold true IdtFrame BehindKick = refl
+body_untold true IdtFrame (InCall c) = call_untold true IdtFrame c
 body_untold true NmiFrame AtTable = refl
 body_untold true NmiFrame AtJump = refl
 body_untold true NmiFrame AtItem = refl
@@ -124,6 +162,7 @@ body_untold true NmiFrame (AtPageWord true) = refl
 body_untold true NmiFrame (AtPageWord false) = refl
 body_untold true NmiFrame BehindSti = refl
 body_untold true NmiFrame BehindKick = refl
+body_untold true NmiFrame (InCall c) = call_untold true NmiFrame c
 body_untold false FredFrame AtTable = refl
 body_untold false FredFrame AtJump = refl
 body_untold false FredFrame AtItem = refl
@@ -135,6 +174,7 @@ body_untold false FredFrame (AtPageWord true) = refl
 body_untold false FredFrame (AtPageWord false) = refl
 body_untold false FredFrame BehindSti = refl
 body_untold false FredFrame BehindKick = refl
+body_untold false FredFrame (InCall c) = call_untold false FredFrame c
 body_untold false IdtFrame AtTable = refl
 body_untold false IdtFrame AtJump = refl
 body_untold false IdtFrame AtItem = refl
@@ -146,6 +186,7 @@ body_untold false IdtFrame (AtPageWord true) = refl
 body_untold false IdtFrame (AtPageWord false) = refl
 body_untold false IdtFrame BehindSti = refl
 body_untold false IdtFrame BehindKick = refl
+body_untold false IdtFrame (InCall c) = call_untold false IdtFrame c
 body_untold false NmiFrame AtTable = refl
 body_untold false NmiFrame AtJump = refl
 body_untold false NmiFrame AtItem = refl
@@ -157,6 +198,7 @@ body_untold false NmiFrame (AtPageWord true) = refl
 body_untold false NmiFrame (AtPageWord false) = refl
 body_untold false NmiFrame BehindSti = refl
 body_untold false NmiFrame BehindKick = refl
+body_untold false NmiFrame (InCall c) = call_untold false NmiFrame c
 
 -- ---- offsets
 

@@ -3,5 +3,6 @@ pub mod FredEnds
 pub mod IdtEnds
 pub mod NmiEnds
 pub mod BodyEnds
+pub mod CallEnds
 pub mod Lines
 pub mod Cells

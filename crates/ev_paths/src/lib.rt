@@ -3,6 +3,7 @@
 #![tactic(auto)]
 
 ghost use Rattle.ev_paths.specs.BodyEnds.{AllBodyEnds, BodyTellsNoCr2, ItemOffsets};
+ghost use Rattle.ev_paths.specs.CallEnds.{AllCallEnds};
 ghost use Rattle.ev_paths.specs.Cells.{FredCellsStand, IdtCellsStand};
 ghost use Rattle.ev_paths.specs.FredEnds.{FredEnters, FredReturns, FredTellsNoCr2};
 ghost use Rattle.ev_paths.specs.IdtEnds.{IdtEnters, IdtReturns, IdtTellsNoCr2};
@@ -46,4 +47,11 @@ pub fn body_blocks()
     ensures ends { AllBodyEnds }
     ensures cr2 { BodyTellsNoCr2 }
     ensures offsets { ItemOffsets }
+{}
+
+/// Of the items of cross calls: a call's record is filled while it is the activation's own, and comes
+/// to the load of the queue's head with its next number; what stands between reads and writes that
+/// others share comes to the next of these, or to the item's end. Own.
+pub fn call_blocks()
+    ensures ends { AllCallEnds }
 {}

@@ -25,6 +25,7 @@ use Rattle.ev_concrete.specs.ConcreteRun.{System, Activation}
 use Rattle.ev_symbolic.specs.Agrees.{with_words}
 use Rattle.ev_activation.specs.Seat.{Seat}
 use Rattle.ev_user.specs.Tasks.{IsTask}
+use Rattle.ev_calls.specs.Records.{RecordIs, Linked}
 use Rattle.ev_refine.specs.Tasks.{IsSaved, TssIs, CurrentIs}
 use Rattle.ev_refine.specs.Nmi.{Frame, Held, Layer, Plain, LatchIs, inner_edges}
 use Rattle.ev_user.specs.Words.{HoldsWords}
@@ -32,7 +33,7 @@ use Rattle.ev_user.specs.Numbers.{HoldsNumbers}
 use Rattle.ev_user.specs.Sees.{IsUserWord, IsWrite}
 use Rattle.ev_refine.specs.Named.{Named, UserRsp, Top, Current, Mark, Port, Head, TssTop, Slot, RecordWord, CellAt, PageBit, UserWord, address_of, is_task_word, is_call_word, is_slot, is_cell, is_page_bit, is_user_word, have_none, IsWritten, Outside, NotNamed, AreWritten, NoneOf, Changes}
 use Rattle.ev_refine.specs.Domain.{IsInDomain}
-use Rattle.ev_refine.specs.Relation.{ApicIs, InboxIs, Chain, Runs, serves, StandsOn, RecordIs, Linked, Shares, Stands, most_edges}
+use Rattle.ev_refine.specs.Relation.{ApicIs, InboxIs, Chain, Runs, serves, StandsOn, Shares, Stands, most_edges}
 use Rattle.ev_refine.proofs.Maps.{at_same}
 use Rattle.ev_refine.proofs.Words.{area_word, IsBeside, on_its_stack, fixed_stays, beside_stays, stacks_stay, area_stays, saved_stays}
 use Rattle.ev_symbolic.proofs.Values.{and_left, and_right}

@@ -34,9 +34,10 @@ use Rattle.ev_law.proofs.Lines.{lines_keep_legal}
 use Rattle.ev_law.proofs.Machines.{alike_mail}
 use Rattle.ev_user.specs.Numbers.{AreCallers, AreOfWords, HasWords}
 use Rattle.ev_user.specs.Words.{HoldsWords}
+use Rattle.ev_calls.specs.Records.{RecordIs, Linked}
 use Rattle.ev_refine.specs.Domain.{IsInDomain}
 use Rattle.ev_refine.specs.Nmi.{LatchIs, inner_edges}
-use Rattle.ev_refine.specs.Relation.{AreVectorWords, ApicIs, InboxIs, Linked, RecordIs, Stands, StandsOn}
+use Rattle.ev_refine.specs.Relation.{AreVectorWords, ApicIs, InboxIs, Stands, StandsOn}
 use Rattle.ev_refine.proofs.Maps.{at_same, at_other}
 use Rattle.ev_refine.proofs.Opens.{zero_words, no_vector}
 

@@ -10,7 +10,7 @@ use Rattle.ev_abstract.specs.Context.{BodyContext, local}
 use Rattle.ev_symbolic.specs.Value.{V}
 use Rattle.ev_symbolic.specs.Agrees.{Env, eval}
 use Rattle.ev_refine.specs.Active.{Locals}
-use Rattle.ev_refine.proofs.Items.{from_six}
+use Rattle.ev_paths.proofs.Locals.{from_six}
 use Rattle.ev_refine.proofs.ItemState.{with_registers, with_three, ItemState}
 
 -- a register and its new number, or none

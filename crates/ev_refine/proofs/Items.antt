@@ -1,5 +1,5 @@
--- The items of today's bodies: an item is `log` or `ret`, the one behind a `log` is there, and a register is the local that it stands for.
-use Rattle.std.proofs.Common.{◌≡◌, ℕ, zero, suc, ◌<◌, ◌≤◌, Bool, true, List, [], ◌∷◌, ◌++◌, Some, sym, ap, ◌∙◌, arith}
+-- The items of today's bodies.
+use Rattle.std.proofs.Common.{◌≡◌, ℕ, zero, suc, Bool, true, List, [], ◌∷◌, ◌++◌, Some, sym, ap, ◌∙◌}
 use Rattle.std.specs.Prelude.{slice_get, flat_map}
 use Rattle.std.specs.List.{list_all}
 use Rattle.std.proofs.lemmas.List.{append-nil}
@@ -39,22 +39,3 @@ module _ (image : Image) (built : IsBuilt image) (good : IsImage image) (n : ℕ
   pub which : (i : ℕ) (x : Item) → item_at (Some b) i ≡ Some x → is_built_item x ≡ true
   which i x h = all_at is_built_item b.items i x (and_right (has_no_parts b.parts) _ built_body)
       (ap (λ xs. slice_get xs i) (sym items_are) ∙ h)
-
--- ---- locals
-
-pub from_six : (P : ℕ → Type 0) → P 6 → P 7 → P 8 → P 9 → P 10 → P 11 → P 12 → P 13 → (s : ℕ) → 6 ≤ s → s < 14 → P s
-from_six P a b c d e f g i zero h k = absurd (omega arith)
-from_six P a b c d e f g i (suc zero) h k = absurd (omega arith)
-from_six P a b c d e f g i (suc (suc zero)) h k = absurd (omega arith)
-from_six P a b c d e f g i (suc (suc (suc zero))) h k = absurd (omega arith)
-from_six P a b c d e f g i (suc (suc (suc (suc zero)))) h k = absurd (omega arith)
-from_six P a b c d e f g i (suc (suc (suc (suc (suc zero))))) h k = absurd (omega arith)
-from_six P a b c d e f g i (suc (suc (suc (suc (suc (suc zero)))))) h k = a
-from_six P a b c d e f g i (suc (suc (suc (suc (suc (suc (suc zero))))))) h k = b
-from_six P a b c d e f g i (suc (suc (suc (suc (suc (suc (suc (suc zero)))))))) h k = c
-from_six P a b c d e f g i (suc (suc (suc (suc (suc (suc (suc (suc (suc zero))))))))) h k = d
-from_six P a b c d e f g i (suc (suc (suc (suc (suc (suc (suc (suc (suc (suc zero)))))))))) h k = e
-from_six P a b c d e f g i (suc (suc (suc (suc (suc (suc (suc (suc (suc (suc (suc zero))))))))))) h k = f
-from_six P a b c d e f g i (suc (suc (suc (suc (suc (suc (suc (suc (suc (suc (suc (suc zero)))))))))))) h k = g
-from_six P a b c d e f g i (suc (suc (suc (suc (suc (suc (suc (suc (suc (suc (suc (suc (suc zero))))))))))))) h k = i
-from_six P a b c d e f g i (suc (suc (suc (suc (suc (suc (suc (suc (suc (suc (suc (suc (suc (suc n)))))))))))))) h k = absurd (omega arith)

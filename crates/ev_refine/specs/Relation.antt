@@ -18,10 +18,11 @@ use Rattle.ev_apic.specs.declared.inbox.Inbox.{Inbox}
 use Rattle.ev_apic.specs.Vectors.{vectors_of}
 use Rattle.ev_listing.specs.AddressMap.{pcpu, slot_offset, record_address, user_table, idt_base, cells_base, task_words, fred_page, code_end}
 use Rattle.ev_abstract.specs.Boundary.{is_nmi_body}
-use Rattle.ev_abstract.specs.Context.{BodyContext, CallId}
-use Rattle.ev_abstract.specs.Machine.{Machine, processor, CallRecord, CallState, Free, Queued, Taken}
+use Rattle.ev_abstract.specs.Context.{BodyContext}
+use Rattle.ev_abstract.specs.Machine.{Machine, processor}
 use Rattle.ev_abstract.specs.Machine as abstract
 use Rattle.ev_abstract.specs.Run.{item_at}
+use Rattle.ev_calls.specs.Records.{RecordIs, Linked}
 use Rattle.ev_law.specs.Bases.{HasBases}
 use Rattle.ev_law.specs.Legal.{Legal}
 use Rattle.ev_concrete.specs.Opening.{listings, code_of, opening_word, tasks_of, regions}
@@ -52,17 +53,6 @@ pub data IsFixed (a : ℕ) : Type 0 where
   InTasks : task_words 0 0 ≤ a → a < task_words 0 0 + 0x100 * 32 → IsFixed a
   InCode : fred_page ≤ a → IsFixed a
   InArea : (p o : ℕ) → p < 32 → IsUnwritten o → a ≡ pcpu p + o → IsFixed a
-
--- the words of a call record: its number, and whether it is in use, with what is called
-abbrev pub RecordIs : NatMap ℕ → ℕ → CallRecord → CallState → Type 0
-RecordIs words a r Free = words a ≡ 0
-RecordIs words a r Queued = (words a ≡ 1) × (words (a + 0x10) ≡ r.arg) × (words (a + 0x38) ≡ r.func)
-RecordIs words a r Taken = (words a ≡ 1) × (words (a + 0x10) ≡ r.arg) × (words (a + 0x38) ≡ r.func)
-
--- call records linked from an address, in this order
-abbrev pub Linked : NatMap ℕ → ℕ → List CallId → Type 0
-Linked words a [] = a ≡ 0
-Linked words a (k ∷ ks) = (k.from < 32) × (k.site < 8) × (a ≡ record_address k.from k.site) × Linked words (words (a + 0x18)) ks
 
 module _ (mode : Mode) (image : Image) where
   -- ---- a processor's contexts

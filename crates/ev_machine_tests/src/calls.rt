@@ -1,0 +1,47 @@
+// A call record's words, each at its place.
+
+use ev_calls::{RecordView, call_view};
+use ev_mem::{Mem, Region, RegionKind, Who};
+
+#[test]
+fn words_of_a_record(rt: HostRuntime) {
+    let area = Region {
+        base: 0xffff_8880_0001_0000,
+        words: 0x2000,
+        kind: RegionKind::Kernel,
+    };
+    let Ok(mut mem) = Mem::new(rt.alloc(), &[area], &[]) else {
+        panic!(rt; "no memory");
+    };
+    let kernel = Who {
+        cpl: 0,
+        fetch: false,
+    };
+    // Site 3 of processor 1; the function's address and the link are no part of the view.
+    let words = [1, 0xffff_ffff_8202_0000, 0x77, 0x1234, 0x1_0000_0001, 5, 0x103, 6];
+    let mut address = 0xffff_8880_0001_08c0;
+    for word in words {
+        assert_eq!(rt; mem.store(address, word, kernel), Ok(()));
+        address += 8;
+    }
+    let queued = RecordView {
+        used: true,
+        from: 1,
+        func: 6,
+        site: 3,
+        number: 5,
+        arg: 0x77,
+    };
+    assert_eq!(rt; call_view(&mem, 1, 3), queued);
+    let untouched = RecordView {
+        used: false,
+        from: 0,
+        func: 0,
+        site: 0,
+        number: 0,
+        arg: 0,
+    };
+    for (from, site) in [(1, 2), (1, 4), (0, 3), (31, 7)] {
+        assert_eq!(rt; call_view(&mem, from, site), untouched, "site {site} of {from}");
+    }
+}
