@@ -26,9 +26,9 @@ use Rattle.ev_listing.specs.AddressMap.{user_table, kernel_table, no_body}
 use Rattle.ev_concrete.specs.Opening.{body_address}
 use Rattle.ev_concrete.specs.ConcreteRun.{System, marks_of, arrived_at, concrete_line, concrete_run}
 use Rattle.ev_built.specs.Built.{line_is_built}
-use Rattle.ev_refine.specs.Relation.{InTables}
-use Rattle.ev_refine.proofs.UserBody.{user_word_is}
-use Rattle.ev_refine.proofs.BodyTables.{kernel_word_is}
+use Rattle.ev_relation.specs.Relation.{InTables}
+use Rattle.ev_relation.proofs.UserBody.{user_word_is}
+use Rattle.ev_body_steps.proofs.BodyTables.{kernel_word_is}
 use Rattle.ev_refine.proofs.Refine.{arrivals_stand}
 use Rattle.ev_core.specs.State.{Parts, Shows, local_of}
 use Rattle.ev_core.specs.Run.{MachineView, IsRun, IsStandingAs}

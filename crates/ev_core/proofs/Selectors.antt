@@ -9,7 +9,7 @@ use Rattle.ev_abstract.specs.Machine.{no_task}
 use Rattle.ev_state.specs.Descriptors.{base_of}
 use Rattle.ev_listing.specs.AddressMap.{task_selector}
 use Rattle.ev_concrete.specs.Opening.{tasks_of, descriptors_of, all_descriptors}
-use Rattle.ev_refine.proofs.Domains.{four_tasks}
+use Rattle.ev_relation.proofs.Domains.{four_tasks}
 
 -- the base of task i of these, if there is one
 abbrev given_base : List TaskSpec → ℕ → Option ℕ

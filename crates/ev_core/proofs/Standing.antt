@@ -19,10 +19,12 @@ use Rattle.ev_concrete.specs.ConcreteRun.{System, Marks, marks_of, is_visible, c
 use Rattle.ev_concrete.specs.Depth.{bodies_on}
 use Rattle.ev_concrete.specs.LiveWords.{area_bytes}
 use Rattle.ev_concrete.specs.Opening.{tasks_of, control}
-use Rattle.ev_refine.specs.Tasks.{IsSaved}
-use Rattle.ev_refine.proofs.Saved.{registers_saved}
-use Rattle.ev_refine.specs.Claims.{Settles, Tells}
-use Rattle.ev_refine.proofs.Refine.{all_settle, tells}
+use Rattle.ev_relation.specs.Tasks.{IsSaved}
+use Rattle.ev_relation.proofs.Saved.{registers_saved}
+use Rattle.ev_relation.specs.Told.{Tells}
+use Rattle.ev_refine.specs.Claims.{Settles}
+use Rattle.ev_relation.proofs.Laws.{tells}
+use Rattle.ev_refine.proofs.Refine.{all_settle}
 use Rattle.ev_layout.specs.Marks.{marks_in}
 use Rattle.ev_core.specs.State.{Parts, Shows, CanStep, EdgesTell, local_of}
 use Rattle.ev_core.specs.Run.{MachineView, IsStandingAs, IsStanding}

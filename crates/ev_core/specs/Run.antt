@@ -10,7 +10,7 @@ use Rattle.ev_abstract.specs.Script.{IsScript}
 use Rattle.ev_abstract.specs.declared.script_line.Line.{Line}
 use Rattle.ev_concrete.specs.ConcreteRun.{System, marks_of, concrete_run}
 use Rattle.ev_built.specs.Built.{IsBuilt, mode_is_built, line_is_built}
-use Rattle.ev_refine.specs.Relation.{Stands}
+use Rattle.ev_relation.specs.Relation.{Stands}
 use Rattle.ev_layout.specs.KeptCode.{KeptCode}
 use Rattle.ev_layout.specs.Marks.{marks_in}
 use Rattle.ev_core.specs.State.{Parts, Shows}

@@ -8,8 +8,8 @@ use Rattle.ev_isa.specs.declared.mode.Mode.{Mode}
 use Rattle.ev_body.specs.declared.image.Image.{Image}
 use Rattle.ev_concrete.specs.ConcreteRun.{System}
 use Rattle.ev_concrete.specs.Opening.{tasks_of}
-use Rattle.ev_refine.proofs.Domains.{four_tasks}
-use Rattle.ev_refine.proofs.Refine.{tells}
+use Rattle.ev_relation.proofs.Domains.{four_tasks}
+use Rattle.ev_relation.proofs.Laws.{tells}
 use Rattle.ev_core.specs.Run.{MachineView, IsStandingAs}
 use Rattle.ev_core.specs.Task.{IsTaskView}
 use Rattle.ev_core.specs.declared.task_view.TaskView.{TaskView}

@@ -21,36 +21,21 @@ use Rattle.ev_abstract.specs.Machine.{opening, processor, no_task, task_at_start
 use Rattle.ev_concrete.specs.ConcreteRun.{opening_system}
 use Rattle.ev_concrete.specs.Opening.{Placed, opening_word, word_there, pcpu_word, stack_word, below_top, saved_words, within, tasks_of, opening_cpu}
 use Rattle.ev_user.specs.Tasks.{IsTask, level_zero}
-use Rattle.ev_refine.specs.Tasks.{order, IsSaved, TssIs, CurrentIs}
-use Rattle.ev_refine.specs.Nmi.{Held, Plain}
+use Rattle.ev_relation.specs.Tasks.{order, IsSaved, TssIs, CurrentIs}
+use Rattle.ev_relation.specs.Nmi.{Held, Plain}
 use Rattle.ev_user.specs.Sees.{IsUserWord}
 use Rattle.ev_user.specs.Words.{AreWords, HoldsWords}
 use Rattle.ev_user.proofs.Opened.{opening_sees}
 use Rattle.ev_symbolic.proofs.Values.{and_left, and_right}
-use Rattle.ev_refine.specs.Domain.{IsInDomain}
-use Rattle.ev_refine.specs.Relation.{Shares, Stands, StandsOn, first_word}
+use Rattle.ev_relation.specs.Domain.{IsInDomain}
+use Rattle.ev_relation.specs.Relation.{Shares, Stands, StandsOn, first_word}
 use Rattle.ev_law.proofs.Runs.{opening_is_legal}
 use Rattle.ev_law.proofs.Bases.{opening_has_bases}
 use Rattle.ev_user.proofs.KeepsNumbers.{opening_holds_numbers}
-use Rattle.ev_refine.proofs.Domains.{HasTasks, has_tasks}
+use Rattle.ev_relation.proofs.Areas.{opening_area, words_map}
+use Rattle.ev_relation.proofs.NoVectors.{no_words, zero_words, no_vector, none_served}
+use Rattle.ev_relation.proofs.Domains.{HasTasks, has_tasks}
 use Rattle.ev_user.proofs.Follows.{low_canonical}
-
--- ---- words of a processor's area, by their offsets o
-
-pub opening_area : (es : Placed) (mode : Mode) (image : Image) (p o : ℕ) → p < image.processors → image.processors ≤ 8 → o < 0x10000 → o % 8 ≡ 0
-    → opening_word es mode image (pcpu p + o) ≡ pcpu_word p o
-unfolding opening_word word_there
-opening_area es mode image p o hp few lt al =
-    let a : ℕ = pcpu p + o in
-    let aligned : is_aligned a ≡ true = eq-eqb (a % 8) 0 (omega arith) in
-    let upper : nat_lt a (2 ^ 63) ≡ false = le-ltb a (2 ^ 63) (omega arith) in
-    let code : nat_le fred_page a ≡ false = lt-leb fred_page a (omega arith) in
-    let stacks : nat_le (stack_top 0 0 - 0x4000) a ≡ false = lt-leb (stack_top 0 0 - 0x4000) a (omega arith) in
-    let from : nat_le (pcpu 0) a ≡ true = le-leb (pcpu 0) a (omega arith) in
-    let to : nat_lt a (pcpu 0 + 0x10000 * image.processors) ≡ true = lt-ltb a (pcpu 0 + 0x10000 * image.processors) (omega arith) in
-    let number : (a - pcpu 0) / 0x10000 ≡ p = omega arith in
-    let offset : a % 0x10000 ≡ o = omega arith in
-    rw (aligned, upper, code, stacks, from, to) (λ i. pcpu_word (number i) (offset i))
 
 -- ---- words of stacks, d bytes below the top
 
@@ -75,16 +60,6 @@ saved_word es mode image p n d few hp waits there small some most al =
     rw (aligned, upper, code, from, to) (λ i. stack_word mode image (number i) (stack i) (below i))
     ∙ ap (λ b. if b && nat_lt n (length (tasks_of image p)) then below_top (saved_words mode (get_or (tasks_of image p) n no_task)) d else 0) one
     ∙ ap (λ b. if b then below_top (saved_words mode (get_or (tasks_of image p) n no_task)) d else 0) is
-
--- the words from an address up
-pub words_map : (m : NatMap ℕ) (ws : List ℕ) (a : ℕ) → a + 8 * length ws < 2 ^ 64 → ((k : ℕ) → k < length ws → m (a + 8 * k) ≡ get_or ws k 0)
-    → map m (addresses a (length ws)) ≡ ws
-words_map m [] a h f = refl
-words_map m (w ∷ ws) a h f =
-    let next : wrap (a + 8) ≡ a + 8 = omega arith in
-    (λ i. (ap m (let e : a ≡ a + 8 * 0 = omega arith in e) ∙ f 0 (omega arith)) i ∷ map m (addresses (next i) (length ws)))
-    ∙ ap (λ xs. w ∷ xs) (words_map m ws (a + 8) (omega arith)
-    (λ k l. ap m (let e : a + 8 + 8 * k ≡ a + 8 * suc k = omega arith in e) ∙ f (suc k) (omega arith)))
 
 -- ---- words of user code, pages and cells
 
@@ -207,29 +182,6 @@ record_zero p k r hk h =
     zero_at : (r ≡ 0) ⊎ (r ≡ 0x28) → (if r == 0x20 then p else (if r == 0x30 then (0x800 + 0x40 * k + r - 0x800) / 0x40 else 0)) ≡ 0
     zero_at (inl e) = ap (λ q. if q == 0x20 then p else (if q == 0x30 then (0x800 + 0x40 * k + r - 0x800) / 0x40 else 0)) e
     zero_at (inr e) = ap (λ q. if q == 0x20 then p else (if q == 0x30 then (0x800 + 0x40 * k + r - 0x800) / 0x40 else 0)) e
-
--- ---- no vectors
-
-abbrev no_words : List ℕ
-no_words = 0 ∷ 0 ∷ 0 ∷ 0 ∷ []
-
-zeros : (n : ℕ) → get_or no_words n 0 ≡ 0
-zeros zero = refl
-zeros (suc zero) = refl
-zeros (suc (suc zero)) = refl
-zeros (suc (suc (suc zero))) = refl
-zeros (suc (suc (suc (suc n)))) = refl
-
-pub zero_words : (i : ℕ) → get_or no_words i 0 < 2 ^ 64
-zero_words i = let z = zeros i in omega arith
-
-pub no_vector : (v : ℕ) → vectors_of no_words v ≡ false
-no_vector v = ap (bit (v % 64)) (zeros (v / 64)) ∙ ap (λ q. q % 2 == 1) (zero-div (2 ^ (v % 64)))
-
-none_served : (class : ℕ) (vs : List ℕ) → list_any (λ v. vectors_of no_words v && (v / 16 == class)) vs ≡ false
-none_served class [] = refl
-none_served class (v ∷ vs) = ap (λ b. (b && (v / 16 == class)) || list_any (λ v. vectors_of no_words v && (v / 16 == class)) vs) (no_vector v)
-    ∙ none_served class vs
 
 -- ---- the first task
 

@@ -12,17 +12,17 @@ use Rattle.ev_abstract.specs.Script.{is_line}
 use Rattle.ev_abstract.specs.declared.script_line.Line.TheVariants.{Arrive, Accept}
 use Rattle.ev_concrete.specs.ConcreteRun.{System, arrived_at, accept_mail}
 use Rattle.ev_built.specs.Built.{IsBuilt}
-use Rattle.ev_refine.specs.Relation.{Stands}
-use Rattle.ev_refine.specs.Claims.{Simulated, Refines, Opens, AllSettle, KeepsSettled, TurnsFollow, RunsFollow, EndsFollow, RunsAreSafe, StandsTells}
-use Rattle.ev_refine.proofs.Facts.{Facts}
-use Rattle.ev_refine.proofs.CodeFacts.{facts}
-use Rattle.ev_refine.proofs.User.{user_turn}
-use Rattle.ev_refine.proofs.Kernel.{kernel_step}
-use Rattle.ev_refine.proofs.Visible.{stays_visible}
+use Rattle.ev_relation.specs.Relation.{Stands}
+use Rattle.ev_relation.specs.Step.{Simulated}
+use Rattle.ev_refine.specs.Claims.{Refines, Opens, AllSettle, TurnsFollow, RunsFollow, EndsFollow, RunsAreSafe}
+use Rattle.ev_relation.proofs.Facts.{Facts}
+use Rattle.ev_relation.proofs.CodeFacts.{facts}
+use Rattle.ev_task_steps.proofs.User.{user_turn}
+use Rattle.ev_body_steps.proofs.Kernel.{kernel_step}
+use Rattle.ev_relation.proofs.Laws.{keeps_settled}
 use Rattle.ev_refine.proofs.Runs as runs
-use Rattle.ev_refine.proofs.Arrivals.{arrival_stands, acceptance_stands}
+use Rattle.ev_relation.proofs.Arrivals.{arrival_stands, acceptance_stands}
 use Rattle.ev_refine.proofs.Opens as opening
-use Rattle.ev_refine.proofs.Tells as telling
 
 module _ (mode : Mode) (image : Image) (built : IsBuilt image) (given : IsImage image) where
   pub simulates : (left : NatMap ℕ) (s : System) (m : Machine) → Stands mode image left s m → (p : ℕ) → p < image.processors → Simulated mode image left s m p
@@ -40,10 +40,6 @@ refines mode image built h given left s m r p lt = simulates mode image built gi
 
 pub opens : Opens
 opens mode image built h given = opening.opens mode image given
-
-pub keeps_settled : KeepsSettled
-keeps_settled mode image built h given left s m r p q lt lt' differ hidden =
-    stays_visible mode image (facts mode image given built) left s m r image.processors p q lt' (ne_eqb q p (λ e. differ (sym e)))
 
 pub all_settle : AllSettle
 all_settle mode image built h given left s m r p lt =
@@ -78,6 +74,3 @@ ends_follow mode image built h given script i b q lt =
 pub runs_are_safe : RunsAreSafe
 runs_are_safe mode image built h given script i b q lt p lt' k =
     let r = ends_follow mode image built h given script i b q lt in (all_settle mode image built h given r.left _ _ r.stands p lt').safe k
-
-pub tells : StandsTells
-tells mode image built h given left s m r p lt = telling.stands_tells mode image given built.accepted (facts mode image given built) left s m r p lt

@@ -21,8 +21,9 @@ use Rattle.ev_proc.specs.ProcessorStep.{After, step}
 use Rattle.ev_proc.specs.declared.stepped.Stepped.{Stepped}
 use Rattle.ev_concrete.specs.ConcreteRun.{System, Marks, marks_of, is_visible, acted, after_step, concrete_step, edges, with_frames, settled, all_settled, concrete_line, concrete_lines, arrived_at, accept_mail}
 use Rattle.ev_built.specs.Built.{line_is_built}
-use Rattle.ev_refine.specs.Relation.{Stands}
-use Rattle.ev_refine.specs.Claims.{EdgeWrites, MakesEdge, MakesTurn, Simulated, Settles, Turns, SettledFirst}
+use Rattle.ev_relation.specs.Relation.{Stands}
+use Rattle.ev_relation.specs.Step.{EdgeWrites, MakesEdge, MakesTurn, Simulated}
+use Rattle.ev_refine.specs.Claims.{Settles, Turns, SettledFirst}
 
 one : (b : Bool) (c : Bool) → (b && c) ≡ true → b ≡ true
 one true c h = refl

@@ -2,22 +2,19 @@
 //! theorem, over every step of a processor at any instruction.
 #![tactic(auto)]
 
-ghost use Rattle.ev_refine.specs.Claims.{Refines, Opens, AllSettle, KeepsSettled, TurnsFollow, RunsFollow, EndsFollow, RunsAreSafe, StandsTells};
+ghost use Rattle.ev_refine.specs.Claims.{Refines, Opens, AllSettle, TurnsFollow, RunsFollow, EndsFollow, RunsAreSafe};
 
 /// From related states, each step of a processor of the concrete machine writes over no live word,
 /// and is an edge, with the abstract state as it was, or visible, and the abstract machine makes
 /// one step with the entries that the concrete one shows. The openings are related. So are the
 /// states after any number of edges, of which few come one after the other and at most one writes a
-/// frame, after a turn, after a script, and after its end. An edge of one processor leaves another
-/// settled. No step of a run writes over a live word.
+/// frame, after a turn, after a script, and after its end. No step of a run writes over a live word.
 pub fn refinement()
     ensures step { Refines }
     ensures opening { Opens }
     ensures edges { AllSettle }
-    ensures others { KeepsSettled }
     ensures turns { TurnsFollow }
     ensures scripts { RunsFollow }
     ensures ends { EndsFollow }
     ensures safe { RunsAreSafe }
-    ensures tells { StandsTells }
 {}

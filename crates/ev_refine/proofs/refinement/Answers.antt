@@ -1,4 +1,4 @@
-use Rattle.ev_refine.proofs.Refine.{refines, opens, all_settle, keeps_settled, turns_follow, runs_follow, ends_follow, runs_are_safe, tells}
+use Rattle.ev_refine.proofs.Refine.{refines, opens, all_settle, turns_follow, runs_follow, ends_follow, runs_are_safe}
 use Rattle.ev_refine.proofs.refinement.Goals as goal
 
 pub returns : goal.returns
@@ -6,10 +6,8 @@ returns c = record {
   step = refines;
   opening = opens;
   edges = all_settle;
-  others = keeps_settled;
   turns = turns_follow;
   scripts = runs_follow;
   ends = ends_follow;
   safe = runs_are_safe;
-  tells = tells;
 }

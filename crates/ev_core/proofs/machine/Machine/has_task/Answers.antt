@@ -1,7 +1,7 @@
 use Rattle.std.proofs.Common.{◌<◌, ap, sym, ◌∙◌, subst, arith}
 use Rattle.std.proofs.lemmas.Bool.{le-ltb}
 use Rattle.std.specs.Prelude.{is_some}
-use Rattle.ev_refine.proofs.Domains.{four_tasks}
+use Rattle.ev_relation.proofs.Domains.{four_tasks}
 use Rattle.ev_core.specs.Run.{MachineView}
 use Rattle.ev_core.specs.declared.machine.Machine.TheInside.{Inside}
 use Rattle.ev_core.proofs.Parts.{read_cpu}

@@ -1,0 +1,9 @@
+pub mod UserStep
+pub mod UserPlain
+pub mod Live
+pub mod UserSafe
+pub mod Raising
+pub mod RaisingFred
+pub mod RaisingIdt
+pub mod SystemCallIdt
+pub mod User
