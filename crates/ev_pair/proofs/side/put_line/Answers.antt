@@ -16,8 +16,9 @@ use Rattle.ev_core.specs.Run.{IsRun}
 use Rattle.ev_pair.specs.SideText.{shown_line}
 use Rattle.ev_pair.proofs.side.put_line.Goals as goal
 
-pub returns-in_default-line : goal.returns-in_default-line
-returns-in_default-line g c = absurd (no_stops c.args.line.now c.requires.built c.in_default.not-Arrive c.in_default-1.not-Accept c.in_default-line.not-Turn)
+pub returns-in_default-line-2 : goal.returns-in_default-line-2
+returns-in_default-line-2 g c =
+    absurd (no_stops c.args.line.now c.requires.built c.in_default.not-Arrive c.in_default-line.not-Accept c.in_default-line-2.not-Turn)
 
 pub turn-turned-requires-clause-place : goal.turn-turned-requires-clause-place
 turn-turned-requires-clause-place g c = ltb-true c.in-Turn.p _ (ap (is_within _) (sym c.in-Turn.is) ∙ c.requires.within)
