@@ -12,6 +12,7 @@ pub record IsAcceptedWith (image : Image) (bound : ℕ) : Type 0 where
   pub is_bound : IsBound image bound
   pub fits : bound ≤ image.nest
 
+-- all rules hold, with some bound
 abbrev pub IsAccepted : Image → Type 0
 IsAccepted image = (bound : ℕ) × IsAcceptedWith image bound
 
@@ -20,5 +21,6 @@ abbrev pub FirstRefusal : Image → Option Refusal → Refusal → Type 0
 FirstRefusal image (Some r) refusal = refusal ≡ r
 FirstRefusal image None refusal = (bound : ℕ) × IsBound image bound × (image.nest < bound) × (refusal ≡ DeepNesting bound image.nest)
 
+-- the refusal by the first rule that does not hold
 abbrev pub IsFirstRefusal : Image → Refusal → Type 0
 IsFirstRefusal image refusal = FirstRefusal image (rules image) refusal

@@ -8,6 +8,7 @@ use Rattle.ev_body.specs.Bodies.{key_number}
 use Rattle.ev_abstract.specs.Context.{BodyContext}
 use Rattle.ev_abstract.specs.Machine.{Processor}
 
+-- whether the body has the key of this number
 abbrev pub has_key : ℕ → Option Body → Bool
 has_key key None = false
 has_key key (Some b) = key_number b.key == key
@@ -30,17 +31,21 @@ outranks vector (Some class) = nat_lt class (vector / 16)
 abbrev pub deliverable : Processor → NatSet
 deliverable x v = x.pending v && list_all (λ c. outranks v c.service) x.bodies
 
+-- What a processor does at a boundary: it takes an NMI or an interrupt, or goes on.
 pub data Choice : Type 0 where
   Nmi : Choice
   Interrupt : (vector : ℕ) → Choice
   Next : Choice  -- the next instruction or item of the last context
 
+-- the interrupt, if there is one to take
 abbrev pub interrupt_or_next : Option ℕ → Choice
 interrupt_or_next None = Next
 interrupt_or_next (Some v) = Interrupt v
 
+-- the choice where no NMI comes: the greatest vector that may come, where interrupts are open
 abbrev pub maskable : Processor → Choice
 maskable x = if open_to_interrupts x.bodies then interrupt_or_next (greatest_below 256 (deliverable x)) else Next
 
+-- An NMI comes first, unless one of its bodies stands; then interrupts.
 unfoldable pub choice : Image → Processor → Choice
 choice image x = if x.nmi && not (list_any (is_nmi_body image) x.bodies) then Nmi else maskable x

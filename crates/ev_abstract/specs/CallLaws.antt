@@ -9,6 +9,7 @@ unfoldable pub is_call : ℕ → ℕ → ℕ → Entry → Bool
 is_call from site number (Call p s n to func arg) = (p == from) && (s == site) && (n == number)
 is_call from site number _ = false
 
+-- whether the entry says that this call ran
 unfoldable pub is_ran : ℕ → ℕ → ℕ → Entry → Bool
 is_ran from site number (Ran p f s n) = (f == from) && (s == site) && (n == number)
 is_ran from site number _ = false
@@ -27,6 +28,7 @@ abbrev pub IsRunBeforeItIsDone : List Entry → Type 0
 IsRunBeforeItIsDone trace = (before rest : List Entry) (p site number : ℕ) → 0 < number → trace ≡ before ++ Done p site number ∷ rest
     → list_any (is_ran p site number) before ≡ true
 
+-- what is promised of the calls in a trace
 pub record KeepsCalls (trace : List Entry) : Type 0 where
   pub once : RunsAtMostOnce trace
   pub queued : IsQueuedBeforeItRuns trace

@@ -10,15 +10,18 @@ use Rattle.ev_body.specs.Bodies.{covers, body_items}
 use Rattle.ev_body.specs.declared.key.Key.TheVariants.{Nmi, Pf, Irq}
 use Rattle.ev_body.specs.declared.item.Item.TheVariants.{Uget, Uput, Sti}
 
+-- the item that raises a breakpoint
 unfoldable pub is_breakpoint : Item → Bool
 is_breakpoint Item.Bp = true
 is_breakpoint _ = false
 
+-- the items that can raise a page fault
 unfoldable pub is_user_access : Item → Bool
 is_user_access (Uget d s) = true
 is_user_access (Uput s t) = true
 is_user_access _ = false
 
+-- the item that sets IF
 unfoldable pub is_sti : Item → Bool
 is_sti Sti = true
 is_sti _ = false
@@ -27,6 +30,7 @@ is_sti _ = false
 abbrev pub has_item : (Item → Bool) → Body → Bool
 has_item test b = list_any test (body_items b)
 
+-- the key of NMIs
 unfoldable pub is_nmi : Key → Bool
 is_nmi Nmi = true
 is_nmi _ = false
@@ -55,6 +59,7 @@ abbrev pub cons_body : Option Body → List Body → List Body
 cons_body None bs = bs
 cons_body (Some b) bs = b ∷ bs
 
+-- the bodies of these numbers
 abbrev pub bodies_of : Image → List ℕ → List Body
 bodies_of image [] = []
 bodies_of image (n ∷ ns) = cons_body (slice_get image.bodies n) (bodies_of image ns)

@@ -8,6 +8,7 @@ pub record CallId : Type 0 where
   pub from : ℕ
   pub site : ℕ
 
+-- A body that was entered and has not returned, with its own locals, flags and calls.
 pub record BodyContext : Type 0 where
   pub body : ℕ  -- the body's number
   pub side : Side  -- User or Kernel
@@ -22,11 +23,14 @@ pub record BodyContext : Type 0 where
 abbrev pub local : BodyContext → ℕ → ℕ
 local c r = get_or c.locals (r - 6) 0
 
+-- the context in which local r holds v; locals are registers from number 6 on
 abbrev pub with_local : BodyContext → ℕ → ℕ → BodyContext
 with_local c r v = record c { locals = set c.locals (r - 6) v }
 
+-- the context at its next item
 abbrev pub onward : BodyContext → BodyContext
 onward c = record c { place = suc c.place }
 
+-- the context at item n
 abbrev pub at_place : BodyContext → ℕ → BodyContext
 at_place c n = record c { place = n }

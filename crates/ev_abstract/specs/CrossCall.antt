@@ -13,12 +13,15 @@ use Rattle.ev_abstract.specs.Machine.{CallState, Queued, Taken, CallRecord, Mach
 abbrev pub record_of : Machine → CallId → CallRecord
 record_of m k = (processor m k.from).records k.site
 
+-- the machine in which the record of a call is r
 abbrev pub with_record : Machine → CallId → CallRecord → Machine
 with_record m k r = with_processor m k.from (record (processor m k.from) { records = put_at (processor m k.from).records k.site r })
 
+-- the record in another state
 abbrev pub in_state : CallRecord → CallState → CallRecord
 in_state r s = record r { state = s }
 
+-- the machine in which the queue of p is this
 abbrev pub with_queue : Machine → ℕ → List CallId → Machine
 with_queue m p queue = with_processor m p (record (processor m p) { queue = queue })
 
@@ -26,6 +29,7 @@ with_queue m p queue = with_processor m p (record (processor m p) { queue = queu
 abbrev pub queued : Machine → CallId → CallRecord → Machine
 queued m k r = let m' : Machine = with_record m k r in with_queue m' r.to ((processor m' r.to).queue ++ k ∷ [])
 
+-- the record of the next call of a site
 abbrev pub new_record : CallRecord → ℕ → ℕ → ℕ → CallRecord
 new_record r to func arg = record { number = suc r.number; to = to; func = func; arg = arg; state = Queued }
 
@@ -45,10 +49,12 @@ take_place n [] = n
 take_place n (Take ∷ items) = n
 take_place n (item ∷ items) = take_place (suc n) items
 
+-- the place behind `take` in the body that takes calls
 abbrev pub after_take : Option Body → ℕ
 after_take None = 0
 after_take (Some b) = suc (take_place 0 (body_items b))
 
+-- the place at which a function begins in that body
 abbrev pub start_of : Option Body → ℕ → ℕ
 start_of None func = 0
 start_of (Some b) func = function_start b func

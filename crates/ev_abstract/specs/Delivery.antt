@@ -46,6 +46,7 @@ abbrev pub side_of : List BodyContext → Side
 side_of [] = User
 side_of (c ∷ below) = Kernel
 
+-- the RIP that an entry shows: of user code alone
 abbrev pub shown_rip : List BodyContext → Task → Option ℕ
 shown_rip [] t = Some t.rip
 shown_rip (c ∷ below) t = None
@@ -62,6 +63,7 @@ entered p x e side (Some n) bodies = with_body (slice_get bodies n)
       Enter p b.key e.kind side (suc (length x.bodies)) e.error e.info (shown_rip x.bodies (task x)) ∷ [],
     )
 
+-- an event is delivered: the body of its key and side is entered
 unfoldable pub delivered : Image → ℕ → Processor → Event → Processor × List Entry
 delivered image p x e = let side : Side = side_of x.bodies in
     entered p x e side (first_body 0 image.bodies (event_key e.kind e.vector) side) image.bodies
@@ -70,6 +72,7 @@ delivered image p x e = let side : Side = side_of x.bodies in
 abbrev pub nmi_delivered : Image → ℕ → Processor → Processor × List Entry
 nmi_delivered image p x = delivered image p (record x { nmi = false }) nmi_event
 
+-- the same of an interrupt, which is pending no longer
 abbrev pub interrupt_delivered : Image → ℕ → Processor → ℕ → Processor × List Entry
 interrupt_delivered image p x v = delivered image p (record x { pending = put_at x.pending v false }) (interrupt_event v)
 
@@ -89,6 +92,7 @@ abbrev pub switched : Processor → List ℕ → Processor
 switched x [] = x
 switched x (t ∷ ts) = record x { running = t; waiting = ts }
 
+-- the next task runs, and the running one waits behind all others
 abbrev pub rescheduled : Processor → Processor
 rescheduled x = switched (record x { resched = false }) (x.waiting ++ x.running ∷ [])
 

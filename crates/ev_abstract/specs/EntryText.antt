@@ -17,6 +17,7 @@ use Rattle.ev_abstract.specs.Machine.{Processor, Machine, processor}
 abbrev pub Text : Type 0
 Text = List ℕ
 
+-- a number in hexadecimal, without leading zeros
 abbrev pub hex : ℕ → Text
 hex n = digits 16 false n
 
@@ -26,6 +27,7 @@ words [] = []
 words (w ∷ []) = w
 words (w ∷ v ∷ ws) = w ++ 32 ∷ words (v ∷ ws)
 
+-- the name of a key
 unfoldable pub key_text : Key → Text
 key_text Sys = codes "sys"
 key_text Db = codes "db"
@@ -38,11 +40,13 @@ key_text Pf = codes "pf"
 key_text Ac = codes "ac"
 key_text (Irq v) = codes "irq" ++ hex v
 
+-- the name of a side
 unfoldable pub side_text : Side → Text
 side_text User = codes "user"
 side_text Kernel = codes "kernel"
 side_text Both = codes "both"
 
+-- the RIP of user code, or a dash
 abbrev pub rip_text : Option ℕ → Text
 rip_text None = codes "-"
 rip_text (Some rip) = hex rip
@@ -63,6 +67,7 @@ entry_words (Done p site number) = decimal p ∷ codes "done" ∷ decimal site �
 abbrev pub line_text : Text → List Text → Text
 line_text mode ws = words (mode ∷ ws) ++ 10 ∷ []
 
+-- the line of an entry
 abbrev pub entry_text : Text → Entry → Text
 entry_text mode e = line_text mode (entry_words e)
 
@@ -72,6 +77,7 @@ trace_text mode es = flat_map (entry_text mode) es
 
 -- ---- the tasks at the end
 
+-- the names of registers by their numbers
 abbrev pub register_names : List Text
 register_names = codes "rax" ∷ codes "rcx" ∷ codes "rdx" ∷ codes "rbx" ∷ codes "rsp" ∷ codes "rbp" ∷ codes "rsi" ∷ codes "rdi"
     ∷ codes "r8" ∷ codes "r9" ∷ codes "r10" ∷ codes "r11" ∷ codes "r12" ∷ codes "r13" ∷ codes "r14" ∷ codes "r15" ∷ []
@@ -87,6 +93,7 @@ unfoldable pub state_words : ℕ → ℕ → List ℕ → ℕ → ℕ → ℕ �
 state_words p i regs rip flags gs = codes "task" ∷ decimal p ∷ decimal i ∷ codes "rip" ∷ hex rip ∷ codes "flags" ∷ hex flags ∷ codes "gs" ∷ hex gs
     ∷ register_words register_names regs
 
+-- the words of the line of task i of processor p
 abbrev pub task_words : ℕ → ℕ → Task → List Text
 task_words p i t = state_words p i t.regs t.rip (flags_word t.flags) t.gs
 

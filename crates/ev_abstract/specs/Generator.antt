@@ -8,6 +8,7 @@ use Rattle.ev_abstract.specs.Script.{has_body_of}
 use Rattle.ev_abstract.specs.declared.script_line.Line.{Line}
 use Rattle.ev_abstract.specs.declared.script_line.Line.TheVariants.{Turn, Edge, Arrive, Accept}
 
+-- the next state of the generator, a linear congruence modulo 2^64 with Knuth's factor for MMIX
 abbrev pub next_seed : ℕ → ℕ
 next_seed x = (x * 6364136223846793005 + 1442695040888963407) % 2 ^ 64
 
@@ -15,6 +16,7 @@ next_seed x = (x * 6364136223846793005 + 1442695040888963407) % 2 ^ 64
 abbrev pub arriving : Image → List Key
 arriving image = filter (has_body_of image) (Nmi ∷ map Irq (numbers_from 0x20 0xe0))
 
+-- one of the keys arrives; where none can, a turn is made
 abbrev pub arrival : List Key → ℕ → ℕ → Line
 arrival keys p u = if length keys == 0 then Turn p else Arrive p (get_or keys (u % length keys) Nmi)
 
@@ -30,6 +32,7 @@ unfoldable pub made_lines : ℕ → List Key → ℕ → ℕ → List Line
 made_lines n keys x zero = []
 made_lines n keys x (suc count) = let x' : ℕ = next_seed x in made_line n keys (x' / 2 ^ 33) ∷ made_lines n keys x' count
 
+-- the script of so many lines for an image, from a seed
 abbrev pub made_script : Image → ℕ → ℕ → List Line
 made_script image seed count = made_lines image.processors (arriving image) seed count
 

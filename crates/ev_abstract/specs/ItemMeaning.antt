@@ -29,6 +29,7 @@ abbrev pub replace_last : BodyContext → List BodyContext → List BodyContext
 replace_last c [] = c ∷ []
 replace_last c (d ∷ below) = c ∷ below
 
+-- the contexts below the last one
 abbrev pub below_last : List BodyContext → List BodyContext
 below_last [] = []
 below_last (c ∷ below) = below
@@ -37,6 +38,7 @@ below_last (c ∷ below) = below
 abbrev pub with_context : Machine → ℕ → BodyContext → Machine
 with_context m p c = with_processor m p (record (processor m p) { bodies = replace_last c (processor m p).bodies })
 
+-- a step that adds no entry
 abbrev pub silent : Machine → Step
 silent m = (m, [])
 
@@ -48,6 +50,7 @@ done m p c = silent (with_context m p (onward c))
 abbrev pub gives : Machine → ℕ → BodyContext → ℕ → ℕ → Step
 gives m p c d v = done m p (with_local c d v)
 
+-- nothing is known of the flags of the context
 abbrev pub unknown_flags : BodyContext → BodyContext
 unknown_flags c = record c { flags = None }
 
@@ -60,12 +63,15 @@ abbrev pub taken : Cond → Option Status → Bool
 taken cond None = false
 taken cond (Some f) = holds cond f
 
+-- the machine in which the running task of p is t
 abbrev pub with_task_at : Machine → ℕ → Task → Machine
 with_task_at m p t = with_processor m p (with_task (processor m p) t)
 
+-- the machine in which slot k of p holds v
 abbrev pub with_slot : Machine → ℕ → ℕ → ℕ → Machine
 with_slot m p k v = with_processor m p (record (processor m p) { slots = put_at (processor m p).slots k v })
 
+-- the machine in which the shared cell k holds v
 abbrev pub with_cell : Machine → ℕ → ℕ → Machine
 with_cell m k v = record m { cells = put_at m.cells k v }
 
@@ -73,6 +79,7 @@ with_cell m k v = record m { cells = put_at m.cells k v }
 abbrev pub user_address : ℕ → ℕ
 user_address s = bit_and s 0x7ffffffffff8
 
+-- an access to data by the kernel
 abbrev pub kernel_access : Bool → Access
 kernel_access write = record { user = false; write = write; fetch = false }
 
@@ -86,6 +93,7 @@ abbrev pub mailed : Processor → Key → Processor
 mailed x Nmi = record x { mail_nmi = true }
 mailed x key = record x { mail = put_at x.mail (key_number key) true }
 
+-- the machine in which that is mailed to p
 abbrev pub with_mail : Machine → ℕ → Key → Machine
 with_mail m p key = with_processor m p (mailed (processor m p) key)
 
@@ -98,6 +106,7 @@ abbrev pub guarded : Image → Machine → ℕ → ℕ → Option ℕ → Step �
 guarded image m p a None s = s
 guarded image m p a (Some code) s = raised image m p (pf code a)
 
+-- the error code of the page fault of such an access, if it has one
 abbrev pub kernel_fault : Machine → Bool → ℕ → Option ℕ
 kernel_fault m write a = fault_at m.present (kernel_access write) (place_of a)
 
@@ -109,6 +118,7 @@ called m p c k Free to func s =
     (with_context (queued m k r) p (onward (with_local (unknown_flags c) s answer)), Entry.Call p k.site r.number to func r.arg ∷ [])
 called m p c k _ to func s = (with_context m p (onward (with_local (unknown_flags c) s 0)), Entry.Busy p k.site ∷ [])
 
+-- `wait` by the state of its record: it stays until the call is done
 abbrev pub waited : Machine → ℕ → BodyContext → CallId → CallState → Step
 waited m p c k Free = (with_context m p (onward (unknown_flags c)), Entry.Done p k.site (record_of m k).number ∷ [])
 waited m p c k _ = silent (with_context m p (unknown_flags c))

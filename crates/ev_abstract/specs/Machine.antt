@@ -8,6 +8,7 @@ use Rattle.ev_effect.specs.Task.{Task}
 use Rattle.ev_abstract.specs.Context.{CallId, BodyContext}
 use Rattle.ev_isa.specs.Pages.{UserMemory, words_at_start}
 
+-- Whether a call's record can be used, stands in the queue of its target, or is being run by a body there.
 pub data CallState : Type 0 where
   Free Queued Taken : CallState
 
@@ -34,12 +35,14 @@ pub record Processor : Type 0 where
   pub queue : List CallId
   pub records : NatMap CallRecord  -- by call site
 
+-- All processors, and what they share: cells, words of user code, and which data pages are present.
 pub record Machine : Type 0 where
   pub processors : NatMap Processor
   pub cells : NatMap ℕ
   pub words : NatMap ℕ  -- the words of the text and the data pages, by address; a page's words stay while it is absent
   pub present : NatSet  -- the data pages that are present
 
+-- processor p
 abbrev pub processor : Machine → ℕ → Processor
 processor m p = m.processors p
 
@@ -51,6 +54,7 @@ with_processor m p x = record m { processors = put_at m.processors p x }
 abbrev pub task : Processor → Task
 task x = x.tasks x.running
 
+-- the processor whose running task is t
 abbrev pub with_task : Processor → Task → Processor
 with_task x t = record x { tasks = put_at x.tasks x.running t }
 
@@ -60,12 +64,15 @@ user_memory image m = record { text = image.text; present = m.present; words = m
 
 -- ---- the opening
 
+-- the tasks beyond those of the image, which nothing reads
 abbrev pub no_task : TaskSpec
 no_task = record { start = 0; gs = 0; regs = replicate 16 0 }
 
+-- a task of the image as it begins
 abbrev pub task_at_start : TaskSpec → Task
 task_at_start spec = record { regs = spec.regs; rip = spec.start; flags = start_flags; gs = spec.gs }
 
+-- the record of a site that has made no call
 abbrev pub no_call : CallRecord
 no_call = record { number = 0; to = 0; func = 0; arg = 0; state = Free }
 
@@ -86,6 +93,7 @@ processor_at_start specs = record {
   records = λ k. no_call;
 }
 
+-- The machine of an image before the first line of a script.
 unfoldable pub opening : Image → Machine
 opening image = record {
   processors = λ p. processor_at_start (get_or image.tasks p []);

@@ -31,6 +31,7 @@ abbrev pub item_at : Option Body → ℕ → Option Item
 item_at None n = None
 item_at (Some b) n = slice_get (body_items b) n
 
+-- the item at which a context stands, if there is one; in an accepted image there always is
 abbrev pub item_or_nothing : Image → Machine → ℕ → BodyContext → Option Item → Step
 item_or_nothing image m p c None = silent m
 item_or_nothing image m p c (Some item) = item_step image m p c item
@@ -40,6 +41,7 @@ abbrev pub next_step : Image → Machine → ℕ → List BodyContext → Step
 next_step image m p [] = task_step image m p (user_step (user_memory image m) (task (processor m p)))
 next_step image m p (c ∷ below) = item_or_nothing image m p c (item_at (slice_get image.bodies c.body) c.place)
 
+-- the step that was chosen at the boundary
 abbrev pub chosen_step : Image → Machine → ℕ → Choice → Step
 chosen_step image m p Choice.Nmi = delivery m p (nmi_delivered image p (processor m p))
 chosen_step image m p (Interrupt v) = delivery m p (interrupt_delivered image p (processor m p) v)
@@ -49,6 +51,7 @@ chosen_step image m p Next = next_step image m p (processor m p).bodies
 unfoldable pub turn : Image → Machine → ℕ → Step
 turn image m p = chosen_step image m p (choice image (processor m p))
 
+-- an event arrives: an NMI at the latch, an interrupt among those pending
 abbrev pub arrived : Processor → Key → Processor
 arrived x Nmi = record x { nmi = true }
 arrived x key = record x { pending = put_at x.pending (key_number key) true }
@@ -69,6 +72,7 @@ abbrev pub after : Image → Machine → List Line → Machine
 after image m [] = m
 after image m (l ∷ ls) = after image (line_step image m l).0 ls
 
+-- the entries of these lines, one after another, from a machine on
 abbrev pub entries_from : Image → Machine → List Line → List Entry
 entries_from image m [] = []
 entries_from image m (l ∷ ls) = (line_step image m l).1 ++ entries_from image (line_step image m l).0 ls
@@ -77,6 +81,7 @@ entries_from image m (l ∷ ls) = (line_step image m l).1 ++ entries_from image 
 abbrev pub run : Image → List Line → Machine
 run image script = after image (opening image) script
 
+-- the entries of a whole script
 abbrev pub trace : Image → List Line → List Entry
 trace image script = entries_from image (opening image) script
 

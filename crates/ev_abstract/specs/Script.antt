@@ -13,11 +13,13 @@ use Rattle.ev_abstract.specs.declared.script_line.Line.TheVariants.{Turn, Edge, 
 abbrev pub has_body_of : Image → Key → Bool
 has_body_of image key = list_any (λ (b : Body). key_number b.key == key_number key) image.bodies
 
+-- whether a line can stand in a script for the image
 unfoldable pub is_line : Image → Line → Bool
 is_line image (Turn p) = nat_lt p image.processors
 is_line image (Edge p n) = nat_lt p image.processors && nat_le 1 n && nat_le n 4096
 is_line image (Arrive p key) = nat_lt p image.processors && is_sendable key && has_body_of image key
 is_line image (Accept p) = nat_lt p image.processors
 
+-- each line of the script can
 abbrev pub IsScript : Image → List Line → Type 0
 IsScript image script = list_all (is_line image) script ≡ true

@@ -14,6 +14,7 @@ use Rattle.ev_isa.specs.Pages.{Access, fault_at, place_of, UserMemory, text_base
 use Rattle.ev_effect.specs.Task.{Task}
 use Rattle.ev_effect.specs.Effect.{Changed, effect}
 
+-- an access to data by user code
 abbrev pub user_access : Bool → Access
 user_access write = record { user = true; write = write; fetch = false }
 
@@ -22,6 +23,7 @@ pub data UserStep : Type 0 where
   Goes : Task → NatMap ℕ → UserStep
   Raises : (saved : ℕ) → Event → UserStep
 
+-- the step is the effect of an instruction, or what it raises
 abbrev pub step_of : Task → Result Changed Event → UserStep
 step_of t (Ok u) = Goes u.0 u.1
 step_of t (Err e) = Raises t.rip e
@@ -50,6 +52,7 @@ text_bytes text a = take 15 (drop (a - text_base) text ++ replicate 15 0)
 abbrev pub user_view : UserMemory → View
 user_view m = record { fault = λ write a. fault_at m.present (user_access write) (place_of a); words = m.words }
 
+-- the step at RIP, which may be a page fault of the fetch
 abbrev pub fetch_step : UserMemory → Task → Option ℕ → UserStep
 fetch_step m t None = read_step (user_view m) t (reading (text_bytes m.text t.rip))
 fetch_step m t (Some code) = Raises t.rip (pf code t.rip)

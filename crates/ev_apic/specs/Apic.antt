@@ -4,9 +4,11 @@ use Rattle.ev_isa.specs.Word.{NatSet, bit, greatest_below}
 use Rattle.ev_apic.specs.declared.apic.Apic.{Apic}
 use Rattle.ev_apic.specs.Vectors.{vectors_of, with_vector}
 
+-- the vectors that are requested (IRR)
 abbrev pub requested : Apic → NatSet
 requested a = vectors_of a.irr
 
+-- the vectors in service (ISR)
 abbrev pub in_service : Apic → NatSet
 in_service a = vectors_of a.isr
 
@@ -31,6 +33,7 @@ accepted a word bits = record a { irr = set a.irr word (bit_or (get_or a.irr wor
 abbrev pub begun : Apic → ℕ → Apic
 begun a v = record a { irr = with_vector a.irr v false; isr = with_vector a.isr v true }
 
+-- the words without a vector
 abbrev pub without : List ℕ → Option ℕ → List ℕ
 without ws None = ws
 without ws (Some v) = with_vector ws v false
@@ -45,6 +48,7 @@ IsNextVector a None = (u : ℕ) → u < 256 → requested a u ≡ true → u / 1
 IsNextVector a (Some v) =
     (v < 256) × (requested a v ≡ true) × (priority_class a < v / 16) × ((u : ℕ) → u < 256 → requested a u ≡ true → priority_class a < u / 16 → u ≤ v)
 
+-- the vector that is chosen is the greatest that qualifies
 abbrev pub NextIsGreatest : Type 0
 NextIsGreatest = (a : Apic) → IsNextVector a (next_vector a)
 

@@ -11,6 +11,7 @@ use Rattle.ev_asm.specs.declared.statement.Stmt.TheVariants.{Label, Plain, Jump}
 abbrev pub Name : Type 0
 Name = List ℕ
 
+-- whether two names are the same
 abbrev pub is_name : Name → Name → Bool
 is_name [] [] = true
 is_name (x ∷ xs) (y ∷ ys) = (x == y) && is_name xs ys
@@ -23,6 +24,7 @@ size (Plain i) = length (spelling i)
 size (Jump None name) = 5
 size (Jump (Some c) name) = 6
 
+-- how many bytes the statements have
 abbrev pub total_size : List Stmt → ℕ
 total_size [] = 0
 total_size (s ∷ ss) = size s + total_size ss
@@ -31,6 +33,7 @@ total_size (s ∷ ss) = size s + total_size ss
 abbrev pub Places : Type 0
 Places = List (Name × ℕ)
 
+-- where the labels stand, from an address on
 unfoldable pub places : ℕ → List Stmt → Places
 places a [] = []
 places a (Label name ∷ ss) = (name, a) ∷ places a ss
@@ -45,6 +48,7 @@ place (e ∷ es) name = if is_name e.0 name then e.1 else place es name
 unfoldable pub distance : ℕ → ℕ → ℤ
 distance target next = if nat_le next target then pos (target - next) else negsuc (next - target - 1)
 
+-- the jump over a distance from its end, on a condition or always
 abbrev pub jump : Option Cond → ℤ → Ins
 jump None n = Jmp n
 jump (Some c) n = Jcc c n
@@ -55,6 +59,7 @@ stmt_bytes env a (Label name) = []
 stmt_bytes env a (Plain i) = spelling i
 stmt_bytes env a (Jump c name) = spelling (jump c (distance (place env name) (a + size (Jump c name))))
 
+-- the bytes of the statements, from an address on
 unfoldable pub code : Places → ℕ → List Stmt → List ℕ
 code env a [] = []
 code env a (s ∷ ss) = stmt_bytes env a s ++ code env (a + size s) ss

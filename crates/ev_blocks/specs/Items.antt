@@ -61,6 +61,10 @@ in_item fred layout facts offset code steps =
     over (ground_over fred item_text (forms_of layout) facts) (lines_at (at_base item_tag offset) code)
     (record (opens 0 (top_less (body_bytes layout)) (body_words layout)) { rip = at_base item_tag offset }) steps
 
+-- the same where STI, which has just opened to interrupts, blocks them for one instruction
+abbrev pub blocked : Block → Block
+blocked b = record b { opening = record (b.opening) { blocked = true } }
+
 -- a user address is cut to its 47 bits without the low three: RAX has the number
 abbrev pub mask_code : List Ins
 mask_code = MovImm 1 0x7ffffffffff8 ∷ Alu And 0 1 ∷ []
@@ -123,6 +127,6 @@ body_block fred layout (AtNumbers rcx rax rdx) = in_item fred layout [] 0 (numbe
 body_block fred layout (AtKick to) = in_item fred layout [] behind_branch (numbers_code 0x830 0x40fb to) 3
 body_block fred layout AtUserWord = in_item fred layout [] behind_move mask_code 2
 body_block fred layout (AtPageWord is_page) = in_item fred layout (is_page_fact is_page ∷ []) behind_move page_code (page_steps is_page)
-body_block fred layout BehindSti = in_item fred layout [] behind_sti (Ins.Nop ∷ []) 1
+body_block fred layout BehindSti = blocked (in_item fred layout [] behind_sti (Ins.Nop ∷ []) 1)
 body_block fred layout BehindKick = in_item fred layout [] behind_kick (Jmp (pos 1) ∷ []) 1
 body_block fred layout (InCall s) = block_of_call fred layout s

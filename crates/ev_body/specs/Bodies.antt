@@ -22,6 +22,7 @@ key_number Pf = 14
 key_number Ac = 17
 key_number (Irq v) = v
 
+-- whether a body of the first side serves events that come to the second
 unfoldable pub covers : Side → Side → Bool
 covers Both _ = true
 covers User User = true
@@ -38,6 +39,7 @@ abbrev pub first_item : ℕ → List Part → ℕ → ℕ
 first_item n [] func = n
 first_item n (part ∷ parts) func = if part.func == func then n else first_item (n + length part.items) parts func
 
+-- the number of the first item of a function's part
 abbrev pub function_start : Body → ℕ → ℕ
 function_start b func = first_item (length b.items) b.parts func
 
@@ -48,9 +50,11 @@ first_body n (b ∷ bs) key side = if key_number b.key == key && covers b.side s
 
 -- ---- `fill`: a body of the one item `ret` for each of these keys whose user side has none
 
+-- the keys of what user code can raise, for which `fill` gives a body
 abbrev pub filled_keys : List Key
 filled_keys = Sys ∷ Db ∷ Bp ∷ Ud ∷ Ss ∷ Gp ∷ Pf ∷ Ac ∷ []
 
+-- the line `fill`: a body of `ret` alone for each of these keys that has none of the user side
 abbrev pub fill : List Body → List Body
 fill bodies = bodies ++ map (λ key. record { key = key; side = User; items = Ret ∷ []; parts = [] })
     (filter (λ key. is_none (first_body 0 bodies (key_number key) User)) filled_keys)

@@ -3,6 +3,7 @@ use Rattle.std.specs.Prelude.{ℕ, List}
 use Rattle.ev_body.specs.declared.body.Body.{Body}
 use Rattle.ev_body.specs.declared.image.TaskSpec.{TaskSpec}
 
+-- A kernel image as contracts see it.
 pub record KernelImage : Type 0 where
   pub processors : ℕ
   pub nest : ℕ

@@ -19,6 +19,7 @@ use Rattle.ev_body.specs.KernelImage.{KernelImage}
 abbrev pub is_local : ℕ → Bool
 is_local r = nat_le 6 r && nat_lt r 14
 
+-- a 64-bit number
 abbrev pub is_word : ℕ → Bool
 is_word n = nat_lt n (2 ^ 64)
 
@@ -28,6 +29,7 @@ is_sendable Nmi = true
 is_sendable (Irq v) = nat_le 0x20 v && nat_lt v 0x100
 is_sendable _ = false
 
+-- the conditions that jumps of bodies may have
 unfoldable pub is_body_cond : Cond → Bool
 is_body_cond S = false
 is_body_cond Ns = false
@@ -65,10 +67,12 @@ has_operands bytes low high (Kick to s) = is_word to && is_local s
 has_operands bytes low high (Item.Wait site) = is_word site
 has_operands bytes low high _ = true
 
+-- the last item of a function's part
 unfoldable pub is_finish : Item → Bool
 is_finish Finish = true
 is_finish _ = false
 
+-- the last item of a main part
 unfoldable pub is_ret : Item → Bool
 is_ret Ret = true
 is_ret _ = false
@@ -96,18 +100,22 @@ is_user_only Gp = true
 is_user_only Ac = true
 is_user_only _ = false
 
+-- the side of user code alone
 unfoldable pub is_user_side : Side → Bool
 is_user_side User = true
 is_user_side _ = false
 
+-- an interrupt has a vector from 20H to FFH
 unfoldable pub is_key : Key → Bool
 is_key (Irq v) = nat_le 0x20 v && nat_lt v 0x100
 is_key _ = true
 
+-- a body without functions
 abbrev pub has_no_parts : List Part → Bool
 has_no_parts [] = true
 has_no_parts (part ∷ parts) = false
 
+-- a body as the grammar gives it, over a text of so many bytes
 abbrev pub is_body : ℕ → Body → Bool
 is_body bytes b =
     is_key b.key && (not (is_user_only b.key) || is_user_side b.side) && ends_with is_ret b.items && list_all (has_operands bytes 0 (length b.items)) b.items
@@ -118,13 +126,16 @@ abbrev pub is_apart : Body → Body → Bool
 is_apart b c = not (key_number b.key == key_number c.key) || not
     ((covers b.side User && covers c.side User) || (covers b.side Side.Kernel && covers c.side Side.Kernel))
 
+-- no two bodies serve one key on one side
 abbrev pub are_apart : List Body → Bool
 are_apart [] = true
 are_apart (b ∷ bs) = list_all (is_apart b) bs && are_apart bs
 
+-- a task as the grammar gives it, over a text of so many bytes
 abbrev pub is_task : ℕ → TaskSpec → Bool
 is_task bytes t = is_text_place bytes t.start && nat_lt t.gs (2 ^ 32) && (length t.regs == 16) && list_all is_word t.regs
 
+-- no number twice
 abbrev pub are_distinct : List ℕ → Bool
 are_distinct [] = true
 are_distinct (n ∷ ns) = not (list_any (λ k. k == n) ns) && are_distinct ns
@@ -133,6 +144,7 @@ are_distinct (n ∷ ns) = not (list_any (λ k. k == n) ns) && are_distinct ns
 abbrev pub functions_of : List Body → List ℕ
 functions_of bodies = flat_map (λ (b : Body). map (λ (part : Part). part.func) b.parts) bodies
 
+-- What the grammar gives of an image. The type `Image` keeps it.
 pub record IsImage (image : KernelImage) : Type 0 where
   pub count : (1 ≤ image.processors) × (image.processors ≤ 8) × (1 ≤ image.nest) × (image.nest ≤ 32)
   pub pages_fit : list_all (λ i. nat_lt i 256) image.pages && are_distinct image.pages ≡ true

@@ -6,15 +6,15 @@ use Rattle.ev_isa.specs.declared.mode.Mode.TheVariants.{Idt, Fred}
 use Rattle.ev_body.specs.declared.key.Key.{Key}
 use Rattle.ev_body.specs.declared.key.Key.TheVariants.{Nmi, Irq}
 use Rattle.ev_body.specs.declared.item.Item.{Item}
-use Rattle.ev_body.specs.declared.item.Item.TheVariants.{Set, Copy, Alu, Jcc, Goto, Nop, Log, Cpu, Slot, Put, Cell, SetCell, AddCell, SwapCell, Uget, Uput, GetReg, SetReg, SetRip, Map, Unmap, Eoi, Ret}
+use Rattle.ev_body.specs.declared.item.Item.TheVariants.{Set, Copy, Alu, Jcc, Goto, Nop, Log, Cpu, Slot, Put, Cell, SetCell, AddCell, SwapCell, Uget, Uput, GetReg, SetReg, SetRip, Map, Unmap, Sti, Cli, Eoi, Send, Ret, Resched}
 use Rattle.ev_body.specs.declared.body.Body.{Body}
 use Rattle.ev_body.specs.declared.image.Image.{Image}
 use Rattle.ev_body.specs.WellFormed.{has_no_parts}
 use Rattle.ev_abstract.specs.Accepted.{IsAccepted}
 use Rattle.ev_abstract.specs.declared.script_line.Line.{Line}
-use Rattle.ev_abstract.specs.declared.script_line.Line.TheVariants.{Turn, Arrive}
+use Rattle.ev_abstract.specs.declared.script_line.Line.TheVariants.{Turn, Arrive, Accept}
 
--- all items but those of IF, interrupts and their end, rescheduling and cross calls
+-- all items but those that send an NMI and make cross calls
 unfoldable pub is_built_item : Item → Bool
 is_built_item (Set d n) = true
 is_built_item (Copy d s) = true
@@ -37,7 +37,11 @@ is_built_item (SetReg r s) = true
 is_built_item (SetRip a) = true
 is_built_item (Map s) = true
 is_built_item (Unmap s) = true
+is_built_item Sti = true
+is_built_item Cli = true
+is_built_item Resched = true
 is_built_item Eoi = true
+is_built_item (Send to (Irq v)) = true
 is_built_item Item.Bp = true
 is_built_item Ret = true
 is_built_item _ = false
@@ -62,8 +66,9 @@ unfoldable pub mode_is_built : Mode → Bool
 mode_is_built Idt = true
 mode_is_built Fred = true
 
--- turns, and arrivals of interrupts, of any processor
+-- turns, arrivals of interrupts, and mail that is accepted, of any processor
 unfoldable pub line_is_built : Line → Bool
 line_is_built (Turn p) = true
 line_is_built (Arrive p (Irq v)) = true
+line_is_built (Accept p) = true
 line_is_built _ = false

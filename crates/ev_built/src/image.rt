@@ -35,7 +35,11 @@ fn is_built_item(item: &Item) -> bool
             | Item::SetRip(_)
             | Item::Map(_)
             | Item::Unmap(_)
+            | Item::Sti
+            | Item::Cli
+            | Item::Resched
             | Item::Eoi
+            | Item::Send(_, Key::Irq(_))
             | Item::Bp
             | Item::Ret
     )

@@ -101,7 +101,8 @@ record_word p k o = if o == 0x20 then p else (if o == 0x30 then k else 0)
 unfoldable pub pcpu_word : ℕ → ℕ → ℕ
 pcpu_word p o =
     if o == 0 then p else (if o == top_offset then stack_top p 0 else (if o == current_offset then task_words p 0
-    else (if o == records_offset then record_address p 0 else (if o == rsp0_offset then stack_top p 0 else (if o == 0x428 then stack_top p 4 else (if o == 0x430 then stack_top p 5 else (if o == 0x468 then 104 * 2 ^ 16
+    else (if o == records_offset then record_address p 0 else (if o == rsp0_offset then stack_top p 0
+    else (if o == 0x428 then stack_top p 4 else (if o == 0x430 then stack_top p 5 else (if o == 0x468 then 104 * 2 ^ 16
     else (if nat_le 0x800 o && nat_lt o 0xa00 then record_word p ((o - 0x800) / 0x40) (o % 0x40) else 0))))))))
 
 -- the tasks of p

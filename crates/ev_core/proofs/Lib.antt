@@ -7,4 +7,5 @@ pub mod Selectors
 pub mod Standing
 pub mod Turns
 pub mod Interrupts
+pub mod Acceptance
 pub mod Opening

@@ -1,5 +1,5 @@
 -- What a step does to what belongs to its processor. Own.
-use Rattle.std.specs.Prelude.{ℕ, suc, Bool, true, false, not, ◌==◌, if◌then◌else◌, List, [], ◌∷◌, map, Option, Some, None}
+use Rattle.std.specs.Prelude.{ℕ, suc, Bool, true, false, not, ◌||◌, ◌==◌, if◌then◌else◌, List, [], ◌∷◌, map, Option, Some, None}
 use Rattle.ev_isa.specs.Word.{NatMap}
 use Rattle.ev_event.specs.declared.frame_note.FrameNote.{FrameNote}
 use Rattle.ev_effect.specs.Frame.{addresses}
@@ -7,7 +7,7 @@ use Rattle.ev_state.specs.Processor.{Processor}
 use Rattle.ev_apic.specs.declared.send.Send.{Send}
 use Rattle.ev_apic.specs.declared.send.Target.{Target}
 use Rattle.ev_apic.specs.declared.send.Target.TheVariants.{One, Myself, All, Others}
-use Rattle.ev_apic.specs.Inbox.{mailed, no_mail}
+use Rattle.ev_apic.specs.Inbox.{mailed, no_mail, with_mail}
 use Rattle.ev_mem.specs.Memory.{Memory}
 use Rattle.ev_trace.specs.FrameText.{Totals}
 use Rattle.ev_proc.specs.declared.stepped.Stepped.{Stepped}
@@ -23,6 +23,10 @@ optional (Some a) = a ∷ []
 -- what belongs to a processor at the opening
 abbrev pub start : Local
 start = record { apic = opening_apic; latch = false; inbox = no_mail; depth = 0 }
+
+-- what belongs to it behind its mail was accepted
+abbrev pub accepted : Local → Local
+accepted l = record l { apic = with_mail l.apic l.inbox; latch = l.latch || l.inbox.nmi; inbox = no_mail }
 
 -- a system in which every processor is as this one, with no activation
 abbrev pub still : Processor → Local → Memory → System

@@ -4,14 +4,8 @@ ghost use Rattle.std.specs.Prelude.{◌≡◌, ◌+◌, ◌*◌, ◌<◌, ◌^�
 ghost use Rattle.ev_mem.specs.Mapped.{memory};
 ghost use Rattle.ev_listing.specs.AddressMap.{no_body};
 
+use ev_layout::NO_BODY;
 use ev_mem::Mem;
-
-/// The table of bodies for events of user code (own).
-pub(crate) const USER_TABLE: u64 = 0xffff_8880_0080_0000;
-/// The table of bodies for events of bodies (own).
-pub(crate) const KERNEL_TABLE: u64 = 0xffff_8880_0080_1000;
-/// The word of a key that has no body (own).
-const NO_BODY: u64 = 0xffff_ffff_8100_1ff0;
 
 /// Whether a table of bodies has one for the vector.
 pub(crate) fn names_body(mem: &Mem, table: u64, v: u8) -> bool

@@ -7,7 +7,8 @@ ghost use Rattle.ev_proc.specs.Conditions.{HasEntries, IsDecoded, IsInCode};
 ghost use Rattle.ev_concrete.specs.ConcreteRun.{is_return};
 ghost use Rattle.ev_layout.specs.Marks.{mark_of};
 ghost use Rattle.ev_concrete.specs.Depth.{begins_body, bodies_after, ends_body, is_jump};
-ghost use Rattle.ev_core.specs.Local.{start};
+ghost use Rattle.ev_apic.specs.Inbox.{no_mail};
+ghost use Rattle.ev_core.specs.Local.{accepted, start};
 ghost use Rattle.ev_core.specs.Step.{LocalStep};
 
 use crate::entry::{Before, entry_of};
@@ -31,6 +32,16 @@ pub(crate) struct Local {
     pub depth: u8,
 }
 
+/// No mail.
+fn no_mail() -> Inbox
+    ensures { result ≡ no_mail }
+{
+    Inbox {
+        vectors: [0; 4],
+        nmi: false,
+    }
+}
+
 impl Local {
     /// At the opening: no vector, no mail, no body.
     fn at_start() -> Local
@@ -43,12 +54,19 @@ impl Local {
                 tpr: 0,
             },
             latch: false,
-            inbox: Inbox {
-                vectors: [0; 4],
-                nmi: false,
-            },
+            inbox: no_mail(),
             depth: 0,
         }
+    }
+
+    /// The mail moves to the local APIC and the NMI latch.
+    pub fn accept_mail(&mut self)
+        ensures { self.new ≡ accepted self.old }
+    {
+        let mail = self.inbox;
+        self.apic.take(&mail);
+        self.latch |= mail.nmi;
+        self.inbox = no_mail();
     }
 }
 

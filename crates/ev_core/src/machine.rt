@@ -1,24 +1,25 @@
 // The machine.
 
-ghost use Rattle.std.specs.Prelude.{◌≡◌, nat_lt, ◌<◌, ◌≤◌, ◌^◌, ℕ, true, List, [], ◌∷◌, ◌++◌, length, None, IfOk};
+ghost use Rattle.std.specs.Prelude.{◌≡◌, ◌↔◌, IsTrue, nat_lt, ◌<◌, ◌≤◌, ◌^◌, ℕ, true, List, [], ◌∷◌, ◌++◌, length, None, IfOk};
 ghost use Rattle.ev_isa.specs.declared.mode.Mode.{Mode};
 ghost use Rattle.ev_body.specs.declared.image.Image.{Image};
 ghost use Rattle.ev_body.specs.declared.key.Key.TheVariants.{Irq};
 ghost use Rattle.ev_abstract.specs.declared.script_line.Line.{Line};
-ghost use Rattle.ev_abstract.specs.declared.script_line.Line.TheVariants.{Turn, Arrive};
+ghost use Rattle.ev_abstract.specs.declared.script_line.Line.TheVariants.{Turn, Arrive, Accept};
 ghost use Rattle.ev_abstract.specs.Machine as abstract;
-ghost use Rattle.ev_abstract.specs.Run.{entries_of};
+ghost use Rattle.ev_abstract.specs.Run.{entries_of, line_step};
 ghost use Rattle.ev_abstract.specs.Script.{has_body_of};
 ghost use Rattle.ev_body.specs.WellFormed.{IsImage};
 ghost use Rattle.ev_concrete.specs.Opening.{tasks_of};
-ghost use Rattle.ev_concrete.specs.ConcreteRun.{System, concrete_line, concrete_run, is_visible, marks_of};
+ghost use Rattle.ev_concrete.specs.ConcreteRun.{System, accept_mail, arrived_at, concrete_line, concrete_run, is_visible, marks_of};
 ghost use Rattle.ev_built.specs.Built.{IsBuilt, mode_is_built};
 ghost use Rattle.ev_core.specs.Local.{optional};
+ghost use Rattle.ev_core.specs.Mail.{HasNoMail};
 ghost use Rattle.ev_core.specs.Run.{Costs, IsAt, IsRun, IsStandingAs};
 ghost use Rattle.ev_core.specs.Turns.{IsSettling, IsTurn};
 ghost use Rattle.ev_core.specs.Task.{IsTaskView};
 
-use crate::arrival::{KERNEL_TABLE, USER_TABLE, names_body};
+use crate::arrival::names_body;
 use crate::frame::keep;
 use crate::local::all_at_start;
 use crate::settle::settle;
@@ -32,7 +33,7 @@ use ev_abstract::Entry;
 use ev_accept::Accepted;
 use ev_event::FrameNote;
 use ev_isa::{Mode, NoMemory};
-use ev_layout::{Places, build};
+use ev_layout::{KERNEL_TABLE, Places, USER_TABLE, build};
 use std::alloc::Global;
 use std::marker::Model;
 use std::sync::ledger::Ledger;
@@ -163,6 +164,10 @@ impl Machine {
         requires vector { 0x20 ≤ v }
         requires body { (mode : Mode) (image : Image) (s : System) (m : abstract.Machine)
             → IsStandingAs mode image s m self.old → has_body_of image (Irq v) ≡ true }
+        ensures arrives { (mode : Mode) (image : Image) (s : System) (m : abstract.Machine)
+            → IsStandingAs mode image s m self.old
+            → IsStandingAs mode image (arrived_at s p (Irq v))
+            (line_step image m (Arrive p (Irq v))).0 self.new }
         ensures run { (mode : Mode) (image : Image) (script : List Line)
             → IsRun mode image script self.old
             → IsRun mode image (script ++ Arrive p (Irq v) ∷ []) self.new }
@@ -170,6 +175,33 @@ impl Machine {
         ensures same { length self.new.parts.cpus ≡ length self.old.parts.cpus }
     {
         self.state.arrive(p, v);
+    }
+
+    /// The mail of processor p moves to its pending vectors and its NMI latch. From any state that
+    /// stands for one of the abstract machine, so it does there; no step is made. A run of a script
+    /// becomes that of one line more.
+    pub fn accept_mail(&mut self, p: usize)
+        requires { p < length self.old.parts.cpus }
+        ensures accepts { (mode : Mode) (image : Image) (s : System) (m : abstract.Machine)
+            → IsStandingAs mode image s m self.old
+            → IsStandingAs mode image (accept_mail s p) (line_step image m (Accept p)).0 self.new }
+        ensures run { (mode : Mode) (image : Image) (script : List Line)
+            → IsRun mode image script self.old
+            → IsRun mode image (script ++ Accept p ∷ []) self.new }
+        ensures totals { self.new.parts.totals ≡ self.old.parts.totals }
+        ensures same { length self.new.parts.cpus ≡ length self.old.parts.cpus }
+    {
+        self.state.accept_mail(p);
+    }
+
+    /// Whether no mail waits for processor p.
+    pub fn mail_empty(&self, p: usize) -> bool
+        requires { p < length self.now.parts.cpus }
+        ensures { (mode : Mode) (image : Image) (s : System) (m : abstract.Machine)
+            → IsStandingAs mode image s m self.now
+            → IsTrue result ↔ HasNoMail (abstract.processor m p) }
+    {
+        self.state.locals[p].inbox.is_empty()
     }
 
     /// How many processors there are.

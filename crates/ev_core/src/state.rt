@@ -4,7 +4,7 @@ ghost use Rattle.std.specs.Prelude.{◌≡◌, ◌<◌, ◌≤◌, ◌+◌, ◌^
 ghost use Rattle.ev_isa.specs.Word.{numbers_from};
 ghost use Rattle.ev_body.specs.declared.key.Key.TheVariants.{Irq};
 ghost use Rattle.ev_mem.specs.Mapped.{memory};
-ghost use Rattle.ev_concrete.specs.ConcreteRun.{System, arrived_at, concrete_step, is_visible};
+ghost use Rattle.ev_concrete.specs.ConcreteRun.{System, accept_mail, arrived_at, concrete_step, is_visible};
 ghost use Rattle.ev_concrete.specs.Shown.{shown};
 ghost use Rattle.ev_layout.specs.Marks.{marks_in};
 ghost use Rattle.ev_core.specs.Local.{optional};
@@ -102,5 +102,16 @@ impl State {
         self.locals[p]
             .apic
             .accept(usize::from(v / 64), 1 << (v % 64));
+    }
+
+    /// The mail of processor p moves to its local APIC and its NMI latch.
+    pub fn accept_mail(&mut self, p: usize)
+        requires { p < length self.old.cpus }
+        ensures shows { (n : ℕ) (s : System) → Shows n self.old s
+            → Shows n self.new (accept_mail s p) }
+        ensures totals { self.new.totals ≡ self.old.totals }
+        ensures same { length self.new.cpus ≡ length self.old.cpus }
+    {
+        self.locals[p].accept_mail();
     }
 }

@@ -7,6 +7,7 @@ ghost use Rattle.ev_listing.specs.AddressMap.{pcpu, stack_top, task_selector, ta
 ghost use Rattle.ev_core.specs.Task.{area_at, saved_view};
 
 use crate::task_view::TaskView;
+use ev_layout::TASKS;
 use ev_mem::Mem;
 use ev_proc::has_fred;
 use ev_state::Cpu;
@@ -26,8 +27,7 @@ pub(crate) fn is_current(mem: &Mem, p: usize, i: usize) -> bool
     requires task { i < 4 }
     ensures { result ≡ ((memory mem.now).words (pcpu p + 0x18) == task_words p i) }
 {
-    mem.word(0xffff_8880_0000_0018 + 0x1_0000 * p as u64)
-        == 0xffff_8880_0084_0000 + 0x40 * (4 * p + i) as u64
+    mem.word(0xffff_8880_0000_0018 + 0x1_0000 * p as u64) == TASKS + 0x40 * (4 * p + i) as u64
 }
 
 /// Where the saved area of task i of processor p begins, at the top of its stack.

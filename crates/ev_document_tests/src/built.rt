@@ -8,15 +8,20 @@ use std::test::Fail;
 
 #[test]
 fn bodies(rt: HostRuntime) -> Result<(), Fail> {
-    let cases: [(&str, bool); 6] = [
+    let cases: [(&str, bool); 8] = [
         ("body sys user\nlog rdi\nnop\nret\nendbody\nfill\n", true),
         ("body bp both\nret\nendbody\nfill\n", true),
         ("body irq31 both\neoi\nret\nendbody\nfill\n", true),
         (
             "body irq31 both\nsti\nnop\ncli\neoi\nret\nendbody\nfill\n",
-            false,
+            true,
         ),
-        ("body sys user\nresched\nret\nendbody\nfill\n", false),
+        (
+            "body sys user\nsend 0 irq31\nret\nendbody\nbody irq31 both\neoi\nret\nendbody\nfill\n",
+            true,
+        ),
+        ("body sys user\nsend 0 nmi\nret\nendbody\nfill\n", false),
+        ("body sys user\nresched\nret\nendbody\nfill\n", true),
         ("body nmi user\nret\nendbody\nfill\n", false),
     ];
     for (bodies, taken) in cases {
@@ -30,7 +35,8 @@ fn bodies(rt: HostRuntime) -> Result<(), Fail> {
 fn lines(rt: HostRuntime) {
     assert!(rt; line_is_built(&Line::Turn(7)));
     assert!(rt; line_is_built(&Line::Arrive(0, Key::Irq(0x31))));
-    for line in [Line::Edge(0, 1), Line::Arrive(0, Key::Nmi), Line::Accept(0)] {
+    assert!(rt; line_is_built(&Line::Accept(7)));
+    for line in [Line::Edge(0, 1), Line::Arrive(0, Key::Nmi)] {
         assert!(rt; !line_is_built(&line));
     }
 }

@@ -11,10 +11,12 @@ use Rattle.ev_isa.specs.Pages.{View}
 use Rattle.ev_effect.specs.Task.{Task, reg, with_reg}
 
 infixl 10 ◌>>=◌
+-- the second effect follows where the first raises nothing
 abbrev pub ◌>>=◌ : {A B : Type 0} → Result A Event → (A → Result B Event) → Result B Event
 (Ok x) >>= f = f x
 (Err e) >>= f = Err e
 
+-- the page fault of an access, by its error code
 abbrev pub page_event : Option ℕ → ℕ → Option Event
 page_event None a = None
 page_event (Some code) a = Some (pf code a)
@@ -23,6 +25,7 @@ page_event (Some code) a = Some (pf code a)
 unfoldable pub access_event : View → Bool → Event → ℕ → Option Event
 access_event m write bad a = if not (is_canonical a) then Some bad else (if not (is_aligned a) then Some ac else page_event (m.fault write a) a)
 
+-- the value, unless an event is raised
 abbrev pub unless : {A : Type 0} → Option Event → A → Result A Event
 unless None x = Ok x
 unless (Some e) x = Err e
@@ -31,6 +34,7 @@ unless (Some e) x = Err e
 abbrev pub read_word : View → Event → ℕ → Result ℕ Event
 read_word m bad a = unless (access_event m false bad a) (m.words a)
 
+-- a word is written, or the access raises an event
 abbrev pub write_word : View → Event → ℕ → ℕ → Result (NatMap ℕ) Event
 write_word m bad a v = unless (access_event m true bad a) (put_at m.words a v)
 
@@ -42,6 +46,7 @@ bad_address b = if (b == 4) || (b == 5) then ss 0 else gp 0
 abbrev pub Changed : Type 0
 Changed = Task × NatMap ℕ
 
+-- the task with these status flags
 abbrev pub in_flags : Task → Status → Task
 in_flags t s = record t { flags = record t.flags { status = s } }
 
@@ -49,6 +54,7 @@ in_flags t s = record t { flags = record t.flags { status = s } }
 abbrev pub with_result : Task → ℕ → ℕ × Status → Task
 with_result t d r = in_flags (with_reg t d r.0) r.1
 
+-- the task at an address, which is canonical: #GP(0) comes at the jump
 abbrev pub jumped : Task → ℕ → Result Task Event
 jumped t a = if is_canonical a then Ok (record t { rip = a }) else Err (gp 0)
 

@@ -16,6 +16,7 @@ abbrev pub placed : NatMap ℕ → ℕ → List ℕ → NatMap ℕ
 placed words a [] = words
 placed words a (w ∷ ws) = placed (put_at words a w) (wrap (a + 8)) ws
 
+-- the first of two events
 abbrev pub or_else : Option Event → Option Event → Option Event
 or_else None e = e
 or_else (Some d) e = Some d

@@ -33,4 +33,5 @@ mod FramesOverNoLiveWord
 mod AgreementOfMachines
 mod ShownEntries
 mod CallsOnBothMachines
+mod PlacesOfCallRecords
 mod PlacesOfInstructions

@@ -11,6 +11,7 @@ use Rattle.ev_effect.specs.Effect.{Changed, effect}
 use Rattle.ev_state.specs.Outcome.{Outcome, Went, Met}
 use Rattle.ev_state.specs.Descriptors.{base_of}
 
+-- What comes of an instruction: its effect, an event, or that it is one of those that `step` makes.
 pub data Executed : Type 0 where
   Done : Processor → NatMap ℕ → Executed
   Raise : Event → Executed
@@ -20,13 +21,16 @@ pub data Executed : Type 0 where
 abbrev pub completed : Processor → Processor
 completed c = record c { sti_blocked = false }
 
+-- the processor at the next instruction
 abbrev pub at_next : Processor → ℕ → Processor
 at_next c next = record (completed c) { rip = next }
 
+-- the effect of a plain instruction on a processor
 abbrev pub changed : Processor → Result Changed Event → Executed
 changed c (Ok r) = Done (with_effect (completed c) r.0) r.1
 changed c (Err e) = Raise e
 
+-- an instruction that goes on to the next, or raises an event
 abbrev pub by_outcome : ℕ → Outcome → Executed
 by_outcome next (Went c words frame) = Done (at_next c next) words
 by_outcome next (Met c e) = Raise e
@@ -40,9 +44,11 @@ abbrev pub with_gs : Processor → NatMap ℕ → ℕ → Option ℕ → Outcome
 with_gs c words s None = Met c (gp s)
 with_gs c words s (Some base) = Went (record c { gs = s; msrs = record c.msrs { gs_base = base } }) words 0
 
+-- a move into GS: the base of the selector's descriptor goes into the GS base
 unfoldable pub mov_gs : Processor → NatMap ℕ → ℕ → Outcome
 mov_gs c words s = with_gs c words s (base_of c.gdt s)
 
+-- The effect of an instruction, behind which the next one stands at this address.
 unfoldable pub exec : Processor → Memory → Ins → ℕ → Executed
 exec c m (IntN n) next = Special
 exec c m Int3 next = Special

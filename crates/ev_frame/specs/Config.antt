@@ -9,9 +9,11 @@ use Rattle.ev_frame.specs.declared.config.Reserved.{Reserved}
 abbrev pub is_reserved : ℕ → Bool
 is_reserved v = bit 11 v || not (v / 4 % 16 == 0)
 
+-- the word of IA32_FRED_CONFIG
 abbrev pub config_word : FredConfig → ℕ
 config_word c = c.page + 2 ^ 9 * c.int_level + 2 ^ 6 * c.decrement + c.level
 
+-- what the word reads as, where no reserved bit is set
 unfoldable pub read_config : ℕ → Result FredConfig Reserved
 read_config w = if is_reserved w then Err (record {})
     else Ok (record { page = w - w % 2 ^ 12; int_level = w / 2 ^ 9 % 4; decrement = w / 2 ^ 6 % 8; level = w % 4 })

@@ -21,6 +21,7 @@ ss_word f =
 abbrev pub words_of : Frame64 → List ℕ
 words_of f = f.error ∷ f.rip ∷ cs_word f ∷ f.flags ∷ f.rsp ∷ ss_word f ∷ f.info ∷ 0 ∷ []
 
+-- the 64 bytes of a frame
 abbrev pub frame_bytes : Frame64 → List ℕ
 frame_bytes f = flat_map (to_le_bytes w64) (words_of f)
 
@@ -32,9 +33,11 @@ word_at bytes n = from_le_bytes w64 (drop (8 * n) bytes)
 abbrev pub has_stray_cs : ℕ → Bool
 has_stray_cs w = not (w / 2 ^ 19 == 0)
 
+-- whether a reserved bit of the SS word is set
 abbrev pub has_stray_ss : ℕ → Bool
 has_stray_ss w = not (w / 2 ^ 19 % 2 ^ 13 == 0) || not (w / 2 ^ 40 % 2 ^ 8 == 0) || not (w / 2 ^ 52 % 2 ^ 4 == 0) || bit 59 w
 
+-- the fields that 64 bytes have
 abbrev pub frame_in : List ℕ → Frame64
 frame_in bytes = let cs : ℕ = word_at bytes 2 in let ss : ℕ = word_at bytes 5 in record {
   error = word_at bytes 0;
@@ -57,9 +60,11 @@ frame_in bytes = let cs : ℕ = word_at bytes 2 in let ss : ℕ = word_at bytes 
   info = word_at bytes 6;
 }
 
+-- whether a reserved bit of the frame is set
 abbrev pub has_stray : List ℕ → Bool
 has_stray bytes = has_stray_cs (word_at bytes 2) || has_stray_ss (word_at bytes 5) || not (word_at bytes 7 == 0)
 
+-- what 64 bytes read as, or why they are no frame
 unfoldable pub read_frame : List ℕ → Result Frame64 FrameFault
 read_frame bytes =
     if nat_lt (length bytes) 64 then Err Short

@@ -14,6 +14,7 @@ IsGate g = (g.offset < 2 ^ 64) × (g.selector < 2 ^ 16) × (g.ist < 8) × (g.dpl
 abbrev pub kind_byte : Gate → ℕ
 kind_byte g = 14 + bit_if 0 g.trap + 32 * g.dpl + bit_if 7 g.present
 
+-- the 16 bytes of a gate
 unfoldable pub gate_bytes : Gate → List ℕ
 gate_bytes g =
     to_le_bytes w16 (g.offset % 2 ^ 16) ++ to_le_bytes w16 g.selector ++ g.ist ∷ kind_byte g
@@ -34,6 +35,7 @@ gate_in low high = record {
 abbrev pub has_reserved : List ℕ → Bool
 has_reserved bytes = not (get_or bytes 4 0 / 8 == 0) || bit 4 (get_or bytes 5 0) || not (from_le_bytes w32 (drop 12 bytes) == 0)
 
+-- what 16 bytes read as, or why they are no gate
 unfoldable pub read_gate : List ℕ → Result Gate GateFault
 read_gate bytes =
     if nat_lt (length bytes) 16 then Err Short

@@ -37,5 +37,6 @@ TssIsWritten =
 abbrev pub rsp0_at : NatMap ℕ → ℕ → ℕ
 rsp0_at words tss = words (tss + 4)
 
+-- IST n of the TSS at an address, of 1 to 7
 abbrev pub ist_at : NatMap ℕ → ℕ → ℕ → ℕ
 ist_at words tss n = words (tss + 28 + 8 * n)

@@ -29,6 +29,7 @@ new_rsp c words g = let a : ℕ = (if not (g.ist == 0) then ist_at words c.tss g
 abbrev pub idt_frame : Processor → Event → List ℕ
 idt_frame c e = (if is_hardware e.kind && has_error_code e.vector then e.error ∷ [] else []) ++ c.rip ∷ c.cs ∷ c.flags ∷ rsp c ∷ c.ss ∷ []
 
+-- the processor at the offset of the gate, with RSP at the frame; an interrupt gate clears IF, and a trap gate keeps it
 abbrev pub in_handler : Processor → Gate → EventType → ℕ → Processor
 in_handler c g kind frame = record (with_rsp c frame) {
   rip = g.offset;
@@ -59,6 +60,7 @@ idt_delivery c m e =
 abbrev pub is_return : ℕ → ℕ → Bool
 is_return cs ss = ((cs == 0x33) && (ss == 0x2b)) || ((cs == 0x10) && ((ss == 0x18) || (ss == 0)))
 
+-- what an IRETQ restores from its five words
 abbrev pub returned : Processor → ℕ → ℕ → ℕ → ℕ → ℕ → Processor
 returned c rip cs flags rsp ss = record (with_rsp c rsp) {
   rip = rip;
@@ -76,6 +78,7 @@ iret_words c words (rip ∷ cs ∷ flags ∷ rsp ∷ ss ∷ []) =
     if is_canonical rip && is_return (selector cs) (selector ss) then Went (returned c rip (selector cs) flags rsp (selector ss)) words 0 else Met c (gp 0)
 iret_words c words _ = Met c (gp 0)
 
+-- IRETQ by words that can be read, or the event of the first that cannot
 abbrev pub iret_after : Processor → NatMap ℕ → List ℕ → Option Event → Outcome
 iret_after c words as' None = iret_words c words (words_at words as')
 iret_after c words as' (Some e) = Met (with_cr2 c e) e
@@ -89,6 +92,7 @@ iretq c m = let as' : List ℕ = addresses (rsp c) 5 in
 abbrev pub masked : ℕ → ℕ → ℕ
 masked flags mask = modelled (flags - bit_and flags mask)
 
+-- SYSCALL (SDM volume 2, "SYSCALL"): no stack is touched
 unfoldable pub syscall_idt : Processor → Processor
 syscall_idt c = record (with_register (with_register c 1 c.rip) 11 c.flags) {
   rip = c.msrs.lstar;
@@ -99,11 +103,13 @@ syscall_idt c = record (with_register (with_register c 1 c.rip) 11 c.flags) {
   sti_blocked = false;
 }
 
+-- SYSRET with REX.W (SDM volume 2, "SYSRET"): #GP(0) in ring 0 where RCX is not canonical
 unfoldable pub sysretq : Processor → NatMap ℕ → Outcome
 sysretq c words =
     if is_canonical (register c 1)
     then Went (record c { rip = register c 1; flags = modelled (register c 11); cs = 0x33; ss = 0x2b; cpl = 3; sti_blocked = false }) words 0
     else Met c (gp 0)
 
+-- SWAPGS
 abbrev pub swapgs : Processor → Processor
 swapgs c = gs_exchanged c

@@ -11,7 +11,8 @@ use Rattle.ev_io.proofs.NextLaws.{over_first, said_first, fault_first}
 all_gone : (n before m gone : ℕ) (lines : List (List ℕ)) → next_said n before lines ≡ Ends m gone → gone ≡ before + length (joined lines)
 unfolding next_said
 all_gone n before m gone [] e = let b : before ≡ gone = cc in omega (arith, b)
-all_gone n before m gone (x ∷ xs) e = by (line_fault before x) refl (is_passed_over (tokens_of (text_of x))) refl (all_gone (n + 1) (before + length x) m gone xs)
+all_gone n before m gone (x ∷ xs) e =
+    by (line_fault before x) refl (is_passed_over (tokens_of (text_of x))) refl (all_gone (n + 1) (before + length x) m gone xs)
   where
     by : (f : Option ByteFault) → line_fault before x ≡ f → (p : Bool) → is_passed_over (tokens_of (text_of x)) ≡ p
         → (next_said (n + 1) (before + length x) xs ≡ Ends m gone → gone ≡ before + length x + length (joined xs))

@@ -21,6 +21,7 @@ pub record Flags : Type 0 where
   pub interrupts : Bool
   pub alignment : Bool
 
+-- all status flags clear
 abbrev pub no_status : Status
 no_status = record { carry = false; zero = false; sign = false; overflow = false }
 
@@ -41,6 +42,7 @@ modelled w = flags_word (flags_of w)
 abbrev pub start_flags : Flags
 start_flags = record { status = no_status; interrupts = true; alignment = true }
 
+-- bit 63 is set
 abbrev pub is_negative : ℕ → Bool
 is_negative a = nat_le (2 ^ 63) a
 
@@ -48,10 +50,12 @@ is_negative a = nat_le (2 ^ 63) a
 abbrev pub computed : ℕ → Bool → Bool → ℕ × Status
 computed r c o = (r, record { carry = c; zero = r == 0; sign = is_negative r; overflow = o })
 
+-- the sum modulo 2^64, with carry out of bit 63 and signed overflow
 unfoldable pub sum : ℕ → ℕ → ℕ × Status
 sum a b = let r : ℕ = wrap (a + b) in
     computed r (nat_le (2 ^ 64) (a + b)) (beq (is_negative a) (is_negative b) && not (beq (is_negative a) (is_negative r)))
 
+-- the difference modulo 2^64, with borrow and signed overflow
 unfoldable pub difference : ℕ → ℕ → ℕ × Status
 difference a b = let r : ℕ = wrap (a + 2 ^ 64 - b) in
     computed r (nat_lt a b) (not (beq (is_negative a) (is_negative b)) && not (beq (is_negative a) (is_negative r)))
@@ -70,9 +74,11 @@ unfoldable pub shift_left : ℕ → ℕ → ℕ × Status
 shift_left a n = let r : ℕ = wrap (a * 2 ^ n) in
     computed r (bit (64 - n) a) ((n == 1) && not (beq (is_negative r) (bit (64 - n) a)))
 
+-- A shift right by 1 to 63: the last bit that leaves is carry, and a shift by one overflows where the sign was set.
 unfoldable pub shift_right : ℕ → ℕ → ℕ × Status
 shift_right a n = computed (a / 2 ^ n) (bit (n - 1) a) ((n == 1) && is_negative a)
 
+-- whether a condition holds of status flags
 unfoldable pub holds : Cond → Status → Bool
 holds Z f = f.zero
 holds Nz f = not f.zero

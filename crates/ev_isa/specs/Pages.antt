@@ -3,6 +3,7 @@ use Rattle.std.specs.Prelude.{ℕ, ◌+◌, ◌-◌, ◌*◌, ◌/◌, ◌^◌, 
 use Rattle.std.specs.Int.{w64, from_le_bytes}
 use Rattle.ev_isa.specs.Word.{NatMap, NatSet, bit_if}
 
+-- Where an address lies, as user code sees it.
 pub data Place : Type 0 where
   Text : Place
   Page : ℕ → Place
@@ -10,9 +11,11 @@ pub data Place : Type 0 where
   Lower : Place  -- any other address of the lower half
   Upper : Place  -- any other address of the upper half
 
+-- user text begins here, and has 64 KiB
 abbrev pub text_base : ℕ
 text_base = 0x400000
 
+-- the data pages begin here, 256 of 4 KiB
 abbrev pub page_base : ℕ
 page_base = 0x10000000
 
@@ -23,6 +26,7 @@ place_of a =
     else (if nat_le page_base a && nat_lt a (page_base + 0x1000 * 256) then Page ((a - page_base) / 0x1000)
     else (if nat_lt a (2 ^ 63) then Lower else Upper))
 
+-- what an access is, as a page fault's error code tells it
 pub record Access : Type 0 where
   pub user : Bool
   pub write : Bool
@@ -32,6 +36,7 @@ pub record Access : Type 0 where
 abbrev pub fault_code : Access → Bool → ℕ
 fault_code a present = bit_if 0 present + bit_if 1 a.write + bit_if 2 a.user + bit_if 4 a.fetch
 
+-- a page fault of this error code under a condition
 abbrev pub fault_if : Bool → ℕ → Option ℕ
 fault_if b code = if b then Some code else None
 
@@ -59,6 +64,7 @@ pub record UserMemory : Type 0 where
 unfoldable pub text_word : List ℕ → ℕ → ℕ
 text_word text a = from_le_bytes w64 (drop (a - text_base) text)
 
+-- a word of user code in the beginning: text, or 0
 unfoldable pub word_at_start : List ℕ → ℕ → Place → ℕ
 word_at_start text a Text = text_word text a
 word_at_start text a _ = 0

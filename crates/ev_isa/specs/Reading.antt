@@ -30,6 +30,7 @@ signed_at bytes k = cast_signed w32 (from_le_bytes w32 (drop k bytes))
 unfoldable pub reg_at : List ℕ → ℕ → ℕ → ℕ
 reg_at bytes p q = 8 * (byte bytes p / 4 % 2) + byte bytes q / 8 % 8
 
+-- the register in r/m of the byte at q, whose fourth bit is REX.B of the byte at p
 unfoldable pub rm_at : List ℕ → ℕ → ℕ → ℕ
 rm_at bytes p q = 8 * (byte bytes p % 2) + byte bytes q % 8
 
@@ -67,6 +68,7 @@ plain_forms b =
     Jmp (signed_at b 1) ∷ PushImm (signed_at b 1) ∷ IntN (byte b 1) ∷ Nop ∷ Int3 ∷ Int1 ∷ Syscall ∷ Ud2 ∷ Sysretq ∷ Iretq ∷ Swapgs ∷ Eretu ∷ Erets
     ∷ Rdmsr ∷ Wrmsr ∷ Sti ∷ Cli ∷ map (λ c. Jcc c (signed_at b 2)) (Z ∷ Nz ∷ C ∷ Nc ∷ S ∷ Ns ∷ [])
 
+-- the instructions that these bytes could begin with, by the fields at the places of each form
 unfoldable pub forms : List ℕ → List Ins
 forms b = plain_forms b ++ wide_forms b ++ prefixed_forms b ++ narrow_forms 0 b ++ narrow_forms 1 b
 

@@ -16,6 +16,7 @@ rex reg rm = 0x48 + 4 * (reg / 8) + rm / 8
 abbrev pub short_rex : ℕ → List ℕ
 short_rex r = if nat_lt r 8 then [] else 0x41 ∷ []
 
+-- the ModRM byte: mod, reg and r/m, each register by its low three bits
 abbrev pub modrm : ℕ → ℕ → ℕ → ℕ
 modrm form reg rm = 64 * form + 8 * (reg % 8) + rm % 8
 
@@ -44,6 +45,7 @@ alu_number Sub = 5
 alu_number Xor = 6
 alu_number Cmp = 7
 
+-- the number of a condition in an opcode of Jcc
 abbrev pub cond_number : Cond → ℕ
 cond_number C = 2
 cond_number Nc = 3
@@ -52,6 +54,7 @@ cond_number Nz = 5
 cond_number S = 8
 cond_number Ns = 9
 
+-- The bytes of an instruction: one spelling each, by SDM volume 2.
 unfoldable pub spelling : Ins → List ℕ
 spelling (MovImm d n) = rex 0 d ∷ (0xb8 + d % 8) ∷ to_le_bytes w64 n
 spelling (MovReg d s) = rex s d ∷ 0x89 ∷ registers s d

@@ -14,6 +14,7 @@ sign_extend z = cast_unsigned w64 z
 abbrev pub displaced : ℕ → ℤ → ℕ
 displaced a z = wrap (a + sign_extend z)
 
+-- bit k of a number
 abbrev pub bit : ℕ → ℕ → Bool
 bit k n = n / 2 ^ k % 2 == 1
 
@@ -25,6 +26,7 @@ bit_if k b = if b then 2 ^ k else 0
 abbrev pub is_canonical : ℕ → Bool
 is_canonical a = (a / 2 ^ 47 == 0) || (a / 2 ^ 47 == 2 ^ 17 - 1)
 
+-- the address of a word
 abbrev pub is_aligned : ℕ → Bool
 is_aligned a = a % 8 == 0
 
@@ -32,6 +34,7 @@ is_aligned a = a % 8 == 0
 abbrev pub NatMap : Type 0 → Type 0
 NatMap X = ℕ → X
 
+-- a set of numbers
 abbrev pub NatSet : Type 0
 NatSet = ℕ → Bool
 
@@ -39,9 +42,11 @@ NatSet = ℕ → Bool
 abbrev pub put_at : {X : Type 0} → NatMap X → ℕ → X → NatMap X
 put_at m k x i = elim (i == k) [ true ↦ x | false ↦ m i ]
 
+-- the numbers in either set
 abbrev pub union : NatSet → NatSet → NatSet
 union s t i = s i || t i
 
+-- the empty set
 abbrev pub no_numbers : NatSet
 no_numbers i = false
 
@@ -55,6 +60,7 @@ abbrev pub members : List ℕ → NatSet
 members [] i = false
 members (n ∷ ns) i = (i == n) || members ns i
 
+-- the map of these pairs, which is 0 elsewhere
 abbrev pub values : List (ℕ × ℕ) → NatMap ℕ
 values [] i = 0
 values (e ∷ es) i = if i == e.0 then e.1 else values es i

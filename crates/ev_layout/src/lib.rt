@@ -17,6 +17,7 @@ mod saved;
 mod visible;
 mod words;
 
+pub use address::{KERNEL_TABLE, NO_BODY, TASKS, USER_TABLE};
 pub use laws::place_laws;
 pub use mark::Mark;
 pub use opening::build;

@@ -20,6 +20,7 @@ or_fault a (Some code) x = Err (record { code = code; address = a })
 abbrev pub with_word : Memory → ℕ → ℕ → Memory
 with_word m a v = record m { words = put_at m.words a v }
 
+-- a word is written under a condition
 abbrev pub with_word_if : Bool → Memory → ℕ → ℕ → Memory
 with_word_if b m a v = if b then with_word m a v else m
 

@@ -8,10 +8,12 @@ use Rattle.ev_mem.specs.declared.region.Region.{Region}
 use Rattle.ev_mem.specs.Memory.{page_map}
 use Rattle.ev_mem.specs.Mapped.{is_within}
 
+-- the region of user text
 abbrev pub is_text : RegionKind → Bool
 is_text Text = true
 is_text _ = false
 
+-- a region of a data page
 abbrev pub is_page : RegionKind → Bool
 is_page (Page i) = true
 is_page _ = false
@@ -34,6 +36,7 @@ abbrev pub IsInHalf : RegionKind → ℕ → ℕ → Type 0
 IsInHalf Kernel base end = 2 ^ 63 ≤ base
 IsInHalf _ base end = end ≤ 2 ^ 63
 
+-- the number of a data page is below 256
 abbrev pub HasPageNumber : RegionKind → Type 0
 HasPageNumber (Page i) = i < 256
 HasPageNumber _ = Unit {0}
@@ -42,9 +45,11 @@ HasPageNumber _ = Unit {0}
 abbrev pub HoldsPageMap : Region → Type 0
 HoldsPageMap r = (r.base ≡ page_map) × (256 ≤ r.words) × (r.kind ≡ Kernel)
 
+-- how many words of user text the regions have
 abbrev pub words_of_text : List Region → ℕ
 words_of_text rs = sum_by (λ (r : Region). if is_text r.kind then r.words else 0) rs
 
+-- what is asked of the regions of memory, and of the text that it begins with
 pub record AreRegions (regions : List Region) (text : List ℕ) : Type 0 where
   pub apart : AllApart regions
   pub one_text : count_by (λ (r : Region). is_text r.kind) regions ≤ 1
@@ -60,6 +65,7 @@ abbrev pub first_by : RegionKind → List ℕ → ℕ → ℕ
 first_by Text text offset = from_le_bytes w64 (drop offset text)
 first_by _ text offset = 0
 
+-- the word at an address in the beginning
 abbrev pub first_in : List Region → List ℕ → NatMap ℕ
 first_in [] text a = 0
 first_in (r ∷ rs) text a = if is_within r a then first_by r.kind text (a - r.base) else first_in rs text a
@@ -72,5 +78,6 @@ first_words rs text a = if is_aligned a then first_in rs text a else 0
 abbrev pub words_of_region : List ℕ → Region → List ℕ
 words_of_region text r = map (λ (k : ℕ). first_by r.kind text (8 * k)) (numbers_from 0 r.words)
 
+-- the words of all regions in the beginning
 abbrev pub all_first_words : List Region → List ℕ → List ℕ
 all_first_words rs text = flat_map (words_of_region text) rs

@@ -7,6 +7,7 @@ use Rattle.ev_mem.specs.declared.region.RegionKind.{RegionKind}
 use Rattle.ev_mem.specs.declared.region.RegionKind.TheVariants.{Kernel}
 use Rattle.ev_mem.specs.declared.region.Region.{Region}
 
+-- The regions of memory, and its words by address.
 pub record Memory : Type 0 where
   pub regions : List Region
   pub words : NatMap ℕ
@@ -15,9 +16,11 @@ pub record Memory : Type 0 where
 abbrev pub page_map : ℕ
 page_map = 0xffff888000820000
 
+-- the data pages that the page map says are present
 abbrev pub present_in : Memory → NatSet
 present_in m i = m.words (page_map + 8 * i) == 1
 
+-- the place of user code that a region is, if it is one
 abbrev pub place_by : RegionKind → Place
 place_by RegionKind.Text = Place.Text
 place_by (RegionKind.Page i) = Place.Page i
@@ -32,6 +35,7 @@ place_in (r ∷ rs) a = if nat_le r.base a && nat_lt a (r.base + 8 * r.words) th
 abbrev pub page_fault : Memory → Access → ℕ → Option ℕ
 page_fault m access a = fault_at (present_in m) access (place_in m.regions a)
 
+-- an access to data
 abbrev pub data_access : Bool → Bool → Access
 data_access user write = record { user = user; write = write; fetch = false }
 
@@ -44,5 +48,6 @@ abbrev pub bytes_on : NatMap ℕ → ℕ → ℕ → List ℕ
 bytes_on words a zero = []
 bytes_on words a (suc n) = to_le_bytes w64 (words a) ++ bytes_on words (a + 8) n
 
+-- the fifteen bytes from an address on, as many as an instruction has at most
 unfoldable pub code_bytes : NatMap ℕ → ℕ → List ℕ
 code_bytes words a = take 15 (drop (a % 8) (bytes_on words (a - a % 8) 3))

@@ -18,13 +18,14 @@ use Rattle.ev_concrete.specs.ConcreteRun.{marks_of, noted, concrete_line, concre
 use Rattle.ev_concrete.specs.RunText.{shown_frames, settling}
 use Rattle.ev_pair.specs.SideText.{side_at, shown_line, shown_end}
 
--- only turns and arrivals are built today
-pub turns_and_arrivals : (l : Line) → line_is_built l ≡ true → ((p : ℕ) (key : Key) → l ≡ Arrive p key → ⊥) → ((p : ℕ) → l ≡ Turn p → ⊥) → ⊥
+-- only turns, arrivals and acceptances are built today
+pub no_stops : (l : Line) → line_is_built l ≡ true → ((p : ℕ) (key : Key) → l ≡ Arrive p key → ⊥) → ((p : ℕ) → l ≡ Accept p → ⊥) → ((p : ℕ) → l ≡ Turn p → ⊥)
+    → ⊥
 unfolding line_is_built
-turns_and_arrivals (Turn p) e arrival other = other p refl
-turns_and_arrivals (Edge p n) e arrival other = absurd (cc)
-turns_and_arrivals (Arrive p key) e arrival other = arrival p key refl
-turns_and_arrivals (Accept p) e arrival other = absurd (cc)
+no_stops (Turn p) e arrival acceptance other = other p refl
+no_stops (Edge p n) e arrival acceptance other = absurd (cc)
+no_stops (Arrive p key) e arrival acceptance other = arrival p key refl
+no_stops (Accept p) e arrival acceptance other = acceptance p refl
 
 -- and those of interrupts alone
 pub only_interrupts : (p : ℕ) (key : Key) → line_is_built (Arrive p key) ≡ true → ((v : ℕ) → key ≡ Irq v → ⊥) → ⊥
@@ -51,6 +52,12 @@ pub arrival_shown : (frames : Bool) (mode : Mode) (image : Image) (done : List L
 unfolding shown_line concrete_line line_step
 arrival_shown false mode image done p key = refl
 arrival_shown true mode image done p key = refl
+
+-- nor does an acceptance of mail
+pub acceptance_shown : (frames : Bool) (mode : Mode) (image : Image) (done : List Line) (p : ℕ) → shown_line frames mode image done (Accept p) ≡ []
+unfolding shown_line concrete_line line_step
+acceptance_shown false mode image done p = refl
+acceptance_shown true mode image done p = refl
 
 module _ (frames : Bool) (mode : Mode) (image : Image) where
   pub turn_shown : (done : List Line) (line : Line) (p : ℕ) (fs : List FrameNote) (es : List Entry) → line ≡ Turn p

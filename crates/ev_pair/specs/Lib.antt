@@ -3,4 +3,5 @@ pub mod SideText
 pub mod Modes
 pub mod Agreement
 pub mod Safety
+pub mod Chains
 pub mod Within

@@ -13,6 +13,7 @@ ghost use Rattle.ev_abstract.specs.Script.{IsScript};
 ghost use Rattle.ev_built.specs.Built.{IsBuilt, line_is_built, mode_is_built};
 ghost use Rattle.ev_concrete.specs.RunText.{run_text};
 ghost use Rattle.ev_core.specs.Run.{IsRun};
+ghost use Rattle.ev_pair.specs.Chains.{KeepsChains};
 ghost use Rattle.ev_pair.specs.Modes.{all_built, modes_of};
 ghost use Rattle.ev_pair.specs.Outcome.{OnWriteFault};
 ghost use Rattle.ev_pair.specs.Safety.{RunIsSafe};
@@ -204,8 +205,9 @@ fn run_counted<L: Ledger, K: Sink>(
 /// Runs a script on an image in the modes that are asked for, and writes the run's text, with its
 /// frames where they are asked for. Each line goes into the sink as it is made: a fault leaves a
 /// prefix of the text there. WriteFault means that the sink failed, NoMemory that memory was refused.
-/// In either mode no frame of the run holds a word that was live just before its step. In its trace
-/// each call runs at most once, was queued before it ran, and ran before it is reported as done.
+/// In either mode no frame of the run holds a word that was live just before its step, and behind
+/// each line the bodies on a processor are a legal chain, no longer than the image's bound. In the
+/// trace each call runs at most once, was queued before it ran, and ran before it is reported as done.
 pub fn run_modes<K: Sink>(
     alloc: Global,
     accepted: &Accepted,
@@ -224,6 +226,7 @@ pub fn run_modes<K: Sink>(
         (TookPrefix (K.taken sink.old) (K.taken sink.new)
         (run_text accepted.now.image script.now (modes_of modes) frames)) }
     ensures safe { (mode : Mode) → RunIsSafe mode accepted.now.image script.now }
+    ensures chains { KeepsChains accepted.now.image script.now }
     ensures calls { KeepsCalls (trace accepted.now.image script.now) }
     ensures later { K.faults sink.old ≤ K.faults sink.new }
     ensures cause { OnWriteFault result (Rose (K.faults sink.old) (K.faults sink.new)) }

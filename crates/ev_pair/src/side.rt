@@ -76,6 +76,10 @@ pub fn put_line<L: Ledger, K: Sink>(
         arrive(machine, p, key);
         return Ok(());
     }
+    if let Line::Accept(p) = *line {
+        machine.accept_mail(p as usize);
+        return Ok(());
+    }
     let Line::Turn(p) = *line else {
         return Ok(());
     };

@@ -1,5 +1,5 @@
 -- What the blocks of bodies come to, in any layout and mode: the numbers of items are variables of the proof.
-use Rattle.std.specs.Prelude.{◌≡◌, ℤ, ℕ, pos, ◌+◌, Bool, [], ◌∷◌, length, Some}
+use Rattle.std.specs.Prelude.{◌≡◌, ℤ, ℕ, pos, ◌+◌, Bool, false, [], ◌∷◌, length, Some}
 use Rattle.ev_isa.specs.Spelling.{spelling}
 use Rattle.ev_isa.specs.declared.instruction.Ins.{Ins}
 use Rattle.ev_isa.specs.declared.instruction.Ins.TheVariants.{MovReg, AluImm, Jmp, Jcc, Sti, Wrmsr}
@@ -15,7 +15,7 @@ use Rattle.ev_blocks.specs.Shapes.{Layout, body_bytes}
 use Rattle.ev_paths.specs.Ends.{TellsNoCr2}
 use Rattle.ev_blocks.specs.Items.{BodySpot, AtNumber, AtNumbers, AtKick, AtUserWord, AtPageWord, BehindSti, BehindKick, masked, page_word, body_block, behind_move, behind_sti, behind_branch, behind_kick}
 
--- The block comes to so many bytes behind the item's beginning, with these values in RAX, RCX and RDX, and else as it opened, flags aside.
+-- The block comes to so many bytes behind the item's beginning, with these values in RAX, RCX and RDX, nothing blocked, and else as it opened, flags aside.
 pub record Comes (fred : Bool) (layout : Layout) (s : BodySpot) (offset : ℕ) (rax rcx rdx : V) : Type 0 where
   pub z : SS
   pub runs : brun (body_block fred layout s) (body_block fred layout s).steps ≡ Some z
@@ -23,6 +23,7 @@ pub record Comes (fred : Bool) (layout : Layout) (s : BodySpot) (offset : ℕ) (
     rip = at_base item_tag offset;
     regs =
         rax ∷ rcx ∷ rdx ∷ X 3 ∷ top_less (body_bytes layout) ∷ X 5 ∷ X 6 ∷ X 7 ∷ X 8 ∷ X 9 ∷ X 10 ∷ X 11 ∷ X 12 ∷ X 13 ∷ X 14 ∷ X 15 ∷ [];
+    blocked = false;
   }
 
 -- each block of a body

@@ -42,5 +42,6 @@ pub record IsException (e : Event) : Type 0 where
 abbrev pub left : Processor → Apic → Memory → Bool → Stepped → After
 left c a m nmi s = record { cpu = c; apic = a; words = m.words; nmi = nmi; step = s }
 
+-- an arrival that leaves the processor and memory as they are here
 abbrev pub arrived : Processor → Memory → Option (Event × ℕ) → Arrival
 arrived c m d = (c, m.words, d)

@@ -30,6 +30,7 @@ use Rattle.ev_event.specs.declared.boundary.Next.TheVariants.{Interrupt}
 use Rattle.ev_event.specs.Boundary.{first_of}
 use Rattle.ev_proc.specs.declared.stepped.Stepped.{Stepped}
 
+-- CR4.FRED, bit 32
 abbrev pub has_fred : Processor → Bool
 has_fred c = bit 32 c.cr4
 
@@ -43,9 +44,11 @@ pub record After : Type 0 where
 
 -- ---- a delivery, with the deliveries of the events that it meets
 
+-- #DF, whose error code is 0
 abbrev pub double_fault : Event
 double_fault = exception 8 0 0
 
+-- one try to deliver an event, which is nested where it was met during a delivery
 abbrev pub try : Processor → Memory → Event → Bool → Outcome
 try c m e nested = if has_fred c then fred_delivery c m e nested else idt_delivery c m e
 
@@ -65,10 +68,12 @@ deliveries (suc n) c rip m e nested = elim (try c m e nested) [
   ]
 ]
 
+-- the step that a delivery was, or the shutdown in its place
 abbrev pub act_of : Option (Event × ℕ) → Stepped
 act_of None = Stepped.Shutdown
 act_of (Some d) = Stepped.Delivered d.0 (Some d.1)
 
+-- what comes of a delivery, with the local APIC and the latch as they are then
 abbrev pub after_arrival : Apic → Bool → Arrival → After
 after_arrival a nmi r = record { cpu = r.0; apic = a; words = r.1; nmi = nmi; step = act_of r.2 }
 
@@ -78,9 +83,11 @@ delivering c a m nmi e rip = after_arrival a nmi (deliveries 4 (record c { rip =
 
 -- ---- instructions
 
+-- the instruction was made without an event
 abbrev pub ran : Processor → Apic → NatMap ℕ → Bool → After
 ran c a words nmi = record { cpu = c; apic = a; words = words; nmi = nmi; step = Stepped.Ran }
 
+-- a fault saves the RIP of its instruction
 abbrev pub fault : Processor → Apic → Memory → Bool → Event → After
 fault c a m nmi e = delivering c a m nmi e c.rip
 
@@ -94,6 +101,7 @@ abbrev pub after_outcome : Apic → Memory → Bool → ℕ → Outcome → Afte
 after_outcome a m nmi next (Went c words frame) = ran (at_next c next) a words nmi
 after_outcome a m nmi next (Met c e) = fault c a m nmi e
 
+-- the low half of a register
 abbrev pub low32 : ℕ → ℕ
 low32 n = n % 2 ^ 32
 
@@ -102,10 +110,12 @@ abbrev pub after_read : Processor → Apic → Memory → Bool → ℕ → Optio
 after_read c a m nmi next None = fault c a m nmi (gp 0)
 after_read c a m nmi next (Some v) = ran (at_next (with_register (with_register c 0 (low32 v)) 2 (v / 2 ^ 32)) next) a m.words nmi
 
+-- WRMSR of an MSR, which takes the value or is #GP(0)
 abbrev pub after_write : Processor → Apic → Memory → Bool → ℕ → Option Msrs → After
 after_write c a m nmi next None = fault c a m nmi (gp 0)
 after_write c a m nmi next (Some msrs) = ran (at_next (record c { msrs = msrs }) next) a m.words nmi
 
+-- a write to the interrupt command register sends, or is #GP(0)
 abbrev pub after_send : Processor → Apic → Memory → Bool → ℕ → Option Send → After
 after_send c a m nmi next None = fault c a m nmi (gp 0)
 after_send c a m nmi next (Some s) = record { cpu = at_next c next; apic = a; words = m.words; nmi = nmi; step = Stepped.Sent s }
@@ -139,6 +149,7 @@ special c a m nmi next Rdmsr = after_read c a m nmi next (msr c.msrs (low32 (reg
 special c a m nmi next Wrmsr = write_msr c a m nmi next (low32 (register c 1)) (low32 (register c 0) + 2 ^ 32 * low32 (register c 2))
 special c a m nmi next _ = fault c a m nmi ud
 
+-- what `exec` made of an instruction
 abbrev pub after_exec : Processor → Apic → Memory → Bool → ℕ → Ins → Executed → After
 after_exec c a m nmi next i (Executed.Done c' words) = ran c' a words nmi
 after_exec c a m nmi next i (Raise e) = fault c a m nmi e
@@ -155,12 +166,14 @@ executed c a m nmi (Some i) =
 abbrev pub instruction_at : NatMap ℕ → ℕ → Option Ins
 instruction_at words rip = reading (code_bytes words rip)
 
+-- the instruction at RIP, or the page fault of its fetch
 abbrev pub fetched : Processor → Apic → Memory → Bool → Option ℕ → After
 fetched c a m nmi None = executed c a m nmi (instruction_at m.words c.rip)
 fetched c a m nmi (Some code) = fault c a m nmi (pf code c.rip)
 
 -- ---- the boundary
 
+-- what comes first at the boundary before the next instruction
 unfoldable pub next_of : Processor → Apic → Bool → Next
 next_of c a nmi = first_of (record {
   debug = false;
@@ -171,10 +184,12 @@ next_of c a nmi = first_of (record {
   vector = next_vector a;
 })
 
+-- A step by that choice: a delivery takes the NMI from the latch, or the vector from those requested.
 abbrev pub step_by : Processor → Apic → Memory → Bool → Next → After
 step_by c a m nmi Next.Nmi = delivering c a m false nmi_event c.rip
 step_by c a m nmi (Interrupt v) = delivering c (begun a v) m nmi (interrupt_event v) c.rip
 step_by c a m nmi _ = fetched c a m nmi (page_fault m (record { user = is_user c; write = false; fetch = true }) c.rip)
 
+-- One step of a processor.
 unfoldable pub step : Processor → Apic → Memory → Bool → After
 step c a m nmi = step_by c a m nmi (next_of c a nmi)

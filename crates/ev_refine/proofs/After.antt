@@ -12,7 +12,7 @@ use Rattle.ev_mem.specs.declared.region.Region.{Region}
 use Rattle.ev_mem.specs.Memory.{Memory, page_map}
 use Rattle.ev_state.specs.Processor.{Processor}
 use Rattle.ev_apic.specs.declared.apic.Apic.{Apic}
-use Rattle.ev_apic.specs.Vectors.{vectors_of}
+use Rattle.ev_apic.specs.declared.inbox.Inbox.{Inbox}
 use Rattle.ev_listing.specs.AddressMap.{pcpu, slot_offset, record_address, cells_base}
 use Rattle.ev_abstract.specs.Boundary.{is_nmi_body}
 use Rattle.ev_abstract.specs.Context.{BodyContext, CallId}
@@ -33,7 +33,7 @@ use Rattle.ev_user.specs.Numbers.{HoldsNumbers}
 use Rattle.ev_user.specs.Sees.{IsUserWord, IsWrite}
 use Rattle.ev_refine.specs.Named.{Named, UserRsp, Top, Current, Mark, Port, Head, TssTop, Slot, RecordWord, CellAt, PageBit, UserWord, address_of, is_task_word, is_call_word, is_slot, is_cell, is_page_bit, is_user_word, have_none, IsWritten, Outside, NotNamed, AreWritten, NoneOf, Changes}
 use Rattle.ev_refine.specs.Domain.{IsInDomain}
-use Rattle.ev_refine.specs.Relation.{ApicIs, Chain, Runs, serves, StandsOn, Shares, Stands, most_edges}
+use Rattle.ev_refine.specs.Relation.{ApicIs, InboxIs, Chain, Runs, serves, StandsOn, Shares, Stands, most_edges}
 use Rattle.ev_refine.proofs.Maps.{at_same}
 use Rattle.ev_refine.proofs.Words.{area_word, IsBeside, on_its_stack, fixed_stays, beside_stays, stacks_stay, area_stays, saved_stays}
 use Rattle.ev_symbolic.proofs.Values.{and_left, and_right}
@@ -42,7 +42,7 @@ use Rattle.ev_refine.proofs.Legality.{legal_few}
 use Rattle.ev_body.specs.WellFormed.{IsImage}
 use Rattle.ev_abstract.specs.Accepted.{IsAccepted}
 use Rattle.ev_refine.proofs.Standing.{Moves}
-use Rattle.ev_refine.proofs.Stays.{chain_stays, others_spared}
+use Rattle.ev_refine.proofs.Stays.{mark_spared, chain_stays, others_spared}
 
 -- SYSCALL's RSP and the port: what blocks and `log` write of the words with a name
 abbrev pub kernel_names : ℕ → List Named
@@ -415,24 +415,25 @@ module _ (mode : Mode) (image : Image) where
 
   -- Its tasks, slots, bodies and pending vectors may be others; the running task, and that to which the bodies return, are the same.
   pub own_becomes : (p left : ℕ) (s s' : System) (x : abstract.Processor) (σ : Seat) (cpu : Processor) (as' : List Activation) (words : NatMap ℕ)
-      (ts : NatMap Task) (slots : NatMap ℕ) (bs : List BodyContext) (own : ℕ) (on : StandsOn mode image p left s x) → p < 32
+      (ts : NatMap Task) (slots : NatMap ℕ) (asks : Bool) (bs : List BodyContext) (own : ℕ) (on : StandsOn mode image p left s x) → p < 32
       → length (tasks_of image p) ≤ 4 → Moves p s s' cpu as' words → ((i : ℕ) → (i ≡ on.returning → ⊥) → IsBeside mode σ i) → σ.stack < 7
       → (names : List Named) → AreNames p names → Changes p σ names s.memory.words words
-      → (on.switching ≡ false → CurrentIs mode p x.running words) → (on.switching ≡ false → words (pcpu p + 0x20) ≡ (if x.resched then 1 else 0))
+      → (on.switching ≡ true → asks ≡ true)
+      → (on.switching ≡ false → CurrentIs mode p x.running words) → (on.switching ≡ false → words (pcpu p + 0x20) ≡ (if asks then 1 else 0))
       → ((k : ℕ) → k < 64 → words (pcpu p + slot_offset k) ≡ slots k)
       → ((i : ℕ) → (i ≡ on.returning → ⊥) → ts i ≡ x.tasks i) → ((i : ℕ) → i < length (tasks_of image p) → IsTask (ts i))
       → cpu.nmi_blocked ≡ list_any (is_nmi_body image) bs
       → (set : NatSet) → ApicIs mode image (s'.apics p) set bs
       → own + inner_edges (s.latches p) ≤ most_edges mode image
       → Chain mode image p own x.running on.returning (ts on.returning) on.frame on.switching bs as' cpu (with_words s.memory words)
-      → StandsOn mode image p (own + inner_edges (s.latches p)) s' (record x { tasks = ts; slots = slots; bodies = bs; pending = set })
-  own_becomes p left s s' x σ cpu as' words ts slots bs own on hp four mv beside hs names good_names changes current mark slots_are same good blocked set apic
-      few chain =
-      own_stands p left own s s' x (record x { tasks = ts; slots = slots; bodies = bs; pending = set }) cpu as' words on mv (record {
+      → StandsOn mode image p (own + inner_edges (s.latches p)) s' (record x { tasks = ts; slots = slots; resched = asks; bodies = bs; pending = set })
+  own_becomes p left s s' x σ cpu as' words ts slots asks bs own on hp four mv beside hs names good_names changes marked current mark slots_are same good
+      blocked set apic few chain =
+      own_stands p left own s s' x (record x { tasks = ts; slots = slots; resched = asks; bodies = bs; pending = set }) cpu as' words on mv (record {
         running = on.running;
         waiting = on.waiting;
         switching = on.switching;
-        marked = on.marked;
+        marked = marked;
         returning = on.returning;
         is_returning = on.is_returning;
         current = current;
@@ -463,7 +464,7 @@ module _ (mode : Mode) (image : Image) where
   own_after p left s s' x σ cpu as' words ts bs own on hp four mv beside hs names sparing changes same good blocked set apic few chain =
       let words_same : AreSameWords p σ names hp hs s.memory.words words sparing.allowed.written changes p
       = tasks_same p σ names hp hs s.memory.words words sparing.allowed.written changes sparing.tasks p hp in
-      own_becomes p left s s' x σ cpu as' words ts x.slots bs own on hp four mv beside hs names sparing.allowed changes
+      own_becomes p left s s' x σ cpu as' words ts x.slots x.resched bs own on hp four mv beside hs names sparing.allowed changes on.marked
       (λ e. current_is p σ names hp hs s.memory.words words sparing.allowed.written changes p words_same mode x.running (on.current e))
       (λ e. mark_is p σ names hp hs s.memory.words words sparing.allowed.written changes p words_same ∙ on.mark e)
       (λ k lt. slot_same p σ names hp hs s.memory.words words sparing.allowed.written changes sparing.slots p k hp lt ∙ on.slots k lt)
@@ -516,6 +517,8 @@ module _ (mode : Mode) (image : Image) where
             (chain_plain mode image q on.own x.running on.returning (x.tasks on.returning) on.frame on.switching x.bodies (s.activations q)
             (s.cpus q) s.memory chain)
             running_small deep)
+            (mark_spared q x.bodies (s.cpus q) s.memory.words words
+            (λ a h k. area_stays p σ names s.memory.words words hp hs good_names.written changes q hq (good_names.own q d) a (omega arith) (omega arith)))
             chain));
       }
     where
@@ -573,9 +576,12 @@ module _ (mode : Mode) (image : Image) where
         held = a.held;
         pages = λ i lt. at (page_map + 8 * i) ∙ a.pages i lt;
         cells = λ k lt. at (cells_base + 8 * k) ∙ a.cells k lt;
-        mail = λ q v lt l. ap (λ b. vectors_of (b q).vectors v) mv.inboxes ∙ h.mail q v lt l
-            ∙ sym (ap (λ w. w v) (component (λ y. y.mail) p q m m' x words a a.mail));
-        mail_nmi = λ q lt. ap (λ b. (b q).nmi) mv.inboxes ∙ h.mail_nmi q lt ∙ sym (component (λ y. y.mail_nmi) p q m m' x words a a.mail_nmi);
+        mail = λ q lt. subst (λ (z : NatMap Inbox × NatSet × Bool). InboxIs mode image (z.0 q) z.1 z.2)
+            (λ i. (
+              sym mv.inboxes i,
+              sym (component (λ y. y.mail) p q m m' x words a a.mail) i,
+              sym (component (λ y. y.mail_nmi) p q m m' x words a a.mail_nmi) i,
+            )) (h.mail q lt);
         numbers = λ q k lt l. at (record_address q k + 0x28)
             ∙ record_same p σ names hp hs s.memory.words words written changes spared q k 0x28 (omega arith) l (omega arith)
             ∙ h.numbers q k lt l ∙ sym (ap (λ w. (w k).number) (component (λ y. y.records) p q m m' x words a a.records));

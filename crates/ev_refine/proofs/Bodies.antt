@@ -194,6 +194,7 @@ load_again mode image o e g w b l = record {
   found = l.found;
   begins = l.begins;
   unknown = l.unknown;
+  off = l.off;
   saved = saved_again mode image o e (record e { flags = g }) w (λ i h. refl) refl refl refl l.saved;
   locals = l.locals;
 }
@@ -282,13 +283,12 @@ on_stack_alone Idt = refl
 
 -- ---- how the exit opens: with what an item has, and the mark, which is off
 
-all_inside : List Win → List Word → Bool
+abbrev pub all_inside : List Win → List Word → Bool
 all_inside W [] = true
 all_inside W (w ∷ ws) = in_win W w.at && all_inside W ws
 
-known_and : (e : Env) (N W : List Win) (m : NatMap ℕ) (ws vs : List Word) → all_inside W ws ≡ true → Known e N m ws → Known e W m vs
+pub known_and : (e : Env) (N W : List Win) (m : NatMap ℕ) (ws vs : List Word) → all_inside W ws ≡ true → Known e N m ws → Known e W m vs
     → Known e W m (ws ++ vs)
-unfolding all_inside
 known_and e N W m [] vs i k h = h
 known_and e N W m (w ∷ ws) vs i k h = (and_left _ _ i, k.1, known_and e N W m ws vs (and_right (in_win W w.at) _ i) k.2 h)
 
@@ -325,7 +325,7 @@ module _ (image : Image) (p : ℕ) (hp : p < 32) (κ : Kind) (of_task : is_over_
 
   fred_exit : Saved Fred image v w → Agrees (e Fred p κ σ ss w extra v f) (block Fred (body Fred AtItem)).ground (block Fred (body Fred AtItem)).opening c m
       → OpensExit Fred p κ σ ss w extra v f c (at_exit fexit) m
-  unfolding eval eval_flags all_inside
+  unfolding eval eval_flags
   fred_exit s a = record {
     spot = InFred (fred.Leaves FredToTask);
     over = refl;
@@ -356,10 +356,10 @@ module _ (image : Image) (p : ℕ) (hp : p < 32) (κ : Kind) (of_task : is_over_
 
   -- by how RCX and R11 compare with RIP and RFLAGS
   idt_exit : (by : IdtReturn) → (told : FactsHold (e Idt p κ σ ss w extra v f) (block Idt (InIdt (idt.Leaves (IdtToTask by)))).ground.facts)
-      → Matches Idt image by v
+      → Matches Idt image by (v 31) (v 17) (v 41) (v 19)
       → Agrees (e Idt p κ σ ss w extra v f) (block Idt (body Idt AtItem)).ground (block Idt (body Idt AtItem)).opening c m
       → OpensExit Idt p κ σ ss w extra v f c (at_exit exit_entry) m
-  unfolding eval eval_flags all_inside
+  unfolding eval eval_flags
   idt_exit by told same a = record {
     spot = InIdt (idt.Leaves (IdtToTask by));
     over = refl;

@@ -30,6 +30,7 @@ use Rattle.ev_abstract.specs.Machine as abstract
 use Rattle.ev_abstract.specs.Run.{item_at, turn}
 use Rattle.ev_law.proofs.Lists.{any_at}
 use Rattle.ev_law.proofs.Required.{body_faults_have_bodies}
+use Rattle.ev_listing.specs.Marks.{Always}
 use Rattle.ev_concrete.specs.ConcreteRun.{System}
 use Rattle.ev_built.specs.Built.{IsBuilt}
 use Rattle.ev_symbolic.specs.Value.{M}
@@ -40,7 +41,6 @@ use Rattle.ev_blocks.specs.Items as spots
 use Rattle.ev_blocks.specs.Blocks.{block}
 use Rattle.ev_blocks.specs.Blocks as blocks
 use Rattle.ev_table.specs.Table.{code_table}
-use Rattle.ev_refine.specs.Domain.{IsQuiet}
 use Rattle.ev_refine.specs.Active.{item_place, address_of_item, here, FlagsAre, Active, InItem}
 use Rattle.ev_refine.specs.Relation.{body_edges, switches_at, StandsOn, Stands}
 use Rattle.ev_refine.specs.Claims.{Simulated}
@@ -51,7 +51,7 @@ use Rattle.ev_refine.proofs.Fits.{fits_at, opens_at}
 use Rattle.ev_refine.proofs.Spots.{few_edges}
 use Rattle.ev_refine.proofs.Bodies.{body, at_the_item, means_at, saved_again}
 use Rattle.ev_refine.proofs.Depth.{behind_repeat}
-use Rattle.ev_refine.proofs.ItemState.{opening_of, with_registers, ItemState, gone, lands, any_registers, any_known, beyond_registers}
+use Rattle.ev_refine.proofs.ItemState.{opening_of, unblocked, with_registers, ItemState, gone, lands, any_registers, any_known, beyond_registers}
 use Rattle.ev_refine.proofs.ItemLocals.{locals_behind}
 use Rattle.ev_refine.proofs.ItemVisible as visible
 use Rattle.ev_refine.proofs.BodyRaising.{break_event}
@@ -155,7 +155,7 @@ module _ (mode : Mode) (image : Image) (built : IsBuilt image) (good : IsImage i
         }
       where
         whole : gone (record c { cr2 = n }) c.regs a.flags next ≡ record c { rip = next; cr2 = n }
-        whole = λ i. record c { rip = next; cr2 = n; flags = sym a.state.flags i; sti_blocked = sym (a.state.blocked ∙ turns.unblocked mode) i }
+        whole = λ i. record c { rip = next; cr2 = n; flags = sym a.state.flags i; sti_blocked = sym (a.state.blocked ∙ unblocked mode) i }
 
     -- the cell
     here_is : c.rip ≡ item_address mode o.b.body body' o.b.place
@@ -167,7 +167,7 @@ module _ (mode : Mode) (image : Image) (built : IsBuilt image) (good : IsImage i
     unfolding expansion size spelling
     behind = facts.follow o.b.body o.b.place body' Item.Bp hi ∙ ap (λ n. n + (1 + 0)) (sym here_is) ∙ (let q : c.rip + (1 + 0) ≡ c.rip + 1 = omega arith in q)
 
-    cell : code c.rip ≡ Some (record { ins = Int3; next = item_address mode o.b.body body' o.b.place + 1; mark = true })
+    cell : code c.rip ≡ Some (record { ins = Int3; next = item_address mode o.b.body body' o.b.place + 1; mark = Always })
     unfolding expansion size spelling
     cell = ap code here_is ∙ (facts.items o.b.body o.b.place body' Item.Bp is hi).0
 
@@ -184,24 +184,25 @@ module _ (mode : Mode) (image : Image) (built : IsBuilt image) (good : IsImage i
 
     turned : turn image m p ≡ raised image (with_context m p (context.onward o.b)) p breakpoint
     unfolding item_step
-    turned = step.turns mode image built good facts left s m h p hp o Item.Bp (ap (λ y. item_at y o.b.place) is ∙ hi)
+    turned = step.turns mode image built good facts left s m h p hp o (λ on. a.state.blocked ∙ unblocked mode) Item.Bp (ap (λ y. item_at y o.b.place) is ∙ hi)
 
     pub by_bp : Simulated mode image left s m p
     by_bp =
-        let quiet : IsQuiet o.b = step.quiet mode image built good facts left s m h p hp o in
         let spread = facts.item_range o.b.body (suc o.b.place) body' is in
         turns.raise_step mode image built good facts left s m h p hp o (context.onward o.b) next breakpoint found.0 (record {
-          cell = record { ins = Int3; next = item_address mode o.b.body body' o.b.place + 1; mark = true };
+          cell = record { ins = Int3; next = item_address mode o.b.body body' o.b.place + 1; mark = Always };
           is = cell;
           marked = refl;
           runs = runs;
           event = break_event;
+          serves_none = refl;
           found = found.1;
           same_body = refl;
           same_service = refl;
-          quiet = record { interrupts = quiet.interrupts; calls = quiet.calls };
+          quiet = record { calls = (step.quiet mode image built good facts left s m h p hp o).calls };
           canonical = (facts.item_small o.b.body (suc o.b.place) body' is).0;
-          outside = step.outside mode image built good facts left s m h p hp o a.act ∙ sym (behind_repeat next spread.0);
+          outside = step.outside mode image built good facts left s m h p hp o a.act ∙ sym (behind_repeat next (let low = spread.0 in omega arith));
+          inside = let low = spread.0 in omega arith;
           stood = stood;
           machine = with_context m p (context.onward o.b);
           own = at_same m.processors p p _ refl ∙ ap (λ bs. record x { bodies = replace_last (context.onward o.b) bs }) o.bodies;

@@ -1,5 +1,5 @@
 -- A turn of an item that meets a page fault at a user word: the body of page faults begins on it, and the item's access runs again behind it.
-use Rattle.std.proofs.Common.{◌≡◌, ℕ, ◌<◌, Bool, true, length, Option, Some, None, refl, ap}
+use Rattle.std.proofs.Common.{◌≡◌, ◌≤◌, ℕ, ◌<◌, Bool, true, length, Option, Some, None, refl, ap, ◌∙◌}
 use Rattle.std.specs.Prelude.{slice_get, is_some}
 use Rattle.ev_isa.specs.Word.{NatMap, is_canonical}
 use Rattle.ev_isa.specs.Flags.{Flags}
@@ -10,6 +10,7 @@ use Rattle.ev_body.specs.declared.body.Body.{Body}
 use Rattle.ev_body.specs.declared.image.Image.{Image}
 use Rattle.ev_body.specs.Bodies.{first_body, key_number}
 use Rattle.ev_body.specs.WellFormed.{IsImage}
+use Rattle.ev_listing.specs.AddressMap.{code_end}
 use Rattle.ev_state.specs.Processor.{Processor}
 use Rattle.ev_apic.specs.declared.apic.Apic.{Apic}
 use Rattle.ev_proc.specs.ProcessorStep.{executed, delivering}
@@ -19,6 +20,7 @@ use Rattle.ev_abstract.specs.Machine.{Machine, processor}
 use Rattle.ev_abstract.specs.Machine as abstract
 use Rattle.ev_abstract.specs.Run.{turn}
 use Rattle.ev_law.proofs.Required.{body_faults_have_bodies}
+use Rattle.ev_listing.specs.Marks.{Always}
 use Rattle.ev_concrete.specs.ConcreteRun.{System}
 use Rattle.ev_built.specs.Built.{IsBuilt}
 use Rattle.ev_symbolic.specs.Value.{V}
@@ -55,11 +57,11 @@ module _ (mode : Mode) (image : Image) (built : IsBuilt image) (good : IsImage i
   pub by_fault : (act : Active mode image p on.own o.κ o.σ on.frame (switches_at mode image on.switching o.below) o.w o.b c s.memory)
       → TellsNoCr2 (block mode act.stands.spot) → (ss : ℕ) → IsKernelSs mode ss → (extra v : ℕ → ℕ) (f : Flags) (offset : ℕ) (rax rcx rdx : V) (g : Flags)
       → ItemState mode (here mode p o.κ o.σ ss o.w extra v f) c s.memory offset rax rcx rdx g → length c.regs ≡ 16 → is_canonical c.rip ≡ true
-      → (cell : Cell) → code_table mode image c.rip ≡ Some cell → cell.mark ≡ true → (code address : ℕ)
+      → code_end ≤ c.rip → (cell : Cell) → code_table mode image c.rip ≡ Some cell → cell.mark ≡ Always → (code address : ℕ)
       → ((a : Apic) (nmi : Bool) → executed c a s.memory nmi (Some cell.ins) ≡ delivering c a s.memory nmi (pf code address) c.rip)
       → has_item is_user_access body' ≡ true → turn image m p ≡ raised image m p (pf code address) → Simulated mode image left s m p
   unfolding key_number
-  by_fault act untold ss ss_is extra v f offset rax rcx rdx g state long canonical cell hc marked code address runs accesses turned =
+  by_fault act untold ss ss_is extra v f offset rax rcx rdx g state long canonical inside cell hc marked code address runs accesses turned =
       let found = there (first_body 0 image.bodies 14 Kernel) ((body_faults_have_bodies image o.b.body body' good built.accepted is).1 accesses) in
       turns.raise_step mode image built good facts left s m h p hp o o.b c.rip (pf code address) found.0 (record {
         cell = cell;
@@ -67,13 +69,16 @@ module _ (mode : Mode) (image : Image) (built : IsBuilt image) (good : IsImage i
         marked = marked;
         runs = runs;
         event = fault_event code address;
+        serves_none = refl;
         found = found.1;
         same_body = refl;
         same_service = refl;
         quiet = step.quiet mode image built good facts left s m h p hp o;
         canonical = canonical;
         outside = refl;
-        stood = λ n. turns.stands_any mode image p on.own o.κ o.σ on.frame (switches_at mode image on.switching o.below) o.w o.b c s.memory act untold n;
+        inside = inside;
+        stood = λ n. turns.stands_any mode image p on.own o.κ o.σ on.frame (switches_at mode image on.switching o.below) o.w o.b c s.memory act (act.switches ∙ o.off)
+            untold n;
         machine = m;
         own = ap (λ bs. record x { bodies = bs }) o.bodies;
         others = λ q e. refl;

@@ -1,12 +1,12 @@
 -- The delivery of an event to a body that runs: what it owes for the activation that it begins, in either mode.
-use Rattle.std.proofs.Common.{◌≡◌, ◌≢◌, ℕ, suc, ◌+◌, ◌*◌, ◌/◌, ◌%◌, ◌^◌, ◌<◌, ◌≤◌, true, false, ◌&&◌, [], length, Some, None, refl, sym, ap, subst, arith}
+use Rattle.std.proofs.Common.{◌≡◌, ◌≢◌, ℕ, suc, ◌+◌, ◌*◌, ◌/◌, ◌%◌, ◌^◌, ◌<◌, ◌≤◌, true, false, ◌&&◌, [], length, Some, refl, sym, ap, subst, arith}
 use Rattle.std.specs.Prelude.{◌==◌, if◌then◌else◌, slice_get}
 use Rattle.ev_isa.specs.Word.{NatMap, is_canonical}
 use Rattle.ev_isa.specs.Flags.{modelled}
 use Rattle.ev_isa.specs.declared.mode.Mode.{Mode}
 use Rattle.ev_event.specs.declared.event.Event.{Event}
 use Rattle.ev_event.specs.declared.event.EventType.TheVariants.{Int3}
-use Rattle.ev_event.specs.Event.{pf, software, has_error_code, is_hardware, is_nmi_type}
+use Rattle.ev_event.specs.Event.{pf, software, interrupt_event, has_error_code, is_hardware, is_nmi_type}
 use Rattle.ev_body.specs.declared.key.Side.TheVariants.{Kernel}
 use Rattle.ev_body.specs.declared.body.Body.{Body}
 use Rattle.ev_body.specs.declared.image.Image.{Image}
@@ -20,7 +20,7 @@ use Rattle.ev_fred.specs.FredDelivery.{event_level}
 use Rattle.ev_proc.specs.ProcessorStep.{has_fred, try}
 use Rattle.ev_listing.specs.AddressMap.{pcpu, idt_base}
 use Rattle.ev_abstract.specs.Context.{BodyContext}
-use Rattle.ev_abstract.specs.Delivery.{event_key, service_of, body_at_start}
+use Rattle.ev_abstract.specs.Delivery.{event_key, body_at_start}
 use Rattle.ev_concrete.specs.Opening.{regions}
 use Rattle.ev_concrete.specs.ConcreteRun.{frame_size}
 use Rattle.ev_concrete.specs.LiveWords.{area_bytes}
@@ -37,7 +37,9 @@ use Rattle.ev_refine.proofs.Facts.{HasFixed, Facts}
 use Rattle.ev_refine.proofs.Fits.{IsSeat}
 use Rattle.ev_refine.proofs.ModeFacts.{is_fred}
 use Rattle.ev_refine.proofs.Stays.{seat_under_fits}
-use Rattle.ev_refine.proofs.UserBody.{key_from}
+use Rattle.std.proofs.lemmas.Bool.{ne_eqb}
+use Rattle.ev_user.proofs.Deliver.{interrupts_have_none}
+use Rattle.ev_refine.proofs.UserBody.{key_from, interrupt_key}
 
 -- ---- events that a body can meet: no NMI, no double fault, no INT n and no SYSCALL, at stack level 0
 
@@ -52,7 +54,6 @@ pub record IsBodyEvent (e : Event) : Type 0 where
   pub key : event_key e.kind e.vector ≡ e.vector
   pub name : key_from (event_key e.kind e.vector) ≡ key_of e.kind e.vector
   pub told : (a : ℕ) → (if e.vector == 14 then cr2_after e a else 0) ≡ e.info
-  pub service : service_of e.kind e.vector ≡ None
 
 -- a page fault
 pub fault_event : (code address : ℕ) → IsBodyEvent (pf code address)
@@ -68,7 +69,6 @@ fault_event code address = record {
   key = refl;
   name = refl;
   told = λ a. refl;
-  service = refl;
 }
 
 -- INT 3
@@ -85,10 +85,25 @@ break_event = record {
   key = refl;
   name = refl;
   told = λ a. refl;
-  service = refl;
 }
 
--- ---- the processor of a body at an item, with the RIP that is saved
+-- an interrupt
+pub interrupt_is : (v : ℕ) → 32 ≤ v → v < 256 → IsBodyEvent (interrupt_event v)
+unfolding key_of
+interrupt_is v low high = record {
+  small = high;
+  other = (λ h. let z : ⊥ = omega arith in z, λ h. let z : ⊥ = omega arith in z);
+  error = sym (interrupts_have_none v low);
+  no_error = λ h. refl;
+  level = λ m c l. ap (λ n. n / 2 ^ 9 % 4) c;
+  plain = refl;
+  soft = refl;
+  key = refl;
+  name = interrupt_key v low high;
+  told = λ a. ap (λ t. if t then cr2_after (interrupt_event v) a else 0) (ne_eqb v 14 (λ e. let z : ⊥ = omega arith in z));
+}
+
+-- ---- the processor of a body at an instruction of an item, with the RIP that is saved
 
 -- it stands in the n-th seat on stack r of processor p
 pub record AtItem (mode : Mode) (p r n : ℕ) (c : Processor) : Type 0 where

@@ -153,6 +153,7 @@ module _ (image : Image) (p r n : ℕ) (c : Processor) (e : Event) (body : ℕ) 
     found = ready.found;
     begins = refl;
     unknown = refl;
+    off = refl;
     saved = record {
       regs = listed_is c.regs at.long;
       rip = refl;

@@ -67,10 +67,11 @@ pub over_any : (mode : Mode) (image : Image) (C : Processor → Type 0) (b : Boo
 over_any mode image C true w h = h
 over_any mode image C false w h = h w.cr2
 
-pub beneath_as : (mode : Mode) (image : Image) (b : Bool) (C D : Processor → Type 0) → ((v : Processor) → C v → D v) → (w : Processor)
-    → Beneath mode image b C w → Beneath mode image b D w
-beneath_as mode image true C D k w h = k w h
-beneath_as mode image false C D k w h = λ a. k (record w { cr2 = a }) (h a)
+-- and one with another CR2 stands where it does
+pub beneath_as : (mode : Mode) (image : Image) (b : Bool) (C D : Processor → Type 0) (w : Processor)
+    → ((v : Processor) → v.rip ≡ w.rip → C v → D v) → Beneath mode image b C w → Beneath mode image b D w
+beneath_as mode image true C D w k h = k w refl h
+beneath_as mode image false C D w k h = λ a. k (record w { cr2 = a }) refl (h a)
 
 pub stands_alone : (image : Image) (b : BodyContext) (below : List BodyContext) → is_over_task (kind_of image b below) ≡ true → below ≡ []
 stands_alone image b [] h = refl
@@ -79,6 +80,26 @@ stands_alone image b (d ∷ ds) h = pick (key_at image b == 2) h
     pick : (t : Bool) → is_over_task (if t then NmiFromBody else FromBody) ≡ true → (d ∷ ds) ≡ []
     pick true k = absurd (let clash : false ≡ true = k in cc)
     pick false k = absurd (let clash : false ≡ true = k in cc)
+
+-- over no body an activation is a task's, or an NMI's
+abbrev alone_by : (call nmi : Bool) → Kind
+alone_by call nmi = if call then SystemCall else (if nmi then NmiFromTask else FromTask)
+
+pub stands_on_body : (image : Image) (b : BodyContext) → is_over_body (kind_of image b []) ≡ true → ⊥
+stands_on_body image b h = pick (key_at image b == 0x100) (key_at image b == 2) h
+  where
+    pick : (call nmi : Bool) → is_over_body (alone_by call nmi) ≡ true → ⊥
+    pick true nmi k = let clash : false ≡ true = k in cc
+    pick false true k = let clash : false ≡ true = k in cc
+    pick false false k = let clash : false ≡ true = k in cc
+
+pub stands_on_task : (image : Image) (b : BodyContext) → is_plain_kind (kind_of image b []) ≡ true → is_over_task (kind_of image b []) ≡ true
+stands_on_task image b h = pick (key_at image b == 0x100) (key_at image b == 2) h
+  where
+    pick : (call nmi : Bool) → is_plain_kind (alone_by call nmi) ≡ true → is_over_task (alone_by call nmi) ≡ true
+    pick true nmi k = refl
+    pick false true k = k
+    pick false false k = refl
 
 -- the key of an NMI makes it one
 other_key : (key : ℕ) (below : List BodyContext) → is_plain_kind (kind_from key below) ≡ true → (key == 2) ≡ false
@@ -208,17 +229,17 @@ level_of mode NmiFromBody w a = let clash : false ≡ true = a in absurd (cc)
 -- the chain of one activation
 pub over_kind : (mode : Mode) (image : Image) (p left r to : ℕ) (t : Task) (f : Frame) (sw : Bool) (w : Processor) (b : BodyContext) (c : Processor)
     (m : Memory)
-    (κ : Kind) → is_over_task κ ≡ true → RunsTask mode image p to t w → sw ≡ false
+    (κ : Kind) → is_over_task κ ≡ true → RunsTask mode image p to t w
     → Active mode image p left κ (record { stack = r; used = 0 }) f sw w b c m
     → Beneath mode image (keeps_cr2 mode image κ)
     (λ v. Chain mode image p (body_edges mode image) r to t f (chained mode image sw []) [] [] v m) w
     × Leads mode p κ f w m.words
     × Active mode image p left κ (seat_by mode κ r (seat_of mode image r []) (room_of mode image [])) f (switches_at mode image sw []) w b c m
-over_kind mode image p left r to t f sw w b c m SystemCall a task still act = (λ n. (with_cr2 mode image p to t w n task, refl, refl), tt, act)
-over_kind mode image p left r to t f sw w b c m FromTask a task still act = (λ n. (with_cr2 mode image p to t w n task, refl, refl), tt, act)
-over_kind mode image p left r to t f sw w b c m FromBody a task still act = let clash : false ≡ true = a in absurd (cc)
-over_kind mode image p left r to t f sw w b c m NmiFromTask a task still act = let clash : false ≡ true = a in absurd (cc)
-over_kind mode image p left r to t f sw w b c m NmiFromBody a task still act = let clash : false ≡ true = a in absurd (cc)
+over_kind mode image p left r to t f sw w b c m SystemCall a task act = (λ n. (with_cr2 mode image p to t w n task, refl, refl), tt, act)
+over_kind mode image p left r to t f sw w b c m FromTask a task act = (λ n. (with_cr2 mode image p to t w n task, refl, refl), tt, act)
+over_kind mode image p left r to t f sw w b c m FromBody a task act = let clash : false ≡ true = a in absurd (cc)
+over_kind mode image p left r to t f sw w b c m NmiFromTask a task act = let clash : false ≡ true = a in absurd (cc)
+over_kind mode image p left r to t f sw w b c m NmiFromBody a task act = let clash : false ≡ true = a in absurd (cc)
 
 -- ---- what gives back the processor to which it returns, and what the exit means
 

@@ -101,14 +101,14 @@ module _ (mode : Mode) (image : Image) where
         (keeps_cr2 mode image (kind_of image b below)) h.0 h.4),
   )
 
-  -- ---- an activation runs with IF off
+  -- ---- an activation runs with IF as its context has it
 
   pub active_masked : (p left : ℕ) (κ : Kind) (σ : Seat) (f : Frame) (sw : Bool) (w : Processor) (b : BodyContext) (c : Processor) (m : Memory)
-      → Active mode image p left κ σ f sw w b c m → interrupts_on c ≡ false
+      → Active mode image p left κ σ f sw w b c m → interrupts_on c ≡ b.interrupts
   active_masked p left κ σ f sw w b c m a = at_interrupts (code_table mode image) (block mode a.stands.spot) a.stands.k _ c m a.stands.at ∙ a.stands.masked
 
   pub chain_masked : (p left r to : ℕ) (t : Task) (f : Frame) (sw : Bool) (b : BodyContext) (below : List BodyContext) (as' : List Activation) (c : Processor)
-      (m : Memory) → Chain mode image p left r to t f sw (b ∷ below) as' c m → interrupts_on c ≡ false
+      (m : Memory) → Chain mode image p left r to t f sw (b ∷ below) as' c m → interrupts_on c ≡ b.interrupts
   chain_masked p left r to t f sw b below [] c m h = absurd h
   chain_masked p left r to t f sw b below (a ∷ as') c m h = active_masked p left _ _ f _ h.0 b c m h.6
 

@@ -124,9 +124,8 @@ module _ (mode : Mode) (image : Image) (given : IsImage image) (built : IsBuilt 
     ret_cell = ret;
     first_item = λ n b. whole.first_item mode n b;
     item_small = λ n i b h. whole.canonical_items mode image given n i b h;
-    unmarked = λ a x h m. whole.unmarked_edge mode image given a x h m;
-    marked = λ a x h m. whole.marked_seen mode image given (never_call image.bodies built.bodies) a x h m;
-    plain = λ a. whole.marks_plain mode image given (never_call image.bodies built.bodies) a;
+    marks = λ a x h. whole.cell_marked mode image given a x h;
+    no_memory = λ a. whole.marks_plain mode image given (never_call image.bodies built.bodies) a;
     fetches = λ m e f. kernel_fetches mode image m given spells e (holds_code mode image m.words (λ a l. f a (InCode l)));
     holds = λ m f. holds_text mode image m.words (λ a l k. f a (InText l k));
     in_code = λ m e c. stays_in_code image m c given e;

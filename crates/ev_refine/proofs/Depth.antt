@@ -11,10 +11,11 @@ use Rattle.ev_body.specs.declared.item.Item.{Item}
 use Rattle.ev_body.specs.declared.body.Body.{Body}
 use Rattle.ev_body.specs.declared.image.Image.{Image}
 use Rattle.ev_effect.specs.Task.{Task}
-use Rattle.ev_listing.specs.AddressMap.{nmi_entry, repeat_entry, nbody_entry, vector_stub}
+use Rattle.ev_listing.specs.AddressMap.{nmi_entry, repeat_entry, nbody_entry, vector_stub, code_end}
 use Rattle.ev_listing.specs.Expansion.{item_address}
 use Rattle.ev_state.specs.Processor.{Processor, is_user, rsp}
 use Rattle.ev_apic.specs.declared.apic.Apic.{Apic}
+use Rattle.ev_apic.specs.declared.send.Send.{Send}
 use Rattle.ev_mem.specs.Memory.{Memory}
 use Rattle.ev_proc.specs.ProcessorStep.{next_of, instruction_at}
 use Rattle.ev_abstract.specs.Context.{BodyContext}
@@ -32,19 +33,19 @@ use Rattle.ev_symbolic.proofs.Values.{and_left, and_right}
 use Rattle.ev_symbolic.proofs.Blocks.{unsome, every_ok}
 use Rattle.ev_activation.specs.Seat.{Kind, SystemCall, FromTask, FromBody, NmiFromTask, NmiFromBody, Seat}
 use Rattle.ev_blocks.specs.Shapes.{Origin, UserCode, KernelCode, FredFrame, IdtFrame}
-use Rattle.ev_blocks.specs.Fred.{FromUser, FromKernel, FredToKernel, FredToTask, fred_block}
+use Rattle.ev_blocks.specs.Fred.{FromUser, FromKernel, FredToKernel, FredToTask, FredToNext, fred_block}
 use Rattle.ev_blocks.specs.Fred as fred
-use Rattle.ev_blocks.specs.Idt.{Stub, Sys, Common, IdtToKernel, IdtToTask, idt_block}
+use Rattle.ev_blocks.specs.Idt.{Stub, Sys, Common, IdtToKernel, IdtToTask, IdtToNext, idt_block}
 use Rattle.ev_blocks.specs.Idt as idt
-use Rattle.ev_blocks.specs.Items.{AtTable, AtJump, AtItem, AtNumber, AtNumbers, AtUserWord, AtPageWord, body_block}
+use Rattle.ev_blocks.specs.Items.{AtTable, AtJump, AtItem, AtNumber, AtNumbers, AtUserWord, AtPageWord, BehindSti, body_block}
 use Rattle.ev_blocks.specs.Blocks.{Spot, InFred, InIdt, InBody, block}
 use Rattle.ev_table.specs.Table.{code_table}
 use Rattle.ev_refine.specs.Nmi.{Frame}
-use Rattle.ev_refine.specs.Active.{address_of_item, item_place, OverTask, OverBody, Active}
+use Rattle.ev_refine.specs.Active.{address_of_item, item_place, HasNextPlace, OverTask, OverBody, Active}
 use Rattle.ev_refine.specs.Relation.{IsContext, body_edges, chained, Interrupted, Chain, StandsOn}
 use Rattle.ev_refine.proofs.Facts.{Facts}
-use Rattle.ev_refine.proofs.Spots.{is_elsewhere, entry_elsewhere, kernel_entry_elsewhere, kernel_exit_elsewhere, fred_exit_elsewhere, sys_elsewhere, common_elsewhere, idt_exit_elsewhere, idt_kernel_exit_elsewhere, is_in_stub, stub_inside, is_in_item, number_inside, numbers_inside, address_inside, page_inside}
-use Rattle.ev_refine.proofs.Standing.{after_ran, Runs, ran_step}
+use Rattle.ev_refine.proofs.Spots.{is_elsewhere, entry_elsewhere, kernel_entry_elsewhere, kernel_exit_elsewhere, fred_exit_elsewhere, sys_elsewhere, common_elsewhere, idt_exit_elsewhere, idt_kernel_exit_elsewhere, is_in_stub, stub_inside, is_in_item, number_inside, numbers_inside, address_inside, page_inside, sti_inside, fred_switch_elsewhere, idt_switch_elsewhere}
+use Rattle.ev_refine.proofs.Standing.{sends, after_went, Went, went_step}
 use Rattle.ev_refine.proofs.CallKinds.{over_any}
 use Rattle.ev_refine.proofs.After.{as_chain}
 
@@ -60,7 +61,7 @@ not_true true h = absurd (cc)
 not_true false h = refl
 
 -- code of bodies stands behind it
-pub behind_repeat : (a : ℕ) → 0xffffffff82000000 ≤ a → is_in_repeat a ≡ false
+pub behind_repeat : (a : ℕ) → nbody_entry ≤ a → is_in_repeat a ≡ false
 behind_repeat a h = pick (nat_lt a nbody_entry) refl
   where
     pick : (b : Bool) → nat_lt a nbody_entry ≡ b → (nat_le repeat_entry a && b) ≡ false
@@ -71,10 +72,10 @@ elsewhere : (e : Env) → e.base 1000 ≡ 0 → (s : SS) → is_elsewhere s ≡ 
 elsewhere e z s h =
     let tag : s.rip.tag ≡ 1000 = eqb-true s.rip.tag 1000 (and_left _ _ h) in
     let rest = and_right (s.rip.tag == 1000) _ h in
-    let small : s.rip.off < M = ltb-true s.rip.off M (and_left _ _ rest) in
+    let small : s.rip.off < code_end = ltb-true s.rip.off code_end (and_left _ _ rest) in
     let is : addr e s.rip ≡ s.rip.off = ap (λ t. (e.base t + s.rip.off) % M) tag
     ∙ (let q : (e.base 1000 + s.rip.off) % M ≡ s.rip.off = omega arith in q) in
-    ap is_in_repeat is ∙ not_true (is_in_repeat s.rip.off) (and_right (nat_lt s.rip.off M) _ rest)
+    ap is_in_repeat is ∙ not_true (is_in_repeat s.rip.off) (and_right (nat_lt s.rip.off code_end) _ rest)
 
 module _ (mode : Mode) (image : Image) (facts : Facts mode image) where
   at_elsewhere : (b : Block) (k : ℕ) (e : Env) (c : Processor) (m : Memory) → At (code_table mode image) b k e c m → e.base 1000 ≡ 0 → k ≤ b.steps
@@ -112,6 +113,21 @@ module _ (mode : Mode) (image : Image) (facts : Facts mode image) where
       let low = range.0 in let high = range.1 in
       behind_repeat c.rip (omega arith)
 
+  -- and behind `sti`
+  behind_sti_outside : (B : Block) (k : ℕ) (e : Env) (c : Processor) (m : Memory) (b : BodyContext) → IsContext mode image b
+      → At (code_table mode image) B k e c m → k ≤ B.steps → every is_in_item B ≡ true → HasNextPlace mode image e b → is_in_repeat c.rip ≡ false
+  behind_sti_outside B k e c m b ctx at l every place =
+      let found = body_at (slice_get image.bodies b.body) b.place ctx.item ctx.is in
+      let inside = every_ok is_in_item B every k l at.state at.is in
+      let n : ℕ = at.state.rip.off in
+      let tag : at.state.rip.tag ≡ item_tag = eqb-true at.state.rip.tag item_tag (and_left _ _ inside) in
+      let near : n < 0x40 = ltb-true n 0x40 (and_right (at.state.rip.tag == item_tag) _ inside) in
+      let is : c.rip ≡ (e.base item_tag + n) % M = at.agrees.rip ∙ ap (λ t. (e.base t + n) % M) tag in
+      let next : e.base item_tag + 2 ≡ item_address mode b.body found.0 b.place = place ∙ ap (address_of_item mode b.body b.place) found.1 in
+      let range = facts.item_range b.body b.place found.0 found.1 in
+      let low = range.0 in let high = range.1 in
+      behind_repeat c.rip (omega arith)
+
   -- the entries of vectors stand before it
   at_stub_outside : (o : Origin) (has : Bool) (v k : ℕ) (e : Env) (c : Processor) (m : Memory) → At (code_table mode image) (idt_block (Stub o has v)) k e c m
       → v < 256 → e.base stub_tag ≡ vector_stub v → k ≤ (idt_block (Stub o has v)).steps → is_in_repeat c.rip ≡ false
@@ -129,6 +145,8 @@ module _ (mode : Mode) (image : Image) (facts : Facts mode image) where
   over_task_outside Fred (InFred (FromUser way)) k e w c mem b ctx z l at h = at_elsewhere (fred_block (FromUser way)) k e c mem at z l (entry_elsewhere way)
   over_task_outside Fred (InFred (fred.Leaves FredToTask)) k e w c mem b ctx z l at h =
       at_elsewhere (fred_block (fred.Leaves FredToTask)) k e c mem at z l fred_exit_elsewhere
+  over_task_outside Fred (InFred (fred.Leaves FredToNext)) k e w c mem b ctx z l at h =
+      at_elsewhere (fred_block (fred.Leaves FredToNext)) k e c mem at z l fred_switch_elsewhere
   over_task_outside Fred (InBody FredFrame AtTable) k e w c mem b ctx z l at h = at_elsewhere (body_block true FredFrame AtTable) k e c mem at z l refl
   over_task_outside Fred (InBody FredFrame AtJump) k e w c mem b ctx z l at h = at_elsewhere (body_block true FredFrame AtJump) k e c mem at z l refl
   over_task_outside Fred (InBody FredFrame AtItem) k e w c mem b ctx z l at h =
@@ -141,12 +159,16 @@ module _ (mode : Mode) (image : Image) (facts : Facts mode image) where
       in_item_outside (body_block true FredFrame AtUserWord) k e c mem b ctx at l (address_inside true FredFrame) h.1
   over_task_outside Fred (InBody FredFrame (AtPageWord is_page)) k e w c mem b ctx z l at h =
       in_item_outside (body_block true FredFrame (AtPageWord is_page)) k e c mem b ctx at l (page_inside true FredFrame is_page) h.1
+  over_task_outside Fred (InBody FredFrame BehindSti) k e w c mem b ctx z l at h =
+      behind_sti_outside (body_block true FredFrame BehindSti) k e c mem b ctx at l (sti_inside true FredFrame) h.1
   over_task_outside Idt (InIdt Sys) k e w c mem b ctx z l at h = at_elsewhere (idt_block Sys) k e c mem at z l sys_elsewhere
   over_task_outside Idt (InIdt (Stub UserCode has v)) k e w c mem b ctx z l at h = at_stub_outside UserCode has v k e c mem at h.0.0 h.0.2 l
   over_task_outside Idt (InIdt (Common UserCode pf)) k e w c mem b ctx z l at h =
       at_elsewhere (idt_block (Common UserCode pf)) k e c mem at z l (common_elsewhere UserCode pf)
   over_task_outside Idt (InIdt (idt.Leaves (IdtToTask by))) k e w c mem b ctx z l at h =
       at_elsewhere (idt_block (idt.Leaves (IdtToTask by))) k e c mem at z l (idt_exit_elsewhere by)
+  over_task_outside Idt (InIdt (idt.Leaves (IdtToNext by))) k e w c mem b ctx z l at h =
+      at_elsewhere (idt_block (idt.Leaves (IdtToNext by))) k e c mem at z l (idt_switch_elsewhere by)
   over_task_outside Idt (InBody IdtFrame AtTable) k e w c mem b ctx z l at h = at_elsewhere (body_block false IdtFrame AtTable) k e c mem at z l refl
   over_task_outside Idt (InBody IdtFrame AtJump) k e w c mem b ctx z l at h = at_elsewhere (body_block false IdtFrame AtJump) k e c mem at z l refl
   over_task_outside Idt (InBody IdtFrame AtItem) k e w c mem b ctx z l at h =
@@ -159,6 +181,8 @@ module _ (mode : Mode) (image : Image) (facts : Facts mode image) where
       in_item_outside (body_block false IdtFrame AtUserWord) k e c mem b ctx at l (address_inside false IdtFrame) h.1
   over_task_outside Idt (InBody IdtFrame (AtPageWord is_page)) k e w c mem b ctx z l at h =
       in_item_outside (body_block false IdtFrame (AtPageWord is_page)) k e c mem b ctx at l (page_inside false IdtFrame is_page) h.1
+  over_task_outside Idt (InBody IdtFrame BehindSti) k e w c mem b ctx z l at h =
+      behind_sti_outside (body_block false IdtFrame BehindSti) k e c mem b ctx at l (sti_inside false IdtFrame) h.1
   over_task_outside m _ k e w c mem b ctx z l at h = absurd h
 
   over_body_outside : (m : Mode) (spot : Spot) (k : ℕ) (e : Env) (w c : Processor) (mem : Memory) (b : BodyContext) → IsContext mode image b
@@ -179,6 +203,8 @@ module _ (mode : Mode) (image : Image) (facts : Facts mode image) where
       in_item_outside (body_block true FredFrame AtUserWord) k e c mem b ctx at l (address_inside true FredFrame) h.1
   over_body_outside Fred (InBody FredFrame (AtPageWord is_page)) k e w c mem b ctx z l at h =
       in_item_outside (body_block true FredFrame (AtPageWord is_page)) k e c mem b ctx at l (page_inside true FredFrame is_page) h.1
+  over_body_outside Fred (InBody FredFrame BehindSti) k e w c mem b ctx z l at h =
+      behind_sti_outside (body_block true FredFrame BehindSti) k e c mem b ctx at l (sti_inside true FredFrame) h.1
   over_body_outside Idt (InIdt (Stub KernelCode has v)) k e w c mem b ctx z l at h = at_stub_outside KernelCode has v k e c mem at h.0.0 h.0.2 l
   over_body_outside Idt (InIdt (Common KernelCode pf)) k e w c mem b ctx z l at h =
       at_elsewhere (idt_block (Common KernelCode pf)) k e c mem at z l (common_elsewhere KernelCode pf)
@@ -196,6 +222,8 @@ module _ (mode : Mode) (image : Image) (facts : Facts mode image) where
       in_item_outside (body_block false IdtFrame AtUserWord) k e c mem b ctx at l (address_inside false IdtFrame) h.1
   over_body_outside Idt (InBody IdtFrame (AtPageWord is_page)) k e w c mem b ctx z l at h =
       in_item_outside (body_block false IdtFrame (AtPageWord is_page)) k e c mem b ctx at l (page_inside false IdtFrame is_page) h.1
+  over_body_outside Idt (InBody IdtFrame BehindSti) k e w c mem b ctx z l at h =
+      behind_sti_outside (body_block false IdtFrame BehindSti) k e c mem b ctx at l (sti_inside false IdtFrame) h.1
   over_body_outside m _ k e w c mem b ctx z l at h = absurd h
 
   pub active_outside : (p left : ℕ) (κ : Kind) (σ : Seat) (f : Frame) (sw : Bool) (w : Processor) (b : BodyContext) (c : Processor) (m : Memory)
@@ -266,23 +294,36 @@ ends_a_body i c place rip out hu hr =
     ∙ ap (λ u. not u && not (nat_le nmi_entry c.rip && nat_lt c.rip repeat_entry)) hu
     ∙ ap (λ a. not (nat_le nmi_entry a && nat_lt a repeat_entry)) rip ∙ ap not out
 
--- a step that ran an instruction
-told_ran : (s : System) (p : ℕ) (a : Apic) (cpu : Processor) (words : NatMap ℕ) (i : Ins) → Runs s p a cpu words
-    → instruction_at s.memory.words (s.cpus p).rip ≡ Some i
-    → told_bodies s p ≡ (if ends_body (s.cpus p) (Some i) then bodies_on s p - 1
-    else (if begins_body (s.cpus p) (Some i) then suc (bodies_on s p) else bodies_on s p))
+-- where so many bodies stood, behind a step that ran an instruction
+abbrev pub bodies_behind : ℕ → Processor → Ins → Option Send → ℕ
+bodies_behind n c i sent = bodies_after n false (ends_body c (Some i)) (begins_body c (Some i)) (sends sent)
+
+-- one that sends leaves them
+pub sent_inside : (n : ℕ) (c : Processor) (i : Ins) (sent : Option Send)
+    → (if ends_body c (Some i) then n - 1 else (if begins_body c (Some i) then suc n else n)) ≡ n → bodies_behind n c i sent ≡ n
+sent_inside n c i None h = h
+sent_inside n c i (Some m) h = refl
+
+told_went : (s : System) (p : ℕ) (a : Apic) (cpu : Processor) (words : NatMap ℕ) (sent : Option Send) (i : Ins) → Went s p a cpu words sent
+    → instruction_at s.memory.words (s.cpus p).rip ≡ Some i → told_bodies s p ≡ bodies_behind (bodies_on s p) (s.cpus p) i sent
 unfolding told_bodies
-told_ran s p a cpu words i h hi =
+told_went s p a cpu words sent i h hi =
     ap (λ r. bodies_after (bodies_on s p) (starts_inner s p (next_of (s.cpus p) (s.apics p) (s.latches p)))
     (ends_body (s.cpus p) (instruction_at s.memory.words (s.cpus p).rip)) (begins_body (s.cpus p) (instruction_at s.memory.words (s.cpus p).rip)) r.step) h
-    ∙ ap (λ o. if ends_body (s.cpus p) o then bodies_on s p - 1 else (if begins_body (s.cpus p) o then suc (bodies_on s p) else bodies_on s p)) hi
+    ∙ ap (λ o. bodies_after (bodies_on s p) (starts_inner s p (next_of (s.cpus p) (s.apics p) (s.latches p))) (ends_body (s.cpus p) o)
+    (begins_body (s.cpus p) o) (sends sent)) hi
+    ∙ delivers_nothing (bodies_on s p) (starts_inner s p (next_of (s.cpus p) (s.apics p) (s.latches p))) (ends_body (s.cpus p) (Some i))
+    (begins_body (s.cpus p) (Some i)) sent
+  where
+    delivers_nothing : (n : ℕ) (inner ends begins : Bool) (sent : Option Send)
+        → bodies_after n inner ends begins (sends sent) ≡ bodies_after n false ends begins (sends sent)
+    delivers_nothing n inner ends begins None = refl
+    delivers_nothing n inner ends begins (Some m) = refl
 
-pub ran_counts : (n : ℕ) (s : System) (p : ℕ) (a : Apic) (cpu : Processor) (words : NatMap ℕ) (i : Ins) → Runs s p a cpu words
+pub went_counts : (n : ℕ) (s : System) (p : ℕ) (a : Apic) (cpu : Processor) (words : NatMap ℕ) (sent : Option Send) (i : Ins) → Went s p a cpu words sent
     → instruction_at s.memory.words (s.cpus p).rip ≡ Some i
-    → (before after : ℕ) → bodies_on s p ≡ before → bodies_on (after_ran s p a cpu words) p ≡ after
-    → (if ends_body (s.cpus p) (Some i) then before - 1 else (if begins_body (s.cpus p) (Some i) then suc before else before)) ≡ after
-    → bodies_on (concrete_step n s p).0 p ≡ told_bodies s p
-ran_counts n s p a cpu words i h hi before after hb ha ht =
-    ap (λ z. bodies_on z.0 p) (ran_step n s p a cpu words h) ∙ ha
-    ∙ sym (told_ran s p a cpu words i h hi
-    ∙ ap (λ k. if ends_body (s.cpus p) (Some i) then k - 1 else (if begins_body (s.cpus p) (Some i) then suc k else k)) hb ∙ ht)
+    → (before after : ℕ) → bodies_on s p ≡ before → bodies_on (after_went n s p a cpu words sent) p ≡ after
+    → bodies_behind before (s.cpus p) i sent ≡ after → bodies_on (concrete_step n s p).0 p ≡ told_bodies s p
+went_counts n s p a cpu words sent i h hi before after hb ha ht =
+    ap (λ z. bodies_on z.0 p) (went_step n s p a cpu words sent h) ∙ ha
+    ∙ sym (told_went s p a cpu words sent i h hi ∙ ap (λ k. bodies_behind k (s.cpus p) i sent) hb ∙ ht)

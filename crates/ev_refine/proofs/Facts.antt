@@ -14,7 +14,7 @@ use Rattle.ev_state.specs.Processor.{Processor}
 use Rattle.ev_listing.specs.AddressMap.{body_code}
 use Rattle.ev_asm.specs.Assembly.{Name, place, total_size}
 use Rattle.ev_listing.specs.Expansion.{item_label, own_label, item_address, function_address}
-use Rattle.ev_listing.specs.Marks.{Never, Always, stmts_of}
+use Rattle.ev_listing.specs.Marks.{stmts_of}
 use Rattle.ev_abstract.specs.Run.{item_at}
 use Rattle.ev_concrete.specs.Opening.{regions}
 use Rattle.ev_concrete.specs.ConcreteRun.{marks_of, mark_at}
@@ -24,8 +24,7 @@ use Rattle.ev_symbolic.specs.Listed.{AllFound}
 use Rattle.ev_symbolic.specs.Machine.{Fetches}
 pub use Rattle.ev_user.proofs.KeepsNumbers.{word_of_canonical}
 use Rattle.ev_paths.specs.Lines.{HasKernel}
-use Rattle.ev_table.specs.Table.{code_table, other_exit, RetCell, places_of, item_lines, item_cells, IsPlacedIn}
-use Rattle.ev_table.proofs.Expanded.{is_plain}
+use Rattle.ev_table.specs.Table.{code_table, other_exit, RetCell, places_of, item_lines, item_cells, IsPlacedIn, reads_no_memory}
 use Rattle.ev_fetch.specs.Claims.{HoldsText}
 use Rattle.ev_refine.specs.Relation.{first_word, IsFixed}
 
@@ -52,9 +51,8 @@ pub record Facts (mode : Mode) (image : Image) : Type 0 where
       × (item_address mode n b i + 16 < 2 ^ 64)
   pub item_range : (n i : ℕ) (b : Body) → slice_get image.bodies n ≡ Some b → (0xffffffff82000000 ≤ item_address mode n b i)
       × (item_address mode n b i + 0x100 ≤ 2 ^ 64)
-  pub unmarked : (a : ℕ) (x : Cell) → code_table mode image a ≡ Some x → x.mark ≡ false → mark_at (marks_of mode image) a ≡ Never
-  pub marked : (a : ℕ) (x : Cell) → code_table mode image a ≡ Some x → x.mark ≡ true → mark_at (marks_of mode image) a ≡ Always
-  pub plain : (a : ℕ) → is_plain (mark_at (marks_of mode image) a) ≡ true
+  pub marks : (a : ℕ) (x : Cell) → code_table mode image a ≡ Some x → mark_at (marks_of mode image) a ≡ x.mark
+  pub no_memory : (a : ℕ) → reads_no_memory (mark_at (marks_of mode image) a) ≡ true
   pub fetches : (m : Memory) → m.regions ≡ regions image → HasFixed mode image m → Fetches (code_table mode image) m
   pub holds : (m : Memory) → HasFixed mode image m → HoldsText image.text m.words
   pub in_code : (m : Memory) → m.regions ≡ regions image → (c : Processor) → IsInCode c m

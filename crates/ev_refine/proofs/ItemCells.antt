@@ -8,15 +8,15 @@ use Rattle.ev_isa.specs.declared.instruction.Ins.TheVariants.{MovImm, MovReg, Lo
 use Rattle.ev_isa.specs.declared.mode.Mode.{Mode}
 use Rattle.ev_body.specs.declared.key.Key.{Key}
 use Rattle.ev_body.specs.declared.item.Item.{Item}
-use Rattle.ev_body.specs.declared.item.Item.TheVariants.{Set, Copy, Alu, Nop, Log, Cpu, Slot, Put, Cell, SetCell, AddCell, SwapCell, Uget, Uput, GetReg, SetReg, SetRip, Eoi, Map, Unmap}
+use Rattle.ev_body.specs.declared.item.Item.TheVariants.{Set, Copy, Alu, Nop, Log, Cpu, Slot, Put, Cell, SetCell, AddCell, SwapCell, Uget, Uput, GetReg, SetReg, SetRip, Eoi, Send, Map, Unmap, Resched}
 use Rattle.ev_asm.specs.Assembly.{Places, place, distance, size, total_size}
-use Rattle.ev_listing.specs.AddressMap.{slot_offset, cells_base, saved_rip}
+use Rattle.ev_listing.specs.AddressMap.{slot_offset, mark_offset, cells_base, saved_rip}
 use Rattle.ev_mem.specs.Memory.{page_map}
 use Rattle.ev_isa.specs.declared.instruction.AluOp.TheVariants.{Add}
 use Rattle.ev_isa.specs.declared.instruction.Cond.TheVariants.{C}
-use Rattle.ev_listing.specs.Expansion.{saved_offset, own_label, page_word, expansion}
+use Rattle.ev_listing.specs.Expansion.{saved_offset, own_label, page_word, command, expansion}
 use Rattle.ev_listing.specs.Statements.{seen}
-use Rattle.ev_listing.specs.Marks.{stmts_of}
+use Rattle.ev_listing.specs.Marks.{stmts_of, Always}
 use Rattle.ev_symbolic.specs.Value.{M}
 use Rattle.ev_symbolic.specs.State.{shift}
 use Rattle.ev_symbolic.specs.Agrees.{Env, addr, Code, edge_cell, Stands}
@@ -64,7 +64,9 @@ before (SwapCell k d) = MovImm 0 (cells_base + 8 * k) ∷ []
 before (Uget d s) = MovReg 0 s ∷ mask_code
 before (Uput s t) = MovReg 0 s ∷ mask_code
 before (SetRip a) = MovImm 0 a ∷ []
+before Resched = MovImm 0 1 ∷ []
 before Eoi = numbers_code 0x80b 0 0
+before (Send to key) = numbers_code 0x830 (command key) to
 before (Map s) = MovReg 0 s ∷ page_code
 before (Unmap s) = MovReg 0 s ∷ page_code
 before _ = []
@@ -88,7 +90,10 @@ visible_of (Uput s t) = Some (Store 0 (pos 0) t)
 visible_of (GetReg d r) = Some (Load d 4 (pos (saved_offset r)))
 visible_of (SetReg r s) = Some (Store 4 (pos (saved_offset r)) s)
 visible_of (SetRip a) = Some (Store 4 (pos saved_rip) 0)
+visible_of Item.Cli = Some Ins.Cli
+visible_of Resched = Some (GsStore (pos mark_offset) 0)
 visible_of Eoi = Some Wrmsr
+visible_of (Send to key) = Some Wrmsr
 visible_of (Map s) = Some (StoreImm 0 (pos 0) (pos 1))
 visible_of (Unmap s) = Some (StoreImm 0 (pos 0) (pos 0))
 visible_of _ = None
@@ -96,14 +101,14 @@ visible_of _ = None
 -- the cells: those before it, and it, which leads to the next item
 pub record ItemCells (code : Code) (a next : ℕ) (item : Item) (i : Ins) : Type 0 where
   pub edges : EdgesFrom code a (before item)
-  pub seen : CellIs code (a + bytes_of (before item)) i next true
+  pub seen : CellIs code (a + bytes_of (before item)) i next Always
 
 -- the cell of the visible instruction, of which the listing says that it ends so many bytes on
-seen_at : (code : Code) (a b k next : ℕ) (j i : Ins) → Some j ≡ Some i → code a ≡ Some (record { ins = j; next = a + k; mark = true }) → b ≡ a → next ≡ a + k
-    → CellIs code b i next true
+seen_at : (code : Code) (a b k next : ℕ) (j i : Ins) → Some j ≡ Some i → code a ≡ Some (record { ins = j; next = a + k; mark = Always }) → b ≡ a → next ≡ a + k
+    → CellIs code b i next Always
 seen_at code a b k next j i q h e n =
     let same : j ≡ i = cc in
-    ap code e ∙ h ∙ ap (λ x. Some (record { ins = x; next = a + k; mark = true })) same ∙ ap (λ x. Some (record { ins = i; next = x; mark = true })) (sym n)
+    ap code e ∙ h ∙ ap (λ x. Some (record { ins = x; next = a + k; mark = Always })) same ∙ ap (λ x. Some (record { ins = i; next = x; mark = Always })) (sym n)
 
 -- ---- the branch over the number of no page
 
@@ -126,7 +131,7 @@ page_cells : (code : Code) (env : Places) (a next n k s : ℕ) (j i : Ins) → S
     → place env (own_label n k (codes "M1")) ≡ a + branch_label
     → AllFound code (cells_from env a (page_word (own_label n k (codes "M1")) s ++ seen j ∷ []))
     → next ≡ a + total_size (stmts_of (page_word (own_label n k (codes "M1")) s ++ seen j ∷ []))
-    → EdgesFrom code a (MovReg 0 s ∷ page_code) × CellIs code (a + bytes_of (MovReg 0 s ∷ page_code)) i next true
+    → EdgesFrom code a (MovReg 0 s ∷ page_code) × CellIs code (a + bytes_of (MovReg 0 s ∷ page_code)) i next Always
 unfolding size spelling four_bytes
 page_cells code env a next n k s j i q place_is h e =
     let m1 = own_label n k (codes "M1") in
@@ -202,7 +207,14 @@ item_cells mode n k key f code env a next (SetReg r s) i q branch h e =
     record { edges = tt; seen = seen_at code a (a + 0) 8 next (Store 4 (pos (saved_offset r)) s) i q h.0 (omega arith) (omega arith) }
 item_cells mode n k key f code env a next (SetRip x) i q branch h e =
     record { edges = (h.0, tt); seen = seen_at code (a + 10) (a + 10) 8 next (Store 4 (pos saved_rip) 0) i q h.1.0 refl (omega arith) }
+item_cells mode n k key f code env a next Item.Cli i q branch h e =
+    record { edges = tt; seen = seen_at code a (a + 0) 1 next Ins.Cli i q h.0 (omega arith) (omega arith) }
+item_cells mode n k key f code env a next Resched i q branch h e =
+    record { edges = (h.0, tt); seen = seen_at code (a + 10) (a + 10) 9 next (GsStore (pos mark_offset) 0) i q h.1.0 refl (omega arith) }
 item_cells mode n k key f code env a next Eoi i q branch h e =
+    let seen = seen_at code (a + 10 + 10 + 10) (a + 30) 2 next Wrmsr i q h.1.1.1.0 (omega arith) (omega arith) in
+    record { edges = (h.0, (h.1.0, (h.1.1.0, tt))); seen = seen }
+item_cells mode n k key f code env a next (Send to sent) i q branch h e =
     let seen = seen_at code (a + 10 + 10 + 10) (a + 30) 2 next Wrmsr i q h.1.1.1.0 (omega arith) (omega arith) in
     record { edges = (h.0, (h.1.0, (h.1.1.0, tt))); seen = seen }
 item_cells mode n k key f code env a next (Map s) i q branch h e =

@@ -15,7 +15,7 @@ use Rattle.ev_body.specs.Bodies.{body_items}
 use Rattle.ev_asm.specs.Assembly.{Name, Places, place, places, size, distance}
 use Rattle.ev_listing.specs.Expansion.{item_label, own_label, page_word, item_address, function_address, expansion}
 use Rattle.ev_listing.specs.Statements.{seen}
-use Rattle.ev_listing.specs.Marks.{stmts_of}
+use Rattle.ev_listing.specs.Marks.{stmts_of, Always}
 use Rattle.ev_abstract.specs.Run.{item_at}
 use Rattle.ev_symbolic.specs.Agrees.{Code}
 use Rattle.ev_paths.specs.Cells.{CellIs}
@@ -28,7 +28,7 @@ use Rattle.ev_refine.proofs.ItemCells.{visible_of, branch_label, BranchIs, ItemC
 -- a visible jump to an address
 pub record JumpCell (code : Code) (a next target : ℕ) (jump : ℤ → Ins) : Type 0 where
   pub distance : ℤ
-  pub seen : CellIs code a (jump distance) next true
+  pub seen : CellIs code a (jump distance) next Always
   pub leads : displaced next distance ≡ target
 
 -- the label of the branch of an item of a page, whatever it stores there
@@ -79,7 +79,7 @@ module _ (mode : Mode) (image : Image) (facts : Facts mode image) (n : ℕ) (b :
       record {
         distance = distance (place (places_of mode image) (item_label n t)) (here + 5);
         seen = (facts.items n i b (Goto t) is h).0
-            ∙ ap (λ x. Some (record { ins = Jmp (distance (place (places_of mode image) (item_label n t)) (here + 5)); next = x; mark = true })) next;
+            ∙ ap (λ x. Some (record { ins = Jmp (distance (place (places_of mode image) (item_label n t)) (here + 5)); next = x; mark = Always })) next;
         leads = ap (λ x. displaced x (distance (place (places_of mode image) (item_label n t)) (here + 5))) (sym next)
             ∙ to_item (here + 5) t (let s = (facts.item_small n i b is).1 in omega arith) l;
       }
@@ -92,7 +92,7 @@ module _ (mode : Mode) (image : Image) (facts : Facts mode image) (n : ℕ) (b :
       record {
         distance = distance (place (places_of mode image) (item_label n t)) (here + 6);
         seen = (facts.items n i b (Jcc c t) is h).0
-            ∙ ap (λ x. Some (record { ins = Ins.Jcc c (distance (place (places_of mode image) (item_label n t)) (here + 6)); next = x; mark = true })) next;
+            ∙ ap (λ x. Some (record { ins = Ins.Jcc c (distance (place (places_of mode image) (item_label n t)) (here + 6)); next = x; mark = Always })) next;
         leads = ap (λ x. displaced x (distance (place (places_of mode image) (item_label n t)) (here + 6))) (sym next)
             ∙ to_item (here + 6) t (let s = (facts.item_small n i b is).1 in omega arith) l;
       }

@@ -10,7 +10,7 @@ use Rattle.ev_isa.specs.declared.instruction.Ins.TheVariants.{MovImm}
 use Rattle.ev_isa.specs.declared.mode.Mode.{Mode}
 use Rattle.ev_isa.specs.declared.mode.Mode.TheVariants.{Idt, Fred}
 use Rattle.ev_body.specs.declared.item.Item.{Item}
-use Rattle.ev_body.specs.declared.item.Item.TheVariants.{SetCell, AddCell, SwapCell, SetRip}
+use Rattle.ev_body.specs.declared.item.Item.TheVariants.{SetCell, AddCell, SwapCell, SetRip, Resched}
 use Rattle.ev_body.specs.declared.body.Body.{Body}
 use Rattle.ev_body.specs.declared.image.Image.{Image}
 use Rattle.ev_body.specs.WellFormed.{IsImage}
@@ -101,6 +101,7 @@ before_is (SetCell k r) n h = ap (λ x. MovImm 0 x ∷ []) (unsome _ _ h)
 before_is (AddCell k d) n h = ap (λ x. MovImm 0 x ∷ []) (unsome _ _ h)
 before_is (SwapCell k d) n h = ap (λ x. MovImm 0 x ∷ []) (unsome _ _ h)
 before_is (SetRip a) n h = ap (λ x. MovImm 0 x ∷ []) (unsome _ _ h)
+before_is Resched n h = ap (λ x. MovImm 0 x ∷ []) (unsome _ _ h)
 before_is _ n h = absurd (cc)
 
 module _ (mode : Mode) (image : Image) (built : IsBuilt image) (good : IsImage image) (facts : Facts mode image)

@@ -1,8 +1,8 @@
 -- Items that write a model-specific register: they begin with numbers for RCX, RAX and RDX, and their visible instruction is WRMSR. `eoi` ends in the local
--- APIC the interrupt of the greatest vector in service, which is that of its context.
+-- APIC the interrupt of the greatest vector in service, which is that of its context; `send` puts an interrupt into the mail of a processor.
 use Rattle.std.proofs.Common.{◌≡◌, ℕ, suc, ◌+◌, ◌<◌, ◌≤◌, false, [], ◌∷◌, length, Some, refl, sym, ap, ◌∙◌, subst, arith}
-use Rattle.std.specs.Prelude.{slice_get, if◌then◌else◌, not, ◌&&◌, ◌*◌, ◌^◌, Bool, true, None}
-use Rattle.ev_isa.specs.Word.{NatMap}
+use Rattle.std.specs.Prelude.{slice_get, if◌then◌else◌, not, ◌&&◌, ◌*◌, ◌/◌, ◌%◌, ◌^◌, ◌==◌, nat_lt, nat_le, Bool, true, None}
+use Rattle.ev_isa.specs.Word.{NatMap, NatSet, put_at}
 use Rattle.ev_isa.specs.Flags.{Flags}
 use Rattle.ev_isa.specs.Spelling.{spelling, four_bytes}
 use Rattle.ev_isa.specs.declared.instruction.Ins.{Ins}
@@ -10,17 +10,21 @@ use Rattle.ev_isa.specs.declared.instruction.Ins.TheVariants.{Wrmsr}
 use Rattle.ev_isa.specs.declared.mode.Mode.{Mode}
 use Rattle.ev_isa.specs.declared.mode.Mode.TheVariants.{Idt, Fred}
 use Rattle.ev_body.specs.declared.item.Item.{Item}
-use Rattle.ev_body.specs.declared.item.Item.TheVariants.{Eoi}
+use Rattle.ev_body.specs.declared.item.Item.TheVariants.{Eoi, Send}
+use Rattle.ev_body.specs.declared.key.Key.{Key}
+use Rattle.ev_body.specs.declared.key.Key.TheVariants.{Irq}
 use Rattle.ev_body.specs.declared.body.Body.{Body}
 use Rattle.ev_body.specs.declared.image.Image.{Image}
-use Rattle.ev_body.specs.WellFormed.{IsImage}
-use Rattle.ev_listing.specs.Expansion.{item_address}
+use Rattle.ev_body.specs.Bodies.{key_number}
+use Rattle.ev_body.specs.WellFormed.{IsImage, is_sendable}
+use Rattle.ev_listing.specs.Expansion.{command, item_address}
 use Rattle.ev_state.specs.Processor.{Processor, register, is_user}
 use Rattle.ev_mem.specs.Memory.{Memory}
 use Rattle.ev_abstract.specs.Context.{BodyContext}
 use Rattle.ev_abstract.specs.Machine.{Machine, processor}
 use Rattle.ev_abstract.specs.Machine as abstract
 use Rattle.ev_abstract.specs.Run.{item_at}
+use Rattle.ev_listing.specs.Marks.{Always}
 use Rattle.ev_concrete.specs.ConcreteRun.{System}
 use Rattle.ev_built.specs.Built.{IsBuilt}
 use Rattle.ev_symbolic.specs.Value.{K}
@@ -57,12 +61,28 @@ use Rattle.ev_apic.specs.declared.apic.Apic.{Apic}
 use Rattle.ev_isa.specs.Instruction.{user_may}
 use Rattle.ev_event.specs.Event.{ud}
 use Rattle.ev_apic.specs.Apic.{ended}
-use Rattle.ev_proc.specs.ProcessorStep.{executed, ran, fault, special, write_msr, low32}
+use Rattle.ev_apic.specs.Send.{sent, send_to, target_of}
+use Rattle.ev_apic.specs.Inbox.{mailed}
+use Rattle.ev_apic.specs.declared.send.Send.{Send as Sent}
+use Rattle.ev_apic.specs.declared.send.SendKey.TheVariants.{Fixed, Nmi}
+use Rattle.ev_apic.specs.declared.send.Target.TheVariants.{One}
+use Rattle.ev_proc.specs.ProcessorStep.{executed, ran, fault, special, write_msr, after_send, low32}
 use Rattle.ev_exec.specs.Exec.{exec}
 use Rattle.ev_symbolic.specs.Single.{IsAt, onward}
-use Rattle.ev_concrete.specs.ConcreteRun.{is_return}
+use Rattle.ev_concrete.specs.ConcreteRun.{is_return, targets, posted}
 use Rattle.ev_concrete.specs.Shown.{shown_always}
-use Rattle.ev_abstract.specs.ItemMeaning.{item_step, with_context}
+use Rattle.ev_abstract.specs.ItemMeaning.{item_step, with_context, with_mail}
+use Rattle.ev_abstract.specs.ItemMeaning as meaning
+use Rattle.ev_abstract.specs.Rules.{breaks_slots, is_used}
+use Rattle.ev_law.proofs.Ruled.{IsRuled}
+use Rattle.ev_law.proofs.Machines.{used_by_item, send_sends}
+use Rattle.ev_symbolic.proofs.Values.{and_left, and_right}
+use Rattle.std.proofs.lemmas.Bool.{lt-ltb, ltb-true, leb-true, not-false}
+use Rattle.std.proofs.lemmas.Bool.Decides.{eqb_tells}
+use Rattle.std.proofs.Common.{⊎_elim}
+use Rattle.ev_refine.proofs.Maps.{at_same, at_other}
+use Rattle.ev_refine.proofs.Arrivals.{sending_stands}
+use Rattle.ev_refine.proofs.Standing.{went}
 
 -- ---- the block of the numbers
 
@@ -114,6 +134,7 @@ numbers_ends Idt code rcx rax rdx e c m at =
 before_numbers : (i : Item) (rcx rax rdx : ℕ) → numbers_of (Some i) ≡ Some (rcx, rax, rdx) → before i ≡ numbers_code rcx rax rdx
 unfolding numbers_of before
 before_numbers Eoi rcx rax rdx h = ap (λ (z : ℕ × ℕ × ℕ). numbers_code z.0 z.1 z.2) (unsome _ _ h)
+before_numbers (Send to key) rcx rax rdx h = ap (λ (z : ℕ × ℕ × ℕ). numbers_code z.0 z.1 z.2) (unsome _ _ h)
 before_numbers _ rcx rax rdx h = absurd (cc)
 
 -- WRMSR of 0 to the register that ends an interrupt
@@ -126,6 +147,33 @@ writes_end c m next h rax rcx rdx a nmi =
     ∙ ap (λ n. write_msr c a m nmi next (low32 n) (low32 (register c 0) + 2 ^ 32 * low32 (register c 2))) rcx
     ∙ ap (λ n. write_msr c a m nmi next 0x80b (low32 n + 2 ^ 32 * low32 (register c 2))) rax
     ∙ ap (λ n. write_msr c a m nmi next 0x80b (low32 0 + 2 ^ 32 * low32 n)) rdx
+
+-- an interrupt command of mode 0 without a shorthand sends its vector to its destination
+command_sends : (v to : ℕ) → 0x20 ≤ v → v < 0x100 → to < 2 ^ 32
+    → sent (low32 (0x4000 + v) + 2 ^ 32 * low32 to) ≡ Some (record { target = One to; key = Fixed v })
+unfolding sent
+command_sends v to from small low =
+    let n : ℕ = low32 (0x4000 + v) + 2 ^ 32 * low32 to in
+    let mode : n / 2 ^ 8 % 8 ≡ 0 = omega arith in
+    let vector : n % 256 ≡ v = omega arith in
+    let shorthand : n / 2 ^ 18 % 4 ≡ 0 = omega arith in
+    let destination : n / 2 ^ 32 ≡ to = omega arith in
+    (λ i. if mode i == 4 then Some (send_to n Nmi) else (if (mode i == 0) && nat_lt 15 (vector i)
+    then Some (record { target = target_of (shorthand i) (destination i); key = Fixed (vector i) }) else None))
+    ∙ ap (λ b. if b then Some (record { target = One to; key = Fixed v }) else None) (lt-ltb 15 v (omega arith))
+
+-- WRMSR to the interrupt command register
+writes_command : (c : Processor) (m : Memory) (next : ℕ) → IsAt c Wrmsr next → (v to : ℕ) → 0x20 ≤ v → v < 0x100 → to < 2 ^ 32
+    → register c 0 ≡ 0x4000 + v → register c 1 ≡ 0x830 → register c 2 ≡ to → (a : Apic) (nmi : Bool)
+    → executed c a m nmi (Some Wrmsr) ≡ went (onward c c.regs next) a m.words nmi (Some (record { target = One to; key = Fixed v }))
+unfolding exec special
+writes_command c m next h v to from small low rax rcx rdx a nmi =
+    ap (λ t. if t && not (user_may Wrmsr) then fault c a m nmi ud else special c a m nmi (c.rip + length (spelling Wrmsr)) Wrmsr) h.kernel
+    ∙ ap (λ n. special c a m nmi n Wrmsr) h.ends
+    ∙ ap (λ n. write_msr c a m nmi next (low32 n) (low32 (register c 0) + 2 ^ 32 * low32 (register c 2))) rcx
+    ∙ ap (λ n. write_msr c a m nmi next 0x830 (low32 n + 2 ^ 32 * low32 (register c 2))) rax
+    ∙ ap (λ n. write_msr c a m nmi next 0x830 (low32 (0x4000 + v) + 2 ^ 32 * low32 n)) rdx
+    ∙ ap (after_send c a m nmi next) (command_sends v to from small low)
 
 module _ (mode : Mode) (image : Image) (built : IsBuilt image) (good : IsImage image) (facts : Facts mode image)
     (left : NatMap ℕ) (s : System) (m : Machine) (h : Stands mode image left s m) (p : ℕ) (hp : p < image.processors)
@@ -234,10 +282,10 @@ module _ (mode : Mode) (image : Image) (built : IsBuilt image) (good : IsImage i
     by_eoi off same rcx rax rdx hi =
         let cells : ItemCells code (visible.at mode image built good facts left s m h p hp o body' is b.place) next Eoi Wrmsr
         = cells_of mode image facts b.body body' is b.place Eoi Wrmsr hi refl in
-        let here : code c.rip ≡ Some (record { ins = Wrmsr; next = next; mark = true })
+        let here : code c.rip ≡ Some (record { ins = Wrmsr; next = next; mark = Always })
         = ap code (steps.rip_is mode image built good facts left s m h p hp o body' is ss extra v f a (omega arith)
         ∙ ap (λ n. visible.at mode image built good facts left s m h p hp o body' is b.place + n) off) ∙ cells.seen in record {
-          cell = record { ins = Wrmsr; next = next; mark = true };
+          cell = record { ins = Wrmsr; next = next; mark = Always };
           found = here;
           marked = refl;
           no_return = refl;
@@ -246,9 +294,13 @@ module _ (mode : Mode) (image : Image) (built : IsBuilt image) (good : IsImage i
           place = suc b.place;
           flags = a.flags;
           status = b.flags;
-          flags_are = steps.known_flags mode image built good facts left s m h p hp o body' is ss extra v f a same;
+          flags_are = (steps.known_flags mode image built good facts left s m h p hp o body' is ss extra v f a same).0;
+          interrupts = b.interrupts;
+          masked = steps.same_interrupts mode image built good facts left s m h p hp o body' is ss extra v f a;
           words = s.memory.words;
           apic = ended (s.apics p);
+          sent = None;
+          sends = step.sends_nothing mode image built good facts left s m h p hp;
           runs = subst (λ g. executed c (s.apics p) s.memory (s.latches p) (Some Wrmsr)
               ≡ ran (record (onward c c.regs next) { flags = g }) (ended (s.apics p)) s.memory.words (s.latches p)) a.state.flags
               (writes_end c s.memory next (steps.at_ins mode image built good facts left s m h p hp o body' is ss extra v f a Wrmsr next here) rax rcx rdx
@@ -267,7 +319,128 @@ module _ (mode : Mode) (image : Image) (built : IsBuilt image) (good : IsImage i
           entries = [];
           turns = steps.turns mode image built good facts left s m h p hp o body' is ss extra v f a Eoi hi;
           slots = x.slots;
-          makes = words.makes_context mode image built good facts left s m h p hp o m s.memory.words x.tasks x.slots behind
+          makes = words.makes_context mode image built good facts left s m h p hp o m m s.memory.words x.tasks x.slots behind
               (steps.nothing mode image built good facts left s m h p hp o body' is ss extra v f a);
           shows = refl;
         }
+
+    -- ---- `send` of an interrupt
+
+    module _ (to n : ℕ) (hi : item_at (Some body') b.place ≡ Some (Send to (Irq n))) where
+      abbrev ruled : IsRuled image body'
+      ruled = steps.ruled mode image built good facts left s m h p hp o body' is ss extra v f a
+
+      sendable : is_sendable (Irq n) ≡ true
+      sendable = ruled.sends b.place to (Irq n) hi
+
+      from : 0x20 ≤ n
+      from = leb-true 0x20 n (and_left (nat_le 0x20 n) (nat_lt n 0x100) sendable)
+
+      small : n < 0x100
+      small = ltb-true n 0x100 (and_right (nat_le 0x20 n) (nat_lt n 0x100) sendable)
+
+      there : to < image.processors
+      unfolding breaks_slots
+      there = ltb-true to image.processors (not-false _ (ruled.slots b.place (Send to (Irq n)) hi))
+
+      used : is_used image (Irq n) ≡ true
+      used = used_by_item image (Irq n) b.body b.place body' (Send to (Irq n)) is hi (send_sends image to (Irq n))
+
+      abbrev what : Sent
+      what = record { target = One to; key = Fixed n }
+
+      -- the machine with it in the mail of its target
+      abbrev mailed_to : Machine
+      mailed_to = with_mail m to (Irq n)
+
+      sender : processor mailed_to p ≡ record x { mail = (processor mailed_to p).mail; mail_nmi = (processor mailed_to p).mail_nmi }
+      sender = ⊎_elim
+          (λ e. by (put_at x.mail (key_number (Irq n)) true) (at_same m.processors to p (meaning.mailed (processor m to) (Irq n)) e.1
+          ∙ ap (λ q. meaning.mailed (processor m q) (Irq n)) (sym e.1)))
+          (λ e. by x.mail (at_other m.processors to p (meaning.mailed (processor m to) (Irq n)) e.0)) (eqb_tells p to)
+        where
+          by : (mail : NatSet) → processor mailed_to p ≡ record x { mail = mail }
+              → processor mailed_to p ≡ record x { mail = (processor mailed_to p).mail; mail_nmi = (processor mailed_to p).mail_nmi }
+          by mail e = e ∙ sym (ap (λ (y : abstract.Processor). record x { mail = y.mail; mail_nmi = y.mail_nmi }) e)
+
+      unfoldable sending : step.Sends mode image built good facts left s m h p hp (Some what)
+      sending = record {
+        machine = mailed_to;
+        own = sender;
+        stands = subst (λ t. Stands mode image left
+            (record s { inboxes = (posted s (Fixed n) (if t then to ∷ [] else [])).inboxes }) mailed_to) (sym (lt-ltb to image.processors there))
+            (sending_stands mode image left s m h to n there small sendable used);
+      }
+
+      -- of the sender nothing else is another
+      still : step.Makes mode image built good facts left s m h p hp o mailed_to mailed_to s.memory.words x.tasks x.slots x.bodies
+      still =
+          let none = steps.nothing mode image built good facts left s m h p hp o body' is ss extra v f a in record {
+            resched = x.resched;
+            asked = λ e. e;
+            own = λ i. record (processor mailed_to p) {
+              tasks = (sender i).tasks;
+              slots = (sender i).slots;
+              resched = (sender i).resched;
+              bodies = (sender i).bodies;
+            };
+            others = λ q e. refl;
+            same_tasks = none.same_tasks;
+            good_tasks = none.good_tasks;
+            current = none.current;
+            mark = (step.on mode image built good facts left s m h p hp).mark;
+            slots_are = none.slots_are;
+            user = none.user;
+            held = none.held;
+            pages = none.pages;
+            cells = none.cells;
+          }
+
+      pub by_send : a.offset ≡ 30 → a.flags ≡ f → register c 1 ≡ 0x830 → register c 0 ≡ 0x4000 + n → register c 2 ≡ to
+          → visible.Does mode image built good facts left s m h p hp o body' is ss extra v f a
+      unfolding item_step visible_of before is_return shown_always spelling four_bytes sending
+      by_send off same rcx rax rdx =
+          let cells : ItemCells code (visible.at mode image built good facts left s m h p hp o body' is b.place) next (Send to (Irq n)) Wrmsr
+          = cells_of mode image facts b.body body' is b.place (Send to (Irq n)) Wrmsr hi refl in
+          let here : code c.rip ≡ Some (record { ins = Wrmsr; next = next; mark = Always })
+          = ap code (steps.rip_is mode image built good facts left s m h p hp o body' is ss extra v f a (omega arith)
+          ∙ ap (λ k. visible.at mode image built good facts left s m h p hp o body' is b.place + k) off) ∙ cells.seen in
+          let few = good.count.1 in record {
+            cell = record { ins = Wrmsr; next = next; mark = Always };
+            found = here;
+            marked = refl;
+            no_return = refl;
+            write = None;
+            local = tt;
+            place = suc b.place;
+            flags = a.flags;
+            status = b.flags;
+            flags_are = (steps.known_flags mode image built good facts left s m h p hp o body' is ss extra v f a same).0;
+            interrupts = b.interrupts;
+            masked = steps.same_interrupts mode image built good facts left s m h p hp o body' is ss extra v f a;
+            words = s.memory.words;
+            apic = s.apics p;
+            sent = Some what;
+            sends = sending;
+            runs = subst (λ g. executed c (s.apics p) s.memory (s.latches p) (Some Wrmsr)
+                ≡ went (record (onward c c.regs next) { flags = g }) (s.apics p) s.memory.words (s.latches p) (Some what)) a.state.flags
+                (writes_command c s.memory next (steps.at_ins mode image built good facts left s m h p hp o body' is ss extra v f a Wrmsr next here) n to from
+                small (let l = there in omega arith) rax rcx rdx (s.apics p) (s.latches p));
+            service = b.service;
+            apic_is = visible.same_apic mode image built good facts left s m h p hp o body' is None (suc b.place) b.flags;
+            names = [];
+            allowed = (none_spares p).allowed;
+            unknown = step.unknown_none o.below;
+            changes = λ y off d. refl;
+            w = o.w;
+            var = v;
+            tasks = x.tasks;
+            over = steps.over_of mode image built good facts left s m h p hp o body' is ss extra v f a None tt;
+            machine = with_context mailed_to p (visible.behind mode image built good facts left s m h p hp o body' is None (suc b.place) b.flags);
+            entries = [];
+            turns = steps.turns mode image built good facts left s m h p hp o body' is ss extra v f a (Send to (Irq n)) hi;
+            slots = x.slots;
+            makes = words.makes_context mode image built good facts left s m h p hp o mailed_to mailed_to s.memory.words x.tasks x.slots
+                (visible.behind mode image built good facts left s m h p hp o body' is None (suc b.place) b.flags) still;
+            shows = refl;
+          }

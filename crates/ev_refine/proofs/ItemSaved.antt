@@ -7,7 +7,7 @@ use Rattle.ev_isa.specs.declared.mode.Mode.{Mode}
 use Rattle.ev_isa.specs.declared.mode.Mode.TheVariants.{Idt, Fred}
 use Rattle.ev_body.specs.declared.image.Image.{Image}
 use Rattle.ev_state.specs.Processor.{Processor, selector}
-use Rattle.ev_listing.specs.AddressMap.{saved_rip}
+use Rattle.ev_listing.specs.AddressMap.{saved_rip, saved_cs, saved_flags, saved_ss}
 use Rattle.ev_listing.specs.Expansion.{saved_offset}
 use Rattle.ev_symbolic.specs.Value.{M, V, K, P, X, B, v_eq}
 use Rattle.ev_symbolic.specs.State.{Loc, Word, Win, top_tag, in_win, loc_eq, find}
@@ -149,6 +149,19 @@ saved_register mode r h = tested mode (saved_offset r) (variable_of r) (register
 pub saved_place : (mode : Mode) → IsSavedWord mode saved_rip rip_variable
 saved_place Fred = tested Fred saved_rip rip_variable refl
 saved_place Idt = tested Idt saved_rip rip_variable refl
+
+-- CS, RFLAGS and SS of its frame
+pub saved_ring : (mode : Mode) → IsSavedWord mode saved_cs 18
+saved_ring Fred = tested Fred saved_cs 18 refl
+saved_ring Idt = tested Idt saved_cs 18 refl
+
+pub saved_status : (mode : Mode) → IsSavedWord mode saved_flags 19
+saved_status Fred = tested Fred saved_flags 19 refl
+saved_status Idt = tested Idt saved_flags 19 refl
+
+pub saved_stack : (mode : Mode) → IsSavedWord mode saved_ss 21
+saved_stack Fred = tested Fred saved_ss 21 refl
+saved_stack Idt = tested Idt saved_ss 21 refl
 
 -- ---- reading and writing them
 

@@ -112,6 +112,11 @@ unfolding eval
 any_registers Fred p κ σ ss w w' extra extra' v v' f f' regs g k l = record { gs = refl; kernel_gs = g; selector = k; rsp0 = l; rsp = refl }
 any_registers Idt p κ σ ss w w' extra extra' v v' f f' regs g k l = record { gs = refl; kernel_gs = g; selector = k; rsp0 = l; rsp = refl }
 
+-- nothing is blocked there
+pub unblocked : (mode : Mode) → (opening_of mode).blocked ≡ false
+unblocked Fred = refl
+unblocked Idt = refl
+
 -- what an item's block knows doesn't depend on registers, the item and the flags
 pub any_known : (mode : Mode) (p : ℕ) (κ : Kind) (σ : Seat) (ss : ℕ) (w : Processor) (extra extra' v : ℕ → ℕ) (f f' : Flags) (regs : List ℕ) (n : NatMap ℕ)
     → Known (here mode p κ σ ss w extra v f) (known_of mode) n (opening_of mode).words

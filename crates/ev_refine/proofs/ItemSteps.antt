@@ -27,6 +27,7 @@ use Rattle.ev_abstract.specs.Machine as abstract
 use Rattle.ev_abstract.specs.Run.{item_at, turn}
 use Rattle.ev_law.specs.Legal.{IsLegalOn, AreLegal, has_flags_for, knows}
 use Rattle.ev_law.proofs.Ruled.{IsRuled, body_ruled}
+use Rattle.ev_listing.specs.Marks.{Always}
 use Rattle.ev_concrete.specs.ConcreteRun.{System, is_return}
 use Rattle.ev_concrete.specs.Depth.{bodies_on}
 use Rattle.ev_concrete.specs.Shown.{shown_always, shown_again}
@@ -47,7 +48,7 @@ use Rattle.ev_refine.proofs.Facts.{Facts}
 use Rattle.ev_refine.proofs.After.{AreNames, own_word, none_spares}
 use Rattle.ev_refine.proofs.ItemCells.{bytes_of, before, visible_of, ItemCells}
 use Rattle.ev_refine.proofs.ItemCode.{JumpCell, cells_of, goto_cell, jcc_cell}
-use Rattle.ev_refine.proofs.ItemState.{opening_of, known_of, gone, gs_of}
+use Rattle.ev_refine.proofs.ItemState.{opening_of, known_of, unblocked, gone, gs_of}
 use Rattle.ev_refine.proofs.ItemLocals.{Write, IsLocal, regs_with, local_at}
 use Rattle.ev_refine.proofs.ItemAddresses.{area_open, displaced_area}
 use Rattle.ev_refine.proofs.ItemWords.{IsFree, are_names, is_unknown}
@@ -117,12 +118,16 @@ module _ (mode : Mode) (image : Image) (built : IsBuilt image) (good : IsImage i
       a.state.rip ∙ (let z : (extra 20 + a.offset) % M ≡ at b.place + a.offset = omega arith in z)
 
   -- what holds of it
-  pub at_ins : (ins : Ins) (next : ℕ) → code c.rip ≡ Some (record { ins = ins; next = next; mark = true }) → IsAt c ins next
+  pub at_ins : (ins : Ins) (next : ℕ) → code c.rip ≡ Some (record { ins = ins; next = next; mark = Always }) → IsAt c ins next
   at_ins ins next hc = record { kernel = a.kernel; flags = kept c.flags a.flags a.state.flags; ends = sym (facts.spaced c.rip _ hc) }
+
+  -- IF is the context's
+  pub same_interrupts : a.flags.interrupts ≡ b.interrupts
+  same_interrupts = step.masks_flags mode image built good facts left s m h p hp o a.flags a.state.flags
 
   -- the abstract machine's turn
   pub turns : (item : Item) → item_at (Some body') b.place ≡ Some item → turn image m p ≡ item_step image m p b item
-  turns item hi = step.turns mode image built good facts left s m h p hp o item (ap (λ o. item_at o b.place) is ∙ hi)
+  turns item hi = step.turns mode image built good facts left s m h p hp o (λ on. a.state.blocked ∙ unblocked mode) item (ap (λ o. item_at o b.place) is ∙ hi)
 
   -- ---- the memory of a write
 
@@ -158,9 +163,9 @@ module _ (mode : Mode) (image : Image) (built : IsBuilt image) (good : IsImage i
       → shown_always p (bodies_on s p) c s.memory.words (Some ins) ≡ es → Does
   does item hi ins seen offset near back write local g status known z free runs m1 slots makes es meaning shows =
       let cells : ItemCells code (at b.place) (at (suc b.place)) item ins = cells_of mode image facts b.body body' is b.place item ins hi seen in
-      let here : code c.rip ≡ Some (record { ins = ins; next = at (suc b.place); mark = true })
+      let here : code c.rip ≡ Some (record { ins = ins; next = at (suc b.place); mark = Always })
       = ap code (rip_is near ∙ ap (λ n. at b.place + n) offset) ∙ cells.seen in record {
-        cell = record { ins = ins; next = at (suc b.place); mark = true };
+        cell = record { ins = ins; next = at (suc b.place); mark = Always };
         found = here;
         marked = refl;
         no_return = back;
@@ -169,9 +174,13 @@ module _ (mode : Mode) (image : Image) (built : IsBuilt image) (good : IsImage i
         place = suc b.place;
         flags = g;
         status = status;
-        flags_are = known;
+        flags_are = known.0;
+        interrupts = b.interrupts;
+        masked = known.1 ∙ same_interrupts;
         words = words_with s.memory.words z;
         apic = s.apics p;
+        sent = None;
+        sends = step.sends_nothing mode image built good facts left s m h p hp;
         runs = runs (at_ins ins (at (suc b.place)) here) (s.apics p) (s.latches p);
         service = b.service;
         apic_is = visible.same_apic mode image built good facts left s m h p hp o body' is write (suc b.place) status;
@@ -187,7 +196,7 @@ module _ (mode : Mode) (image : Image) (built : IsBuilt image) (good : IsImage i
         entries = es;
         turns = turns item hi ∙ meaning;
         slots = slots;
-        makes = words.makes_context mode image built good facts left s m h p hp o m1 (words_with s.memory.words z) x.tasks slots
+        makes = words.makes_context mode image built good facts left s m h p hp o m m1 (words_with s.memory.words z) x.tasks slots
             (behind write (suc b.place) status) makes;
         shows = shows;
       }
@@ -320,7 +329,7 @@ module _ (mode : Mode) (image : Image) (built : IsBuilt image) (good : IsImage i
         let value : register c r ≡ local b r = is_the_local r (ruled.operands b.place (Log r) hi).2 in
         let few = good.count.1 in
         let z : Named = Port p in
-        let free : IsFree p z = record { name = small; written = small; own = λ q d. own_word p q d; tasks = refl; calls = refl; private = refl } in
+        let free : IsFree p z = record { name = small; written = small; own = λ q d. own_word p q d; calls = refl; private = refl } in
         does (Log r) hi (GsStore (pos 0x28) r) refl off near refl None tt a.flags b.flags (known_flags same) (Some (z, local b r))
         free
         (λ i. onward_by (GsStore (pos 0x28) r) _ _
@@ -334,14 +343,14 @@ module _ (mode : Mode) (image : Image) (built : IsBuilt image) (good : IsImage i
     -- ---- jumps
 
     -- one that leads to an item
-    to_item : (item : Item) → item_at (Some body') b.place ≡ Some item → (ins : Ins) → code (at b.place) ≡ Some (record { ins = ins; next = at (suc b.place); mark = true })
+    to_item : (item : Item) → item_at (Some body') b.place ≡ Some item → (ins : Ins) → code (at b.place) ≡ Some (record { ins = ins; next = at (suc b.place); mark = Always })
         → is_return (Some ins) ≡ false → (t : ℕ)
         → (IsAt c ins (at (suc b.place)) → Leads c s.memory ins (onward c c.regs (at t)) s.memory.words)
         → item_step image m p b item ≡ (with_context m p (behind None t b.flags), []) → shown_always p (bodies_on s p) c s.memory.words (Some ins) ≡ [] → Does
     to_item item hi ins cell back t runs meaning shows =
-        let here : code c.rip ≡ Some (record { ins = ins; next = at (suc b.place); mark = true })
+        let here : code c.rip ≡ Some (record { ins = ins; next = at (suc b.place); mark = Always })
         = ap code (rip_is near ∙ (let z : at b.place + a.offset ≡ at b.place = omega arith in z)) ∙ cell in record {
-          cell = record { ins = ins; next = at (suc b.place); mark = true };
+          cell = record { ins = ins; next = at (suc b.place); mark = Always };
           found = here;
           marked = refl;
           no_return = back;
@@ -350,9 +359,13 @@ module _ (mode : Mode) (image : Image) (built : IsBuilt image) (good : IsImage i
           place = t;
           flags = a.flags;
           status = b.flags;
-          flags_are = known_flags same;
+          flags_are = (known_flags same).0;
+          interrupts = b.interrupts;
+          masked = same_interrupts;
           words = s.memory.words;
           apic = s.apics p;
+          sent = None;
+          sends = step.sends_nothing mode image built good facts left s m h p hp;
           runs = goes_onward c s.memory ins a.flags c.regs (at t) s.memory.words a.state.flags (runs (at_ins ins (at (suc b.place)) here))
               (s.apics p) (s.latches p);
           service = b.service;
@@ -369,7 +382,7 @@ module _ (mode : Mode) (image : Image) (built : IsBuilt image) (good : IsImage i
           entries = [];
           turns = turns item hi ∙ meaning;
           slots = x.slots;
-          makes = words.makes_context mode image built good facts left s m h p hp o m s.memory.words x.tasks x.slots (behind None t b.flags) nothing;
+          makes = words.makes_context mode image built good facts left s m h p hp o m m s.memory.words x.tasks x.slots (behind None t b.flags) nothing;
           shows = shows;
         }
 

@@ -34,6 +34,7 @@ use Rattle.ev_abstract.specs.Machine as abstract
 use Rattle.ev_abstract.specs.Run.{item_at}
 use Rattle.ev_law.specs.Legal.{AreLegal, knows, numbers}
 use Rattle.ev_law.proofs.Ruled.{IsRuled}
+use Rattle.ev_listing.specs.Marks.{Always}
 use Rattle.ev_concrete.specs.ConcreteRun.{System, Activation, is_return}
 use Rattle.ev_concrete.specs.Depth.{bodies_on}
 use Rattle.ev_concrete.specs.Shown.{shown_always}
@@ -141,14 +142,14 @@ module _ (mode : Mode) (image : Image) (built : IsBuilt image) (good : IsImage i
           absurd (no_kernel l.0.body l.0.is_body (and_left (covers l.0.body.side Kernel) _ (and_left _ _ (ap (λ z. is_legal (l.0.body ∷ z)) (sym two) ∙ on_it))))
 
   module _ (over : is_over_task o.κ ≡ true) where
-    one : step.Alone mode image built good facts left s m h p hp o
+    pub one : step.Alone mode image built good facts left s m h p hp o
     one = step.alone mode image built good facts left s m h p hp o over
 
-    saved : Saved mode image v o.w
+    pub saved : Saved mode image v o.w
     saved = saved_task mode image o.κ over env o.w a.means.saved
 
     -- the task to which it returns is the running one
-    runs_is : on.returning ≡ x.running
+    pub runs_is : on.returning ≡ x.running
     runs_is = on.is_returning ∙ ap (λ t. if t then get_or x.waiting 0 x.running else x.running) one.still
 
     task_is : x.tasks on.returning ≡ task x
@@ -164,7 +165,7 @@ module _ (mode : Mode) (image : Image) (built : IsBuilt image) (good : IsImage i
 
     -- ---- reading a register
 
-    register_is : (r : ℕ) → r < 16 → s.memory.words (addr env (saved_at mode (saved_offset r))) ≡ reg (task x) r
+    pub register_is : (r : ℕ) → r < 16 → s.memory.words (addr env (saved_at mode (saved_offset r))) ≡ reg (task x) r
     unfolding variable_of
     register_is r l =
         saved_is mode env s.memory.words (saved_offset r) (variable_of r) (saved_register mode r l) a.state.words
@@ -276,7 +277,7 @@ module _ (mode : Mode) (image : Image) (built : IsBuilt image) (good : IsImage i
             × LeadsTo mode p z on.frame w mem.words
             × Active mode image p now z (seat_by mode z x.running (seat_of mode image x.running []) (room_of mode image [])) on.frame
             (switches_at mode image on.switching []) w b' cpu mem) (sym k)
-            (over_kind mode image p now x.running on.returning t on.frame on.switching w b' cpu mem o.κ over runs alone_is.still
+            (over_kind mode image p now x.running on.returning t on.frame on.switching w b' cpu mem o.κ over runs
             (subst (λ z. Active mode image p now o.κ z on.frame on.switching w b' cpu mem) q act)) in
             subst (λ z. Chain mode image p now x.running on.returning z on.frame on.switching (b' ∷ []) (o.last ∷ []) cpu mem) (sym written)
             (w, ctx, o.outer, tt, tail.0, tail.1, tail.2)
@@ -304,6 +305,8 @@ module _ (mode : Mode) (image : Image) (built : IsBuilt image) (good : IsImage i
 
     makes : words.Makes mode image built good facts left s m h p hp o (with_task_at m p t) ws tasks x.slots x.bodies
     makes = record {
+      resched = x.resched;
+      asked = λ e. e;
       own = at_same m.processors p p (record x { tasks = tasks }) refl;
       others = λ q e. at_other m.processors p q (record x { tasks = tasks }) e;
       same_tasks = λ i d. ⊎_elim (λ e. absurd (d (e.1 ∙ sym (runs_is over)))) (λ e. at_other x.tasks x.running i t e.0) (eqb_tells i x.running);
@@ -329,10 +332,10 @@ module _ (mode : Mode) (image : Image) (built : IsBuilt image) (good : IsImage i
         let next : ℕ = steps.at mode image built good facts left s m h p hp o body' is ss extra v f a (suc b.place) in
         let b' : BodyContext = steps.behind mode image built good facts left s m h p hp o body' is ss extra v f a None (suc b.place) b.flags in
         let cells : ItemCells code (item_address mode b.body body' b.place) next item ins = cells_of mode image facts b.body body' is b.place item ins hi seen in
-        let here : code c.rip ≡ Some (record { ins = ins; next = next; mark = true })
+        let here : code c.rip ≡ Some (record { ins = ins; next = next; mark = Always })
         = ap code (steps.rip_is mode image built good facts left s m h p hp o body' is ss extra v f a near
         ∙ ap (λ k. item_address mode b.body body' b.place + k) offset) ∙ cells.seen in record {
-          cell = record { ins = ins; next = next; mark = true };
+          cell = record { ins = ins; next = next; mark = Always };
           found = here;
           marked = refl;
           no_return = back;
@@ -341,9 +344,13 @@ module _ (mode : Mode) (image : Image) (built : IsBuilt image) (good : IsImage i
           place = suc b.place;
           flags = a.flags;
           status = b.flags;
-          flags_are = steps.known_flags mode image built good facts left s m h p hp o body' is ss extra v f a same;
+          flags_are = (steps.known_flags mode image built good facts left s m h p hp o body' is ss extra v f a same).0;
+          interrupts = b.interrupts;
+          masked = steps.same_interrupts mode image built good facts left s m h p hp o body' is ss extra v f a;
           words = ws;
           apic = s.apics p;
+          sent = None;
+          sends = step.sends_nothing mode image built good facts left s m h p hp;
           runs = goes_onward c s.memory ins a.flags c.regs next ws a.state.flags
               (does (steps.at_ins mode image built good facts left s m h p hp o body' is ss extra v f a ins next here)) (s.apics p) (s.latches p);
           service = b.service;
@@ -360,7 +367,7 @@ module _ (mode : Mode) (image : Image) (built : IsBuilt image) (good : IsImage i
           entries = [];
           turns = steps.turns mode image built good facts left s m h p hp o body' is ss extra v f a item hi ∙ meaning;
           slots = x.slots;
-          makes = words.makes_context mode image built good facts left s m h p hp o (with_task_at m p t) ws tasks x.slots b' makes;
+          makes = words.makes_context mode image built good facts left s m h p hp o m (with_task_at m p t) ws tasks x.slots b' makes;
           shows = shows;
         }
 

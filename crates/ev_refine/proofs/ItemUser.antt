@@ -19,6 +19,7 @@ use Rattle.ev_abstract.specs.Machine.{Machine, processor}
 use Rattle.ev_abstract.specs.Machine as abstract
 use Rattle.ev_abstract.specs.Run.{item_at}
 use Rattle.ev_law.proofs.Ruled.{IsRuled}
+use Rattle.ev_listing.specs.Marks.{Always}
 use Rattle.ev_concrete.specs.ConcreteRun.{System, is_return}
 use Rattle.ev_concrete.specs.Shown.{shown_always}
 use Rattle.ev_built.specs.Built.{IsBuilt}
@@ -182,12 +183,12 @@ module _ (mode : Mode) (image : Image) (built : IsBuilt image) (good : IsImage i
         let near : a.offset < 0x100 = omega arith in
         let rip : c.rip ≡ item_address mode b.body body' b.place + a.offset
         = steps.rip_is mode image built good facts left s m h p hp o body' is ss extra v f a near in
-        let found : code_table mode image c.rip ≡ Some (record { ins = ins; next = next; mark = true })
+        let found : code_table mode image c.rip ≡ Some (record { ins = ins; next = next; mark = Always })
         = ap (code_table mode image) (rip ∙ ap (λ k. item_address mode b.body body' b.place + k) offset) ∙ cells.seen in
         let range = facts.item_range b.body b.place body' is in
         let lower = range.0 in let upper = range.1 in
         faults.by_fault mode image built good facts left s m h p hp o body' is act untold ss a.ss_is extra v f a.offset a.rax a.rcx a.rdx a.flags a.state a.long
-        (upper_canonical c.rip (omega arith) (omega arith)) (record { ins = ins; next = next; mark = true }) found refl fault address
+        (upper_canonical c.rip (omega arith) (omega arith)) (omega arith) (record { ins = ins; next = next; mark = Always }) found refl fault address
         (runs (steps.at_ins mode image built good facts left s m h p hp o body' is ss extra v f a ins next found))
         (any_at is_user_access (body_items body') b.place item hi accesses)
         (steps.turns mode image built good facts left s m h p hp o body' is ss extra v f a item hi ∙ meaning)

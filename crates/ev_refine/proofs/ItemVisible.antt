@@ -20,6 +20,7 @@ use Rattle.ev_state.specs.Processor.{Processor, is_user}
 use Rattle.ev_state.proofs.FlagLaws.{flags_of-flags_word}
 use Rattle.ev_mem.specs.Memory.{Memory}
 use Rattle.ev_apic.specs.declared.apic.Apic.{Apic}
+use Rattle.ev_apic.specs.declared.send.Send.{Send}
 use Rattle.ev_proc.specs.ProcessorStep.{has_fred, executed, ran}
 use Rattle.ev_proc.specs.declared.stepped.Stepped.{Stepped}
 use Rattle.ev_abstract.specs.Context.{BodyContext, CallId}
@@ -28,6 +29,7 @@ use Rattle.ev_abstract.specs.Machine.{Machine, processor, with_processor}
 use Rattle.ev_abstract.specs.Machine as abstract
 use Rattle.ev_abstract.specs.Run.{item_at, turn}
 use Rattle.ev_law.specs.Legal.{Legal, IsLegalOn, AreLegal, knows}
+use Rattle.ev_listing.specs.Marks.{Always}
 use Rattle.ev_concrete.specs.ConcreteRun.{System, is_return, activations_by}
 use Rattle.ev_concrete.specs.Depth.{bodies_on, is_in_repeat, is_jump}
 use Rattle.ev_concrete.specs.Shown.{shown_always}
@@ -47,14 +49,14 @@ use Rattle.ev_refine.specs.Relation.{ApicIs, IsContext, switches_at, Chain, Stan
 use Rattle.ev_refine.specs.Claims.{Simulated}
 use Rattle.ev_refine.proofs.Facts.{Facts}
 use Rattle.ev_refine.proofs.Legality.{turn_legal}
-use Rattle.ev_refine.proofs.Depth.{goes_on_inside}
+use Rattle.ev_refine.proofs.Depth.{goes_on_inside, sent_inside}
 use Rattle.ev_refine.proofs.ModeFacts.{is_fred}
 use Rattle.ev_refine.proofs.Fits.{IsSeat, fits_at, opens_at}
 use Rattle.ev_refine.proofs.Bodies.{body, at_the_item, item_edges_few, saved_again, means_at}
-use Rattle.ev_refine.proofs.Standing.{ran_stays}
+use Rattle.ev_refine.proofs.Standing.{went, went_shows, went_activations, went_stays}
 use Rattle.ev_refine.proofs.After.{AreNames, apic_again}
 use Rattle.ev_refine.proofs.CallKinds.{origin_of, plain_knows}
-use Rattle.ev_refine.proofs.ItemState.{with_registers, opening_of, known_of, ItemState, any_registers, any_known, beyond_registers, gone, lands}
+use Rattle.ev_refine.proofs.ItemState.{with_registers, opening_of, known_of, unblocked, ItemState, any_registers, any_known, beyond_registers, gone, lands}
 use Rattle.ev_refine.proofs.ItemLocals.{Write, IsLocal, regs_with, locals_with, regs_long, keeps_rsp, locals_behind}
 use Rattle.ev_refine.proofs.KernelStep as step
 
@@ -168,24 +170,28 @@ module _ (mode : Mode) (image : Image) (built : IsBuilt image) (good : IsImage i
       apic_again mode image (s.apics p) (s.apics p) x.pending x.bodies (behind write place status ∷ o.below) refl
       (λ class. sym (ap (list_any (λ (a : BodyContext). serves mode image class a.service)) o.bodies)) on.apic
 
-  -- What an item does there; all but the end of an interrupt leave the local APIC as it is.
+  -- What an item does there; all but the end of an interrupt leave the local APIC as it is, all but `cli` IF, and all but `send` send nothing.
   pub record Does (ss : ℕ) (extra v : ℕ → ℕ) (f : Flags) (a : AtVisible ss extra v f) : Type 0 where
     pub cell : Cell
     pub found : code c.rip ≡ Some cell
-    pub marked : cell.mark ≡ true
+    pub marked : cell.mark ≡ Always
     pub no_return : is_return (Some cell.ins) ≡ false
     pub write : Write
     pub local : IsLocal write
     pub place : ℕ
     pub flags : Flags
     pub status : Option Status
-    pub flags_are : FlagsBehind mode image a.flags status flags
+    pub flags_are : FlagsAre mode image status flags
+    pub interrupts : Bool
+    pub masked : flags.interrupts ≡ interrupts
     pub words : NatMap ℕ
     pub apic : Apic
+    pub sent : Option Send
+    pub sends : step.Sends mode image built good facts left s m h p hp sent
     pub runs : executed c (s.apics p) s.memory (s.latches p) (Some cell.ins)
-        ≡ ran (gone c (regs_with c.regs write) flags (at place)) apic words (s.latches p)
+        ≡ went (gone c (regs_with c.regs write) flags (at place)) apic words (s.latches p) sent
     pub service : Option ℕ
-    pub apic_is : ApicIs mode image apic x.pending (record (behind write place status) { service = service } ∷ o.below)
+    pub apic_is : ApicIs mode image apic x.pending (record (behind write place status) { service = service; interrupts = interrupts } ∷ o.below)
     pub names : List Named
     pub allowed : AreNames p names
     pub unknown : UnknownTo o.below names
@@ -198,13 +204,13 @@ module _ (mode : Mode) (image : Image) (built : IsBuilt image) (good : IsImage i
     pub entries : List Entry
     pub turns : turn image m p ≡ (machine, entries)
     pub slots : NatMap ℕ
-    pub makes : step.Makes mode image built good facts left s m h p hp o machine words tasks slots
-        (record (behind write place status) { service = service } ∷ o.below)
-    pub shows : shown_always p (bodies_on s p) c s.memory.words (Some cell.ins) ≡ entries
+    pub makes : step.Makes mode image built good facts left s m h p hp o sends.machine machine words tasks slots
+        (record (behind write place status) { service = service; interrupts = interrupts } ∷ o.below)
+    pub shows : went_shows p s cell.ins (gone c (regs_with c.regs write) flags (at place)) words sent ≡ entries
 
   pub visible : (ss : ℕ) (extra v : ℕ → ℕ) (f : Flags) (a : AtVisible ss extra v f) → Does ss extra v f a → Simulated mode image left s m p
   visible ss extra v f a d =
-      let b' : BodyContext = record (behind d.write d.place d.status) { service = d.service } in
+      let b' : BodyContext = record (behind d.write d.place d.status) { service = d.service; interrupts = d.interrupts } in
       let regs : List ℕ = regs_with c.regs d.write in
       let cpu : Processor = gone c regs d.flags (at d.place) in
       let mem : Memory = with_words s.memory d.words in
@@ -233,7 +239,7 @@ module _ (mode : Mode) (image : Image) (built : IsBuilt image) (good : IsImage i
       let item : InItem mode image (origin_of o.κ) u w b' = record {
         saved = d.over.saved regs further d.flags;
         locals = locals_behind mode image (env ss extra v f) c s.memory a.offset a.rax a.rcx a.rdx a.flags a.state o.b a.means.locals d.write d.local;
-        flags = d.flags_are.0;
+        flags = d.flags_are;
       } in
       let act' : Active mode image p (edges mode (body mode AtItem) 0) o.κ o.σ on.frame (switches_at mode image on.switching o.below) w b' cpu mem = record {
         stands = record {
@@ -244,7 +250,7 @@ module _ (mode : Mode) (image : Image) (built : IsBuilt image) (good : IsImage i
           flags = d.flags;
           ss = ss;
           ss_is = a.ss_is;
-          masked = d.flags_are.1 ∙ step.masks_flags mode image built good facts left s m h p hp o a.flags a.state.flags;
+          masked = d.masked;
           within = omega arith;
           enough = omega arith;
           at = begins code (block mode (body mode AtItem)) u cpu mem fit agrees;
@@ -254,16 +260,19 @@ module _ (mode : Mode) (image : Image) (built : IsBuilt image) (good : IsImage i
         knows = plain_knows mode o.κ on.frame plain (blocks.holds (body mode AtItem));
         means = means_at mode image o.κ plain AtItem u w b' d.words (item, refl);
       } in
-      let still_there : activations_by s p (s.activations p) cpu Stepped.Ran ≡ o.last ∷ o.others
-      = ran_stays s p cpu d.cell.ins (step.fetches mode image built good facts left s m h p hp c.rip d.cell d.found).1 d.no_return ∙ o.acts in
+      let still_there : went_activations image.processors s p cpu d.sent ≡ o.last ∷ o.others
+      = went_stays image.processors s p cpu d.sent d.cell.ins (step.fetches mode image built good facts left s m h p hp c.rip d.cell d.found).1 d.no_return
+      ∙ o.acts in
       let quiet = step.are_quiet mode image built good facts left s m h p hp o in
-      step.visible_with mode image built good facts left s m h p hp o d.cell d.found d.marked a.kernel d.apic cpu d.words d.runs
+      step.visible_with mode image built good facts left s m h p hp o (λ on. a.state.blocked ∙ unblocked mode) d.cell d.found d.marked a.kernel d.apic cpu
+      d.words d.sent d.sends d.runs
       (step.blocked mode image built good facts left s m h p hp) d.names d.allowed d.changes d.machine d.entries d.turns d.tasks d.slots (b' ∷ o.below)
       d.makes
-      (record { interrupts = quiet.0.interrupts; calls = quiet.0.calls }, quiet.1)
+      (record { calls = quiet.0.calls }, quiet.1)
       d.apic_is
+      (sent_inside (length x.bodies) c d.cell.ins d.sent
       (goes_on_inside (is_return (Some d.cell.ins)) (not (is_user c)) (not (nat_le nmi_entry c.rip && nat_lt c.rip repeat_entry)) (is_jump (Some d.cell.ins))
-      (is_in_repeat c.rip) (length x.bodies) d.no_return (step.outside mode image built good facts left s m h p hp o a.act) ∙ ap length o.bodies)
+      (is_in_repeat c.rip) (length x.bodies) d.no_return (step.outside mode image built good facts left s m h p hp o a.act)) ∙ ap length o.bodies)
       (edges mode (body mode AtItem) 0) (omega arith)
       (subst (λ as'. Chain mode image p (edges mode (body mode AtItem) 0) x.running on.returning (d.tasks on.returning) on.frame on.switching
       (b' ∷ o.below) as' cpu

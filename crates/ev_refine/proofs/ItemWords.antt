@@ -6,6 +6,7 @@ use Rattle.ev_isa.specs.Word.{NatMap, NatSet, put_at}
 use Rattle.ev_mem.specs.Memory.{page_map}
 use Rattle.ev_isa.specs.Flags.{Flags}
 use Rattle.ev_isa.specs.declared.mode.Mode.{Mode}
+use Rattle.ev_isa.specs.declared.mode.Mode.TheVariants.{Idt, Fred}
 use Rattle.ev_effect.specs.Task.{Task}
 use Rattle.ev_body.specs.declared.image.Image.{Image}
 use Rattle.ev_body.specs.WellFormed.{IsImage}
@@ -26,6 +27,7 @@ use Rattle.ev_blocks.specs.Items.{AtItem}
 use Rattle.ev_refine.specs.Named.{Named, UserRsp, Top, Current, Mark, Port, Head, TssTop, Slot, RecordWord, CellAt, PageBit, UserWord, address_of, owner, IsName, IsWritten, is_task_word, is_call_word, is_private, is_slot, is_cell, is_page_bit, is_user_word, have_none, Outside, UnknownTo, Changes}
 use Rattle.ev_user.specs.Sees.{IsPageWord, IsUserWord}
 use Rattle.ev_user.proofs.Words.{put_words}
+use Rattle.ev_refine.specs.Tasks.{TssIs, CurrentIs}
 use Rattle.ev_refine.specs.Active.{here}
 use Rattle.ev_refine.specs.Relation.{StandsOn, Stands}
 use Rattle.ev_refine.proofs.Facts.{Facts}
@@ -80,9 +82,20 @@ pub record IsFree (p : ℕ) (z : Named) : Type 0 where
   pub name : IsName z
   pub written : IsWritten z
   pub own : (q : ℕ) → (q ≡ p → ⊥) → owner z ≢ Some q
-  pub tasks : is_task_word z ≡ false
   pub calls : is_call_word z ≡ false
   pub private : is_private z ≡ false
+
+-- the words that name the running task are no mark
+tss_beside : (mode : Mode) (p r : ℕ) (words : NatMap ℕ) (v : ℕ) → TssIs mode p r words → TssIs mode p r (put_at words (pcpu p + 0x20) v)
+tss_beside Fred p r words v h = h
+tss_beside Idt p r words v h = put_other words (pcpu p + 0x20) v (pcpu p + 0x408) (λ e. omega arith) ∙ h
+
+current_beside : (mode : Mode) (p r : ℕ) (words : NatMap ℕ) (v : ℕ) → CurrentIs mode p r words → CurrentIs mode p r (put_at words (pcpu p + 0x20) v)
+current_beside mode p r words v h = record {
+  top = put_other words (pcpu p + 0x20) v (pcpu p + 0x10) (λ e. omega arith) ∙ h.top;
+  current = put_other words (pcpu p + 0x20) v (pcpu p + 0x18) (λ e. omega arith) ∙ h.current;
+  tss = tss_beside mode p r words v h.tss;
+}
 
 pub are_names : (p : ℕ) (z : Named) → IsFree p z → AreNames p (z ∷ [])
 are_names p z f = record { written = (f.written, tt); own = λ q d. (f.own q d, tt); calls = ap (λ b. not b && true) f.calls }
@@ -107,7 +120,7 @@ module _ (mode : Mode) (image : Image) (built : IsBuilt image) (good : IsImage i
   in_seat = step.in_seat mode image built good facts left s m h p hp o
 
   abbrev pub Makes : Machine → NatMap ℕ → NatMap Task → NatMap ℕ → List BodyContext → Type 0
-  Makes m' words tasks slots bs = step.Makes mode image built good facts left s m h p hp o m' words tasks slots bs
+  Makes m' words tasks slots bs = step.Makes mode image built good facts left s m h p hp o m m' words tasks slots bs
 
   -- ---- memory
 
@@ -139,6 +152,8 @@ module _ (mode : Mode) (image : Image) (built : IsBuilt image) (good : IsImage i
       → have_none is_slot names ≡ true → have_none is_user_word names ≡ true → have_none is_page_bit names ≡ true → have_none is_cell names ≡ true
       → have_none is_task_word names ≡ true → Makes m words x.tasks x.slots x.bodies
   makes_nothing names allowed words changes slots user pages cells tasks = record {
+    resched = x.resched;
+    asked = λ e. e;
     own = refl;
     others = λ q e. refl;
     same_tasks = λ i d. refl;
@@ -153,7 +168,7 @@ module _ (mode : Mode) (image : Image) (built : IsBuilt image) (good : IsImage i
   }
 
   pub slot_free : (k : ℕ) → k < 64 → IsFree p (Slot p k)
-  slot_free k l = record { name = (small, l); written = (small, l); own = λ q d. own_word p q d; tasks = refl; calls = refl; private = refl }
+  slot_free k l = record { name = (small, l); written = (small, l); own = λ q d. own_word p q d; calls = refl; private = refl }
 
   pub makes_slot : (k v : ℕ) → k < 64
       → Makes (with_slot m p k v) (put_at s.memory.words (address_of (Slot p k)) v) x.tasks (put_at x.slots k v) x.bodies
@@ -161,6 +176,8 @@ module _ (mode : Mode) (image : Image) (built : IsBuilt image) (good : IsImage i
       let z : Named = Slot p k in
       let allowed = are_names p z (slot_free k l) in
       let changes = writes_name z v in record {
+        resched = x.resched;
+        asked = λ e. e;
         own = at_same m.processors p p (record x { slots = put_at x.slots k v }) refl;
         others = λ q e. at_other m.processors p q (record x { slots = put_at x.slots k v }) e;
         same_tasks = λ i d. refl;
@@ -175,13 +192,15 @@ module _ (mode : Mode) (image : Image) (built : IsBuilt image) (good : IsImage i
       }
 
   pub cell_free : (k : ℕ) → k < 256 → IsFree p (CellAt k)
-  cell_free k l = record { name = l; written = l; own = λ q d f. absurd (cc); tasks = refl; calls = refl; private = refl }
+  cell_free k l = record { name = l; written = l; own = λ q d f. absurd (cc); calls = refl; private = refl }
 
   pub makes_cell : (k v : ℕ) → k < 256 → Makes (with_cell m k v) (put_at s.memory.words (address_of (CellAt k)) v) x.tasks x.slots x.bodies
   makes_cell k v l =
       let z : Named = CellAt k in
       let allowed = are_names p z (cell_free k l) in
       let changes = writes_name z v in record {
+        resched = x.resched;
+        asked = λ e. e;
         own = refl;
         others = λ q e. refl;
         same_tasks = λ i d. refl;
@@ -197,7 +216,7 @@ module _ (mode : Mode) (image : Image) (built : IsBuilt image) (good : IsImage i
 
   -- the presence of a page, and the word behind those of pages
   pub page_free : (i : ℕ) → i ≤ 256 → IsFree p (PageBit i)
-  page_free i l = record { name = l; written = l; own = λ q d f. absurd (cc); tasks = refl; calls = refl; private = refl }
+  page_free i l = record { name = l; written = l; own = λ q d f. absurd (cc); calls = refl; private = refl }
 
   pub makes_page : (i : ℕ) (t : Bool) → i < 256
       → Makes (record m { present = put_at m.present i t }) (put_at s.memory.words (address_of (PageBit i)) (word_of t)) x.tasks x.slots x.bodies
@@ -205,6 +224,8 @@ module _ (mode : Mode) (image : Image) (built : IsBuilt image) (good : IsImage i
       let z : Named = PageBit i in
       let allowed = are_names p z (page_free i (omega arith)) in
       let changes = writes_name z (word_of t) in record {
+        resched = x.resched;
+        asked = λ e. e;
         own = refl;
         others = λ q e. refl;
         same_tasks = λ i d. refl;
@@ -224,6 +245,8 @@ module _ (mode : Mode) (image : Image) (built : IsBuilt image) (good : IsImage i
       let z : Named = PageBit 256 in
       let allowed = are_names p z (page_free 256 (omega arith)) in
       let changes = writes_name z v in record {
+        resched = x.resched;
+        asked = λ e. e;
         own = refl;
         others = λ q e. refl;
         same_tasks = λ i d. refl;
@@ -238,7 +261,7 @@ module _ (mode : Mode) (image : Image) (built : IsBuilt image) (good : IsImage i
       }
 
   pub user_free : (a : ℕ) → IsUserWord a → IsPageWord a → IsFree p (UserWord a)
-  user_free a u w = record { name = u; written = w; own = λ q d f. absurd (cc); tasks = refl; calls = refl; private = refl }
+  user_free a u w = record { name = u; written = w; own = λ q d f. absurd (cc); calls = refl; private = refl }
 
   pub makes_user : (a v : ℕ) → IsUserWord a → IsPageWord a → v < 2 ^ 64
       → Makes (record m { words = put_at m.words a v }) (put_at s.memory.words (address_of (UserWord a)) v) x.tasks x.slots x.bodies
@@ -246,6 +269,8 @@ module _ (mode : Mode) (image : Image) (built : IsBuilt image) (good : IsImage i
       let z : Named = UserWord a in
       let allowed = are_names p z (user_free a u w) in
       let changes = writes_name z v in record {
+        resched = x.resched;
+        asked = λ e. e;
         own = refl;
         others = λ q e. refl;
         same_tasks = λ i d. refl;
@@ -259,12 +284,39 @@ module _ (mode : Mode) (image : Image) (built : IsBuilt image) (good : IsImage i
         cells = step.same_cells mode image built good facts left s m h p hp o (z ∷ []) allowed _ changes refl;
       }
 
+  -- the mark
+  pub mark_free : IsFree p (Mark p)
+  mark_free = record { name = small; written = small; own = λ q d. own_word p q d; calls = refl; private = refl }
+
+  pub makes_mark : Makes (with_processor m p (record x { resched = true })) (put_at s.memory.words (address_of (Mark p)) 1) x.tasks x.slots x.bodies
+  makes_mark =
+      let z : Named = Mark p in
+      let allowed = are_names p z mark_free in
+      let changes = writes_name z 1 in record {
+        resched = true;
+        asked = λ e. refl;
+        own = at_same m.processors p p (record x { resched = true }) refl;
+        others = λ q e. at_other m.processors p q (record x { resched = true }) e;
+        same_tasks = λ i d. refl;
+        good_tasks = on.tasks;
+        current = λ e. current_beside mode p x.running s.memory.words 1 (on.current e);
+        mark = λ e. put_same s.memory.words (pcpu p + 0x20) 1;
+        slots_are = step.same_slots mode image built good facts left s m h p hp o (z ∷ []) allowed _ changes refl;
+        user = step.same_user mode image built good facts left s m h p hp o (z ∷ []) allowed _ changes refl;
+        held = h.shares.held;
+        pages = step.same_pages mode image built good facts left s m h p hp o (z ∷ []) allowed _ changes refl;
+        cells = step.same_cells mode image built good facts left s m h p hp o (z ∷ []) allowed _ changes refl;
+      }
+
   -- with another last context
-  pub makes_context : (m1 : Machine) (words : NatMap ℕ) (tasks : NatMap Task) (slots : NatMap ℕ) (b : BodyContext) → Makes m1 words tasks slots x.bodies
-      → Makes (with_context m1 p b) words tasks slots (b ∷ o.below)
-  makes_context m1 words tasks slots b y = record {
+  pub makes_context : (from m1 : Machine) (words : NatMap ℕ) (tasks : NatMap Task) (slots : NatMap ℕ) (b : BodyContext)
+      → step.Makes mode image built good facts left s m h p hp o from m1 words tasks slots x.bodies
+      → step.Makes mode image built good facts left s m h p hp o from (with_context m1 p b) words tasks slots (b ∷ o.below)
+  makes_context from m1 words tasks slots b y = record {
+    resched = y.resched;
+    asked = y.asked;
     own = at_same m1.processors p p _ refl ∙ ap (λ (z : abstract.Processor). record z { bodies = replace_last b z.bodies }) y.own
-        ∙ ap (λ bs. record x { tasks = tasks; slots = slots; bodies = replace_last b bs }) o.bodies;
+        ∙ ap (λ bs. record (processor from p) { tasks = tasks; slots = slots; resched = y.resched; bodies = replace_last b bs }) o.bodies;
     others = λ q e. at_other m1.processors p q _ e ∙ y.others q e;
     same_tasks = y.same_tasks;
     good_tasks = y.good_tasks;

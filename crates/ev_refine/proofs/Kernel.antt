@@ -1,4 +1,4 @@
--- A step of a processor on which a body stands: an instruction of the kernel's code, an item, or the return.
+-- A step of a processor on which a body stands: an interrupt, an instruction of the kernel's code, an item, or the return.
 use Rattle.std.proofs.Common.{◌≡◌, ℕ, suc, ◌+◌, ◌-◌, ◌*◌, ◌<◌, ◌≤◌, Bool, true, false, not, ◌&&◌, List, [], ◌∷◌, length, Some, refl, sym, ap, ◌∙◌, subst, arith, ◌||◌}
 use Rattle.std.specs.Prelude.{ℤ, pos, ◌==◌, if◌then◌else◌, slice_get, nat_le}
 use Rattle.std.proofs.lemmas.Bool.{eqb-true, ne_eqb, leb-true, leb-false}
@@ -14,7 +14,7 @@ use Rattle.ev_body.specs.declared.item.Item.TheVariants.{Ret}
 use Rattle.ev_body.specs.declared.body.Body.{Body}
 use Rattle.ev_body.specs.declared.image.Image.{Image}
 use Rattle.ev_body.specs.WellFormed.{IsImage}
-use Rattle.ev_listing.specs.AddressMap.{repeat_entry, nlast_entry, body_code}
+use Rattle.ev_listing.specs.AddressMap.{pcpu, repeat_entry, nlast_entry, body_code}
 use Rattle.ev_listing.specs.Expansion.{item_address}
 use Rattle.ev_state.specs.Processor.{Processor, is_user, register, selector}
 use Rattle.ev_apic.specs.declared.apic.Apic.{Apic}
@@ -25,6 +25,7 @@ use Rattle.ev_abstract.specs.Context.{BodyContext}
 use Rattle.ev_abstract.specs.Machine.{Machine, processor, with_processor, task}
 use Rattle.ev_abstract.specs.Machine as abstract
 use Rattle.ev_abstract.specs.Run.{item_at}
+use Rattle.ev_listing.specs.Marks.{Always}
 use Rattle.ev_concrete.specs.ConcreteRun.{System, Activation, without_last, activations_by, is_return}
 use Rattle.ev_concrete.specs.Depth.{bodies_on, begins_body}
 use Rattle.ev_built.specs.Built.{IsBuilt}
@@ -36,12 +37,13 @@ use Rattle.ev_symbolic.specs.Agrees.{Env, Cell, Code, eval, FactsHold, Open, Fit
 use Rattle.ev_symbolic.specs.Machine.{Fetches}
 use Rattle.ev_symbolic.proofs.Blocks.{at_end}
 use Rattle.ev_blocks.specs.Shapes.{Origin, UserCode, KernelCode, ring, FredFrame, IdtFrame}
-use Rattle.ev_blocks.specs.Fred.{FromUser, FromKernel, FredToKernel, FredToTask, fred_block, way_values, kernel_values}
+use Rattle.ev_blocks.specs.Fred.{FromUser, FromKernel, FredToKernel, FredToTask, FredToNext, fred_block, way_values, kernel_values}
 use Rattle.ev_blocks.specs.Fred as fred
-use Rattle.ev_blocks.specs.Idt.{Stub, Sys, Common, IdtToKernel, IdtToTask, idt_block, is_page_fault, table_of, stub_values, common_values, sys_values}
+use Rattle.ev_blocks.specs.Idt.{Stub, Sys, Common, IdtToKernel, IdtToTask, IdtToNext, idt_block, is_page_fault, table_of, stub_values, common_values, sys_values}
 use Rattle.ev_blocks.specs.Idt as idt
-use Rattle.ev_blocks.specs.Items.{BodySpot, AtTable, AtJump, AtItem, AtNumber, AtNumbers, AtUserWord, AtPageWord}
+use Rattle.ev_blocks.specs.Items.{BodySpot, AtTable, AtJump, AtItem, AtNumber, AtNumbers, AtUserWord, AtPageWord, BehindSti}
 use Rattle.ev_blocks.specs.Blocks.{Spot, InFred, InIdt, InBody, block, edges}
+use Rattle.ev_blocks.specs.Blocks as blocks
 use Rattle.ev_blocks.proofs.Falls.{edges_fall}
 use Rattle.ev_grounds.specs.Facts.{FactLaws}
 use Rattle.ev_grounds.proofs.Facts.{facts_tell}
@@ -62,22 +64,27 @@ use Rattle.ev_refine.specs.Active.{item_place, number_of, numbers_of, here, IsKe
 use Rattle.ev_refine.specs.Relation.{IsContext, switches_at, body_edges, Chain, StandsOn, Stands, serves}
 use Rattle.ev_refine.specs.Claims.{Simulated}
 use Rattle.ev_refine.proofs.Facts.{Facts}
-use Rattle.ev_refine.proofs.Spots.{is_spot, means_over, never_switches}
+use Rattle.ev_refine.proofs.Spots.{is_spot}
 use Rattle.ev_refine.proofs.ModeFacts.{is_fred}
 use Rattle.ev_refine.proofs.Bodies.{body, Goes, goes_by, unlike, loads, jumps, at_the_table, at_the_jump, at_the_item, table_falls, jump_falls, saved_again, load_again, means_at, rax_at}
 use Rattle.ev_refine.proofs.Standing.{ran_returns}
 use Rattle.ev_refine.proofs.After.{none_spares}
-use Rattle.ev_refine.proofs.CallKinds.{is_over_task, is_plain_kind, origin_of, cs_of, level_of, OverOf, means_as, over_as, of_task, plain_level}
-use Rattle.ev_refine.proofs.Return.{Exits, fred_exits, idt_exits, fred_exits_to_body, idt_exits_to_body}
+use Rattle.ev_refine.proofs.CallKinds.{is_over_task, is_over_body, is_plain_kind, origin_of, cs_of, level_of, OverOf, means_as, over_as, of_task, of_body, stands_on_body, plain_level}
+use Rattle.ev_refine.proofs.Return.{Exits, fred_mark, idt_mark, fred_exits, idt_exits, fred_exits_to_body, idt_exits_to_body}
 use Rattle.ev_refine.proofs.BodyTables.{table_place, table_reads}
 use Rattle.ev_refine.proofs.Depth.{body_at, ends_a_body}
 use Rattle.ev_refine.proofs.Items.{which}
+use Rattle.ev_refine.proofs.ItemWords.{word_of}
 use Rattle.ev_refine.proofs.ItemInside.{number_steps}
 use Rattle.ev_refine.proofs.ItemMsr.{numbers_steps}
 use Rattle.ev_refine.proofs.ItemAddress.{address_steps}
 use Rattle.ev_refine.proofs.ItemPage.{page_block_steps}
 use Rattle.ev_refine.proofs.KernelStep as step
 use Rattle.ev_refine.proofs.KernelItems as items
+use Rattle.ev_refine.proofs.ItemInterrupts.{behind_steps}
+use Rattle.ev_refine.proofs.ItemInterrupts as interrupts
+use Rattle.ev_refine.proofs.BodyInterrupt as arrivals
+use Rattle.ev_refine.proofs.SwitchStep as switching
 
 -- ---- from the entry of a vector to the code in common
 
@@ -227,6 +234,7 @@ module _ (mode : Mode) (image : Image) (built : IsBuilt image) (good : IsImage i
               code = refl;
               begins = l.begins;
               unknown = l.unknown;
+              off = l.off;
               saved = saved_again mode image (origin_of κ) e (env ss extra u f) w (λ i low. beside_rax i low) refl refl refl l.saved;
               locals = l.locals;
             },
@@ -277,18 +285,21 @@ module _ (mode : Mode) (image : Image) (built : IsBuilt image) (good : IsImage i
 
       -- ---- the exit's end: the return
 
-      at_exit : Exits code c s.memory w → is_user c ≡ false → item_at (slice_get image.bodies b.body) b.place ≡ Some Ret → Result
-      at_exit x hu ret =
-          let cell : Cell = record { ins = x.ins; next = x.next; mark = true } in
+      at_exit : Exits code c s.memory w → is_user c ≡ false → b.interrupts ≡ false → (below ≡ [] → x.resched ≡ false)
+          → item_at (slice_get image.bodies b.body) b.place ≡ Some Ret → Result
+      at_exit x hu off calm ret =
+          let cell : Cell = record { ins = x.ins; next = x.next; mark = Always } in
           let hc : code c.rip ≡ Some cell = ap code x.rip ∙ x.cell in
           let back : Processor = record w { cr2 = c.cr2; nmi_blocked = false } in
           let gone : activations_by s p (s.activations p) back Stepped.Ran ≡ o.others
           = ran_returns s p back x.ins (fetches c.rip cell hc).1 x.is hu
           (ap (λ y. (y == nlast_entry + 12) && (back.rip == repeat_entry) && not (is_user back)) x.rip
           ∙ ap (λ q. q && (back.rip == repeat_entry) && not (is_user back)) x.unlike) ∙ ap without_last o.acts in
-          step.visible mode image built good facts left s m h p hp o cell hc refl hu back s.memory.words x.back refl [] (none_spares p).allowed
+          let unblocked : step.Unblocked mode image built good facts left s m h p hp b
+          = (λ on. let clash : true ≡ false = sym on ∙ off in absurd (cc)) in
+          step.visible mode image built good facts left s m h p hp o unblocked cell hc refl hu back s.memory.words x.back refl [] (none_spares p).allowed
           (λ y far far'. refl) (with_processor m p (record (processor m p) { bodies = below })) []
-          (step.ret_turn mode image built good facts left s m h p hp o ret) (processor m p).tasks (processor m p).slots below
+          (step.ret_turn mode image built good facts left s m h p hp o unblocked calm ret) (processor m p).tasks (processor m p).slots below
           (step.bodies_alone mode image built good facts left s m h p hp o [] (none_spares p).allowed s.memory.words (λ y far far'. refl) (none_spares p) refl
           below)
           (step.are_quiet mode image built good facts left s m h p hp o).1
@@ -393,8 +404,8 @@ module _ (mode : Mode) (image : Image) (built : IsBuilt image) (good : IsImage i
       at_body act (AtNumbers rcx rax rdx) k ss ss_is extra v f n at means long enough hi =
           items.by_numbers mode image built good facts left s m h p hp o body' is act ss ss_is extra v f rcx rax rdx
           (subst (λ i. At code (block mode (body mode (AtNumbers rcx rax rdx))) i (env ss extra v f) c s.memory) (n ∙ numbers_steps mode rcx rax rdx) at)
-          means.0 means.1 long
-          ctx.item (ap numbers_of (sym hi) ∙ ap (λ o. numbers_of (item_at o b.place)) (sym is) ∙ means.2) hi
+          means.0 means.1 long ctx.item (which image built good b.body body' is b.place ctx.item hi)
+          (ap numbers_of (sym hi) ∙ ap (λ o. numbers_of (item_at o b.place)) (sym is) ∙ means.2) hi
       at_body act AtUserWord k ss ss_is extra v f n at means long enough hi =
           items.by_address mode image built good facts left s m h p hp o body' is ss ss_is extra v f
           (subst (λ i. At code (block mode (body mode AtUserWord)) i (env ss extra v f) c s.memory) (n ∙ address_steps mode) at) means.0 means.1 means.2 long
@@ -404,73 +415,93 @@ module _ (mode : Mode) (image : Image) (built : IsBuilt image) (good : IsImage i
           items.by_page mode image built good facts left s m h p hp o body' is act ss ss_is extra v f is_page
           (subst (λ i. At code (block mode (body mode (AtPageWord is_page))) i (env ss extra v f) c s.memory) (n ∙ page_block_steps mode is_page) at)
           means.0 means.1 means.2 long ctx.item hi
+      at_body act BehindSti k ss ss_is extra v f n at means long enough hi =
+          let last : k ≡ 1 = n ∙ behind_steps mode in
+          let z : interrupts.NextItem mode image built good facts left s m h p hp o body' is ss v f = interrupts.to_item mode image built good facts left s m h p hp o body' is ss ss_is extra v f
+          (subst (λ j. At code (block mode (body mode BehindSti)) j (env ss extra v f) c s.memory) last at) means.0 means.1 long
+          (subst (λ j. edges mode (body mode BehindSti) j ≤ on.own) last enough) in
+          items.by_item mode image built good facts left s m h p hp o body' is z.act ss ss_is z.extra v f z.at z.means z.place long z.enough
+          ctx.item (which image built good b.body body' is b.place ctx.item hi) hi
       at_body act _ k ss ss_is extra v f n at means long enough hi = absurd means
+
+      -- where the exit to the task found the mark off, nothing asks for another one
+      calm : Alone → s.memory.words (pcpu p + 0x20) ≡ 0 → x.resched ≡ false
+      calm one off = by x.resched (sym (on.mark one.still) ∙ off)
+        where
+          by : (r : Bool) → word_of r ≡ 0 → r ≡ false
+          by true z = absurd (cc)
+          by false z = refl
+
+      -- what returns to a body stands on one
+      on_another : origin_of κ ≡ KernelCode → below ≡ [] → x.resched ≡ false
+      on_another oq e = absurd (stands_on_body image b (ap is_over_body (ap (kind_of image b) (sym e) ∙ o.kind) ∙ of_body κ plain_kind oq))
 
       -- which of them, by what was interrupted and the mode
       at_the_end : (act : Stood on.own b c s.memory) (og : Origin) → origin_of κ ≡ og → (m : Mode) → m ≡ mode → (spot : Spot) (k ss : ℕ) → IsKernelSs mode ss
           → (extra v : ℕ → ℕ) (f : Flags) → k ≡ (block m spot).steps → At code (block m spot) k (env ss extra v f) c s.memory
-          → OverOf mode image og m spot (env ss extra v f) w b → length c.regs ≡ 16 → edges m spot k ≤ on.own → item_at (Some body') b.place ≡ Some ctx.item
+          → OverOf mode image og m spot (env ss extra v f) w b → length c.regs ≡ 16 → edges m spot k ≤ on.own → blocks.switches spot ≡ false → item_at (Some body') b.place ≡ Some ctx.item
           → Result
       unfolding eval
-      at_the_end act UserCode oq Fred q (InFred (FromUser way)) k ss ss_is extra v f n at means long enough hi =
+      at_the_end act UserCode oq Fred q (InFred (FromUser way)) k ss ss_is extra v f n at means long enough off hi =
           let falls = (edges_fall Fred).from_user way in
           at_entry act (fred_block (FromUser way)) _ (way_values way)
           (subst (λ y. Enters (fred_block (FromUser way)) (fred_end (FromUser way)) (way_values way) (block y (body y AtTable))) q (fred_enters.0 way))
           ss ss_is extra v f (subst (λ j. At code (fred_block (FromUser way)) j (env ss extra v f) c s.memory) n at)
           (subst (λ y. AtLoad mode image y (env_after (env ss extra v f) (way_values way) f) w b) (sym oq) means.0) means.1 long
           (subst (λ m. edges m (body m AtTable) 0 ≤ on.own) q (omega arith))
-      at_the_end act UserCode oq Fred q (InFred (fred.Leaves FredToTask)) k ss ss_is extra v f n at means long enough hi =
+      at_the_end act UserCode oq Fred q (InFred (fred.Leaves FredToTask)) k ss ss_is extra v f n at means long enough off hi =
           let over = of_task κ plain_kind oq in
           let one : Alone = alone over in
           at_exit (fred_exits image p small κ σ to t w ss extra v f code c s.memory blocked (subst (λ m. HasKernel m code) (sym q) facts.kernel)
           (subst (λ m. RunsTask m image p to t w) (sym q) one.task) (level_of Fred κ w over) (subst (λ m. Saved m image v w) (sym q) means.saved)
           (subst (λ m. At code (fred_block (fred.Leaves FredToTask)) (fred_block (fred.Leaves FredToTask)).steps (here m p κ σ ss w extra v f) c s.memory)
           (sym q) (subst (λ j. At code (fred_block (fred.Leaves FredToTask)) j (env ss extra v f) c s.memory) n at)))
-          (ap is_user at.agrees.rest) means.ret
-      at_the_end act KernelCode oq Fred q (InFred FromKernel) k ss ss_is extra v f n at means long enough hi =
+          (ap is_user at.agrees.rest) means.off (λ e. calm one (fred_mark mode p small κ σ w ss extra v f code c s.memory
+          (subst (λ j. At code (fred_block (fred.Leaves FredToTask)) j (env ss extra v f) c s.memory) n at))) means.ret
+      at_the_end act KernelCode oq Fred q (InFred FromKernel) k ss ss_is extra v f n at means long enough off hi =
           let falls = (edges_fall Fred).from_kernel in
           at_entry act (fred_block FromKernel) _ kernel_values
           (subst (λ y. Enters (fred_block FromKernel) (fred_end FromKernel) kernel_values (block y (body y AtTable))) q fred_enters.1)
           ss ss_is extra v f (subst (λ j. At code (fred_block FromKernel) j (env ss extra v f) c s.memory) n at)
           (subst (λ y. AtLoad mode image y (env_after (env ss extra v f) kernel_values f) w b) (sym oq) means.0) means.1 long
           (subst (λ m. edges m (body m AtTable) 0 ≤ on.own) q (omega arith))
-      at_the_end act KernelCode oq Fred q (InFred (fred.Leaves FredToKernel)) k ss ss_is extra v f n at means long enough hi =
+      at_the_end act KernelCode oq Fred q (InFred (fred.Leaves FredToKernel)) k ss ss_is extra v f n at means long enough off hi =
           at_exit (fred_exits_to_body p small κ σ w ss extra v f code c s.memory blocked image (subst (λ m. HasKernel m code) (sym q) facts.kernel)
           (step.fred_is mode image built good facts left s m h p hp o ∙ ap is_fred (sym q)) (plain_level Fred κ w plain_kind)
           (subst (λ m. SavedBody m image (here m p κ σ ss w extra v f) w) (sym q) means.saved)
           (subst (λ m. At code (fred_block (fred.Leaves FredToKernel)) (fred_block (fred.Leaves FredToKernel)).steps (here m p κ σ ss w extra v f) c s.memory)
           (sym q) (subst (λ j. At code (fred_block (fred.Leaves FredToKernel)) j (env ss extra v f) c s.memory) n at)))
-          (ap is_user at.agrees.rest) means.ret
-      at_the_end act UserCode oq Fred q (InBody FredFrame spot) k ss ss_is extra v f n at means long enough hi =
+          (ap is_user at.agrees.rest) means.off (on_another oq) means.ret
+      at_the_end act UserCode oq Fred q (InBody FredFrame spot) k ss ss_is extra v f n at means long enough off hi =
           at_body act spot k ss ss_is extra v f (n ∙ ap (λ m. (block m (body m spot)).steps) q)
           (subst (λ m. At code (block m (body m spot)) k (env ss extra v f) c s.memory) q at)
           (subst (λ y. InSpot mode image y spot (env ss extra v f) w b) (sym oq) means) long
           (subst (λ m. edges m (body m spot) k ≤ on.own) q enough) hi
-      at_the_end act KernelCode oq Fred q (InBody FredFrame spot) k ss ss_is extra v f n at means long enough hi =
+      at_the_end act KernelCode oq Fred q (InBody FredFrame spot) k ss ss_is extra v f n at means long enough off hi =
           at_body act spot k ss ss_is extra v f (n ∙ ap (λ m. (block m (body m spot)).steps) q)
           (subst (λ m. At code (block m (body m spot)) k (env ss extra v f) c s.memory) q at)
           (subst (λ y. InSpot mode image y spot (env ss extra v f) w b) (sym oq) means) long
           (subst (λ m. edges m (body m spot) k ≤ on.own) q enough) hi
-      at_the_end act UserCode oq Idt q (InIdt Sys) k ss ss_is extra v f n at means long enough hi =
+      at_the_end act UserCode oq Idt q (InIdt Sys) k ss ss_is extra v f n at means long enough off hi =
           let falls = (edges_fall Idt).call in
           at_entry act (idt_block Sys) _ sys_values
           (subst (λ y. Enters (idt_block Sys) (idt_end Sys) sys_values (block y (body y AtTable))) q idt_enters.call)
           ss ss_is extra v f (subst (λ j. At code (idt_block Sys) j (env ss extra v f) c s.memory) n at)
           (subst (λ y. AtLoad mode image y (env_after (env ss extra v f) sys_values f) w b) (sym oq) means.0) means.1 long
           (subst (λ m. edges m (body m AtTable) 0 ≤ on.own) q (omega arith))
-      at_the_end act UserCode oq Idt q (InIdt (Stub UserCode has v)) k ss ss_is extra u f n at means long enough hi =
+      at_the_end act UserCode oq Idt q (InIdt (Stub UserCode has v)) k ss ss_is extra u f n at means long enough off hi =
           let falls = (edges_fall Idt).stub UserCode has v (v == 14) in
           let one : Alone = alone (of_task κ plain_kind oq) in
           at_stub act q UserCode oq has v ss ss_is extra u f
           (subst (λ i. At code (idt_block (Stub UserCode has v)) i (env ss extra u f) c s.memory) n at) means.0
           means.1 (means.1.saved.cs ∙ ap (λ (y : Processor). y.cs) one.task.is) means.2 long
           (subst (λ m. edges m (InIdt (Common UserCode (v == 14))) 0 < on.own) q (omega arith))
-      at_the_end act KernelCode oq Idt q (InIdt (Stub KernelCode has v)) k ss ss_is extra u f n at means long enough hi =
+      at_the_end act KernelCode oq Idt q (InIdt (Stub KernelCode has v)) k ss ss_is extra u f n at means long enough off hi =
           let falls = (edges_fall Idt).stub KernelCode has v (v == 14) in
           at_stub act q KernelCode oq has v ss ss_is extra u f
           (subst (λ i. At code (idt_block (Stub KernelCode has v)) i (env ss extra u f) c s.memory) n at) means.0
           means.1 means.1.saved.cs means.2 long (subst (λ m. edges m (InIdt (Common KernelCode (v == 14))) 0 < on.own) q (omega arith))
-      at_the_end act UserCode oq Idt q (InIdt (Common UserCode pf)) k ss ss_is extra v f n at means long enough hi =
+      at_the_end act UserCode oq Idt q (InIdt (Common UserCode pf)) k ss ss_is extra v f n at means long enough off hi =
           let falls = (edges_fall Idt).common UserCode pf in
           at_entry act (idt_block (Common UserCode pf)) _ (common_values UserCode pf)
           (subst (λ y. Enters (idt_block (Common UserCode pf)) (idt_end (Common UserCode pf)) (common_values UserCode pf) (block y (body y AtTable))) q
@@ -478,7 +509,7 @@ module _ (mode : Mode) (image : Image) (built : IsBuilt image) (good : IsImage i
           ss ss_is extra v f (subst (λ j. At code (idt_block (Common UserCode pf)) j (env ss extra v f) c s.memory) n at)
           (subst (λ y. AtLoad mode image y (env_after (env ss extra v f) (common_values UserCode pf) f) w b) (sym oq) means.0) means.1 long
           (subst (λ m. edges m (body m AtTable) 0 ≤ on.own) q (omega arith))
-      at_the_end act KernelCode oq Idt q (InIdt (Common KernelCode pf)) k ss ss_is extra v f n at means long enough hi =
+      at_the_end act KernelCode oq Idt q (InIdt (Common KernelCode pf)) k ss ss_is extra v f n at means long enough off hi =
           let falls = (edges_fall Idt).common KernelCode pf in
           at_entry act (idt_block (Common KernelCode pf)) _ (common_values KernelCode pf)
           (subst (λ y. Enters (idt_block (Common KernelCode pf)) (idt_end (Common KernelCode pf)) (common_values KernelCode pf) (block y (body y AtTable))) q
@@ -486,35 +517,38 @@ module _ (mode : Mode) (image : Image) (built : IsBuilt image) (good : IsImage i
           ss ss_is extra v f (subst (λ j. At code (idt_block (Common KernelCode pf)) j (env ss extra v f) c s.memory) n at)
           (subst (λ y. AtLoad mode image y (env_after (env ss extra v f) (common_values KernelCode pf) f) w b) (sym oq) means.0) means.1 long
           (subst (λ m. edges m (body m AtTable) 0 ≤ on.own) q (omega arith))
-      at_the_end act UserCode oq Idt q (InIdt (idt.Leaves (IdtToTask by))) k ss ss_is extra v f n at means long enough hi =
+      at_the_end act UserCode oq Idt q (InIdt (idt.Leaves (IdtToTask by))) k ss ss_is extra v f n at means long enough off hi =
           let over = of_task κ plain_kind oq in
           let one : Alone = alone over in
           at_exit (idt_exits image p small κ σ to t w ss extra v f code c s.memory blocked by (subst (λ m. HasKernel m code) (sym q) facts.kernel)
           (subst (λ m. RunsTask m image p to t w) (sym q) one.task) (level_of Idt κ w over) (subst (λ m. Saved m image v w) (sym q) means.0.saved)
-          (subst (λ m. Matches m image by v) (sym q) means.1)
+          (subst (λ m. Matches m image by (v 31) (v 17) (v 41) (v 19)) (sym q) means.1)
           (subst (λ m. At code (idt_block (idt.Leaves (IdtToTask by))) (idt_block (idt.Leaves (IdtToTask by))).steps (here m p κ σ ss w extra v f) c
           s.memory)
           (sym q) (subst (λ j. At code (idt_block (idt.Leaves (IdtToTask by))) j (env ss extra v f) c s.memory) n at)))
-          (ap is_user at.agrees.rest) means.0.ret
-      at_the_end act KernelCode oq Idt q (InIdt (idt.Leaves IdtToKernel)) k ss ss_is extra v f n at means long enough hi =
+          (ap is_user at.agrees.rest) means.0.off (λ e. calm one (idt_mark mode p small κ σ w ss extra v f code c s.memory by
+          (subst (λ j. At code (idt_block (idt.Leaves (IdtToTask by))) j (env ss extra v f) c s.memory) n at))) means.0.ret
+      at_the_end act KernelCode oq Idt q (InIdt (idt.Leaves IdtToKernel)) k ss ss_is extra v f n at means long enough off hi =
           at_exit (idt_exits_to_body p small κ σ w ss extra v f code c s.memory blocked image (subst (λ m. HasKernel m code) (sym q) facts.kernel)
           (subst (IsKernelSs Idt) means.saved.same_ss (subst (λ m. IsKernelSs m ss) (sym q) ss_is)) (plain_level Idt κ w plain_kind)
           (subst (λ m. SavedBody m image (here m p κ σ ss w extra v f) w) (sym q) means.saved)
           (subst (λ m. At code (idt_block (idt.Leaves IdtToKernel)) (idt_block (idt.Leaves IdtToKernel)).steps (here m p κ σ ss w extra v f) c s.memory)
           (sym q) (subst (λ j. At code (idt_block (idt.Leaves IdtToKernel)) j (env ss extra v f) c s.memory) n at)))
-          (ap is_user at.agrees.rest) means.ret
-      at_the_end act UserCode oq Idt q (InBody IdtFrame spot) k ss ss_is extra v f n at means long enough hi =
+          (ap is_user at.agrees.rest) means.off (on_another oq) means.ret
+      at_the_end act UserCode oq Idt q (InBody IdtFrame spot) k ss ss_is extra v f n at means long enough off hi =
           at_body act spot k ss ss_is extra v f (n ∙ ap (λ m. (block m (body m spot)).steps) q)
           (subst (λ m. At code (block m (body m spot)) k (env ss extra v f) c s.memory) q at)
           (subst (λ y. InSpot mode image y spot (env ss extra v f) w b) (sym oq) means) long
           (subst (λ m. edges m (body m spot) k ≤ on.own) q enough) hi
-      at_the_end act KernelCode oq Idt q (InBody IdtFrame spot) k ss ss_is extra v f n at means long enough hi =
+      at_the_end act KernelCode oq Idt q (InBody IdtFrame spot) k ss ss_is extra v f n at means long enough off hi =
           at_body act spot k ss ss_is extra v f (n ∙ ap (λ m. (block m (body m spot)).steps) q)
           (subst (λ m. At code (block m (body m spot)) k (env ss extra v f) c s.memory) q at)
           (subst (λ y. InSpot mode image y spot (env ss extra v f) w b) (sym oq) means) long
           (subst (λ m. edges m (body m spot) k ≤ on.own) q enough) hi
-      at_the_end act UserCode oq m q _ k ss ss_is extra v f n at means long enough hi = absurd means
-      at_the_end act KernelCode oq m q _ k ss ss_is extra v f n at means long enough hi = absurd means
+      at_the_end act UserCode oq Fred q (InFred (fred.Leaves FredToNext)) k ss ss_is extra v f n at means long enough off hi = absurd (cc)
+      at_the_end act UserCode oq Idt q (InIdt (idt.Leaves (IdtToNext by))) k ss ss_is extra v f n at means long enough off hi = absurd (cc)
+      at_the_end act UserCode oq m q _ k ss ss_is extra v f n at means long enough off hi = absurd means
+      at_the_end act KernelCode oq m q _ k ss ss_is extra v f n at means long enough off hi = absurd means
 
     act_step : Stood on.own b c s.memory → Result
     act_step act =
@@ -527,7 +561,7 @@ module _ (mode : Mode) (image : Image) (built : IsBuilt image) (good : IsImage i
         pick false q body is hi =
             at_the_end body is act (origin_of κ) refl mode refl act.stands.spot act.stands.k act.stands.ss act.stands.ss_is act.stands.extra act.stands.var
             act.stands.flags (let up = leb-false _ _ q in let down = act.stands.within in omega arith) act.stands.at
-            (over_as mode image κ act.stands.spot _ w b s.memory.words act.means) act.stands.long act.stands.enough hi
+            (over_as mode image κ act.stands.spot _ w b s.memory.words act.means) act.stands.long act.stands.enough (act.switches ∙ o.off) hi
 
   -- a step of a processor on which a body stands: an edge or a turn, and it writes no frame
   pub kernel_step : (b : BodyContext) (below : List BodyContext) → x.bodies ≡ b ∷ below → Result
@@ -537,23 +571,32 @@ module _ (mode : Mode) (image : Image) (built : IsBuilt image) (good : IsImage i
     where
       by_acts : (as' : List Activation) → s.activations p ≡ as' → Chain mode image p on.own r to t on.frame on.switching (b ∷ below) as' c s.memory → Result
       by_acts [] e k = absurd k
-      by_acts (a ∷ as') e k = act_step (record {
-        b = b;
-        below = below;
-        bodies = hb;
-        κ = kind_of image b below;
-        kind = refl;
-        σ = seat_of mode image r (b ∷ below);
-        seat = refl;
-        ctx = k.1;
-        last = a;
-        others = as';
-        acts = e;
-        outer = k.2;
-        w = k.0;
-        interrupted = k.3;
-        under = k.4;
-        leads = k.5;
-        off = sym k.6.switches ∙ never_switches mode k.6.stands.spot (means_over mode image
-            (kind_of image b below) k.6.stands.spot _ k.0 b s.memory.words k.6.means);
-      }) k.6
+      by_acts (a ∷ as') e k = by_switch (blocks.switches k.6.stands.spot) refl
+        where
+          at_boundary : blocks.switches k.6.stands.spot ≡ false → arrivals.Boundary mode image built good facts left s m h p hp b below hb a as' e k → Result
+          at_boundary off (arrivals.Delivers z) = z
+          at_boundary off (arrivals.Executes first chosen) = act_step (record {
+            b = b;
+            below = below;
+            bodies = hb;
+            κ = kind_of image b below;
+            kind = refl;
+            σ = seat_of mode image r (b ∷ below);
+            seat = refl;
+            ctx = k.1;
+            last = a;
+            others = as';
+            acts = e;
+            outer = k.2;
+            w = k.0;
+            interrupted = k.3;
+            under = k.4;
+            leads = k.5;
+            off = sym k.6.switches ∙ off;
+            first = first;
+            chosen = chosen;
+          }) k.6
+
+          by_switch : (t : Bool) → blocks.switches k.6.stands.spot ≡ t → Result
+          by_switch true on = switching.switch_step mode image built good facts left s m h p hp b below hb a as' e k on
+          by_switch false off = at_boundary off (arrivals.boundary mode image built good facts left s m h p hp b below hb a as' e k)

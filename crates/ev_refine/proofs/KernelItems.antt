@@ -6,16 +6,18 @@ use Rattle.ev_isa.specs.Word.{NatMap, is_canonical}
 use Rattle.ev_isa.specs.Flags.{Flags}
 use Rattle.ev_isa.specs.Spelling.{spelling}
 use Rattle.ev_isa.specs.declared.instruction.Ins.{Ins}
-use Rattle.ev_isa.specs.declared.instruction.Ins.TheVariants.{Load, Store, StoreImm, Xchg, Xadd, Jmp, Wrmsr}
+use Rattle.ev_isa.specs.declared.instruction.Ins.TheVariants.{Load, Store, StoreImm, GsStore, Xchg, Xadd, Jmp, Wrmsr}
 use Rattle.ev_isa.specs.declared.mode.Mode.{Mode}
 use Rattle.ev_effect.specs.Task.{Task}
 use Rattle.ev_body.specs.declared.item.Item.{Item}
-use Rattle.ev_body.specs.declared.item.Item.TheVariants.{Set, Copy, Goto, Log, Cpu, Slot, Put, SetCell, AddCell, SwapCell, Uget, Uput, GetReg, SetReg, SetRip, Eoi, Map, Unmap, Ret}
+use Rattle.ev_body.specs.declared.item.Item.TheVariants.{Set, Copy, Goto, Log, Cpu, Slot, Put, SetCell, AddCell, SwapCell, Uget, Uput, GetReg, SetReg, SetRip, Eoi, Send, Map, Unmap, Ret, Resched}
+use Rattle.ev_body.specs.declared.key.Key.TheVariants.{Irq}
+use Rattle.ev_body.specs.Bodies.{key_number}
 use Rattle.ev_body.specs.declared.body.Body.{Body}
 use Rattle.ev_body.specs.declared.image.Image.{Image}
 use Rattle.ev_body.specs.WellFormed.{IsImage, is_local, has_operands}
-use Rattle.ev_listing.specs.AddressMap.{saved_rip}
-use Rattle.ev_listing.specs.Expansion.{item_address}
+use Rattle.ev_listing.specs.AddressMap.{saved_rip, mark_offset}
+use Rattle.ev_listing.specs.Expansion.{command, item_address}
 use Rattle.ev_state.specs.Processor.{Processor, register, is_user}
 use Rattle.ev_state.proofs.FlagLaws.{kept}
 use Rattle.ev_apic.specs.declared.apic.Apic.{Apic}
@@ -58,8 +60,11 @@ use Rattle.ev_refine.proofs.ItemVisible as visible
 use Rattle.ev_refine.proofs.ItemSteps as steps
 use Rattle.ev_refine.proofs.ItemTask as task
 use Rattle.ev_refine.proofs.ItemNumbers as numbers
+use Rattle.ev_refine.proofs.ItemResched as resched
 use Rattle.ev_refine.proofs.ItemInside as inside
 use Rattle.ev_refine.proofs.ItemMsr as msr
+use Rattle.ev_refine.proofs.ItemInterrupts as interrupts
+use Rattle.ev_refine.proofs.Legality.{off_at_ret}
 use Rattle.ev_refine.proofs.ItemAddress as addresses
 use Rattle.ev_refine.proofs.ItemUser as user
 use Rattle.ev_refine.proofs.ItemPage as pages
@@ -68,6 +73,7 @@ use Rattle.ev_refine.proofs.ItemCells.{visible_of}
 use Rattle.ev_law.proofs.Ruled.{IsRuled}
 use Rattle.ev_refine.proofs.KernelStep as step
 use Rattle.ev_refine.proofs.BodyBreak as breaks
+use Rattle.ev_refine.proofs.SwitchOpens as switching
 
 -- ---- numbers
 
@@ -181,11 +187,11 @@ module _ (mode : Mode) (image : Image) (built : IsBuilt image) (good : IsImage i
             state = item_state mode (env ss extra v f) B.ground B.opening c s.memory 0 (X 0) (X 1) (X 2) refl (item_comes mode) a;
           }
 
-      -- the exit: to the task, or to the body that was interrupted
-      exit_from : (act : Stood on.own b c s.memory) (ss : ℕ) (extra v : ℕ → ℕ) (f : Flags)
+      -- the exit: to the task where nothing asks for another one, or to the body that was interrupted
+      exit_from : (is_over_task κ ≡ true → x.resched ≡ false) → (act : Stood on.own b c s.memory) (ss : ℕ) (extra v : ℕ → ℕ) (f : Flags)
           → Agrees (env ss extra v f) (block mode (body mode AtItem)).ground (block mode (body mode AtItem)).opening c s.memory
           → SavedOf mode image (origin_of κ) (env ss extra v f) w → OpensExit mode p κ σ ss w extra v f c (onward c c.regs (other_exit mode)) s.memory
-      exit_from act ss extra v f a saved = by_kind (is_over_task κ) refl (is_over_body κ) refl
+      exit_from calm act ss extra v f a saved = by_kind (is_over_task κ) refl (is_over_body κ) refl
         where
           by_kind : (t : Bool) → is_over_task κ ≡ t → (u : Bool) → is_over_body κ ≡ u
               → OpensExit mode p κ σ ss w extra v f c (onward c c.regs (other_exit mode)) s.memory
@@ -194,7 +200,7 @@ module _ (mode : Mode) (image : Image) (built : IsBuilt image) (good : IsImage i
               = step.alone mode image built good facts left s m h p hp o over in
               let z : Saved mode image v w = saved_task mode image κ over (env ss extra v f) w saved in
               exits image p small κ over σ ss w (ap (λ (y : Processor). y.cs) one.task.is) extra v f c s.memory
-              (on.mark one.still ∙ ap (λ r. if r then 1 else 0) domain.resched) mode z
+              (on.mark one.still ∙ ap (λ r. if r then 1 else 0) (calm over)) mode z
               (subst (λ n. n < 2 ^ 64) (sym z.rip)
               (word_of_canonical w.rip (ap (λ (y : Processor). is_canonical y.rip) one.task.is ∙ one.task.task.canonical)))
               (subst (λ n. n < 2 ^ 64) (sym (z.flags ∙ ap (λ (y : Processor). y.flags) one.task.is)) (word_of_flags t.flags))
@@ -223,7 +229,6 @@ module _ (mode : Mode) (image : Image) (built : IsBuilt image) (good : IsImage i
           let rc : RetCell (code_table mode image) (item_address mode b.body body' b.place) (other_exit mode) = facts.ret_cell b.body b.place body' is hi in
           let hc : code c.rip ≡ Some rc.cell = ap code (at_item ss extra v f a place) ∙ rc.is in
           let cpu : Processor = onward c c.regs (other_exit mode) in
-          let x : OpensExit mode p κ σ ss w extra v f c cpu s.memory = exit_from act ss extra v f a means.saved in
           let at_ret_cell : IsAt c (Jmp rc.distance) rc.cell.next = record {
             kernel = hu;
             flags = kept c.flags _ a.flags;
@@ -232,13 +237,15 @@ module _ (mode : Mode) (image : Image) (built : IsBuilt image) (good : IsImage i
           let does : Executes rc.cell.ins cpu s.memory.words = subst (λ i. Executes i cpu s.memory.words) (sym rc.jump)
           (subst (λ y. Executes (Jmp rc.distance) (onward c c.regs y) s.memory.words) rc.leads
           ((singles c s.memory rc.cell.next).jumps rc.distance at_ret_cell (ap is_canonical rc.leads ∙ exit_canonical mode))) in
-          let falls = x.fewer in
+          let to_task : (is_over_task κ ≡ true → x.resched ≡ false) → Result = λ calm.
+          let y : OpensExit mode p κ σ ss w extra v f c cpu s.memory = exit_from calm act ss extra v f a means.saved in
+          let falls = y.fewer in
           step.edge mode image built good facts left s m h p hp o rc.cell hc rc.unmarked (ap (λ i. is_return (Some i)) rc.jump) hu
           (step.outside mode image built good facts left s m h p hp o act) cpu s.memory.words does blocked [] (none_spares p) refl
-          (step.unknown_none below) (λ y far far'. refl) (edges mode x.spot 0) (omega arith)
+          (step.unknown_none below) (λ n far far'. refl) (edges mode y.spot 0) (omega arith)
           (record {
             stands = record {
-              spot = x.spot;
+              spot = y.spot;
               k = 0;
               extra = extra;
               var = v;
@@ -248,15 +255,30 @@ module _ (mode : Mode) (image : Image) (built : IsBuilt image) (good : IsImage i
               masked = step.masks mode image built good facts left s m h p hp o B 0 e at;
               within = omega arith;
               enough = omega arith;
-              at = begins code (block mode x.spot) e cpu s.memory
-                  (step.fits mode image built good facts left s m h p hp o body' is x.spot x.over ss extra v f place x.entry x.told)
-                  (x.agrees (step.windows mode image built good facts left s m h p hp o body' is x.spot x.over ss extra v f));
+              at = begins code (block mode y.spot) e cpu s.memory
+                  (step.fits mode image built good facts left s m h p hp o body' is y.spot y.over ss extra v f place y.entry y.told)
+                  (y.agrees (step.windows mode image built good facts left s m h p hp o body' is y.spot y.over ss extra v f));
               long = long;
             };
-            switches = x.off ∙ sym o.off;
-            knows = plain_knows mode κ on.frame plain_kind (blocks.holds x.spot);
-            means = x.means image b s.memory.words (record { saved = means.saved; ret = ap (λ o. item_at o b.place) is ∙ hi });
-          })
+            switches = y.off ∙ sym o.off;
+            knows = plain_knows mode κ on.frame plain_kind (blocks.holds y.spot);
+            means = y.means image b s.memory.words (record {
+              saved = means.saved;
+              off = off_at_ret image good built.accepted m p h.legal b below o.bodies (ap (λ o. item_at o b.place) is ∙ hi);
+              ret = ap (λ o. item_at o b.place) is ∙ hi;
+            });
+          }) in
+          let visible : visible.AtVisible mode image built good facts left s m h p hp o body' is ss extra v f
+          = at_visible act ss ss_is extra v f at means place long in
+          by_mark (is_over_task κ) refl x.resched refl to_task (λ over asked. switching.leaves mode image built good facts left s m h p hp o body' is
+          ss extra v f visible over asked a (ap (λ o. item_at o b.place) is ∙ hi) rc.cell hc rc.unmarked (ap (λ i. is_return (Some i)) rc.jump) does
+          (step.masks mode image built good facts left s m h p hp o B 0 e at) enough)
+        where
+          by_mark : (t : Bool) → is_over_task κ ≡ t → (u : Bool) → x.resched ≡ u → ((is_over_task κ ≡ true → x.resched ≡ false) → Result)
+              → (is_over_task κ ≡ true → x.resched ≡ true → Result) → Result
+          by_mark true q true r leaves switches = switches q r
+          by_mark t q false r leaves switches = leaves (λ over. r)
+          by_mark false q u r leaves switches = leaves (λ over. let clash : false ≡ true = sym q ∙ over in absurd (cc))
 
       pub by_item : (act : Stood on.own b c s.memory) (ss : ℕ) → IsKernelSs mode ss → (extra v : ℕ → ℕ) (f : Flags)
           → At code (block mode (body mode AtItem)) 0 (env ss extra v f) c s.memory → InItem mode image (origin_of κ) (env ss extra v f) w b
@@ -323,12 +345,17 @@ module _ (mode : Mode) (image : Image) (built : IsBuilt image) (good : IsImage i
           pick (AddCell k d) today hi = number (AddCell k d) (Xadd 0 (pos 0) d) refl hi _ refl
           pick (SwapCell k d) today hi = number (SwapCell k d) (Xchg 0 (pos 0) d) refl hi _ refl
           pick (SetRip n) today hi = number (SetRip n) (Store 4 (pos saved_rip) 0) refl hi n refl
+          pick Resched today hi = number Resched (GsStore (pos mark_offset) 0) refl hi _ refl
           pick (Uget d q) today hi = address (Uget d q) (Load d 0 (pos 0)) refl hi q refl (and_right (is_local d) _ (ruled.operands b.place (Uget d q) hi).2)
           pick (Uput q r) today hi = address (Uput q r) (Store 0 (pos 0) r) refl hi q refl (and_left (is_local q) _ (ruled.operands b.place (Uput q r) hi).2)
           pick (Map q) today hi = page (Map q) (StoreImm 0 (pos 0) (pos 1)) refl hi q refl (ruled.operands b.place (Map q) hi).2
           pick (Unmap q) today hi = page (Unmap q) (StoreImm 0 (pos 0) (pos 0)) refl hi q refl (ruled.operands b.place (Unmap q) hi).2
           pick Eoi today hi = msr.to_numbers mode image built good facts left s m h p hp o body' is act ss ss_is extra v f at means place long enough
               Eoi Wrmsr refl hi 0x80b 0 0 refl
+          pick (Send to (Irq k)) today hi = msr.to_numbers mode image built good facts left s m h p hp o body' is act ss ss_is extra v f at means place long
+              enough (Send to (Irq k)) Wrmsr refl hi 0x830 (command (Irq k)) to refl
+          pick Item.Cli today hi = does (interrupts.by_cli mode image built good facts left s m h p hp o body' is ss extra v f a off same hi)
+          pick Item.Sti today hi = interrupts.by_sti mode image built good facts left s m h p hp o body' is ss extra v f a off same hi
           pick Item.Bp today hi = breaks.by_bp mode image built good facts left s m h p hp o body' is ss extra v f a off same hi
           pick Ret today hi = at_ret act ss ss_is extra v f at means place long enough hi
           pick _ today hi = absurd (cc)
@@ -370,16 +397,18 @@ module _ (mode : Mode) (image : Image) (built : IsBuilt image) (good : IsImage i
               (low k (ruled.slots b.place (SwapCell k d) hi)) (rax ∙ sym (unsome _ _ q)) d hi)
           pick (SetRip j) q hi = does (task.by_setrip mode image built good facts left s m h p hp o body' is ss extra v f a off refl j
               (rax ∙ sym (unsome _ _ q)) hi)
+          pick Resched q hi = does (resched.by_resched mode image built good facts left s m h p hp o body' is ss extra v f a off refl
+              (rax ∙ sym (unsome _ _ q)) hi)
           pick _ q hi = absurd (cc)
 
       -- behind the loads of numbers for RCX, RAX and RDX
       pub by_numbers : (act : Stood on.own b c s.memory) (ss : ℕ) → IsKernelSs mode ss → (extra v : ℕ → ℕ) (f : Flags) (rcx rax rdx : ℕ)
           → At code (block mode (body mode (AtNumbers rcx rax rdx))) 3 (env ss extra v f) c s.memory
           → InItem mode image (origin_of κ) (env ss extra v f) w b
-          → extra 20 ≡ item_place mode image b.body b.place → length c.regs ≡ 16 → (i : Item) → numbers_of (Some i) ≡ Some (rcx, rax, rdx)
-          → item_at (Some body') b.place ≡ Some i → Result
-      unfolding numbers_of msr.at_numbers eval
-      by_numbers act ss ss_is extra v f rcx rax rdx at means place long i numbers hi = pick i numbers hi
+          → extra 20 ≡ item_place mode image b.body b.place → length c.regs ≡ 16 → (i : Item) → is_built_item i ≡ true
+          → numbers_of (Some i) ≡ Some (rcx, rax, rdx) → item_at (Some body') b.place ≡ Some i → Result
+      unfolding is_built_item numbers_of msr.at_numbers eval key_number
+      by_numbers act ss ss_is extra v f rcx rax rdx at means place long i today numbers hi = pick i today numbers hi
         where
           a : visible.AtVisible mode image built good facts left s m h p hp o body' is ss extra v f
           a = msr.at_numbers mode image built good facts left s m h p hp o body' is act ss ss_is extra v f rcx rax rdx at means place long
@@ -393,13 +422,18 @@ module _ (mode : Mode) (image : Image) (built : IsBuilt image) (good : IsImage i
           in_rdx : register c 2 ≡ rdx
           in_rdx = ap (λ (xs : List ℕ). get_or xs 2 0) a.state.regs
 
-          pick : (i : Item) → numbers_of (Some i) ≡ Some (rcx, rax, rdx) → item_at (Some body') b.place ≡ Some i → Result
-          pick Eoi q hi =
+          pick : (i : Item) → is_built_item i ≡ true → numbers_of (Some i) ≡ Some (rcx, rax, rdx) → item_at (Some body') b.place ≡ Some i → Result
+          pick Eoi today q hi =
               let z : (rcx, rax, rdx) ≡ (0x80b, 0, 0) = sym (unsome _ _ q) in
               visible.visible mode image built good facts left s m h p hp o body' is ss extra v f a
               (msr.by_eoi mode image built good facts left s m h p hp o body' is ss extra v f a refl refl
               (in_rcx ∙ ap (λ (z : ℕ × ℕ × ℕ). z.0) z) (in_rax ∙ ap (λ (z : ℕ × ℕ × ℕ). z.1) z) (in_rdx ∙ ap (λ (z : ℕ × ℕ × ℕ). z.2) z) hi)
-          pick _ q hi = absurd (cc)
+          pick (Send to (Irq k)) today q hi =
+              let z : (rcx, rax, rdx) ≡ (0x830, command (Irq k), to) = sym (unsome _ _ q) in
+              visible.visible mode image built good facts left s m h p hp o body' is ss extra v f a
+              (msr.by_send mode image built good facts left s m h p hp o body' is ss extra v f a to k hi refl refl
+              (in_rcx ∙ ap (λ (z : ℕ × ℕ × ℕ). z.0) z) (in_rax ∙ ap (λ (z : ℕ × ℕ × ℕ). z.1) z) (in_rdx ∙ ap (λ (z : ℕ × ℕ × ℕ). z.2) z))
+          pick _ today q hi = absurd (cc)
 
       -- behind the block that comes to the address of the page's word
       pub by_page : (act : Stood on.own b c s.memory) (ss : ℕ) → IsKernelSs mode ss → (extra v : ℕ → ℕ) (f : Flags) (is_page : Bool)

@@ -28,7 +28,7 @@ use Rattle.ev_blocks.specs.Fred.{FromKernel, FredToKernel}
 use Rattle.ev_blocks.specs.Fred as fred
 use Rattle.ev_blocks.specs.Idt.{Stub, Common, IdtToKernel}
 use Rattle.ev_blocks.specs.Idt as idt
-use Rattle.ev_blocks.specs.Items.{BodySpot, AtTable, AtJump, AtNumber, AtNumbers, AtUserWord, AtPageWord}
+use Rattle.ev_blocks.specs.Items.{BodySpot, AtTable, AtJump, AtNumber, AtNumbers, AtUserWord, AtPageWord, BehindSti}
 use Rattle.ev_blocks.specs.Blocks.{Spot, InFred, InIdt, InBody}
 use Rattle.ev_activation.specs.Seat.{Kind, SystemCall, FromTask, FromBody, NmiFromTask, NmiFromBody, kind_of, seat_of, top_at}
 use Rattle.ev_refine.specs.Nmi.{Frame}
@@ -198,6 +198,7 @@ spot_above mode image (AtNumber n) e w b h = h.0.saved.above
 spot_above mode image (AtNumbers rcx rax rdx) e w b h = h.0.saved.above
 spot_above mode image AtUserWord e w b h = h.0.saved.above
 spot_above mode image (AtPageWord is_page) e w b h = h.0.saved.above
+spot_above mode image BehindSti e w b h = h.0.saved.above
 spot_above mode image _ e w b h = absurd h
 
 body_above : (mode : Mode) (image : Image) (m : Mode) (spot : Spot) (e : Env) (w : Processor) (b : BodyContext) → OverBody mode image m spot e w b

@@ -1,5 +1,5 @@
 -- What a step of kernel code gives: an edge, or a turn of the abstract machine; and steps inside blocks.
-use Rattle.std.proofs.Common.{◌≡◌, inl, inr, ℕ, suc, ◌+◌, ◌-◌, ◌*◌, ◌<◌, ◌≤◌, Bool, true, false, not, ◌&&◌, List, [], ◌∷◌, length, Some, refl, sym, ap, ◌∙◌, subst, arith, None}
+use Rattle.std.proofs.Common.{◌≡◌, inl, inr, ℕ, suc, ◌+◌, ◌-◌, ◌*◌, ◌<◌, ◌≤◌, Bool, true, false, not, ◌&&◌, List, [], ◌∷◌, length, Option, Some, refl, sym, ap, ◌∙◌, subst, arith, None}
 use Rattle.std.specs.Prelude.{if◌then◌else◌, ◌==◌, get_or, slice_get, nat_le, nat_lt}
 use Rattle.std.specs.List.{list_any}
 use Rattle.ev_isa.specs.Word.{NatMap, put_at, greatest_below}
@@ -17,10 +17,11 @@ use Rattle.ev_listing.specs.AddressMap.{pcpu, slot_offset, cells_base, nmi_entry
 use Rattle.ev_listing.specs.Expansion.{item_address}
 use Rattle.ev_state.specs.Processor.{Processor, is_user, interrupts_on}
 use Rattle.ev_apic.specs.declared.apic.Apic.{Apic}
+use Rattle.ev_apic.specs.declared.send.Send.{Send}
 use Rattle.ev_mem.specs.Memory.{Memory, page_map}
 use Rattle.ev_proc.specs.ProcessorStep.{has_fred, next_of, executed, ran}
 use Rattle.ev_proc.specs.declared.stepped.Stepped.{Stepped}
-use Rattle.ev_abstract.specs.Boundary.{Choice, choice, maskable, open_to_interrupts, interrupt_or_next, deliverable, is_nmi_body}
+use Rattle.ev_abstract.specs.Boundary.{Choice, choice, is_nmi_body, maskable, open_to_interrupts, interrupt_or_next, deliverable}
 use Rattle.ev_abstract.specs.Context.{BodyContext}
 use Rattle.ev_abstract.specs.Delivery.{dropped, rescheduled}
 use Rattle.ev_abstract.specs.ItemMeaning.{Step, item_step, below_last}
@@ -28,6 +29,7 @@ use Rattle.ev_abstract.specs.declared.entry.Entry.{Entry}
 use Rattle.ev_abstract.specs.Machine.{Machine, processor, with_processor, task}
 use Rattle.ev_abstract.specs.Machine as abstract
 use Rattle.ev_abstract.specs.Run.{item_at, item_or_nothing, next_step, chosen_step, turn}
+use Rattle.ev_listing.specs.Marks.{Always, Never}
 use Rattle.ev_concrete.specs.ConcreteRun.{System, Activation, marks_of, is_return, activations_by}
 use Rattle.ev_concrete.specs.Depth.{is_in_repeat, bodies_on, is_jump, ends_body, begins_body}
 use Rattle.ev_built.specs.Built.{IsBuilt}
@@ -61,8 +63,8 @@ use Rattle.ev_refine.proofs.Spots.{is_spot, IsAtEntry, keeps_rsp, names_if, name
 use Rattle.ev_refine.proofs.Fits.{IsSeat, InBodies, fits_at, opens_at, kernel_changes}
 use Rattle.ev_refine.proofs.Bodies.{Goes}
 use Rattle.ev_refine.proofs.Instructions.{stays_inside}
-use Rattle.ev_refine.proofs.Standing.{masked_first, hidden, seen, after_ran, Runs, ran_step, ran_writes, ran_safe, ran_shown, ran_stays, Moves, step_moves}
-use Rattle.ev_refine.proofs.Stays.{means_again, leads_again, AreSpared, chain_stays, seat_fits, below_spared}
+use Rattle.ev_refine.proofs.Standing.{hidden, seen, inboxes_by, posted_by, went, after_went, Went, went_step, went_writes, went_safe, went_shows, went_shown, went_activations, went_stays, Moves, step_moves, masked_first}
+use Rattle.ev_refine.proofs.Stays.{means_again, leads_again, AreSpared, chain_stays, seat_fits, below_spared, marks_under}
 use Rattle.ev_refine.proofs.Chains.{Kept, chain_kept, chain_plain, chain_open, chain_masked, word_interrupts, at_interrupts}
 use Rattle.ev_refine.proofs.After.{AreNames, AreSparing, own_word, none_spares, tasks_same, current_is, mark_is, slot_same, cell_same, page_same, user_same, few_inner, latch_parts, as_chain, apic_again, own_becomes, own_after, Becomes, stands_become}
 use Rattle.ev_refine.proofs.CallKinds.{is_over_task, is_plain_kind, over_any, beneath_as, stands_alone, ArePlain, none_nmi, seat_under, area_under, plain_seat, plain_knows}
@@ -72,7 +74,8 @@ use Rattle.ev_law.proofs.Ruled.{body_ruled}
 use Rattle.ev_user.specs.Numbers.{AreOfWords, HoldsNumbers}
 use Rattle.ev_user.proofs.KeepsNumbers.{items_keep_numbers}
 use Rattle.ev_refine.proofs.Legality.{turn_legal, turn_bases, legal_few, context_serves}
-use Rattle.ev_refine.proofs.Depth.{body_at, active_outside, stands_depth, goes_on_inside, ran_counts}
+use Rattle.ev_refine.proofs.Arrivals.{comes_to}
+use Rattle.ev_refine.proofs.Depth.{body_at, active_outside, stands_depth, goes_on_inside, bodies_behind, went_counts}
 
 -- the names of a block's writes
 rsp_spares : (p : ℕ) → p < 32 → (rsp : Bool) → AreSparing p (names_if rsp p)
@@ -114,13 +117,13 @@ module _ (mode : Mode) (image : Image) (built : IsBuilt image) (good : IsImage i
   pub domain : IsInDomain x
   domain = h.domain p hp
 
-  depth : bodies_on s p ≡ length x.bodies
+  pub depth : bodies_on s p ≡ length x.bodies
   depth = stands_depth mode image facts p (left p) s x on
 
   pub small : p < 32
   small = let n = good.count.1 in omega arith
 
-  latch : s.latches p ≡ false
+  pub latch : s.latches p ≡ false
   latch = sym (latch_parts on.layer on.frame _ (s.latches p) c.nmi_blocked x.nmi on.latch).0 ∙ domain.nmi
 
   pub fetches : Fetches code s.memory
@@ -157,6 +160,10 @@ module _ (mode : Mode) (image : Image) (built : IsBuilt image) (good : IsImage i
   pub blocked : c.nmi_blocked ≡ false
   blocked = (latch_parts on.layer on.frame _ (s.latches p) c.nmi_blocked x.nmi on.latch).1 ∙ none_is_nmi
 
+  -- what no activation changes of the processor
+  pub kept_now : Kept mode image p c
+  kept_now = chain_kept mode image p on.own r to t on.frame on.switching x.bodies (s.activations p) c s.memory chain
+
   -- the classes in service are those of the contexts
   abbrev pub ServesAlike : List BodyContext → Type 0
   ServesAlike bs = (class : ℕ) → list_any (λ (a : BodyContext). serves mode image class a.service) bs
@@ -165,11 +172,141 @@ module _ (mode : Mode) (image : Image) (built : IsBuilt image) (good : IsImage i
   abbrev pub Executes : Ins → Processor → NatMap ℕ → Type 0
   Executes i cpu words = (a : Apic) (nmi : Bool) → executed c a s.memory nmi (Some i) ≡ ran cpu a words nmi
 
-  moves : (a : Apic) (cpu : Processor) (words : NatMap ℕ)
-      → Moves p s (after_ran s p a cpu words) cpu (activations_by s p (s.activations p) cpu Stepped.Ran) words
-  moves a cpu words = step_moves s p (ran cpu a words (s.latches p)) refl
+  -- the system behind a step that may send, and as it had been with what is sent in the mail
+  abbrev pub Behind : Apic → Processor → NatMap ℕ → Option Send → System
+  Behind a cpu words sent = after_went image.processors s p a cpu words sent
 
-  -- ---- the last context, on any contexts below
+  abbrev pub Posted : Option Send → System
+  Posted sent = posted_by image.processors s p sent
+
+  pub moves : (a : Apic) (cpu : Processor) (words : NatMap ℕ) (sent : Option Send)
+      → Moves p (Posted sent) (Behind a cpu words sent) cpu (went_activations image.processors s p cpu sent) words
+  moves a cpu words sent = step_moves (Posted sent) p (went cpu a words (s.latches p) sent) refl
+
+  -- The abstract machine with what is sent in the mail: of p no more is another, and the machines stand for each other.
+  pub record Sends (sent : Option Send) : Type 0 where
+    pub machine : Machine
+    pub own : processor machine p ≡ record x { mail = (processor machine p).mail; mail_nmi = (processor machine p).mail_nmi }
+    pub stands : Stands mode image left (Posted sent) machine
+
+  -- where nothing is sent
+  abbrev pub sends_nothing : Sends None
+  sends_nothing = record { machine = m; own = refl; stands = h }
+
+  -- STI doesn't hold back the interrupts to which a context is open
+  abbrev pub Unblocked : BodyContext → Type 0
+  Unblocked b = b.interrupts ≡ true → c.sti_blocked ≡ false
+
+  -- ---- what a step of kernel code gives, where an instruction comes first
+
+  module _ (first : next_of c (s.apics p) (s.latches p) ≡ Next.Instruction) where
+    runs : (cell : Cell) → code c.rip ≡ Some cell → is_user c ≡ false → (a : Apic) (cpu : Processor) (words : NatMap ℕ) (sent : Option Send)
+        → executed c (s.apics p) s.memory (s.latches p) (Some cell.ins) ≡ went cpu a words (s.latches p) sent → Went s p a cpu words sent
+    runs cell hc hu a cpu words sent he = cell_step code c (s.apics p) s.memory (s.latches p) cell fetches hc first hu ∙ he
+
+    -- an edge: the processor stands for the same behind it, and it writes no word of the abstract machine's
+    pub edge_to : (cell : Cell) → code c.rip ≡ Some cell → cell.mark ≡ Never → is_return (Some cell.ins) ≡ false
+        → is_user c ≡ false → is_in_repeat c.rip ≡ false → (cpu : Processor) (words : NatMap ℕ) → Executes cell.ins cpu words
+        → (σ : Seat) → σ.stack < 7 → (names : List Named) → AreNames p names → have_none is_page_bit names ≡ true → have_none is_cell names ≡ true
+        → have_none is_user_word names ≡ true → Changes p σ names s.memory.words words → (now : ℕ) → now < on.own
+        → StandsOn mode image p (now + inner_edges (s.latches p)) (Behind (s.apics p) cpu words None) x → Result
+    edge_to cell hc hm hr hu out cpu words he σ narrow names allowed no_page no_cell no_user changes now fewer there =
+        let run : Went s p (s.apics p) cpu words None = runs cell hc hu (s.apics p) cpu words None (he (s.apics p) (s.latches p)) in
+        let all : Stands mode image (put_at left p (now + inner_edges (s.latches p))) (Behind (s.apics p) cpu words None) m
+        = stands_become mode image left s (Behind (s.apics p) cpu words None) m m p (now + inner_edges (s.latches p)) x σ cpu _ words good built.accepted
+        (four_tasks image good) h hp (moves (s.apics p) cpu words None) narrow names allowed changes
+        (record {
+          own = refl;
+          others = λ q e. refl;
+          mail = refl;
+          mail_nmi = refl;
+          records = refl;
+          queue = refl;
+          user = λ a u. user_same p σ names small narrow s.memory.words words allowed.written changes no_user a u ∙ h.shares.user a u;
+          held = h.shares.held;
+          pages = λ i l. page_same p σ names small narrow s.memory.words words allowed.written changes no_page i l ∙ h.shares.pages i l;
+          cells = λ k l. cell_same p σ names small narrow s.memory.words words allowed.written changes no_cell k l ∙ h.shares.cells k l;
+        })
+        h.legal h.bases h.numbers domain there in
+        let bound = on.enough in record {
+          safe = went_safe mode image s p (s.apics p) cpu words None run;
+          counts = went_counts image.processors s p (s.apics p) cpu words None cell.ins run (fetches c.rip cell hc).1 (length x.bodies) (length x.bodies) depth
+              (stands_depth mode image facts p (now + inner_edges (s.latches p)) (Behind (s.apics p) cpu words None) x there)
+              (goes_on_inside (is_return (Some cell.ins)) (not (is_user c)) (not (nat_le nmi_entry c.rip && nat_lt c.rip repeat_entry))
+              (is_jump (Some cell.ins)) (is_in_repeat c.rip) (length x.bodies) hr out);
+          how = inl (record {
+            hidden = hidden (marks_of mode image) s p first hu (facts.marks c.rip cell hc ∙ hm);
+            now = put_at left p (now + inner_edges (s.latches p));
+            fewer = subst (λ n. n < left p) (sym (at_same left p p (now + inner_edges (s.latches p)) refl)) (omega arith);
+            stands = subst (λ y. Stands mode image (put_at left p (now + inner_edges (s.latches p))) y.0 m)
+                (sym (went_step image.processors s p (s.apics p) cpu words None run)) all;
+            writes = went_writes image.processors s p (s.apics p) cpu words None run;
+          });
+        }
+
+    -- a visible step: the processor stands for the one of the machine behind the abstract machine's turn, and memory for that machine's
+    pub turn_to : (cell : Cell) → code c.rip ≡ Some cell → cell.mark ≡ Always → is_user c ≡ false
+        → (a : Apic) (cpu : Processor) (words : NatMap ℕ) (sent : Option Send) (z : Sends sent)
+        → executed c (s.apics p) s.memory (s.latches p) (Some cell.ins) ≡ went cpu a words (s.latches p) sent
+        → (σ : Seat) → σ.stack < 7 → (names : List Named) → AreNames p names → Changes p σ names s.memory.words words
+        → (m' : Machine) (es : List Entry) → turn image m p ≡ (m', es) → (x' : abstract.Processor) → Becomes mode image p z.machine m' x' words
+        → HoldsNumbers m' → IsInDomain x'
+        → bodies_behind (length x.bodies) c cell.ins sent ≡ length x'.bodies
+        → (now : ℕ) → StandsOn mode image p (now + inner_edges (s.latches p)) (Behind a cpu words sent) x'
+        → went_shows p s cell.ins cpu words sent ≡ es → Result
+    turn_to cell hc hm hu a cpu words sent z he σ narrow names allowed changes m' es ht x' becomes numbers inside told now there hes =
+        let run : Went s p a cpu words sent = runs cell hc hu a cpu words sent he in
+        let all : Stands mode image (put_at left p (now + inner_edges (s.latches p))) (Behind a cpu words sent) m'
+        = stands_become mode image left (Posted sent) (Behind a cpu words sent) z.machine m' p (now + inner_edges (s.latches p)) x' σ cpu _ words
+        good built.accepted (four_tasks image good) z.stands hp (moves a cpu words sent) narrow names allowed changes becomes
+        (turn_legal image good built.accepted m p hp h.legal (m', es) ht) (turn_bases image m p h.bases (m', es) ht) numbers inside there in
+        let turned : Stands mode image (put_at left p (now + inner_edges (s.latches p))) (Behind a cpu words sent) (turn image m p).0 =
+        subst (λ q. Stands mode image (put_at left p (now + inner_edges (s.latches p))) (Behind a cpu words sent) q.0) (sym ht) all in record {
+          safe = went_safe mode image s p a cpu words sent run;
+          counts = went_counts image.processors s p a cpu words sent cell.ins run (fetches c.rip cell hc).1 (length x.bodies) (length x'.bodies) depth
+              (stands_depth mode image facts p (now + inner_edges (s.latches p)) (Behind a cpu words sent) x' there) told;
+          how = inr (record {
+            seen = seen (marks_of mode image) s p first hu (facts.marks c.rip cell hc ∙ hm);
+            now = put_at left p (now + inner_edges (s.latches p));
+            stands = subst (λ q. Stands mode image (put_at left p (now + inner_edges (s.latches p))) q.0 (turn image m p).0)
+                (sym (went_step image.processors s p a cpu words sent run)) turned;
+            entries = went_shown (marks_of mode image) s p a cpu words sent cell.ins run hu (facts.marks c.rip cell hc ∙ hm) (fetches c.rip cell hc).1
+                ∙ hes ∙ sym (ap (λ (q : Step). q.1) ht);
+          });
+        }
+
+  -- ---- what the abstract machine does at the item of its last context, where nothing comes before it
+
+  module _ (b : BodyContext) (below : List BodyContext) (bodies : x.bodies ≡ b ∷ below) where
+    pub contexts_quiet : AreQuiet (b ∷ below)
+    contexts_quiet = subst AreQuiet bodies domain.bodies
+
+    -- what it chooses, by IF of the context: an interrupt, or the item
+    pub context_choice : choice image x ≡ (if b.interrupts then interrupt_or_next (greatest_below 256 (deliverable x)) else Choice.Next)
+    unfolding choice
+    context_choice =
+        ap (λ n. if n && not (list_any (is_nmi_body image) x.bodies) then Choice.Nmi else maskable x) domain.nmi
+        ∙ ap (λ bs. if open_to_interrupts bs then interrupt_or_next (greatest_below 256 (deliverable x)) else Choice.Next) bodies
+
+    pub masked_choice : b.interrupts ≡ false → choice image x ≡ Choice.Next
+    masked_choice off = context_choice ∙ ap (λ t. if t then interrupt_or_next (greatest_below 256 (deliverable x)) else Choice.Next) off
+
+    pub context_turns : choice image x ≡ Choice.Next → (i : Item) → item_at (slice_get image.bodies b.body) b.place ≡ Some i
+        → turn image m p ≡ item_step image m p b i
+    unfolding turn
+    context_turns chosen i hi = ap (chosen_step image m p) chosen ∙ ap (next_step image m p) bodies ∙ ap (item_or_nothing image m p b) hi
+
+    -- its numbers stay words
+    pub context_numbers : choice image x ≡ Choice.Next → (i : Item) → item_at (slice_get image.bodies b.body) b.place ≡ Some i
+        → (m' : Machine) (es : List Entry) → turn image m p ≡ (m', es) → HoldsNumbers m'
+    context_numbers chosen i hi m' es ht =
+        let found = body_at (slice_get image.bodies b.body) b.place i hi in
+        let ops = (body_ruled image good built.accepted.1.kept b.body found.0 found.1).operands b.place i found.2 in
+        subst (λ (z : Step). HoldsNumbers z.0) (sym (context_turns chosen i hi) ∙ ht)
+        (items_keep_numbers image m p b i (length image.text) ops.0 ops.1 ops.2 (omega arith) h.numbers h.shares.held
+        (on.tasks x.running on.running).words (subst AreOfWords bodies (h.numbers.each p).bodies).0)
+
+  -- ---- the last context, on any contexts below, where no interrupt comes
 
   pub record Top : Type 0 where
     pub b : BodyContext
@@ -190,6 +327,8 @@ module _ (mode : Mode) (image : Image) (built : IsBuilt image) (good : IsImage i
         (λ v. Chain mode image p (body_edges mode image) r to t on.frame (chained mode image on.switching below) below others v s.memory) w
     pub leads : Leads mode p κ on.frame w s.memory.words
     pub off : switches_at mode image on.switching below ≡ false  -- its exit, if it is in it, switches to no other task
+    pub first : next_of c (s.apics p) (s.latches p) ≡ Next.Instruction
+    pub chosen : Unblocked b → choice image x ≡ Choice.Next
 
   module _ (o : Top) where
     abbrev pub b : BodyContext
@@ -213,97 +352,21 @@ module _ (mode : Mode) (image : Image) (built : IsBuilt image) (good : IsImage i
     abbrev pub env : ℕ → (extra v : ℕ → ℕ) → Flags → Env
     env ss extra v f = here mode p κ σ ss w extra v f
 
-    -- ---- IF is off, so an instruction comes first
+    -- ---- IF is the context's
 
-    pub masked : interrupts_on c ≡ false
+    pub masked : interrupts_on c ≡ b.interrupts
     masked = chain_masked mode image p on.own r to t on.frame on.switching b below (s.activations p) c s.memory
         (subst (λ bs. Chained on.own t bs (s.activations p) c s.memory) o.bodies chain)
 
-    -- so it is off in the flags of each block where the processor is
-    pub masks : (B : Block) (k : ℕ) (e : Env) → At code B k e c s.memory → e.flags.interrupts ≡ false
+    -- so it is in the flags of each block where the processor is
+    pub masks : (B : Block) (k : ℕ) (e : Env) → At code B k e c s.memory → e.flags.interrupts ≡ b.interrupts
     masks B k e at = sym (at_interrupts code B k e c s.memory at) ∙ masked
 
-    pub masks_flags : (f : Flags) → c.flags ≡ flags_word f → f.interrupts ≡ false
+    pub masks_flags : (f : Flags) → c.flags ≡ flags_word f → f.interrupts ≡ b.interrupts
     masks_flags f is = sym (word_interrupts c f is) ∙ masked
 
     pub first : next_of c (s.apics p) (s.latches p) ≡ Next.Instruction
-    first = masked_first c (s.apics p) (s.latches p) latch masked
-
-    runs : (cell : Cell) → code c.rip ≡ Some cell → is_user c ≡ false → (a : Apic) (cpu : Processor) (words : NatMap ℕ)
-        → executed c (s.apics p) s.memory (s.latches p) (Some cell.ins) ≡ ran cpu a words (s.latches p) → Runs s p a cpu words
-    runs cell hc hu a cpu words he = cell_step code c (s.apics p) s.memory (s.latches p) cell fetches hc first hu ∙ he
-
-    -- an edge: the processor stands for the same behind it, and it writes no word of the abstract machine's
-    pub edge_to : (cell : Cell) → code c.rip ≡ Some cell → cell.mark ≡ false → is_return (Some cell.ins) ≡ false
-        → is_user c ≡ false → is_in_repeat c.rip ≡ false → (cpu : Processor) (words : NatMap ℕ) → Executes cell.ins cpu words
-        → (σ : Seat) → σ.stack < 7 → (names : List Named) → AreNames p names → have_none is_page_bit names ≡ true → have_none is_cell names ≡ true
-        → have_none is_user_word names ≡ true → Changes p σ names s.memory.words words → (now : ℕ) → now < on.own
-        → StandsOn mode image p (now + inner_edges (s.latches p)) (after_ran s p (s.apics p) cpu words) x → Result
-    edge_to cell hc hm hr hu out cpu words he σ narrow names allowed no_page no_cell no_user changes now fewer there =
-        let run : Runs s p (s.apics p) cpu words = runs cell hc hu (s.apics p) cpu words (he (s.apics p) (s.latches p)) in
-        let all : Stands mode image (put_at left p (now + inner_edges (s.latches p))) (after_ran s p (s.apics p) cpu words) m
-        = stands_become mode image left s (after_ran s p (s.apics p) cpu words) m m p (now + inner_edges (s.latches p)) x σ cpu _ words good built.accepted
-        (four_tasks image good) h hp (moves (s.apics p) cpu words) narrow names allowed changes
-        (record {
-          own = refl;
-          others = λ q e. refl;
-          mail = refl;
-          mail_nmi = refl;
-          records = refl;
-          queue = refl;
-          user = λ a u. user_same p σ names small narrow s.memory.words words allowed.written changes no_user a u ∙ h.shares.user a u;
-          held = h.shares.held;
-          pages = λ i l. page_same p σ names small narrow s.memory.words words allowed.written changes no_page i l ∙ h.shares.pages i l;
-          cells = λ k l. cell_same p σ names small narrow s.memory.words words allowed.written changes no_cell k l ∙ h.shares.cells k l;
-        })
-        h.legal h.bases h.numbers domain there in
-        let bound = on.enough in record {
-          safe = ran_safe mode image s p (s.apics p) cpu words run;
-          counts = ran_counts image.processors s p (s.apics p) cpu words cell.ins run (fetches c.rip cell hc).1 (length x.bodies) (length x.bodies) depth
-              (stands_depth mode image facts p (now + inner_edges (s.latches p)) (after_ran s p (s.apics p) cpu words) x there)
-              (goes_on_inside (is_return (Some cell.ins)) (not (is_user c)) (not (nat_le nmi_entry c.rip && nat_lt c.rip repeat_entry))
-              (is_jump (Some cell.ins)) (is_in_repeat c.rip) (length x.bodies) hr out);
-          how = inl (record {
-            hidden = hidden (marks_of mode image) s p first hu (facts.unmarked c.rip cell hc hm);
-            now = put_at left p (now + inner_edges (s.latches p));
-            fewer = subst (λ n. n < left p) (sym (at_same left p p (now + inner_edges (s.latches p)) refl)) (omega arith);
-            stands = subst (λ y. Stands mode image (put_at left p (now + inner_edges (s.latches p))) y.0 m)
-                (sym (ran_step image.processors s p (s.apics p) cpu words run)) all;
-            writes = ran_writes image.processors s p (s.apics p) cpu words run;
-          });
-        }
-
-    -- a visible step: the processor stands for the one of the machine behind the abstract machine's turn, and memory for that machine's
-    pub turn_to : (cell : Cell) → code c.rip ≡ Some cell → cell.mark ≡ true → is_user c ≡ false
-        → (a : Apic) (cpu : Processor) (words : NatMap ℕ)
-        → executed c (s.apics p) s.memory (s.latches p) (Some cell.ins) ≡ ran cpu a words (s.latches p)
-        → (σ : Seat) → σ.stack < 7 → (names : List Named) → AreNames p names → Changes p σ names s.memory.words words
-        → (m' : Machine) (es : List Entry) → turn image m p ≡ (m', es) → (x' : abstract.Processor) → Becomes mode image p m m' x' words → HoldsNumbers m'
-        → IsInDomain x'
-        → (if ends_body c (Some cell.ins) then length x.bodies - 1
-        else (if begins_body c (Some cell.ins) then suc (length x.bodies) else length x.bodies)) ≡ length x'.bodies
-        → (now : ℕ) → StandsOn mode image p (now + inner_edges (s.latches p)) (after_ran s p a cpu words) x'
-        → shown_always p (bodies_on s p) c s.memory.words (Some cell.ins) ≡ es → Result
-    turn_to cell hc hm hu a cpu words he σ narrow names allowed changes m' es ht x' becomes numbers inside told now there hes =
-        let run : Runs s p a cpu words = runs cell hc hu a cpu words he in
-        let all : Stands mode image (put_at left p (now + inner_edges (s.latches p))) (after_ran s p a cpu words) m'
-        = stands_become mode image left s (after_ran s p a cpu words) m m' p (now + inner_edges (s.latches p)) x' σ cpu _ words
-        good built.accepted (four_tasks image good) h hp (moves a cpu words) narrow names allowed changes becomes
-        (turn_legal image good built.accepted m p hp h.legal (m', es) ht) (turn_bases image m p h.bases (m', es) ht) numbers inside there in
-        let turned : Stands mode image (put_at left p (now + inner_edges (s.latches p))) (after_ran s p a cpu words) (turn image m p).0 =
-        subst (λ q. Stands mode image (put_at left p (now + inner_edges (s.latches p))) (after_ran s p a cpu words) q.0) (sym ht) all in record {
-          safe = ran_safe mode image s p a cpu words run;
-          counts = ran_counts image.processors s p a cpu words cell.ins run (fetches c.rip cell hc).1 (length x.bodies) (length x'.bodies) depth
-              (stands_depth mode image facts p (now + inner_edges (s.latches p)) (after_ran s p a cpu words) x' there) told;
-          how = inr (record {
-            seen = seen (marks_of mode image) s p first hu (facts.marked c.rip cell hc hm);
-            now = put_at left p (now + inner_edges (s.latches p));
-            stands = subst (λ q. Stands mode image (put_at left p (now + inner_edges (s.latches p))) q.0 (turn image m p).0)
-                (sym (ran_step image.processors s p a cpu words run)) turned;
-            entries = ran_shown (marks_of mode image) s p a cpu words cell.ins run hu (facts.marked c.rip cell hc hm) (fetches c.rip cell hc).1
-                ∙ hes ∙ sym (ap (λ (q : Step). q.1) ht);
-          });
-        }
+    first = o.first
 
     abbrev pub Stood : ℕ → BodyContext → Processor → Memory → Type 0
     Stood now b' cpu mem = Active mode image p now κ σ on.frame (switches_at mode image on.switching below) w b' cpu mem
@@ -403,9 +466,9 @@ module _ (mode : Mode) (image : Image) (built : IsBuilt image) (good : IsImage i
         let spared : AreSpared mode image p r below s.memory.words words
         = below_spared mode image p r names s.memory.words words b below small (omega arith) shallow allowed.written unknown
         (subst (λ y. Changes p y names s.memory.words words) (sym seat_is) changes) all_plain in
-        beneath_as mode image (keeps_cr2 mode image κ) _ _
-        (λ v k. chain_stays mode image p (body_edges mode image) r to t on.frame (chained mode image on.switching below) below o.others v s.memory words hp
-        good.count.1 spared k) w o.under
+        beneath_as mode image (keeps_cr2 mode image κ) _ _ w
+        (λ v e k. chain_stays mode image p (body_edges mode image) r to t on.frame (chained mode image on.switching below) below o.others v s.memory words hp
+        good.count.1 spared (marks_under mode image p below w v o.others s.memory.words words o.interrupted e) k) o.under
 
     -- the chain with another last context of the same kind
     pub with_last : (b' : BodyContext) → kind_of image b' below ≡ κ → IsContext mode image b' → (now : ℕ) (cpu : Processor) (words : NatMap ℕ)
@@ -426,120 +489,121 @@ module _ (mode : Mode) (image : Image) (built : IsBuilt image) (good : IsImage i
 
     -- ---- what a step gives
 
-    pub edge : (cell : Cell) → code c.rip ≡ Some cell → cell.mark ≡ false → is_return (Some cell.ins) ≡ false
+    pub edge : (cell : Cell) → code c.rip ≡ Some cell → cell.mark ≡ Never → is_return (Some cell.ins) ≡ false
         → is_user c ≡ false → is_in_repeat c.rip ≡ false → (cpu : Processor) (words : NatMap ℕ) → Executes cell.ins cpu words → cpu.nmi_blocked ≡ false
         → (names : List Named) → AreSparing p names → have_none is_user_word names ≡ true → UnknownTo below names → Changes p σ names s.memory.words words
         → (now : ℕ) → now < on.own → Stood now b cpu (with_words s.memory words) → Result
     edge cell hc hm hr hu out cpu words he hb names sparing no_user unknown changes now fewer act =
         let same : activations_by s p (s.activations p) cpu Stepped.Ran ≡ o.last ∷ o.others
-        = ran_stays s p cpu cell.ins (fetches c.rip cell hc).1 hr ∙ o.acts in
+        = went_stays image.processors s p cpu None cell.ins (fetches c.rip cell hc).1 hr ∙ o.acts in
         let goes_on : Chained now t x.bodies (activations_by s p (s.activations p) cpu Stepped.Ran) cpu (with_words s.memory words)
         = subst (λ as'. Chained now t x.bodies as' cpu (with_words s.memory words)) (sym same)
         (subst (λ bs. Chained now t bs (o.last ∷ o.others) cpu (with_words s.memory words)) (sym o.bodies)
         (with_last b o.kind ctx now cpu words names sparing.allowed unknown changes act)) in
-        let there : StandsOn mode image p (now + inner_edges (s.latches p)) (after_ran s p (s.apics p) cpu words) x
-        = own_after mode image p (left p) s (after_ran s p (s.apics p) cpu words) x σ cpu _ words x.tasks x.bodies now on small (four_tasks image good p hp)
-        (moves (s.apics p) cpu words) beside narrow names sparing changes (λ i d. refl) on.tasks
+        let there : StandsOn mode image p (now + inner_edges (s.latches p)) (Behind (s.apics p) cpu words None) x
+        = own_after mode image p (left p) s (Behind (s.apics p) cpu words None) x σ cpu _ words x.tasks x.bodies now on small (four_tasks image good p hp)
+        (moves (s.apics p) cpu words None) beside narrow names sparing changes (λ i d. refl) on.tasks
         (hb ∙ sym none_is_nmi) x.pending
         (apic_again mode image (s.apics p) _ x.pending x.bodies x.bodies (at_same s.apics p p (s.apics p) refl) (λ class. refl) on.apic)
         (let l = on.enough in let f = on.few in omega arith) goes_on in
-        edge_to cell hc hm hr hu out cpu words he σ narrow names sparing.allowed sparing.pages sparing.cells no_user changes now fewer there
+        edge_to first cell hc hm hr hu out cpu words he σ narrow names sparing.allowed sparing.pages sparing.cells no_user changes now fewer there
 
     -- ---- what the abstract machine does
 
     pub are_quiet : AreQuiet (b ∷ below)
-    are_quiet = subst AreQuiet o.bodies domain.bodies
+    are_quiet = contexts_quiet b below o.bodies
 
     pub quiet : IsQuiet b
     quiet = are_quiet.0
 
-    pub turns : (i : Item) → item_at (slice_get image.bodies b.body) b.place ≡ Some i → turn image m p ≡ item_step image m p b i
-    unfolding turn choice
-    turns i hi =
-        ap (chosen_step image m p) (ap (λ n. if n && not (list_any (is_nmi_body image) x.bodies) then Choice.Nmi else maskable x) domain.nmi
-        ∙ ap (λ bs. if open_to_interrupts bs then interrupt_or_next (greatest_below 256 (deliverable x)) else Choice.Next) o.bodies
-        ∙ ap (λ z. if z then interrupt_or_next (greatest_below 256 (deliverable x)) else Choice.Next) quiet.interrupts)
-        ∙ ap (next_step image m p) o.bodies ∙ ap (item_or_nothing image m p b) hi
+    pub turns : Unblocked b → (i : Item) → item_at (slice_get image.bodies b.body) b.place ≡ Some i → turn image m p ≡ item_step image m p b i
+    turns unblocked i hi = context_turns b below o.bodies (o.chosen unblocked) i hi
 
     -- at `ret` it has no interrupt in service
     pub ret_serves : item_at (slice_get image.bodies b.body) b.place ≡ Some Ret → b.service ≡ None
     ret_serves hi = context_serves image good built.accepted m p h.legal b below o.bodies hi
 
     -- its numbers stay words
-    pub numbers_behind : (m' : Machine) (es : List Entry) → turn image m p ≡ (m', es) → HoldsNumbers m'
-    numbers_behind m' es ht =
-        let found = body_at (slice_get image.bodies b.body) b.place ctx.item ctx.is in
-        let ops = (body_ruled image good built.accepted.1.kept b.body found.0 found.1).operands b.place ctx.item found.2 in
-        subst (λ (z : Step). HoldsNumbers z.0) (sym (turns ctx.item ctx.is) ∙ ht)
-        (items_keep_numbers image m p b ctx.item (length image.text) ops.0 ops.1 ops.2 (omega arith) h.numbers h.shares.held
-        (on.tasks x.running on.running).words (subst AreOfWords o.bodies (h.numbers.each p).bodies).0)
+    pub numbers_behind : Unblocked b → (m' : Machine) (es : List Entry) → turn image m p ≡ (m', es) → HoldsNumbers m'
+    numbers_behind unblocked m' es ht = context_numbers b below o.bodies (o.chosen unblocked) ctx.item ctx.is m' es ht
 
-    -- What a visible step makes of the abstract machine: these are processor p's tasks, slots and bodies behind it, of which the returning task may be another;
-    -- other processors are as they were, and memory holds these slots, and the cells, pages and user words of the machine behind it.
-    pub record Makes (m' : Machine) (words : NatMap ℕ) (tasks : NatMap Task) (slots : NatMap ℕ) (bodies : List BodyContext) : Type 0 where
-      pub own : processor m' p ≡ record x { tasks = tasks; slots = slots; bodies = bodies }
-      pub others : (q : ℕ) → (q == p) ≡ false → processor m' q ≡ processor m q
+    -- What a visible step makes of the abstract machine, with what it sends in the mail: these are processor p's tasks, slots and bodies behind it, of which
+    -- the returning task may be another, and it may ask for another task; other processors are as they were, and memory holds these slots, and the cells,
+    -- pages and user words of the machine behind it.
+    pub record Makes (from m' : Machine) (words : NatMap ℕ) (tasks : NatMap Task) (slots : NatMap ℕ) (bodies : List BodyContext) : Type 0 where
+      pub resched : Bool
+      pub asked : x.resched ≡ true → resched ≡ true
+      pub own : processor m' p ≡ record (processor from p) { tasks = tasks; slots = slots; resched = resched; bodies = bodies }
+      pub others : (q : ℕ) → (q == p) ≡ false → processor m' q ≡ processor from q
       pub same_tasks : (i : ℕ) → (i ≡ to → ⊥) → tasks i ≡ x.tasks i
       pub good_tasks : (i : ℕ) → i < length (tasks_of image p) → IsTask (tasks i)
       pub current : on.switching ≡ false → CurrentIs mode p r words
-      pub mark : on.switching ≡ false → words (pcpu p + 0x20) ≡ (if x.resched then 1 else 0)
+      pub mark : on.switching ≡ false → words (pcpu p + 0x20) ≡ (if resched then 1 else 0)
       pub slots_are : (k : ℕ) → k < 64 → words (pcpu p + slot_offset k) ≡ slots k
       pub user : (a : ℕ) → IsUserWord a → words a ≡ m'.words a
       pub held : HoldsWords m'.words
       pub pages : (i : ℕ) → i < 256 → words (page_map + 8 * i) ≡ (if m'.present i then 1 else 0)
       pub cells : (k : ℕ) → k < 256 → words (cells_base + 8 * k) ≡ m'.cells k
 
-    -- with the local APIC behind the step
-    pub visible_with : (cell : Cell) → code c.rip ≡ Some cell → cell.mark ≡ true → is_user c ≡ false
-        → (a : Apic) (cpu : Processor) (words : NatMap ℕ)
-        → executed c (s.apics p) s.memory (s.latches p) (Some cell.ins) ≡ ran cpu a words (s.latches p) → cpu.nmi_blocked ≡ false
+    -- with the local APIC behind the step, and what it sends
+    pub visible_with : Unblocked b → (cell : Cell) → code c.rip ≡ Some cell → cell.mark ≡ Always → is_user c ≡ false
+        → (a : Apic) (cpu : Processor) (words : NatMap ℕ) (sent : Option Send) (z : Sends sent)
+        → executed c (s.apics p) s.memory (s.latches p) (Some cell.ins) ≡ went cpu a words (s.latches p) sent → cpu.nmi_blocked ≡ false
         → (names : List Named) → AreNames p names → Changes p σ names s.memory.words words
         → (m' : Machine) (es : List Entry) → turn image m p ≡ (m', es) → (tasks : NatMap Task) (slots : NatMap ℕ) (bs : List BodyContext)
-        → Makes m' words tasks slots bs → AreQuiet bs → ApicIs mode image a x.pending bs
-        → (if ends_body c (Some cell.ins) then length x.bodies - 1
-        else (if begins_body c (Some cell.ins) then suc (length x.bodies) else length x.bodies)) ≡ length bs
+        → Makes z.machine m' words tasks slots bs → AreQuiet bs → ApicIs mode image a x.pending bs
+        → bodies_behind (length x.bodies) c cell.ins sent ≡ length bs
         → (now : ℕ) → now ≤ body_edges mode image
-        → Chained now (tasks to) bs (activations_by s p (s.activations p) cpu Stepped.Ran) cpu (with_words s.memory words)
-        → shown_always p (bodies_on s p) c s.memory.words (Some cell.ins) ≡ es → Result
-    visible_with cell hc hm hu a cpu words he hb names allowed changes m' es ht tasks slots bs y quiet apic told now few goes_on hes =
-        let x' : abstract.Processor = record x { tasks = tasks; slots = slots; bodies = bs } in
+        → Chained now (tasks to) bs (went_activations image.processors s p cpu sent) cpu (with_words s.memory words)
+        → went_shows p s cell.ins cpu words sent ≡ es → Result
+    unfolding comes_to
+    visible_with unblocked cell hc hm hu a cpu words sent z he hb names allowed changes m' es ht tasks slots bs y quiet apic told now few goes_on hes =
+        let sender : abstract.Processor = processor z.machine p in
+        let was : abstract.Processor = record x { mail = sender.mail; mail_nmi = sender.mail_nmi } in
+        let x' : abstract.Processor = record was { tasks = tasks; slots = slots; resched = y.resched; bodies = bs } in
         let none : list_any (is_nmi_body image) bs ≡ false
         = none_nmi image bs (chain_plain mode image p now r to (tasks to) on.frame on.switching bs _ cpu (with_words s.memory words) goes_on) in
-        let there : StandsOn mode image p (now + inner_edges (s.latches p)) (after_ran s p a cpu words) x'
-        = own_becomes mode image p (left p) s (after_ran s p a cpu words) x σ cpu _ words tasks slots bs now on small (four_tasks image good p hp)
-        (moves a cpu words) beside narrow names allowed changes y.current y.mark y.slots_are y.same_tasks y.good_tasks (hb ∙ sym none)
+        let there : StandsOn mode image p (now + inner_edges (s.latches p)) (Behind a cpu words sent) x'
+        = own_becomes mode image p (left p) (Posted sent) (Behind a cpu words sent) was σ cpu _ words tasks slots y.resched bs now
+        (comes_to mode image p (left p) s s.apics s.latches (inboxes_by image.processors s p sent) x x.pending sender.mail x.nmi sender.mail_nmi refl refl on
+        on.apic) small (four_tasks image good p hp) (moves a cpu words sent) beside narrow names allowed changes
+        (λ e. y.asked (on.marked e)) y.current y.mark y.slots_are y.same_tasks y.good_tasks (hb ∙ sym none)
         x.pending (subst (λ y. ApicIs mode image y x.pending bs) (sym (at_same s.apics p p a refl)) apic)
         (let f = few_inner mode image (s.latches p) in omega arith) goes_on in
-        let inside : IsInDomain x' = record { nmi = domain.nmi; resched = domain.resched; bodies = quiet } in
-        turn_to cell hc hm hu a cpu words he σ narrow names allowed changes m' es ht x'
+        let inside : IsInDomain x' = record {
+          nmi = domain.nmi;
+          mail_nmi = (z.stands.domain p hp).mail_nmi;
+          bodies = quiet;
+        } in
+        turn_to first cell hc hm hu a cpu words sent z he σ narrow names allowed changes m' es ht x'
         (record {
-          own = y.own;
+          own = y.own ∙ ap (λ (q : abstract.Processor). record q { tasks = tasks; slots = slots; resched = y.resched; bodies = bs }) z.own;
           others = y.others;
           mail = refl;
           mail_nmi = refl;
-          records = refl;
-          queue = refl;
+          records = sym (ap (λ (q : abstract.Processor). q.records) z.own);
+          queue = sym (ap (λ (q : abstract.Processor). q.queue) z.own);
           user = y.user;
           held = y.held;
           pages = y.pages;
           cells = y.cells;
         })
-        (numbers_behind m' es ht) inside told now there hes
+        (numbers_behind unblocked m' es ht) inside told now there hes
 
     -- which stays
-    pub visible : (cell : Cell) → code c.rip ≡ Some cell → cell.mark ≡ true → is_user c ≡ false
+    pub visible : Unblocked b → (cell : Cell) → code c.rip ≡ Some cell → cell.mark ≡ Always → is_user c ≡ false
         → (cpu : Processor) (words : NatMap ℕ) → Executes cell.ins cpu words → cpu.nmi_blocked ≡ false
         → (names : List Named) → AreNames p names → Changes p σ names s.memory.words words
         → (m' : Machine) (es : List Entry) → turn image m p ≡ (m', es) → (tasks : NatMap Task) (slots : NatMap ℕ) (bs : List BodyContext)
-        → Makes m' words tasks slots bs → AreQuiet bs → ServesAlike bs
+        → Makes m m' words tasks slots bs → AreQuiet bs → ServesAlike bs
         → (if ends_body c (Some cell.ins) then length x.bodies - 1
         else (if begins_body c (Some cell.ins) then suc (length x.bodies) else length x.bodies)) ≡ length bs
         → (now : ℕ) → now ≤ body_edges mode image
         → Chained now (tasks to) bs (activations_by s p (s.activations p) cpu Stepped.Ran) cpu (with_words s.memory words)
         → shown_always p (bodies_on s p) c s.memory.words (Some cell.ins) ≡ es → Result
-    visible cell hc hm hu cpu words he hb names allowed changes m' es ht tasks slots bs y quiet serving told now few goes_on hes =
-        visible_with cell hc hm hu (s.apics p) cpu words (he (s.apics p) (s.latches p)) hb names allowed changes m' es ht tasks slots bs y quiet
-        (apic_again mode image (s.apics p) (s.apics p) x.pending x.bodies bs refl serving on.apic) told now few goes_on hes
+    visible unblocked cell hc hm hu cpu words he hb names allowed changes m' es ht tasks slots bs y quiet serving told now few goes_on hes =
+        visible_with unblocked cell hc hm hu (s.apics p) cpu words None sends_nothing (he (s.apics p) (s.latches p)) hb names allowed changes m' es ht tasks slots
+        bs y quiet (apic_again mode image (s.apics p) (s.apics p) x.pending x.bodies bs refl serving on.apic) told now few goes_on hes
 
     -- what holds of the components that a step leaves alone, by the names that it writes
     module _ (names : List Named) (allowed : AreNames p names) (words : NatMap ℕ) (changes : Changes p σ names s.memory.words words) where
@@ -565,8 +629,10 @@ module _ (mode : Mode) (image : Image) (built : IsBuilt image) (good : IsImage i
 
       -- a step that changes the bodies alone
       pub bodies_alone : AreSparing p names → have_none is_user_word names ≡ true → (bs : List BodyContext)
-          → Makes (with_processor m p (record x { bodies = bs })) words x.tasks x.slots bs
+          → Makes m (with_processor m p (record x { bodies = bs })) words x.tasks x.slots bs
       bodies_alone sparing no_user bs = record {
+        resched = x.resched;
+        asked = λ e. e;
         own = at_same m.processors p p (record x { bodies = bs }) refl;
         others = λ q e. at_other m.processors p q (record x { bodies = bs }) e;
         same_tasks = λ i d. refl;
@@ -582,21 +648,22 @@ module _ (mode : Mode) (image : Image) (built : IsBuilt image) (good : IsImage i
 
     -- ---- the abstract machine's step
 
-    -- the processor without its last context
-    below_is : (ds : List BodyContext) → dropped image b x ds ≡ record x { bodies = ds }
-    below_is [] = ap (λ z. if z && not (is_nmi_body image b) then rescheduled (record x { bodies = [] }) else record x { bodies = [] }) domain.resched
-    below_is (d ∷ ds) = refl
+    -- the processor without its last context, where nothing asks for another task, or the context stands on another one
+    below_is : (ds : List BodyContext) → (ds ≡ [] → x.resched ≡ false) → dropped image b x ds ≡ record x { bodies = ds }
+    below_is [] calm = ap (λ z. if z && not (is_nmi_body image b) then rescheduled (record x { bodies = [] }) else record x { bodies = [] }) (calm refl)
+    below_is (d ∷ ds) calm = refl
 
-    pub ret_turn : item_at (slice_get image.bodies b.body) b.place ≡ Some Ret → turn image m p ≡ (with_processor m p (record x { bodies = below }), [])
+    pub ret_turn : Unblocked b → (below ≡ [] → x.resched ≡ false) → item_at (slice_get image.bodies b.body) b.place ≡ Some Ret
+        → turn image m p ≡ (with_processor m p (record x { bodies = below }), [])
     unfolding item_step
-    ret_turn hi =
-        turns Ret hi ∙ ap (λ bs. (with_processor m p (dropped image b x (below_last bs)), [])) o.bodies
-        ∙ ap (λ y. (with_processor m p y, [])) (below_is below)
+    ret_turn unblocked calm hi =
+        turns unblocked Ret hi ∙ ap (λ bs. (with_processor m p (dropped image b x (below_last bs)), [])) o.bodies
+        ∙ ap (λ y. (with_processor m p y, [])) (below_is below calm)
 
     -- ---- inside a block
 
     pub over_spot : (act : Stood on.own b c s.memory) → is_spot mode act.stands.spot ≡ true
-    over_spot act = means_over mode image κ act.stands.spot _ w b s.memory.words act.means
+    over_spot act = means_over mode image κ act.stands.spot _ w b s.memory.words act.means (act.switches ∙ o.off)
 
     pub outside : (act : Stood on.own b c s.memory) → is_in_repeat c.rip ≡ false
     outside act = active_outside mode image facts p on.own κ σ on.frame (switches_at mode image on.switching below) w b c s.memory ctx act
@@ -678,8 +745,8 @@ module _ (mode : Mode) (image : Image) (built : IsBuilt image) (good : IsImage i
       windows spot over ss extra v f = opens_at mode image p σ in_seat hp good.count.1 κ ss w extra v f spot over s.memory h.regions_are
 
       -- an edge to the opening of a block
-      pub goes : (act : Stood on.own b c s.memory) (spot : Spot) (ss : ℕ) → IsKernelSs mode ss → (extra v : ℕ → ℕ) (f : Flags) → f.interrupts ≡ false
-          → is_user c ≡ false
+      pub goes : (act : Stood on.own b c s.memory) (spot : Spot) (ss : ℕ) → IsKernelSs mode ss → (extra v : ℕ → ℕ) (f : Flags)
+          → f.interrupts ≡ b.interrupts → is_user c ≡ false
           → Goes code c s.memory (block mode spot) (env ss extra v f) → edges mode spot 0 < on.own → length c.regs ≡ 16 → blocks.switches spot ≡ false
           → Means mode image κ spot (env ss extra v f) w b s.memory.words → Result
       goes act spot ss ss_is extra v f masked_by hu g fewer long off means =

@@ -1,18 +1,21 @@
 -- The abstract machine stays legal, and tasks keep their GS bases: its turns are lines of scripts. And no more bodies stand than an image may nest.
-use Rattle.std.proofs.Common.{◌≡◌, ℕ, suc, ◌<◌, ◌≤◌, true, List, [], ◌∷◌, length, Some, None, refl, sym, ap, ◌∙◌, subst, arith}
-use Rattle.std.specs.Prelude.{slice_get}
-use Rattle.std.proofs.lemmas.Bool.{lt-ltb}
+use Rattle.std.proofs.Common.{◌≡◌, ℕ, suc, ◌<◌, ◌≤◌, true, false, List, [], ◌∷◌, length, Some, None, refl, sym, ap, ◌∙◌, subst, arith}
+use Rattle.std.specs.Prelude.{slice_get, if◌then◌else◌}
+use Rattle.std.proofs.lemmas.Bool.{lt-ltb, or_parts}
 use Rattle.ev_body.specs.declared.image.Image.{Image}
 use Rattle.ev_body.specs.WellFormed.{IsImage}
 use Rattle.ev_abstract.specs.Accepted.{IsAccepted}
 use Rattle.ev_abstract.specs.Context.{BodyContext}
 use Rattle.ev_abstract.specs.Machine.{Machine, processor}
 use Rattle.ev_abstract.specs.declared.entry.Entry.{Entry}
-use Rattle.ev_body.specs.declared.item.Item.TheVariants.{Eoi, Ret}
+use Rattle.ev_body.specs.declared.item.Item.TheVariants.{Sti, Eoi, Ret}
+use Rattle.ev_body.specs.Bodies.{body_items}
+use Rattle.ev_abstract.specs.CrossCall.{take_place}
+use Rattle.ev_abstract.specs.Rules.{breaks_if, if_at, in_function}
 use Rattle.ev_abstract.specs.Run.{turn, line_step, item_at}
 use Rattle.ev_abstract.specs.Script.{is_line}
 use Rattle.ev_abstract.specs.declared.script_line.Line.TheVariants.{Turn}
-use Rattle.ev_law.specs.Legal.{Legal, AreLegal, numbers, knows}
+use Rattle.ev_law.specs.Legal.{Legal, IsLegalOn, AreLegal, numbers, knows}
 use Rattle.ev_law.proofs.Follows.{ret_serves_none, eoi_serves, follows}
 use Rattle.ev_law.specs.Laws.{is_lower}
 use Rattle.ev_law.proofs.Ruled.{body_ruled}
@@ -55,6 +58,28 @@ eoi_context image given accepted m p h b below hb hi =
     let l : AreLegal image (knows image m) (b ∷ below) = subst (AreLegal image (knows image m)) hb (h.each p).bodies in
     let k = eoi_serves image given accepted (knows image m) b below l.0 (sym (ap (λ o. item_at o b.place) l.0.is_body) ∙ hi) in
     (k.0, k.1, (follows image (knows image m) (body_ruled image given accepted.1.kept) b below l).falls k.0 k.1)
+
+-- a context at its `ret` has IF off
+pub off_at_ret : (image : Image) → IsImage image → IsAccepted image → (m : Machine) (p : ℕ) → Legal image m → (b : BodyContext) (below : List BodyContext)
+    → (processor m p).bodies ≡ b ∷ below → item_at (slice_get image.bodies b.body) b.place ≡ Some Ret → b.interrupts ≡ false
+unfolding breaks_if
+off_at_ret image given accepted m p h b below hb hi =
+    let l : IsLegalOn image (knows image m) b below = (subst (AreLegal image (knows image m)) hb (h.each p).bodies).0 in
+    let here : slice_get (body_items l.body) b.place ≡ Some Ret = sym (ap (λ o. item_at o b.place) l.is_body) ∙ hi in
+    let ruled = body_ruled image given accepted.1.kept b.body l.body l.is_body in
+    l.at.interrupts ∙ ap (λ t. if_at l.body (if t then take_place 0 (body_items l.body) else b.place)) (ruled.ret b.place here).0
+    ∙ ruled.switch b.place Ret here
+
+-- and so has one at `sti`
+pub off_at_sti : (image : Image) → IsImage image → IsAccepted image → (m : Machine) (p : ℕ) → Legal image m → (b : BodyContext) (below : List BodyContext)
+    → (processor m p).bodies ≡ b ∷ below → item_at (slice_get image.bodies b.body) b.place ≡ Some Sti → b.interrupts ≡ false
+unfolding breaks_if
+off_at_sti image given accepted m p h b below hb hi =
+    let l : IsLegalOn image (knows image m) b below = (subst (AreLegal image (knows image m)) hb (h.each p).bodies).0 in
+    let here : slice_get (body_items l.body) b.place ≡ Some Sti = sym (ap (λ o. item_at o b.place) l.is_body) ∙ hi in
+    let rule = or_parts _ (if_at l.body b.place) ((body_ruled image given accepted.1.kept b.body l.body l.is_body).switch b.place Sti here) in
+    l.at.interrupts ∙ ap (λ t. if_at l.body (if t then take_place 0 (body_items l.body) else b.place)) (or_parts _ (in_function l.body b.place) rule.0).1
+    ∙ rule.1
 
 -- a context at its `ret` has no interrupt in service
 pub context_serves : (image : Image) → IsImage image → IsAccepted image → (m : Machine) (p : ℕ) → Legal image m → (b : BodyContext) (below : List BodyContext)

@@ -7,6 +7,7 @@ pub mod Tells
 pub mod ModeFacts
 pub mod Spots
 pub mod Fits
+pub mod Switch
 pub mod Words
 pub mod CallKinds
 pub mod Domains
@@ -28,14 +29,19 @@ pub mod ItemAddresses
 pub mod ItemSaved
 pub mod Instructions
 pub mod KernelStep
+pub mod SwitchStep
+pub mod NextTask
 pub mod ItemWords
 pub mod ItemVisible
 pub mod ItemInside
 pub mod ItemAddress
 pub mod ItemSteps
 pub mod ItemTask
+pub mod SwitchOpens
 pub mod ItemNumbers
+pub mod ItemResched
 pub mod ItemMsr
+pub mod ItemInterrupts
 pub mod ItemUser
 pub mod ItemPage
 pub mod ItemPages
@@ -58,6 +64,7 @@ pub mod BodyRaisingFred
 pub mod BodyRaisingIdt
 pub mod KernelSafe
 pub mod BodyTurn
+pub mod BodyInterrupt
 pub mod BodyBreak
 pub mod BodyFault
 pub mod CodeFacts

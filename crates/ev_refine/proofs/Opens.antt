@@ -77,7 +77,7 @@ saved_word es mode image p n d few hp waits there small some most al =
     ∙ ap (λ b. if b then below_top (saved_words mode (get_or (tasks_of image p) n no_task)) d else 0) is
 
 -- the words from an address up
-words_map : (m : NatMap ℕ) (ws : List ℕ) (a : ℕ) → a + 8 * length ws < 2 ^ 64 → ((k : ℕ) → k < length ws → m (a + 8 * k) ≡ get_or ws k 0)
+pub words_map : (m : NatMap ℕ) (ws : List ℕ) (a : ℕ) → a + 8 * length ws < 2 ^ 64 → ((k : ℕ) → k < length ws → m (a + 8 * k) ≡ get_or ws k 0)
     → map m (addresses a (length ws)) ≡ ws
 words_map m [] a h f = refl
 words_map m (w ∷ ws) a h f =
@@ -220,10 +220,10 @@ zeros (suc (suc zero)) = refl
 zeros (suc (suc (suc zero))) = refl
 zeros (suc (suc (suc (suc n)))) = refl
 
-zero_words : (i : ℕ) → get_or no_words i 0 < 2 ^ 64
+pub zero_words : (i : ℕ) → get_or no_words i 0 < 2 ^ 64
 zero_words i = let z = zeros i in omega arith
 
-no_vector : (v : ℕ) → vectors_of no_words v ≡ false
+pub no_vector : (v : ℕ) → vectors_of no_words v ≡ false
 no_vector v = ap (bit (v % 64)) (zeros (v / 64)) ∙ ap (λ q. q % 2 == 1) (zero-div (2 ^ (v % 64)))
 
 none_served : (class : ℕ) (vs : List ℕ) → list_any (λ v. vectors_of no_words v && (v / 16 == class)) vs ≡ false
@@ -297,24 +297,22 @@ task_saved Idt image p n few hp waits there small = record {
       (λ k l. offset Idt image p n few hp waits there small 0xb0 (8 * k) (omega arith) (omega arith) (omega arith)
       ∙ register Idt image p n few hp waits there small k 22 0xb0 (frame_of Idt (get_or (tasks_of image p) n no_task)) l refl refl);
   rip = offset Idt image p n few hp waits there small 0xb0 0x88 (omega arith) (omega arith) refl;
-  cs = offset Idt image p n few hp waits there small 0xb0 0x90 (omega arith) (omega arith) refl;
+  cs = ap selector (offset Idt image p n few hp waits there small 0xb0 0x90 (omega arith) (omega arith) refl);
   flags = offset Idt image p n few hp waits there small 0xb0 0x98 (omega arith) (omega arith) refl;
   rsp = offset Idt image p n few hp waits there small 0xb0 0xa0 (omega arith) (omega arith) refl;
   ss = ap selector (offset Idt image p n few hp waits there small 0xb0 0xa8 (omega arith) (omega arith) refl);
   sti = ap (bit 16) (offset Idt image p n few hp waits there small 0xb0 0xa8 (omega arith) (omega arith) refl);
-  nmi = ap (bit 18) (offset Idt image p n few hp waits there small 0xb0 0xa8 (omega arith) (omega arith) refl);
 }
 task_saved Fred image p n few hp waits there small = record {
   regs = words_map (first_word Fred image) (registers Fred image p n few hp waits there small) (stack_top p n - 0xc0) (omega arith)
       (λ k l. offset Fred image p n few hp waits there small 0xc0 (8 * k) (omega arith) (omega arith) (omega arith)
       ∙ register Fred image p n few hp waits there small k 24 0xc0 (frame_of Fred (get_or (tasks_of image p) n no_task)) l refl refl);
   rip = offset Fred image p n few hp waits there small 0xc0 0x88 (omega arith) (omega arith) refl;
-  cs = offset Fred image p n few hp waits there small 0xc0 0x90 (omega arith) (omega arith) refl;
+  cs = ap selector (offset Fred image p n few hp waits there small 0xc0 0x90 (omega arith) (omega arith) refl);
   flags = offset Fred image p n few hp waits there small 0xc0 0x98 (omega arith) (omega arith) refl;
   rsp = offset Fred image p n few hp waits there small 0xc0 0xa0 (omega arith) (omega arith) refl;
   ss = ap selector (offset Fred image p n few hp waits there small 0xc0 0xa8 (omega arith) (omega arith) refl);
   sti = ap (bit 16) (offset Fred image p n few hp waits there small 0xc0 0xa8 (omega arith) (omega arith) refl);
-  nmi = ap (bit 18) (offset Fred image p n few hp waits there small 0xc0 0xa8 (omega arith) (omega arith) refl);
 }
 
 level_first : (mode : Mode) (p : ℕ) → level_zero mode p 0 ≡ stack_top p 0
@@ -420,8 +418,7 @@ module _ (mode : Mode) (image : Image) (given : IsImage image) where
     held = held_first;
     pages = λ i lt. page_word _ mode image i few lt;
     cells = λ k lt. cell_word _ mode image k few lt;
-    mail = λ p v lt l. no_vector v;
-    mail_nmi = λ p lt. refl;
+    mail = λ p lt. record { words = record { four = refl; small = zero_words }; vectors = λ v lv. no_vector v; nmi_is = refl };
     numbers = λ p k lt l. record_word p lt k 0x28 l (inr refl);
     records = λ p k lt l. ap (first_word mode image) (let e : record_address p k ≡ record_address p k + 0 = omega arith in e)
         ∙ record_word p lt k 0 l (inl refl);
@@ -432,7 +429,7 @@ module _ (mode : Mode) (image : Image) (given : IsImage image) where
   unfolding opening
   domain p = record {
     nmi = refl;
-    resched = refl;
+    mail_nmi = refl;
     bodies = tt;
   }
 

@@ -469,6 +469,7 @@ module _ (image : Image) (built : IsBuilt image) (p n : â„•) (t : Task) (cr2 : â
     found = ready.found;
     begins = refl;
     unknown = refl;
+    off = refl;
     saved = record {
       regs = found.regs;
       rip = found.rip;

@@ -9,8 +9,8 @@ use Rattle.ev_abstract.specs.Context.{BodyContext}
 use Rattle.ev_abstract.specs.Machine.{Machine, processor}
 use Rattle.ev_abstract.specs.Run.{line_step}
 use Rattle.ev_abstract.specs.Script.{is_line}
-use Rattle.ev_abstract.specs.declared.script_line.Line.TheVariants.{Arrive}
-use Rattle.ev_concrete.specs.ConcreteRun.{System, arrived_at}
+use Rattle.ev_abstract.specs.declared.script_line.Line.TheVariants.{Arrive, Accept}
+use Rattle.ev_concrete.specs.ConcreteRun.{System, arrived_at, accept_mail}
 use Rattle.ev_built.specs.Built.{IsBuilt}
 use Rattle.ev_refine.specs.Relation.{Stands}
 use Rattle.ev_refine.specs.Claims.{Simulated, Refines, Opens, AllSettle, KeepsSettled, TurnsFollow, RunsFollow, EndsFollow, RunsAreSafe, StandsTells}
@@ -20,7 +20,7 @@ use Rattle.ev_refine.proofs.User.{user_turn}
 use Rattle.ev_refine.proofs.Kernel.{kernel_step}
 use Rattle.ev_refine.proofs.Visible.{stays_visible}
 use Rattle.ev_refine.proofs.Runs as runs
-use Rattle.ev_refine.proofs.Arrivals.{arrival_stands}
+use Rattle.ev_refine.proofs.Arrivals.{arrival_stands, acceptance_stands}
 use Rattle.ev_refine.proofs.Opens as opening
 use Rattle.ev_refine.proofs.Tells as telling
 
@@ -57,15 +57,18 @@ turns_follow mode image built h given left s m r p lt =
 pub arrivals_stand : (mode : Mode) (image : Image) → IsBuilt image → IsImage image → (left : NatMap ℕ) (s : System) (m : Machine)
     → Stands mode image left s m → (p v : ℕ) → p < image.processors → v < 256 → is_line image (Arrive p (Irq v)) ≡ true
     → Stands mode image left (arrived_at s p (Irq v)) (line_step image m (Arrive p (Irq v))).0
-arrivals_stand mode image built given left s m r p v lt small line =
-    let domain = r.domain p lt in
-    arrival_stands mode image given built.accepted left s m r p v lt small line
-    (record { nmi = domain.nmi; resched = domain.resched; bodies = domain.bodies })
+arrivals_stand mode image built given = arrival_stands mode image given built.accepted
+
+-- and where mail is accepted
+pub acceptances_stand : (mode : Mode) (image : Image) → IsBuilt image → IsImage image → (left : NatMap ℕ) (s : System) (m : Machine)
+    → Stands mode image left s m → (p : ℕ) → p < image.processors → is_line image (Accept p) ≡ true
+    → Stands mode image left (accept_mail s p) (line_step image m (Accept p)).0
+acceptances_stand mode image built given = acceptance_stands mode image given built.accepted
 
 pub runs_follow : RunsFollow
 runs_follow mode image built h given script i b =
     runs.lines_follow mode image (refines mode image built h given) (keeps_settled mode image built h given)
-    (arrivals_stand mode image built given) script (λ p. 0) _ _ (opens mode image built h given) i b
+    (arrivals_stand mode image built given) (acceptances_stand mode image built given) script (λ p. 0) _ _ (opens mode image built h given) i b
 
 pub ends_follow : EndsFollow
 ends_follow mode image built h given script i b q lt =

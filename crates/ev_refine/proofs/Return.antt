@@ -3,33 +3,42 @@ use Rattle.std.proofs.Common.{◌≡◌, inl, inr, ℕ, ◌+◌, ◌-◌, ◌%�
 use Rattle.std.specs.Prelude.{◌==◌, nat_le, nat_lt, if◌then◌else◌}
 use Rattle.ev_isa.specs.Word.{NatMap, bit, is_canonical}
 use Rattle.ev_isa.specs.Flags.{Flags, modelled}
+use Rattle.ev_isa.specs.Spelling.{spelling, four_bytes}
 use Rattle.ev_isa.specs.declared.instruction.Ins.{Ins}
 use Rattle.ev_isa.specs.declared.instruction.Ins.TheVariants.{Sysretq, Iretq, Eretu, Erets}
 use Rattle.ev_isa.specs.declared.mode.Mode.{Mode}
 use Rattle.ev_isa.specs.declared.mode.Mode.TheVariants.{Idt, Fred}
 use Rattle.ev_body.specs.declared.image.Image.{Image}
 use Rattle.ev_effect.specs.Task.{Task}
+use Rattle.ev_asm.specs.Assembly.{size, places, distance}
+use Rattle.ev_listing.specs.FredCode.{fred_listings}
 use Rattle.ev_listing.specs.AddressMap.{pcpu, nmi_entry, repeat_entry, nlast_entry}
 use Rattle.ev_state.specs.Processor.{Processor}
 use Rattle.ev_state.proofs.FlagLaws.{kept}
 use Rattle.ev_mem.specs.Memory.{Memory}
 use Rattle.ev_proc.specs.ProcessorStep.{has_fred}
 use Rattle.std.proofs.lemmas.Bool.{le-leb}
+use Rattle.ev_listing.specs.Marks.{Always}
+use Rattle.ev_abstract.specs.Context.{BodyContext}
 use Rattle.ev_concrete.specs.ConcreteRun.{is_return}
 use Rattle.ev_concrete.specs.Shown.{shown_always}
 use Rattle.ev_idt.specs.IdtDelivery as idt_delivery
-use Rattle.ev_symbolic.specs.Value.{M, V, P}
-use Rattle.ev_symbolic.specs.State.{Word, SS, Block, top_tag}
-use Rattle.ev_symbolic.specs.Openings.{gs_tag, words_from}
-use Rattle.ev_symbolic.specs.Names.{frame_rip, frame_cs, frame_flags, frame_rsp, frame_ss, saved, other_gs, gs_selector, level_rsp}
+use Rattle.ev_symbolic.specs.Value.{M, V, K, P}
+use Rattle.ev_symbolic.specs.State.{Loc, Word, SS, Block, top_tag, find}
+use Rattle.ev_symbolic.specs.Run.{brun}
+use Rattle.ev_symbolic.specs.Openings.{gs_tag, gs_word, words_from}
+use Rattle.ev_symbolic.specs.Names.{next_top_tag, frame_rip, frame_cs, frame_flags, frame_rsp, frame_ss, saved, next_rip, next_cs, next_flags, next_rsp, next_ss, next_gs, next_selector, next_saved, other_gs, gs_selector, level_rsp}
 use Rattle.ev_symbolic.specs.Agrees.{Env, Code, untracked, eval, addr, Agrees, At}
 use Rattle.ev_symbolic.proofs.Blocks.{at_end, levels_split}
+use Rattle.ev_symbolic.proofs.Words.{Found, found_ok}
 use Rattle.ev_blocks.specs.Shapes.{registers_of, interrupted_words, IdtFrame}
-use Rattle.ev_blocks.specs.Fred.{FredToKernel, FredToTask, fred_block, eretu_place, erets_place}
+use Rattle.ev_blocks.specs.Fred.{FredToKernel, FredToTask, FredToNext, fred_lines, fred_block, eretu_place, erets_place}
 use Rattle.ev_blocks.specs.Fred as fred
-use Rattle.ev_blocks.specs.Idt.{IdtReturn, BySysret, ByOtherRip, ByOtherFlags, IdtToKernel, IdtToTask, idt_block, sysretq_place, iretq_place}
+use Rattle.ev_blocks.specs.Idt.{IdtReturn, BySysret, ByOtherRip, ByOtherFlags, IdtToKernel, IdtToTask, IdtToNext, idt_places, exit_lines, idt_block, next_interrupted, sysretq_place, iretq_place}
 use Rattle.ev_blocks.specs.Idt as idt
 use Rattle.ev_paths.specs.Ends.{Returns}
+use Rattle.ev_paths.specs.FredEnds.{fred_end}
+use Rattle.ev_paths.specs.IdtEnds.{idt_end}
 use Rattle.ev_paths.specs.Lines.{HasKernel}
 use Rattle.ev_paths.proofs.Cells.{fred_cells, idt_cells}
 use Rattle.ev_paths.proofs.FredEnds.{fred_returns}
@@ -39,7 +48,8 @@ use Rattle.ev_return.proofs.ByReturn.{iret_returns, sysret_returns, eretu_return
 use Rattle.ev_activation.specs.Seat.{Kind, Seat}
 use Rattle.ev_user.specs.Tasks.{RunsTask}
 use Rattle.ev_refine.proofs.Bodies.{at_code}
-use Rattle.ev_refine.specs.Active.{IsKernelSs, GivesBack, Saved, SavedBody, Matches, here, level_in}
+use Rattle.ev_refine.specs.Active.{IsKernelSs, GivesBack, Saved, SavedBody, Matches, ToNext, here, level_in}
+use Rattle.ev_refine.proofs.Switch.{NamesTasks}
 
 -- the processor c stands at a visible return that is no NMI's, and that leads back to w
 pub record Exits (code : Code) (c : Processor) (m : Memory) (w : Processor) : Type 0 where
@@ -47,7 +57,7 @@ pub record Exits (code : Code) (c : Processor) (m : Memory) (w : Processor) : Ty
   pub next : ℕ
   pub place : ℕ
   pub rip : c.rip ≡ place
-  pub cell : code place ≡ Some (record { ins = ins; next = next; mark = true })
+  pub cell : code place ≡ Some (record { ins = ins; next = next; mark = Always })
   pub is : is_return (Some ins) ≡ true
   pub outside : (nat_le nmi_entry place && nat_lt place repeat_entry) ≡ false
   pub unlike : (place == nlast_entry + 12) ≡ false
@@ -177,6 +187,53 @@ module _ (image : Image) (mode : Mode) (p : ℕ) (hp : p < 32) (κ : Kind) (σ :
                 (restores_with rip flags saved_is.rip saved_is.flags) iret_words;
           }
 
+-- ---- words that a block tells at its end
+
+pub tells_word : (code : Code) (b : Block) (z : SS) (e : Env) (c : Processor) (m : Memory) → At code b b.steps e c m → brun b b.steps ≡ Some z → (l : Loc) (v : V)
+    → find l z.words ≡ Some v → m.words (addr e l) ≡ eval e v
+tells_word code b z e c m at runs l v h =
+    let a : Agrees e b.ground z c m = at_end code b b.steps z runs e c m at in
+    (subst (Found e b.ground.known m.words l) h (found_ok e b.ground.known m.words l z.words a.words)).1
+
+-- the exits to the task found the mark off
+abbrev mark_off : SS → Type 0
+mark_off z = find (gs_word 0x20) z.words ≡ Some (K 0)
+
+fred_unmarked : mark_off (fred_end (fred.Leaves FredToTask))
+unfolding fred_end fred_lines fred_listings spelling four_bytes size places distance
+fred_unmarked = refl
+
+idt_unmarked : (by : IdtReturn) → mark_off (idt_end (idt.Leaves (IdtToTask by)))
+unfolding idt_end exit_lines idt_places spelling four_bytes size places distance
+idt_unmarked BySysret = refl
+idt_unmarked ByOtherRip = refl
+idt_unmarked ByOtherFlags = refl
+
+module _ (mode : Mode) (p : ℕ) (hp : p < 32) (κ : Kind) (σ : Seat) (w : Processor) (kss : ℕ) (extra v : ℕ → ℕ) (f : Flags) (code : Code) (c : Processor)
+    (m : Memory) where
+  abbrev ue : Env
+  ue = here mode p κ σ kss w extra v f
+
+  mark_place : m.words (addr ue (gs_word 0x20)) ≡ m.words (pcpu p + 0x20)
+  mark_place = ap m.words (let q : (pcpu p + 0x20) % M ≡ pcpu p + 0x20 = omega arith in q)
+
+  pub fred_mark : At code (fred_block (fred.Leaves FredToTask)) (fred_block (fred.Leaves FredToTask)).steps ue c m → m.words (pcpu p + 0x20) ≡ 0
+  unfolding eval
+  fred_mark at = sym mark_place ∙ tells_word code (fred_block (fred.Leaves FredToTask)) (fred_end (fred.Leaves FredToTask)) ue c m at fred_returns.to_task.runs
+      (gs_word 0x20) (K 0) fred_unmarked
+
+  pub idt_mark : (by : IdtReturn) → At code (idt_block (idt.Leaves (IdtToTask by))) (idt_block (idt.Leaves (IdtToTask by))).steps ue c m
+      → m.words (pcpu p + 0x20) ≡ 0
+  unfolding eval
+  idt_mark by at = sym mark_place ∙ tells_word code (idt_block (idt.Leaves (IdtToTask by))) (idt_end (idt.Leaves (IdtToTask by))) ue c m at
+      (runs by) (gs_word 0x20) (K 0) (idt_unmarked by)
+    where
+      runs : (by : IdtReturn) → brun (idt_block (idt.Leaves (IdtToTask by))) (idt_block (idt.Leaves (IdtToTask by))).steps
+          ≡ Some (idt_end (idt.Leaves (IdtToTask by)))
+      runs BySysret = idt_returns.to_task.runs
+      runs ByOtherRip = idt_returns.to_task_by_rip.runs
+      runs ByOtherFlags = idt_returns.to_task_by_flags.runs
+
 -- ---- each exit
 
 module _ (image : Image) (p : ℕ) (hp : p < 32) (κ : Kind) (σ : Seat) (q : ℕ) (t : Task) (w : Processor)
@@ -189,7 +246,7 @@ module _ (image : Image) (p : ℕ) (hp : p < 32) (κ : Kind) (σ : Seat) (q : �
       code c m open_to (fred_block (fred.Leaves FredToTask)) _ at k (ap (λ (y : Processor). bit 32 y.cr4) r.is) top_tag (M - 0x40) fred_returns.to_task
 
   pub idt_exits : (by : IdtReturn) → HasKernel Idt code → RunsTask Idt image p q t w → level_in Idt κ w ≡ w.level → Saved Idt image v w
-      → Matches Idt image by v
+      → Matches Idt image by (v 31) (v 17) (v 41) (v 19)
       → At code (idt_block (idt.Leaves (IdtToTask by))) (idt_block (idt.Leaves (IdtToTask by))).steps (here Idt p κ σ kss w extra v f) c m → Exits code c m w
   unfolding eval
   idt_exits BySysret k r level saved_is same at =
@@ -202,6 +259,36 @@ module _ (image : Image) (p : ℕ) (hp : p < 32) (κ : Kind) (σ : Seat) (q : �
   idt_exits ByOtherFlags k r level saved_is same at =
       by_iretq image Idt p hp κ σ q t w r level kss extra v f saved frame_rip frame_cs frame_flags frame_rsp frame_ss other_gs gs_selector level_rsp saved_is
       code c m open_to (idt_block (idt.Leaves (IdtToTask ByOtherFlags))) _ at k top_tag (M - 0x28) idt_returns.to_task_by_flags
+
+-- ---- to another task
+
+module _ (image : Image) (p : ℕ) (hp : p < 32) (κ : Kind) (σ : Seat) (q : ℕ) (t : Task) (w : Processor) (kss : ℕ) (extra v : ℕ → ℕ) (f : Flags)
+    (b : BodyContext) (code : Code) (c : Processor) (m : Memory) (open_to : c.nmi_blocked ≡ false) where
+  pub fred_exits_to_next : HasKernel Fred code → RunsTask Fred image p q t w → level_in Fred κ w ≡ w.level
+      → ToNext Fred image (extra next_top_tag) (here Fred p κ σ kss w extra v f) w b → (task next : ℕ) → NamesTasks p extra task next
+      → At code (fred_block (fred.Leaves FredToNext)) (fred_block (fred.Leaves FredToNext)).steps (here Fred p κ σ kss w extra v f) c m → Exits code c m w
+  unfolding eval
+  fred_exits_to_next k r level to_next task next names at =
+      let top_is = names.next_top in let few = names.few.1 in
+      let same : extra next_top_tag ≡ (extra next_top_tag + 0) % M = omega arith in
+      by_eretu image Fred p hp κ σ q t w r level kss extra v f next_saved next_rip next_cs next_flags next_rsp next_ss next_gs next_selector (P next_top_tag 0)
+      (subst (λ n. GivesBack Fred image (λ r. v (70 + r)) (v 54) (v 55) (v 56) (v 57) (v 58) (v 51) (v 50) n w) same to_next.gives)
+      code c m open_to (fred_block (fred.Leaves FredToNext)) _ at k (ap (λ (y : Processor). bit 32 y.cr4) r.is) next_top_tag (M - 0x40) fred_returns.to_next
+
+  pub idt_exits_to_next : (by : IdtReturn) → HasKernel Idt code → RunsTask Idt image p q t w → level_in Idt κ w ≡ w.level
+      → ToNext Idt image (v 63) (here Idt p κ σ kss w extra v f) w b → Matches Idt image by (v 71) (v 54) (v 81) (v 56)
+      → At code (idt_block (idt.Leaves (IdtToNext by))) (idt_block (idt.Leaves (IdtToNext by))).steps (here Idt p κ σ kss w extra v f) c m → Exits code c m w
+  unfolding eval
+  idt_exits_to_next BySysret k r level to_next same at =
+      by_sysretq image Idt p hp κ σ q t w r level kss extra v f next_saved next_rip next_cs next_flags next_rsp next_ss next_gs next_selector level_rsp
+      to_next.gives code c m open_to (idt_block (idt.Leaves (IdtToNext BySysret))) _ at k (ap (λ (y : Processor). bit 32 y.cr4) r.is) same.0 same.1
+      (words_from next_top_tag (M - 0x28) next_interrupted) idt_returns.to_next
+  idt_exits_to_next ByOtherRip k r level to_next same at =
+      by_iretq image Idt p hp κ σ q t w r level kss extra v f next_saved next_rip next_cs next_flags next_rsp next_ss next_gs next_selector level_rsp
+      to_next.gives code c m open_to (idt_block (idt.Leaves (IdtToNext ByOtherRip))) _ at k next_top_tag (M - 0x28) idt_returns.to_next_by_rip
+  idt_exits_to_next ByOtherFlags k r level to_next same at =
+      by_iretq image Idt p hp κ σ q t w r level kss extra v f next_saved next_rip next_cs next_flags next_rsp next_ss next_gs next_selector level_rsp
+      to_next.gives code c m open_to (idt_block (idt.Leaves (IdtToNext ByOtherFlags))) _ at k next_top_tag (M - 0x28) idt_returns.to_next_by_flags
 
 -- ---- to a body
 

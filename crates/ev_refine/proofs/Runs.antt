@@ -19,7 +19,7 @@ use Rattle.ev_abstract.specs.declared.script_line.Line.{Line}
 use Rattle.ev_abstract.specs.declared.script_line.Line.TheVariants.{Turn, Edge, Arrive, Accept}
 use Rattle.ev_proc.specs.ProcessorStep.{After, step}
 use Rattle.ev_proc.specs.declared.stepped.Stepped.{Stepped}
-use Rattle.ev_concrete.specs.ConcreteRun.{System, Marks, marks_of, is_visible, acted, after_step, concrete_step, edges, with_frames, settled, all_settled, concrete_line, concrete_lines, arrived_at}
+use Rattle.ev_concrete.specs.ConcreteRun.{System, Marks, marks_of, is_visible, acted, after_step, concrete_step, edges, with_frames, settled, all_settled, concrete_line, concrete_lines, arrived_at, accept_mail}
 use Rattle.ev_built.specs.Built.{line_is_built}
 use Rattle.ev_refine.specs.Relation.{Stands}
 use Rattle.ev_refine.specs.Claims.{EdgeWrites, MakesEdge, MakesTurn, Simulated, Settles, Turns, SettledFirst}
@@ -172,13 +172,19 @@ module _ (mode : Mode) (image : Image) where
     ArrivalsStand = (left : NatMap ℕ) (s : System) (m : Machine) → Follows left s m → (p v : ℕ) → p < image.processors → v < 256
         → is_line image (Arrive p (Irq v)) ≡ true → Follows left (arrived_at s p (Irq v)) (line_step image m (Arrive p (Irq v))).0
 
-    pub lines_follow : ArrivalsStand → (script : List Line) (left : NatMap ℕ) (s : System) (m : Machine) → Follows left s m → IsScript image script
+    -- and each acceptance of mail
+    abbrev pub AcceptancesStand : Type 0
+    AcceptancesStand = (left : NatMap ℕ) (s : System) (m : Machine) → Follows left s m → (p : ℕ) → p < image.processors → is_line image (Accept p) ≡ true
+        → Follows left (accept_mail s p) (line_step image m (Accept p)).0
+
+    pub lines_follow : ArrivalsStand → AcceptancesStand → (script : List Line) (left : NatMap ℕ) (s : System) (m : Machine) → Follows left s m
+        → IsScript image script
         → list_all line_is_built script ≡ true
         → (now : NatMap ℕ) × Follows now (concrete_lines marks image.processors s script).0 (after image m script)
     unfolding concrete_line line_step is_line line_is_built
-    lines_follow arrivals [] left s m r i b = (left, r)
-    lines_follow arrivals (l ∷ ls) left s m r i b = line l (one (is_line image l) _ i) (one (line_is_built l) _ b) (two (is_line image l) _ i)
-        (two (line_is_built l) _ b) (lines_follow arrivals ls)
+    lines_follow arrivals acceptances [] left s m r i b = (left, r)
+    lines_follow arrivals acceptances (l ∷ ls) left s m r i b = line l (one (is_line image l) _ i) (one (line_is_built l) _ b) (two (is_line image l) _ i)
+        (two (line_is_built l) _ b) (lines_follow arrivals acceptances ls)
       where
         Rest : Type 0
         Rest = (left : NatMap ℕ) (s : System) (m : Machine) → Follows left s m → IsScript image ls → list_all line_is_built ls ≡ true
@@ -203,7 +209,7 @@ module _ (mode : Mode) (image : Image) where
         line (Arrive p Key.Gp) h g i b next = absurd (cc)
         line (Arrive p Key.Pf) h g i b next = absurd (cc)
         line (Arrive p Key.Ac) h g i b next = absurd (cc)
-        line (Accept p) h g i b next = absurd (cc)
+        line (Accept p) h g i b next = next left _ _ (acceptances left s m r p (ltb-true p image.processors h) h) i b
 
     -- ---- settling
 

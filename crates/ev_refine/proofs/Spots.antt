@@ -1,28 +1,33 @@
 -- The spots at which activations stand that are no NMI's: their windows, where their blocks end, and that none lies in REPEAT.
-use Rattle.std.proofs.Common.{◌≡◌, ℕ, ◌+◌, ◌≤◌, arith, Bool, true, false, not, ◌&&◌, List, [], ◌∷◌, Some, refl}
-use Rattle.std.specs.Prelude.{◌==◌, nat_lt, nat_le}
+use Rattle.std.proofs.Common.{◌≡◌, ℕ, ◌+◌, ◌%◌, ◌<◌, ◌≤◌, arith, Bool, true, false, not, ◌&&◌, List, [], ◌∷◌, Some, refl, ap, ◌∙◌}
+use Rattle.std.proofs.lemmas.Bool.{eqb-true, ltb-true}
+use Rattle.std.specs.Prelude.{◌==◌, nat_lt, nat_le, if◌then◌else◌}
 use Rattle.ev_isa.specs.Spelling.{spelling, four_bytes}
 use Rattle.ev_isa.specs.Word.{NatMap}
 use Rattle.ev_isa.specs.declared.mode.Mode.{Mode}
 use Rattle.ev_isa.specs.declared.mode.Mode.TheVariants.{Idt, Fred}
 use Rattle.ev_asm.specs.Assembly.{size, places, distance}
 use Rattle.ev_body.specs.declared.image.Image.{Image}
+use Rattle.ev_listing.specs.AddressMap.{code_end}
 use Rattle.ev_listing.specs.FredCode.{fred_listings}
 use Rattle.ev_state.specs.Processor.{Processor}
+use Rattle.ev_mem.specs.Memory.{Memory}
 use Rattle.ev_abstract.specs.Context.{BodyContext}
 use Rattle.ev_concrete.specs.Depth.{is_in_repeat}
 use Rattle.ev_symbolic.specs.Value.{M}
-use Rattle.ev_symbolic.specs.State.{SS, absolute_tag}
+use Rattle.ev_symbolic.specs.State.{SS, Block, absolute_tag}
 use Rattle.ev_symbolic.specs.Names.{item_tag, stub_tag}
 use Rattle.ev_symbolic.specs.Run.{brun, every}
-use Rattle.ev_symbolic.specs.Agrees.{Env, Code, Stands}
+use Rattle.ev_symbolic.specs.Agrees.{Env, Code, addr, Stands, At}
+use Rattle.ev_symbolic.proofs.Blocks.{every_ok}
+use Rattle.ev_symbolic.proofs.Values.{and_left, and_right}
 use Rattle.ev_distances.specs.Form.{Form, OnStack, Stretch, InArea}
 use Rattle.ev_blocks.specs.Shapes.{Layout, Origin, UserCode, KernelCode, FredFrame, IdtFrame}
-use Rattle.ev_blocks.specs.Fred.{FredWay, ByCall, ByInt3, ByIntN, ByOther, FromUser, FromKernel, FredToKernel, FredToTask, fred_block, fred_lines}
+use Rattle.ev_blocks.specs.Fred.{FredWay, ByCall, ByInt3, ByIntN, ByOther, FromUser, FromKernel, FredToKernel, FredToTask, FredToNext, fred_block, fred_lines}
 use Rattle.ev_blocks.specs.Fred as fred
-use Rattle.ev_blocks.specs.Idt.{IdtReturn, BySysret, ByOtherRip, ByOtherFlags, Stub, Sys, Common, IdtToKernel, IdtToTask, idt_block, idt_places, sys_lines, common_lines, exit_lines}
+use Rattle.ev_blocks.specs.Idt.{IdtReturn, BySysret, ByOtherRip, ByOtherFlags, Stub, Sys, Common, IdtToKernel, IdtToTask, IdtToNext, idt_block, idt_places, sys_lines, common_lines, exit_lines}
 use Rattle.ev_blocks.specs.Idt as idt
-use Rattle.ev_blocks.specs.Items.{AtTable, AtJump, AtItem, AtNumber, AtNumbers, AtUserWord, AtPageWord, body_block}
+use Rattle.ev_blocks.specs.Items.{AtTable, AtJump, AtItem, AtNumber, AtNumbers, AtUserWord, AtPageWord, BehindSti, body_block}
 use Rattle.ev_blocks.specs.Blocks.{Spot, InFred, InIdt, InBody, block, forms, edges}
 use Rattle.ev_blocks.specs.Blocks as blocks
 use Rattle.ev_paths.specs.Lines.{HasKernel, IsAtStub}
@@ -51,6 +56,7 @@ is_spot Fred (InBody FredFrame (AtNumber n)) = true
 is_spot Fred (InBody FredFrame (AtNumbers rcx rax rdx)) = true
 is_spot Fred (InBody FredFrame AtUserWord) = true
 is_spot Fred (InBody FredFrame (AtPageWord is_page)) = true
+is_spot Fred (InBody FredFrame BehindSti) = true
 is_spot Idt (InIdt Sys) = true
 is_spot Idt (InIdt (Stub UserCode has v)) = true
 is_spot Idt (InIdt (Common UserCode pf)) = true
@@ -65,6 +71,7 @@ is_spot Idt (InBody IdtFrame (AtNumber n)) = true
 is_spot Idt (InBody IdtFrame (AtNumbers rcx rax rdx)) = true
 is_spot Idt (InBody IdtFrame AtUserWord) = true
 is_spot Idt (InBody IdtFrame (AtPageWord is_page)) = true
+is_spot Idt (InBody IdtFrame BehindSti) = true
 is_spot mode spot = false
 
 -- SYSCALL's entry alone writes the word for RSP
@@ -72,29 +79,34 @@ abbrev pub keeps_rsp : Spot → Bool
 keeps_rsp (InIdt Sys) = true
 keeps_rsp spot = false
 
+-- where the exit switches to no other task
 over_task : (mode : Mode) (image : Image) (m : Mode) (spot : Spot) (e : Env) (w : Processor) (b : BodyContext) → OverTask mode image m spot e w b
-    → is_spot m spot ≡ true
-over_task mode image Fred (InFred (FromUser way)) e w b h = refl
-over_task mode image Fred (InFred (fred.Leaves FredToTask)) e w b h = refl
-over_task mode image Fred (InBody FredFrame AtTable) e w b h = refl
-over_task mode image Fred (InBody FredFrame AtJump) e w b h = refl
-over_task mode image Fred (InBody FredFrame AtItem) e w b h = refl
-over_task mode image Fred (InBody FredFrame (AtNumber n)) e w b h = refl
-over_task mode image Fred (InBody FredFrame (AtNumbers rcx rax rdx)) e w b h = refl
-over_task mode image Fred (InBody FredFrame AtUserWord) e w b h = refl
-over_task mode image Fred (InBody FredFrame (AtPageWord is_page)) e w b h = refl
-over_task mode image Idt (InIdt Sys) e w b h = refl
-over_task mode image Idt (InIdt (Stub UserCode has v)) e w b h = refl
-over_task mode image Idt (InIdt (Common UserCode pf)) e w b h = refl
-over_task mode image Idt (InIdt (idt.Leaves (IdtToTask by))) e w b h = refl
-over_task mode image Idt (InBody IdtFrame AtTable) e w b h = refl
-over_task mode image Idt (InBody IdtFrame AtJump) e w b h = refl
-over_task mode image Idt (InBody IdtFrame AtItem) e w b h = refl
-over_task mode image Idt (InBody IdtFrame (AtNumber n)) e w b h = refl
-over_task mode image Idt (InBody IdtFrame (AtNumbers rcx rax rdx)) e w b h = refl
-over_task mode image Idt (InBody IdtFrame AtUserWord) e w b h = refl
-over_task mode image Idt (InBody IdtFrame (AtPageWord is_page)) e w b h = refl
-over_task mode image m _ e w b h = absurd h
+    → blocks.switches spot ≡ false → is_spot m spot ≡ true
+over_task mode image Fred (InFred (FromUser way)) e w b h off = refl
+over_task mode image Fred (InFred (fred.Leaves FredToTask)) e w b h off = refl
+over_task mode image Fred (InBody FredFrame AtTable) e w b h off = refl
+over_task mode image Fred (InBody FredFrame AtJump) e w b h off = refl
+over_task mode image Fred (InBody FredFrame AtItem) e w b h off = refl
+over_task mode image Fred (InBody FredFrame (AtNumber n)) e w b h off = refl
+over_task mode image Fred (InBody FredFrame (AtNumbers rcx rax rdx)) e w b h off = refl
+over_task mode image Fred (InBody FredFrame AtUserWord) e w b h off = refl
+over_task mode image Fred (InBody FredFrame (AtPageWord is_page)) e w b h off = refl
+over_task mode image Fred (InBody FredFrame BehindSti) e w b h off = refl
+over_task mode image Idt (InIdt Sys) e w b h off = refl
+over_task mode image Idt (InIdt (Stub UserCode has v)) e w b h off = refl
+over_task mode image Idt (InIdt (Common UserCode pf)) e w b h off = refl
+over_task mode image Idt (InIdt (idt.Leaves (IdtToTask by))) e w b h off = refl
+over_task mode image Idt (InBody IdtFrame AtTable) e w b h off = refl
+over_task mode image Idt (InBody IdtFrame AtJump) e w b h off = refl
+over_task mode image Idt (InBody IdtFrame AtItem) e w b h off = refl
+over_task mode image Idt (InBody IdtFrame (AtNumber n)) e w b h off = refl
+over_task mode image Idt (InBody IdtFrame (AtNumbers rcx rax rdx)) e w b h off = refl
+over_task mode image Idt (InBody IdtFrame AtUserWord) e w b h off = refl
+over_task mode image Idt (InBody IdtFrame (AtPageWord is_page)) e w b h off = refl
+over_task mode image Idt (InBody IdtFrame BehindSti) e w b h off = refl
+over_task mode image Fred (InFred (fred.Leaves FredToNext)) e w b h off = absurd (cc)
+over_task mode image Idt (InIdt (idt.Leaves (IdtToNext by))) e w b h off = absurd (cc)
+over_task mode image m _ e w b h off = absurd h
 
 -- none of those over a body is SYSCALL's entry
 over_body : (mode : Mode) (image : Image) (m : Mode) (spot : Spot) (e : Env) (w : Processor) (b : BodyContext) → OverBody mode image m spot e w b
@@ -108,6 +120,7 @@ over_body mode image Fred (InBody FredFrame (AtNumber n)) e w b h = (refl, refl)
 over_body mode image Fred (InBody FredFrame (AtNumbers rcx rax rdx)) e w b h = (refl, refl)
 over_body mode image Fred (InBody FredFrame AtUserWord) e w b h = (refl, refl)
 over_body mode image Fred (InBody FredFrame (AtPageWord is_page)) e w b h = (refl, refl)
+over_body mode image Fred (InBody FredFrame BehindSti) e w b h = (refl, refl)
 over_body mode image Idt (InIdt (Stub KernelCode has v)) e w b h = (refl, refl)
 over_body mode image Idt (InIdt (Common KernelCode pf)) e w b h = (refl, refl)
 over_body mode image Idt (InIdt (idt.Leaves IdtToKernel)) e w b h = (refl, refl)
@@ -118,15 +131,16 @@ over_body mode image Idt (InBody IdtFrame (AtNumber n)) e w b h = (refl, refl)
 over_body mode image Idt (InBody IdtFrame (AtNumbers rcx rax rdx)) e w b h = (refl, refl)
 over_body mode image Idt (InBody IdtFrame AtUserWord) e w b h = (refl, refl)
 over_body mode image Idt (InBody IdtFrame (AtPageWord is_page)) e w b h = (refl, refl)
+over_body mode image Idt (InBody IdtFrame BehindSti) e w b h = (refl, refl)
 over_body mode image m _ e w b h = absurd h
 
 pub means_over : (mode : Mode) (image : Image) (κ : Kind) (spot : Spot) (e : Env) (w : Processor) (b : BodyContext) (m : NatMap ℕ)
-    → Means mode image κ spot e w b m → is_spot mode spot ≡ true
-means_over mode image SystemCall spot e w b m h = over_task mode image mode spot e w b h
-means_over mode image FromTask spot e w b m h = over_task mode image mode spot e w b h
-means_over mode image FromBody spot e w b m h = (over_body mode image mode spot e w b h).0
-means_over mode image NmiFromTask spot e w b m h = absurd h
-means_over mode image NmiFromBody spot e w b m h = absurd h
+    → Means mode image κ spot e w b m → blocks.switches spot ≡ false → is_spot mode spot ≡ true
+means_over mode image SystemCall spot e w b m h off = over_task mode image mode spot e w b h off
+means_over mode image FromTask spot e w b m h off = over_task mode image mode spot e w b h off
+means_over mode image FromBody spot e w b m h off = (over_body mode image mode spot e w b h).0
+means_over mode image NmiFromTask spot e w b m h off = absurd h
+means_over mode image NmiFromBody spot e w b m h off = absurd h
 
 pub body_writes : (mode : Mode) (image : Image) (spot : Spot) (e : Env) (w : Processor) (b : BodyContext) → OverBody mode image mode spot e w b
     → keeps_rsp spot ≡ false
@@ -183,6 +197,7 @@ has_windows Fred (InBody FredFrame (AtNumber n)) h = record { known = refl; own 
 has_windows Fred (InBody FredFrame (AtNumbers rcx rax rdx)) h = record { known = refl; own = refl; written = refl }
 has_windows Fred (InBody FredFrame AtUserWord) h = record { known = refl; own = refl; written = refl }
 has_windows Fred (InBody FredFrame (AtPageWord is_page)) h = record { known = refl; own = refl; written = refl }
+has_windows Fred (InBody FredFrame BehindSti) h = record { known = refl; own = refl; written = refl }
 has_windows Idt (InIdt Sys) h = record { known = refl; own = refl; written = refl }
 has_windows Idt (InIdt (Stub UserCode has v)) h = record { known = refl; own = refl; written = refl }
 has_windows Idt (InIdt (Common UserCode pf)) h = record { known = refl; own = refl; written = refl }
@@ -197,7 +212,37 @@ has_windows Idt (InBody IdtFrame (AtNumber n)) h = record { known = refl; own = 
 has_windows Idt (InBody IdtFrame (AtNumbers rcx rax rdx)) h = record { known = refl; own = refl; written = refl }
 has_windows Idt (InBody IdtFrame AtUserWord) h = record { known = refl; own = refl; written = refl }
 has_windows Idt (InBody IdtFrame (AtPageWord is_page)) h = record { known = refl; own = refl; written = refl }
+has_windows Idt (InBody IdtFrame BehindSti) h = record { known = refl; own = refl; written = refl }
 has_windows mode _ h = let clash : false ≡ true = h in absurd (cc)
+
+-- the exits to a task know the mark
+abbrev pub knows_mark : Spot → Bool
+knows_mark (InFred (fred.Leaves FredToTask)) = true
+knows_mark (InIdt (idt.Leaves (IdtToTask by))) = true
+knows_mark spot = false
+
+-- whether a form is in the words of the area that blocks know, and off the mark where that isn't known
+abbrev pub is_low : (marked : Bool) → Form → Bool
+is_low marked (InArea lo n) = nat_le (lo + n) (if marked then 0x28 else 0x20)
+is_low marked f = true
+
+abbrev pub are_low : Bool → List Form → Bool
+are_low marked [] = true
+are_low marked (f ∷ fs) = is_low marked f && are_low marked fs
+
+pub low_windows : (mode : Mode) (spot : Spot) → is_spot mode spot ≡ true → are_low (knows_mark spot) (forms spot).known ≡ true
+low_windows Fred (InFred (FromUser way)) h = refl
+low_windows Fred (InFred FromKernel) h = refl
+low_windows Fred (InFred (fred.Leaves FredToTask)) h = refl
+low_windows Fred (InFred (fred.Leaves FredToKernel)) h = refl
+low_windows Fred (InBody FredFrame s) h = refl
+low_windows Idt (InIdt Sys) h = refl
+low_windows Idt (InIdt (Stub o has v)) h = refl
+low_windows Idt (InIdt (Common o pf)) h = refl
+low_windows Idt (InIdt (idt.Leaves (IdtToTask by))) h = refl
+low_windows Idt (InIdt (idt.Leaves IdtToKernel)) h = refl
+low_windows Idt (InBody IdtFrame s) h = refl
+low_windows mode _ h = let clash : false ≡ true = h in absurd (cc)
 
 -- few edges are left at each
 pub few_edges : (mode : Mode) (image : Image) (spot : Spot) → is_spot mode spot ≡ true → (k : ℕ) → edges mode spot k ≤ body_edges mode image
@@ -216,6 +261,7 @@ few_edges Fred image (InBody FredFrame (AtNumbers rcx rax rdx)) h k = omega arit
 few_edges Fred image (InBody FredFrame AtUserWord) h k = omega arith
 few_edges Fred image (InBody FredFrame (AtPageWord true)) h k = omega arith
 few_edges Fred image (InBody FredFrame (AtPageWord false)) h k = omega arith
+few_edges Fred image (InBody FredFrame BehindSti) h k = omega arith
 few_edges Idt image (InIdt Sys) h k = omega arith
 few_edges Idt image (InIdt (Stub UserCode true v)) h k = omega arith
 few_edges Idt image (InIdt (Stub UserCode false v)) h k = omega arith
@@ -237,37 +283,8 @@ few_edges Idt image (InBody IdtFrame (AtNumbers rcx rax rdx)) h k = omega arith
 few_edges Idt image (InBody IdtFrame AtUserWord) h k = omega arith
 few_edges Idt image (InBody IdtFrame (AtPageWord true)) h k = omega arith
 few_edges Idt image (InBody IdtFrame (AtPageWord false)) h k = omega arith
+few_edges Idt image (InBody IdtFrame BehindSti) h k = omega arith
 few_edges mode image _ h k = let clash : false ≡ true = h in absurd (cc)
-
--- ---- none switches to another task
-
-pub never_switches : (mode : Mode) (spot : Spot) → is_spot mode spot ≡ true → blocks.switches spot ≡ false
-never_switches Fred (InFred (FromUser way)) h = refl
-never_switches Fred (InFred (fred.Leaves FredToTask)) h = refl
-never_switches Fred (InFred FromKernel) h = refl
-never_switches Fred (InFred (fred.Leaves FredToKernel)) h = refl
-never_switches Fred (InBody FredFrame AtTable) h = refl
-never_switches Fred (InBody FredFrame AtJump) h = refl
-never_switches Fred (InBody FredFrame AtItem) h = refl
-never_switches Fred (InBody FredFrame (AtNumber n)) h = refl
-never_switches Fred (InBody FredFrame (AtNumbers rcx rax rdx)) h = refl
-never_switches Fred (InBody FredFrame AtUserWord) h = refl
-never_switches Fred (InBody FredFrame (AtPageWord is_page)) h = refl
-never_switches Idt (InIdt Sys) h = refl
-never_switches Idt (InIdt (Stub UserCode has v)) h = refl
-never_switches Idt (InIdt (Common UserCode pf)) h = refl
-never_switches Idt (InIdt (idt.Leaves (IdtToTask by))) h = refl
-never_switches Idt (InIdt (Stub KernelCode has v)) h = refl
-never_switches Idt (InIdt (Common KernelCode pf)) h = refl
-never_switches Idt (InIdt (idt.Leaves IdtToKernel)) h = refl
-never_switches Idt (InBody IdtFrame AtTable) h = refl
-never_switches Idt (InBody IdtFrame AtJump) h = refl
-never_switches Idt (InBody IdtFrame AtItem) h = refl
-never_switches Idt (InBody IdtFrame (AtNumber n)) h = refl
-never_switches Idt (InBody IdtFrame (AtNumbers rcx rax rdx)) h = refl
-never_switches Idt (InBody IdtFrame AtUserWord) h = refl
-never_switches Idt (InBody IdtFrame (AtPageWord is_page)) h = refl
-never_switches mode _ h = let clash : false ≡ true = h in absurd (cc)
 
 -- ---- their grounds and lines
 
@@ -288,6 +305,7 @@ has_ground Fred (InBody FredFrame (AtNumber n)) h = record { fred = refl; descri
 has_ground Fred (InBody FredFrame (AtNumbers rcx rax rdx)) h = record { fred = refl; descriptors = refl; tops = refl }
 has_ground Fred (InBody FredFrame AtUserWord) h = record { fred = refl; descriptors = refl; tops = refl }
 has_ground Fred (InBody FredFrame (AtPageWord is_page)) h = record { fred = refl; descriptors = refl; tops = refl }
+has_ground Fred (InBody FredFrame BehindSti) h = record { fred = refl; descriptors = refl; tops = refl }
 has_ground Idt (InIdt Sys) h = record { fred = refl; descriptors = refl; tops = refl }
 has_ground Idt (InIdt (Stub UserCode has v)) h = record { fred = refl; descriptors = refl; tops = refl }
 has_ground Idt (InIdt (Common UserCode pf)) h = record { fred = refl; descriptors = refl; tops = refl }
@@ -302,6 +320,7 @@ has_ground Idt (InBody IdtFrame (AtNumber n)) h = record { fred = refl; descript
 has_ground Idt (InBody IdtFrame (AtNumbers rcx rax rdx)) h = record { fred = refl; descriptors = refl; tops = refl }
 has_ground Idt (InBody IdtFrame AtUserWord) h = record { fred = refl; descriptors = refl; tops = refl }
 has_ground Idt (InBody IdtFrame (AtPageWord is_page)) h = record { fred = refl; descriptors = refl; tops = refl }
+has_ground Idt (InBody IdtFrame BehindSti) h = record { fred = refl; descriptors = refl; tops = refl }
 has_ground mode _ h = let clash : false ≡ true = h in absurd (cc)
 
 -- at the entry of a vector its base is that entry's address; inside an item, whose lines the image says, nothing begins
@@ -311,6 +330,7 @@ IsAtEntry (InBody layout (AtNumber n)) e = ⊥
 IsAtEntry (InBody layout (AtNumbers rcx rax rdx)) e = ⊥
 IsAtEntry (InBody layout AtUserWord) e = ⊥
 IsAtEntry (InBody layout (AtPageWord is_page)) e = ⊥
+IsAtEntry (InBody layout BehindSti) e = ⊥
 IsAtEntry s e = Unit {0}
 
 pub lines_stand : (mode : Mode) (code : Code) (e : Env) → e.base 1000 ≡ 0 → HasKernel mode code → (spot : Spot) → is_spot mode spot ≡ true
@@ -323,6 +343,7 @@ lines_stand Fred code e z k (InBody FredFrame (AtNumber n)) h at = absurd at
 lines_stand Fred code e z k (InBody FredFrame (AtNumbers rcx rax rdx)) h at = absurd at
 lines_stand Fred code e z k (InBody FredFrame AtUserWord) h at = absurd at
 lines_stand Fred code e z k (InBody FredFrame (AtPageWord is_page)) h at = absurd at
+lines_stand Fred code e z k (InBody FredFrame BehindSti) h at = absurd at
 lines_stand Idt code e z k (InIdt s) h at = idt_stand code e z k s at
 lines_stand Idt code e z k (InBody IdtFrame AtTable) h at = tt
 lines_stand Idt code e z k (InBody IdtFrame AtJump) h at = tt
@@ -331,6 +352,7 @@ lines_stand Idt code e z k (InBody IdtFrame (AtNumber n)) h at = absurd at
 lines_stand Idt code e z k (InBody IdtFrame (AtNumbers rcx rax rdx)) h at = absurd at
 lines_stand Idt code e z k (InBody IdtFrame AtUserWord) h at = absurd at
 lines_stand Idt code e z k (InBody IdtFrame (AtPageWord is_page)) h at = absurd at
+lines_stand Idt code e z k (InBody IdtFrame BehindSti) h at = absurd at
 lines_stand mode code e z k _ h at = let clash : false ≡ true = h in absurd (cc)
 
 -- ---- where their blocks end
@@ -352,6 +374,7 @@ runs_to_end Fred (InBody FredFrame (AtNumber n)) h = (_, refl)
 runs_to_end Fred (InBody FredFrame (AtNumbers rcx rax rdx)) h = (_, ((body_ends true FredFrame).numbers rcx rax rdx).runs)
 runs_to_end Fred (InBody FredFrame AtUserWord) h = (_, (body_ends true FredFrame).user_word.runs)
 runs_to_end Fred (InBody FredFrame (AtPageWord is_page)) h = (_, ((body_ends true FredFrame).page_word is_page).runs)
+runs_to_end Fred (InBody FredFrame BehindSti) h = (_, (body_ends true FredFrame).behind_sti.runs)
 runs_to_end Idt (InIdt Sys) h = (_, idt_enters.call.runs)
 runs_to_end Idt (InIdt (Stub UserCode has v)) h = (_, (idt_enters.stub UserCode has v (v == 14) refl).runs)
 runs_to_end Idt (InIdt (Common UserCode pf)) h = (_, (idt_enters.common UserCode pf).runs)
@@ -366,13 +389,29 @@ runs_to_end Idt (InBody IdtFrame (AtNumber n)) h = (_, refl)
 runs_to_end Idt (InBody IdtFrame (AtNumbers rcx rax rdx)) h = (_, ((body_ends false IdtFrame).numbers rcx rax rdx).runs)
 runs_to_end Idt (InBody IdtFrame AtUserWord) h = (_, (body_ends false IdtFrame).user_word.runs)
 runs_to_end Idt (InBody IdtFrame (AtPageWord is_page)) h = (_, ((body_ends false IdtFrame).page_word is_page).runs)
+runs_to_end Idt (InBody IdtFrame BehindSti) h = (_, (body_ends false IdtFrame).behind_sti.runs)
 runs_to_end mode _ h = let clash : false ≡ true = h in absurd (cc)
 
--- ---- no instruction of theirs lies in REPEAT
+-- ---- no instruction of theirs lies in REPEAT, nor in the bodies' code
 
--- a state at an absolute address that isn't in REPEAT
+-- a state at an absolute address that is in neither
 abbrev pub is_elsewhere : SS → Bool
-is_elsewhere s = (s.rip.tag == absolute_tag) && (nat_lt s.rip.off M && not (is_in_repeat s.rip.off))
+is_elsewhere s = (s.rip.tag == absolute_tag) && (nat_lt s.rip.off code_end && not (is_in_repeat s.rip.off))
+
+-- so it lies below the bodies' code
+pub below_bodies : (e : Env) → e.base 1000 ≡ 0 → (s : SS) → is_elsewhere s ≡ true → addr e s.rip < code_end
+below_bodies e z s h =
+    let tag : s.rip.tag ≡ 1000 = eqb-true s.rip.tag 1000 (and_left _ _ h) in
+    let small : s.rip.off < code_end = ltb-true s.rip.off code_end (and_left _ _ (and_right (s.rip.tag == 1000) _ h)) in
+    let is : addr e s.rip ≡ s.rip.off = ap (λ t. (e.base t + s.rip.off) % M) tag
+    ∙ (let q : (e.base 1000 + s.rip.off) % M ≡ s.rip.off = omega arith in q) in
+    omega arith
+
+-- no activation in a block of such states is in the bodies' code
+pub not_in_bodies : (code : Code) (b : Block) (k : ℕ) (e : Env) (c : Processor) (m : Memory) → At code b k e c m → e.base 1000 ≡ 0 → k ≤ b.steps
+    → every is_elsewhere b ≡ true → code_end ≤ c.rip → ⊥
+not_in_bodies code b k e c m at z l h inside =
+    let low = below_bodies e z at.state (every_ok is_elsewhere b h k l at.state at.is) in let rip = at.agrees.rip in omega arith
 
 pub entry_elsewhere : (way : FredWay) → every is_elsewhere (fred_block (FromUser way)) ≡ true
 unfolding fred_lines fred_listings spelling four_bytes size places distance
@@ -402,6 +441,24 @@ unfolding exit_lines idt_places spelling four_bytes size places distance
 idt_exit_elsewhere BySysret = refl
 idt_exit_elsewhere ByOtherRip = refl
 idt_exit_elsewhere ByOtherFlags = refl
+
+pub fred_switch_elsewhere : every is_elsewhere (fred_block (fred.Leaves FredToNext)) ≡ true
+unfolding fred_lines fred_listings spelling four_bytes size places distance
+fred_switch_elsewhere = refl
+
+pub idt_switch_elsewhere : (by : IdtReturn) → every is_elsewhere (idt_block (idt.Leaves (IdtToNext by))) ≡ true
+unfolding exit_lines idt_places spelling four_bytes size places distance
+idt_switch_elsewhere BySysret = refl
+idt_switch_elsewhere ByOtherRip = refl
+idt_switch_elsewhere ByOtherFlags = refl
+
+-- those that know the mark are exits
+pub mark_elsewhere : (mode : Mode) (spot : Spot) → is_spot mode spot ≡ true → knows_mark spot ≡ true → every is_elsewhere (block mode spot) ≡ true
+mark_elsewhere Fred (InFred (fred.Leaves FredToTask)) h k = fred_exit_elsewhere
+mark_elsewhere Idt (InIdt (idt.Leaves (IdtToTask by))) h k = idt_exit_elsewhere by
+mark_elsewhere Idt (InFred (fred.Leaves FredToTask)) h k = let clash : false ≡ true = h in absurd (cc)
+mark_elsewhere Fred (InIdt (idt.Leaves (IdtToTask by))) h k = let clash : false ≡ true = h in absurd (cc)
+mark_elsewhere mode _ h k = let clash : false ≡ true = k in absurd (cc)
 
 pub idt_kernel_exit_elsewhere : every is_elsewhere (idt_block (idt.Leaves IdtToKernel)) ≡ true
 unfolding exit_lines idt_places spelling four_bytes size places distance
@@ -445,3 +502,7 @@ pub page_inside : (fred : Bool) (layout : Layout) (is_page : Bool) → every is_
 unfolding spelling four_bytes
 page_inside fred layout true = refl
 page_inside fred layout false = refl
+
+pub sti_inside : (fred : Bool) (layout : Layout) → every is_in_item (body_block fred layout BehindSti) ≡ true
+unfolding spelling four_bytes
+sti_inside fred layout = refl

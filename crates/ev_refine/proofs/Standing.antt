@@ -1,8 +1,8 @@
 -- Steps of a processor as steps of the whole machine: the choice at the boundary, what a step shows, and what it leaves of the system.
-use Rattle.std.proofs.Common.{◌≡◌, ℕ, Bool, true, false, not, ◌&&◌, ◌||◌, List, [], Option, Some, None, refl, sym, ap, ◌∙◌, subst, inl}
+use Rattle.std.proofs.Common.{◌≡◌, ℕ, Bool, true, false, not, ◌&&◌, ◌||◌, List, [], ◌∷◌, Option, Some, None, refl, sym, ap, ◌∙◌, subst, inl}
 use Rattle.std.specs.Prelude.{if◌then◌else◌, ◌==◌}
 use Rattle.std.specs.List.{list_any}
-use Rattle.ev_isa.specs.Word.{NatMap}
+use Rattle.ev_isa.specs.Word.{NatMap, put_at}
 use Rattle.ev_isa.specs.declared.instruction.Ins.{Ins}
 use Rattle.ev_isa.specs.declared.mode.Mode.{Mode}
 use Rattle.ev_event.specs.declared.boundary.Next.{Next}
@@ -10,13 +10,18 @@ use Rattle.ev_event.specs.declared.event.Event.{Event}
 use Rattle.ev_event.specs.Boundary.{first_of, interrupt_or_instruction}
 use Rattle.ev_event.specs.declared.frame_note.FrameNote.{FrameNote}
 use Rattle.ev_body.specs.declared.image.Image.{Image}
+use Rattle.ev_abstract.specs.declared.entry.Entry.{Entry}
 use Rattle.ev_listing.specs.Marks.{Never, Always}
 use Rattle.ev_state.specs.Processor.{Processor, is_user, interrupts_on}
 use Rattle.ev_apic.specs.declared.apic.Apic.{Apic}
+use Rattle.ev_apic.specs.declared.inbox.Inbox.{Inbox}
+use Rattle.ev_apic.specs.declared.send.Send.{Send}
+use Rattle.ev_apic.specs.declared.send.SendKey.{SendKey}
+use Rattle.ev_apic.specs.Inbox.{mailed}
 use Rattle.ev_apic.specs.Apic.{next_vector}
 use Rattle.ev_proc.specs.ProcessorStep.{After, ran, next_of, step, has_fred, instruction_at}
 use Rattle.ev_proc.specs.declared.stepped.Stepped.{Stepped}
-use Rattle.ev_concrete.specs.ConcreteRun.{System, Activation, Marks, mark_at, is_seen, is_visible, is_visible_by, is_return, is_repeated, without_last, acted, activations_by, after_step, concrete_step}
+use Rattle.ev_concrete.specs.ConcreteRun.{System, Activation, Marks, mark_at, is_seen, is_visible, is_visible_by, is_return, is_repeated, without_last, targets, posted, acted, activations_by, after_step, concrete_step}
 use Rattle.ev_concrete.specs.Depth.{bodies_on}
 use Rattle.ev_concrete.specs.LiveWords.{IsSafeStep, overwrites}
 use Rattle.ev_concrete.specs.Shown.{shown, shown_always, shown_by, told_at}
@@ -80,47 +85,87 @@ pub seen : (marks : Marks) (s : System) (p : ℕ) → next_of (s.cpus p) (s.apic
 unfolding is_visible
 seen marks s p hn hu hm = ap (is_visible_by marks s p (s.cpus p)) hn ∙ ap (λ k. is_user (s.cpus p) || is_seen k s (s.cpus p)) hm ∙ ap (λ b. b || true) hu
 
--- ---- a step that ran an instruction
+-- ---- a step that ran an instruction, which may have sent an interrupt
+
+-- what the step was
+abbrev pub sends : Option Send → Stepped
+sends None = Stepped.Ran
+sends (Some m) = Stepped.Sent m
+
+-- what was sent stands in the mail
+abbrev pub inboxes_by : ℕ → System → ℕ → Option Send → NatMap Inbox
+inboxes_by n s p None = s.inboxes
+inboxes_by n s p (Some m) = (posted s m.key (targets n p m.target)).inboxes
+
+-- and nothing else has changed
+abbrev pub posted_by : ℕ → System → ℕ → Option Send → System
+posted_by n s p sent = record s { inboxes = inboxes_by n s p sent }
 
 -- with the local APIC behind it
-abbrev pub after_ran : System → ℕ → Apic → Processor → NatMap ℕ → System
-after_ran s p a cpu words = after_step s p (ran cpu a words (s.latches p))
+abbrev pub went : Processor → Apic → NatMap ℕ → Bool → Option Send → After
+went c a words nmi sent = record (ran c a words nmi) { step = sends sent }
 
-abbrev pub Runs : System → ℕ → Apic → Processor → NatMap ℕ → Type 0
-Runs s p a cpu words = step (s.cpus p) (s.apics p) s.memory (s.latches p) ≡ ran cpu a words (s.latches p)
+abbrev pub after_went : ℕ → System → ℕ → Apic → Processor → NatMap ℕ → Option Send → System
+after_went n s p a cpu words sent = after_step (posted_by n s p sent) p (went cpu a words (s.latches p) sent)
 
-pub ran_step : (n : ℕ) (s : System) (p : ℕ) (a : Apic) (cpu : Processor) (words : NatMap ℕ) → Runs s p a cpu words
-    → concrete_step n s p ≡ (after_ran s p a cpu words, [])
+abbrev pub Went : System → ℕ → Apic → Processor → NatMap ℕ → Option Send → Type 0
+Went s p a cpu words sent = step (s.cpus p) (s.apics p) s.memory (s.latches p) ≡ went cpu a words (s.latches p) sent
+
+-- it is the same whether mail comes before the rest of the step or behind it
+posted_first : (key : SendKey) (ts : List ℕ) (s : System) (p : ℕ) (a : Apic) (cpu : Processor) (words : NatMap ℕ) (nmi : Bool) (m : Send)
+    → posted (after_step s p (went cpu a words nmi (Some m))) key ts
+    ≡ after_step (record s { inboxes = (posted s key ts).inboxes }) p (went cpu a words nmi (Some m))
+posted_first key [] s p a cpu words nmi m = refl
+posted_first key (t ∷ ts) s p a cpu words nmi m =
+    posted_first key ts (record s { inboxes = put_at s.inboxes t (mailed (s.inboxes t) key) }) p a cpu words nmi m
+
+pub went_step : (n : ℕ) (s : System) (p : ℕ) (a : Apic) (cpu : Processor) (words : NatMap ℕ) (sent : Option Send) → Went s p a cpu words sent
+    → concrete_step n s p ≡ (after_went n s p a cpu words sent, [])
 unfolding concrete_step
-ran_step n s p a cpu words h = ap (λ r. acted n (after_step s p r) p r.step) h
+went_step n s p a cpu words None h = ap (λ r. acted n (after_step s p r) p r.step) h
+went_step n s p a cpu words (Some m) h = ap (λ r. acted n (after_step s p r) p r.step) h
+    ∙ ap (λ t. (t, [])) (posted_first m.key (targets n p m.target) s p a cpu words (s.latches p) m)
 
 -- writes no frame, and leaves the NMI latch
-pub ran_writes : (n : ℕ) (s : System) (p : ℕ) (a : Apic) (cpu : Processor) (words : NatMap ℕ) → Runs s p a cpu words
+pub went_writes : (n : ℕ) (s : System) (p : ℕ) (a : Apic) (cpu : Processor) (words : NatMap ℕ) (sent : Option Send) → Went s p a cpu words sent
     → EdgeWrites (s.latches p) ((concrete_step n s p).0.latches p) (concrete_step n s p).1
-ran_writes n s p a cpu words h = subst (λ (r : System × List FrameNote). EdgeWrites (s.latches p) (r.0.latches p) r.1) (sym (ran_step n s p a cpu words h))
-    (inl (refl, at_same s.latches p p (s.latches p) refl))
+went_writes n s p a cpu words sent h = subst (λ (r : System × List FrameNote). EdgeWrites (s.latches p) (r.0.latches p) r.1)
+    (sym (went_step n s p a cpu words sent h)) (inl (refl, at_same s.latches p p (s.latches p) refl))
 
-pub ran_safe : (mode : Mode) (image : Image) (s : System) (p : ℕ) (a : Apic) (cpu : Processor) (words : NatMap ℕ) → Runs s p a cpu words
-    → IsSafeStep mode image s p
-ran_safe mode image s p a cpu words h =
-    ap (λ (r : System × List FrameNote). list_any (overwrites mode image s) r.1) (ran_step image.processors s p a cpu words h)
+pub went_safe : (mode : Mode) (image : Image) (s : System) (p : ℕ) (a : Apic) (cpu : Processor) (words : NatMap ℕ) (sent : Option Send)
+    → Went s p a cpu words sent → IsSafeStep mode image s p
+went_safe mode image s p a cpu words sent h =
+    ap (λ (r : System × List FrameNote). list_any (overwrites mode image s) r.1) (went_step image.processors s p a cpu words sent h)
 
-pub ran_shown : (marks : Marks) (s : System) (p : ℕ) (a : Apic) (cpu : Processor) (words : NatMap ℕ) (i : Ins) → Runs s p a cpu words
-    → is_user (s.cpus p) ≡ false
+-- what it shows; a step that sends shows nothing
+abbrev pub went_shows : ℕ → System → Ins → Processor → NatMap ℕ → Option Send → List Entry
+went_shows p s i cpu words sent = shown_by p (bodies_on s p) false (has_fred (s.cpus p)) (shown_always p (bodies_on s p) (s.cpus p) s.memory.words (Some i))
+    cpu words (sends sent)
+
+pub went_shown : (marks : Marks) (s : System) (p : ℕ) (a : Apic) (cpu : Processor) (words : NatMap ℕ) (sent : Option Send) (i : Ins)
+    → Went s p a cpu words sent → is_user (s.cpus p) ≡ false
     → mark_at marks (s.cpus p).rip ≡ Always → instruction_at s.memory.words (s.cpus p).rip ≡ Some i
-    → shown marks s p ≡ shown_always p (bodies_on s p) (s.cpus p) s.memory.words (Some i)
+    → shown marks s p ≡ went_shows p s i cpu words sent
 unfolding shown
-ran_shown marks s p a cpu words i h hu hm hi =
-    ap (λ r. shown_by p (bodies_on s p) (is_user (s.cpus p)) (has_fred (s.cpus p)) (told_at (mark_at marks (s.cpus p).rip) s p)
-    r.cpu r.words r.step) h
-    ∙ ap (λ b. if b then [] else told_at (mark_at marks (s.cpus p).rip) s p) hu ∙ ap (λ k. told_at k s p) hm
-    ∙ ap (shown_always p (bodies_on s p) (s.cpus p) s.memory.words) hi
+went_shown marks s p a cpu words sent i h hu hm hi =
+    ap (λ r. by (is_user (s.cpus p)) (told_at (mark_at marks (s.cpus p).rip) s p) r.cpu r.words r.step) h
+    ∙ ap (λ u. by u (told_at (mark_at marks (s.cpus p).rip) s p) cpu words (sends sent)) hu
+    ∙ ap (λ k. by false (told_at k s p) cpu words (sends sent)) hm
+    ∙ ap (λ o. by false (shown_always p (bodies_on s p) (s.cpus p) s.memory.words o) cpu words (sends sent)) hi
+  where
+    by : Bool → List Entry → Processor → NatMap ℕ → Stepped → List Entry
+    by user told cpu words act = shown_by p (bodies_on s p) user (has_fred (s.cpus p)) told cpu words act
 
 -- ---- its activations
 
-pub ran_stays : (s : System) (p : ℕ) (cpu : Processor) (i : Ins) → instruction_at s.memory.words (s.cpus p).rip ≡ Some i → is_return (Some i) ≡ false
-    → activations_by s p (s.activations p) cpu Stepped.Ran ≡ s.activations p
-ran_stays s p cpu i hi hr = ap (λ b. if b && not (is_user (s.cpus p)) && not (is_repeated (s.cpus p) cpu) then without_last (s.activations p) else
+-- of a step that sends what it may
+abbrev pub went_activations : ℕ → System → ℕ → Processor → Option Send → List Activation
+went_activations n s p cpu sent = activations_by (posted_by n s p sent) p (s.activations p) cpu (sends sent)
+
+pub went_stays : (n : ℕ) (s : System) (p : ℕ) (cpu : Processor) (sent : Option Send) (i : Ins) → instruction_at s.memory.words (s.cpus p).rip ≡ Some i
+    → is_return (Some i) ≡ false → went_activations n s p cpu sent ≡ s.activations p
+went_stays n s p cpu (Some m) i hi hr = refl
+went_stays n s p cpu None i hi hr = ap (λ b. if b && not (is_user (s.cpus p)) && not (is_repeated (s.cpus p) cpu) then without_last (s.activations p) else
     s.activations p) (ap is_return hi ∙ hr)
 
 pub ran_returns : (s : System) (p : ℕ) (cpu : Processor) (i : Ins) → instruction_at s.memory.words (s.cpus p).rip ≡ Some i → is_return (Some i) ≡ true

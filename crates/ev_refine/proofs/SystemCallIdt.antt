@@ -147,6 +147,7 @@ module _ (image : Image) (p n : ℕ) (t : Task) (cr2 body : ℕ) where
       found = ready.found;
       begins = refl;
       unknown = refl;
+      off = refl;
       saved = record {
         regs = listed_is entered long;
         rip = rcx_is;

@@ -1,7 +1,6 @@
 -- The turns of the task: its user code goes on, or raises an event, which begins an activation.
 use Rattle.std.proofs.Common.{◌≡◌, ℕ, suc, ◌+◌, ◌^◌, ◌<◌, Bool, true, false, List, [], ◌∷◌, set, length, Option, Some, None, refl, sym, ap, ◌∙◌, subst, arith, inr, ⊎_elim}
 use Rattle.std.specs.Prelude.{◌||◌, if◌then◌else◌, slice_get, is_some}
-use Rattle.std.proofs.lemmas.Bool.{ne_eqb}
 use Rattle.std.proofs.lemmas.List.{length-set}
 use Rattle.std.specs.List.{list_any}
 use Rattle.std.proofs.lemmas.Bool.Decides.{eqb_tells}
@@ -67,7 +66,7 @@ use Rattle.ev_refine.proofs.Depth.{stands_depth}
 use Rattle.ev_refine.proofs.UserState.{put_same, TurnsTo, makes_turn, is_safe, tells_bodies}
 use Rattle.ev_refine.proofs.UserPlain.{AtUser, at_user, user_after, goes_turn, AtInstruction, at_instruction}
 use Rattle.ev_refine.proofs.Raising.{cause_key, kind_at, saved_at, over_one, entry_edges, returning, arrival, raiser, over, context, Ready, Begins}
-use Rattle.ev_refine.proofs.UserBody.{key_from, HasBody, has_body}
+use Rattle.ev_refine.proofs.UserBody.{key_from, interrupt_key, HasBody, has_body}
 use Rattle.ev_refine.proofs.UserSafe.{OnlyTask}
 use Rattle.ev_refine.proofs.RaisingFred as fred
 use Rattle.ev_refine.proofs.SystemCallIdt as idt
@@ -127,18 +126,8 @@ starts t (Faulted Fault.Alignment) is h g l = record {
   task = record { long = h.long; canonical = g; interrupts = h.interrupts; words = h.words };
 }
 starts t (Arrived v) is h g l =
-    let low = is.0 in let high = is.1 in record {
-      key = rw (
-        ne_eqb v 0x100 (λ e. let z : ⊥ = omega arith in z),
-        ne_eqb v 1 (λ e. let z : ⊥ = omega arith in z),
-        ne_eqb v 2 (λ e. let z : ⊥ = omega arith in z),
-        ne_eqb v 3 (λ e. let z : ⊥ = omega arith in z),
-        ne_eqb v 6 (λ e. let z : ⊥ = omega arith in z),
-        ne_eqb v 12 (λ e. let z : ⊥ = omega arith in z),
-        ne_eqb v 13 (λ e. let z : ⊥ = omega arith in z),
-        ne_eqb v 14 (λ e. let z : ⊥ = omega arith in z),
-        ne_eqb v 17 (λ e. let z : ⊥ = omega arith in z),
-      ) refl;
+    record {
+      key = interrupt_key v is.0 is.1;
       service = λ o. let clash : false ≡ true = o in absurd (cc);
       rip = refl;
       task = record { long = h.long; canonical = g; interrupts = h.interrupts; words = h.words };
@@ -309,7 +298,7 @@ module _ (mode : Mode) (image : Image) (formed : IsImage image) (built : IsBuilt
       × Leads mode p k u.on.frame w mem.words
       × Active mode image p entry_edges k (seat_by mode k n (seat_of mode image n []) (room_of mode image [])) u.on.frame
       (switches_at mode image u.on.switching []) w b d mem) (sym kind)
-      (over_kind mode image p entry_edges n n back u.on.frame u.on.switching w b d mem κ (over_one cause is_cause) under u.rest.still stood) in
+      (over_kind mode image p entry_edges n n back u.on.frame u.on.switching w b d mem κ (over_one cause is_cause) under stood) in
       let is_context : IsContext mode image b = record { item = holder.item; is = holder.first } in
       let chain : Chain mode image p entry_edges n n back u.on.frame u.on.switching (b ∷ []) (last ∷ []) d mem =
       (w, is_context, refl, tt, tail.0, tail.1, tail.2) in
@@ -320,7 +309,7 @@ module _ (mode : Mode) (image : Image) (formed : IsImage image) (built : IsBuilt
       (turn_bases image m p h.bases (with_processor m p (raised_in x cause body set), entry_of p (raised_event cause) next ∷ []) turns)
       (starts_with_words body User (raised_event cause) (causes_small cause is_cause), tt) st.task
       (begun.blocking ∙ sym (plain_no_nmi image b (ap is_over_task kind ∙ over_one cause is_cause)))
-      (record { interrupts = refl; calls = refl }, tt)
+      (record { calls = refl }, tt)
       (subst (λ y. ApicIs mode image y set (b ∷ []))
       (sym (delivery_apic image.processors p p (after_step s p r) begun.event begun.frame ∙ at_same s.apics p p a refl)) apic)
       (omega arith)

@@ -1,5 +1,5 @@
 -- The body of a key: it stands in the image, has the key and an item, and the table has its address.
-use Rattle.std.proofs.Common.{◌≡◌, ℕ, zero, suc, ◌+◌, ◌-◌, ◌*◌, ◌/◌, ◌%◌, ◌^◌, ◌<◌, ◌≤◌, Bool, true, false, ◌&&◌, List, [], ◌∷◌, ◌++◌, length, Some, refl, ap, ◌∙◌, subst, arith}
+use Rattle.std.proofs.Common.{◌≡◌, ℕ, zero, suc, ◌+◌, ◌-◌, ◌*◌, ◌/◌, ◌%◌, ◌^◌, ◌<◌, ◌≤◌, Bool, true, false, ◌&&◌, List, [], ◌∷◌, ◌++◌, length, Some, refl, sym, ap, ◌∙◌, subst, arith}
 use Rattle.std.specs.Prelude.{◌==◌, if◌then◌else◌, nat_lt, nat_le, slice_get, flat_map}
 use Rattle.std.specs.List.{list_all}
 use Rattle.std.proofs.lemmas.Bool.{eqb-true, eq-eqb, ne_eqb, ltb-true, leb-true, le-leb, lt-leb, lt-ltb, le-ltb}
@@ -49,11 +49,9 @@ all_get p (y ∷ ys) (suc i) x h k = all_get p ys i x (and_right (p y) (list_all
 abbrev pub key_from : ℕ → Key
 key_from n = if n == 0x100 then Sys else key_of_vector n
 
-only_key : (k : Key) → is_key k ≡ true → k ≡ key_from (key_number k)
-unfolding is_key key_number
-only_key (Irq v) h =
-    let low : 0x20 ≤ v = leb-true 0x20 v (and_left _ _ h) in
-    let high : v < 0x100 = ltb-true v 0x100 (and_right (nat_le 0x20 v) _ h) in
+-- that of an interrupt's vector
+pub interrupt_key : (v : ℕ) → 0x20 ≤ v → v < 0x100 → key_from v ≡ Irq v
+interrupt_key v low high =
     rw (
       ne_eqb v 0x100 (λ e. let z : ⊥ = omega arith in z),
       ne_eqb v 1 (λ e. let z : ⊥ = omega arith in z),
@@ -65,6 +63,10 @@ only_key (Irq v) h =
       ne_eqb v 14 (λ e. let z : ⊥ = omega arith in z),
       ne_eqb v 17 (λ e. let z : ⊥ = omega arith in z),
     ) refl
+
+only_key : (k : Key) → is_key k ≡ true → k ≡ key_from (key_number k)
+unfolding is_key key_number
+only_key (Irq v) h = sym (interrupt_key v (leb-true 0x20 v (and_left _ _ h)) (ltb-true v 0x100 (and_right (nat_le 0x20 v) _ h)))
 only_key _ h = refl
 
 first_item : (xs ys : List Item) → ends_with is_ret xs ≡ true → (i : Item) × (slice_get (xs ++ ys) 0 ≡ Some i)

@@ -163,7 +163,7 @@ module _ (mode : Mode) (image : Image) (formed : IsImage image) (built : IsBuilt
       (sym (at_same x.tasks x.running u.on.returning t u.rest.returning)) (chain u.on.returning u.rest.returning)) in
       let inside : IsInDomain y = record {
         nmi = u.domain.nmi;
-        resched = u.domain.resched;
+        mail_nmi = u.domain.mail_nmi;
         bodies = quiet;
       } in
       let has = h.numbers.each p in

@@ -16,7 +16,7 @@ use Rattle.ev_proc.specs.ProcessorStep.{After, next_of, step}
 use Rattle.ev_abstract.specs.Machine.{Machine, processor}
 use Rattle.ev_listing.specs.Marks.{Mark, Never, Always, IfNonzero, IfEqual}
 use Rattle.ev_concrete.specs.ConcreteRun.{System, Marks, marks_of, mark_at, is_seen, is_visible, is_visible_by, posted, targets, acted, after_step, concrete_step}
-use Rattle.ev_table.proofs.Expanded.{is_plain}
+use Rattle.ev_table.specs.Table.{reads_no_memory}
 use Rattle.ev_refine.specs.Relation.{Stands, StandsOn}
 use Rattle.ev_refine.specs.Domain.{IsInDomain}
 use Rattle.ev_refine.proofs.Facts.{Facts}
@@ -56,7 +56,7 @@ step_leaves n s p q d =
 
 -- ---- whether a step is visible
 
-plain_seen : (k : Mark) (s s' : System) (c : Processor) → is_plain k ≡ true → is_seen k s' c ≡ is_seen k s c
+plain_seen : (k : Mark) (s s' : System) (c : Processor) → reads_no_memory k ≡ true → is_seen k s' c ≡ is_seen k s c
 plain_seen Never s s' c h = refl
 plain_seen Always s s' c h = refl
 plain_seen IfNonzero s s' c h = absurd (cc)
@@ -83,7 +83,7 @@ module _ (mode : Mode) (image : Image) (facts : Facts mode image) (left : NatMap
       let next = next_is q lt in
       (λ i. is_visible_by marks s' q (same.cpu i) (next_of (same.cpu i) (same.apic i) (same.latch i)))
       ∙ ap (is_visible_by marks s' q c) next
-      ∙ pick marks s' q c (interrupts_on c && not c.sti_blocked) (next_vector (s.apics q)) (plain_seen (mark_at marks c.rip) s s' c (facts.plain c.rip))
+      ∙ pick marks s' q c (interrupts_on c && not c.sti_blocked) (next_vector (s.apics q)) (plain_seen (mark_at marks c.rip) s s' c (facts.no_memory c.rip))
       ∙ sym (ap (is_visible_by marks s q c) next)
     where
       pick : (marks : Marks) (s' : System) (q : ℕ) (c : Processor) (b : Bool) (o : Option ℕ)

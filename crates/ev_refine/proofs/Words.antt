@@ -250,20 +250,18 @@ pub saved_stays : (mode : Mode) (p i : ℕ) (t : Task) (m n : NatMap ℕ) → p 
 saved_stays Idt p i t m n hp hi f s = record {
   regs = same_map m n 15 (stack_top p i - 0xb0) (stack_top p i) (omega arith) (omega arith) (λ x b c. f x (omega arith) c) ∙ s.regs;
   rip = f (stack_top p i - 0xb0 + 0x88) (omega arith) (omega arith) ∙ s.rip;
-  cs = f (stack_top p i - 0xb0 + 0x90) (omega arith) (omega arith) ∙ s.cs;
+  cs = ap selector (f (stack_top p i - 0xb0 + 0x90) (omega arith) (omega arith)) ∙ s.cs;
   flags = f (stack_top p i - 0xb0 + 0x98) (omega arith) (omega arith) ∙ s.flags;
   rsp = f (stack_top p i - 0xb0 + 0xa0) (omega arith) (omega arith) ∙ s.rsp;
   ss = ap selector (f (stack_top p i - 0xb0 + 0xa8) (omega arith) (omega arith)) ∙ s.ss;
   sti = ap (bit 16) (f (stack_top p i - 0xb0 + 0xa8) (omega arith) (omega arith)) ∙ s.sti;
-  nmi = ap (bit 18) (f (stack_top p i - 0xb0 + 0xa8) (omega arith) (omega arith)) ∙ s.nmi;
 }
 saved_stays Fred p i t m n hp hi f s = record {
   regs = same_map m n 15 (stack_top p i - 0xc0) (stack_top p i) (omega arith) (omega arith) (λ x b c. f x (omega arith) c) ∙ s.regs;
   rip = f (stack_top p i - 0xc0 + 0x88) (omega arith) (omega arith) ∙ s.rip;
-  cs = f (stack_top p i - 0xc0 + 0x90) (omega arith) (omega arith) ∙ s.cs;
+  cs = ap selector (f (stack_top p i - 0xc0 + 0x90) (omega arith) (omega arith)) ∙ s.cs;
   flags = f (stack_top p i - 0xc0 + 0x98) (omega arith) (omega arith) ∙ s.flags;
   rsp = f (stack_top p i - 0xc0 + 0xa0) (omega arith) (omega arith) ∙ s.rsp;
   ss = ap selector (f (stack_top p i - 0xc0 + 0xa8) (omega arith) (omega arith)) ∙ s.ss;
   sti = ap (bit 16) (f (stack_top p i - 0xc0 + 0xa8) (omega arith) (omega arith)) ∙ s.sti;
-  nmi = ap (bit 18) (f (stack_top p i - 0xc0 + 0xa8) (omega arith) (omega arith)) ∙ s.nmi;
 }

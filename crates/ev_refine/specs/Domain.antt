@@ -4,9 +4,8 @@ use Rattle.std.specs.Prelude.{◌≡◌, false, List, [], ◌∷◌}
 use Rattle.ev_abstract.specs.Context.{BodyContext}
 use Rattle.ev_abstract.specs.Machine.{Processor}
 
--- bodies keep IF off, and have no call
+-- bodies have no call
 pub record IsQuiet (b : BodyContext) : Type 0 where
-  pub interrupts : b.interrupts ≡ false
   pub calls : b.calls ≡ []
 
 -- each of them
@@ -14,8 +13,8 @@ abbrev pub AreQuiet : List BodyContext → Type 0
 AreQuiet [] = Unit {0}
 AreQuiet (b ∷ below) = IsQuiet b × AreQuiet below
 
--- no NMI arrives, and nothing asks for another task
+-- no NMI arrives or is sent
 pub record IsInDomain (x : Processor) : Type 0 where
   pub nmi : x.nmi ≡ false
-  pub resched : x.resched ≡ false
+  pub mail_nmi : x.mail_nmi ≡ false
   pub bodies : AreQuiet x.bodies

@@ -82,12 +82,11 @@ is_call_word (Head p) = true
 is_call_word (RecordWord p k o) = true
 is_call_word x = false
 
--- those that blocks of an activation know
+-- those that blocks of an activation know; the mark is known in exits alone, where no body stands on them
 abbrev pub is_private : Named → Bool
 is_private (UserRsp p) = true
 is_private (Top p) = true
 is_private (Current p) = true
-is_private (Mark p) = true
 is_private (TssTop p) = true
 is_private x = false
 

@@ -14,8 +14,9 @@ use Rattle.ev_effect.specs.Task.{Task}
 use Rattle.ev_state.specs.Processor.{Processor, rsp}
 use Rattle.ev_mem.specs.Memory.{Memory, page_map}
 use Rattle.ev_apic.specs.declared.apic.Apic.{Apic}
+use Rattle.ev_apic.specs.declared.inbox.Inbox.{Inbox}
 use Rattle.ev_apic.specs.Vectors.{vectors_of}
-use Rattle.ev_listing.specs.AddressMap.{pcpu, slot_offset, record_address, user_table, idt_base, cells_base, task_words, fred_page}
+use Rattle.ev_listing.specs.AddressMap.{pcpu, slot_offset, record_address, user_table, idt_base, cells_base, task_words, fred_page, code_end}
 use Rattle.ev_abstract.specs.Boundary.{is_nmi_body}
 use Rattle.ev_abstract.specs.Context.{BodyContext}
 use Rattle.ev_abstract.specs.Machine.{Machine, processor}
@@ -95,12 +96,12 @@ module _ (mode : Mode) (image : Image) where
   chained switching [] = false
   chained switching (b ∷ below) = switching
 
-  -- An activation under another one was interrupted with the stack to which that one returns; behind INT 3 at the next instruction, so only whether that is in
-  -- REPEAT is told of RIP.
+  -- An activation under another one was interrupted with the stack to which that one returns, in the bodies' code; behind INT 3 at the next instruction, so of
+  -- what was interrupted only whether that is in REPEAT is told of RIP.
   abbrev pub Interrupted : List BodyContext → Processor → List Activation → Type 0
   Interrupted [] w as' = Unit {0}
   Interrupted (b ∷ below) w [] = ⊥
-  Interrupted (b ∷ below) w (a ∷ as') = (a.rsp ≡ rsp w) × (is_in_repeat a.rip ≡ is_in_repeat w.rip)
+  Interrupted (b ∷ below) w (a ∷ as') = (a.rsp ≡ rsp w) × (is_in_repeat a.rip ≡ is_in_repeat w.rip) × (code_end ≤ w.rip)
 
   -- Each context stands on the one before it, and the first on a task: all on the stack of task r, which runs, and the first returns to task `to`, which is t:
   -- to the same, or where its exit switches, to the next one. Each has an activation of its own, which isn't an inner NMI's.
@@ -165,14 +166,19 @@ module _ (mode : Mode) (image : Image) where
 
   -- ---- what all processors share
 
+  -- A processor's mail by the abstract machine's: the vectors that were sent to it, and whether an NMI was.
+  pub record InboxIs (i : Inbox) (mail : NatSet) (nmi : Bool) : Type 0 where
+    pub words : AreVectorWords i.vectors
+    pub vectors : (v : ℕ) → v < 256 → vectors_of i.vectors v ≡ mail v
+    pub nmi_is : i.nmi ≡ nmi
+
   -- each word by itself; what user code sees are words, below 2^64
   pub record Shares (s : System) (m : Machine) : Type 0 where
     pub user : (a : ℕ) → IsUserWord a → s.memory.words a ≡ m.words a
     pub held : HoldsWords m.words
     pub pages : (i : ℕ) → i < 256 → s.memory.words (page_map + 8 * i) ≡ (if m.present i then 1 else 0)
     pub cells : (k : ℕ) → k < 256 → s.memory.words (cells_base + 8 * k) ≡ m.cells k
-    pub mail : (p v : ℕ) → p < image.processors → v < 256 → vectors_of (s.inboxes p).vectors v ≡ (processor m p).mail v
-    pub mail_nmi : (p : ℕ) → p < image.processors → (s.inboxes p).nmi ≡ (processor m p).mail_nmi
+    pub mail : (p : ℕ) → p < image.processors → InboxIs (s.inboxes p) (processor m p).mail (processor m p).mail_nmi
     pub numbers : (p k : ℕ) → p < image.processors → k < 8 → s.memory.words (record_address p k + 0x28) ≡ ((processor m p).records k).number
     pub records : (p k : ℕ) → p < image.processors → k < 8
         → RecordIs s.memory.words (record_address p k) ((processor m p).records k) ((processor m p).records k).state

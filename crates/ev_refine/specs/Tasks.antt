@@ -14,16 +14,15 @@ use Rattle.ev_concrete.specs.LiveWords.{area_bytes}
 abbrev pub order : List ℕ
 order = 15 ∷ 14 ∷ 13 ∷ 12 ∷ 11 ∷ 10 ∷ 9 ∷ 8 ∷ 7 ∷ 6 ∷ 5 ∷ 3 ∷ 2 ∷ 1 ∷ 0 ∷ []
 
--- a task that doesn't run has its state there: registers, and a frame that returns to it with nothing blocked
+-- a task that doesn't run has its state there: registers, and a frame that returns to it with no interrupt blocked
 pub record IsSaved (mode : Mode) (p i : ℕ) (t : Task) (words : NatMap ℕ) : Type 0 where
   pub regs : map words (addresses (stack_top p i - area_bytes mode) 15) ≡ map (λ n. get_or t.regs n 0) order
   pub rip : words (stack_top p i - area_bytes mode + 0x88) ≡ t.rip
-  pub cs : words (stack_top p i - area_bytes mode + 0x90) ≡ 0x33
+  pub cs : selector (words (stack_top p i - area_bytes mode + 0x90)) ≡ 0x33
   pub flags : words (stack_top p i - area_bytes mode + 0x98) ≡ flags_word t.flags
   pub rsp : words (stack_top p i - area_bytes mode + 0xa0) ≡ get_or t.regs 4 0
   pub ss : selector (words (stack_top p i - area_bytes mode + 0xa8)) ≡ 0x2b
   pub sti : bit 16 (words (stack_top p i - area_bytes mode + 0xa8)) ≡ false
-  pub nmi : bit 18 (words (stack_top p i - area_bytes mode + 0xa8)) ≡ false
 
 -- the words that name the running task's stack and its words; under IDT the TSS names the stack too
 abbrev pub TssIs : Mode → ℕ → ℕ → NatMap ℕ → Type 0

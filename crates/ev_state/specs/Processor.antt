@@ -5,6 +5,7 @@ use Rattle.ev_isa.specs.Flags.{Status, flags_word, flags_of, modelled}
 use Rattle.ev_effect.specs.Task.{Task, reg, with_reg}
 use Rattle.ev_state.specs.Msr.{Msrs, bases_exchanged}
 
+-- The state of a processor but for its local APIC and the NMI latch.
 pub record Processor : Type 0 where
   pub regs : List ℕ  -- 16 registers
   pub rip : ℕ
@@ -30,6 +31,7 @@ pub record IsProcessor (rip flags cpl level : ℕ) : Type 0 where
   pub ring : (cpl ≡ 0) ⊎ (cpl ≡ 3)
   pub level_small : level < 4
 
+-- CPL is 3; the only other one is 0
 abbrev pub is_user : Processor → Bool
 is_user c = c.cpl == 3
 
@@ -37,18 +39,23 @@ is_user c = c.cpl == 3
 abbrev pub task_of : Processor → Task
 task_of c = record { regs = c.regs; rip = c.rip; flags = flags_of c.flags; gs = c.msrs.gs_base }
 
+-- the processor whose registers, RIP and flags are those of a task
 abbrev pub with_effect : Processor → Task → Processor
 with_effect c t = record c { regs = t.regs; rip = t.rip; flags = flags_word t.flags }
 
+-- register r
 abbrev pub register : Processor → ℕ → ℕ
 register c r = reg (task_of c) r
 
+-- the processor in which register r holds v
 abbrev pub with_register : Processor → ℕ → ℕ → Processor
 with_register c r v = record c { regs = (with_reg (task_of c) r v).regs }
 
+-- RSP
 abbrev pub rsp : Processor → ℕ
 rsp c = register c 4
 
+-- the processor with another RSP
 abbrev pub with_rsp : Processor → ℕ → Processor
 with_rsp c v = with_register c 4 v
 
@@ -64,6 +71,7 @@ selector w = w % 2 ^ 16
 abbrev pub interrupts_on : Processor → Bool
 interrupts_on c = (flags_of c.flags).interrupts
 
+-- RFLAGS with another IF
 abbrev pub with_interrupts : ℕ → Bool → ℕ
 with_interrupts flags b = flags_word (record (flags_of flags) { interrupts = b })
 

@@ -146,9 +146,9 @@ pub fn exit() -> [Line; 68]
         Op(MovReg(r.rsp, r.rcx)),
         Op(AluImm(AluOp::Sub, r.rsp, 0xb0)),
         Op(Load(r.rdx, r.rbx, 0x10)),
-        Op(Swapgs),
+        Op(Swapgs), // the task's side, whose base the move loads
         Op(MovGs(r.rdx)),
-        Op(Swapgs),
+        Op(Swapgs), // the kernel's side again
         Label(Xu),
         Op(Load(r.rax, r.rsp, 0x68)),
         Op(Load(r.rbx, r.rsp, 0x88)),

@@ -87,9 +87,9 @@ module _ (code : Code) (e : Env) (zero_base : e.base 1000 ≡ 0) where
       let at : addr e (absolute a) ≡ a = lower (e.base 1000) a zero_base (ltb-true a M (and_left _ _ low)) in
       let to : addr e (absolute next) ≡ next = lower (e.base 1000) next zero_base (ltb-true next M (and_right (nat_lt a M) _ low)) in
       (ap code at ∙ f.0 ∙ ap (λ n. Some (edge_cell i n)) (sym to), k f.1 (rest_low (a, edge_cell i next) cells h))
-  one_stands Always a next (Some i) cells lines k f h = k f.1 (rest_low (a, record { ins = i; next = next; mark = true }) cells h)
-  one_stands IfNonzero a next (Some i) cells lines k f h = k f.1 (rest_low (a, record { ins = i; next = next; mark = true }) cells h)
-  one_stands IfEqual a next (Some i) cells lines k f h = k f.1 (rest_low (a, record { ins = i; next = next; mark = true }) cells h)
+  one_stands Always a next (Some i) cells lines k f h = k f.1 (rest_low (a, record { ins = i; next = next; mark = Always }) cells h)
+  one_stands IfNonzero a next (Some i) cells lines k f h = k f.1 (rest_low (a, record { ins = i; next = next; mark = IfNonzero }) cells h)
+  one_stands IfEqual a next (Some i) cells lines k f h = k f.1 (rest_low (a, record { ins = i; next = next; mark = IfEqual }) cells h)
 
   stands_from : (env : Places) (a : ℕ) (ls : List Marked) → Both (cells_from env a ls) (lines_from env a ls)
   stands_from env a [] f h = tt

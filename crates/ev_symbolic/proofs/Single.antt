@@ -63,7 +63,8 @@ module _ (c : Processor) (m : Memory) (next : ℕ) where
 
   pub loads : Loads c m next
   unfolding exec effect
-  loads d b n a h q o = finish (Load d b n) h (set c.regs d (m.words a)) next m.words (read d (displaced (register c b) n) a (bad_address b) q (open_to false (bad_address b) a h.kernel o))
+  loads d b n a h q o = finish (Load d b n) h (set c.regs d (m.words a)) next m.words
+      (read d (displaced (register c b) n) a (bad_address b) q (open_to false (bad_address b) a h.kernel o))
 
   pub stores : Stores c m next
   unfolding exec effect
@@ -132,7 +133,8 @@ module _ (c : Processor) (m : Memory) (next : ℕ) where
   pub exchanges : Exchanges c m next
   unfolding exec effect
   exchanges b n s a h q o = finish (Xchg b n s) h (set c.regs s (m.words a)) next (put_at m.words a (register c s))
-      (wrote (λ y. with_reg (task c next) s (m.words y)) (λ y. register c s) (displaced (register c b) n) a (bad_address b) q (open_to true (bad_address b) a h.kernel o))
+      (wrote (λ y. with_reg (task c next) s (m.words y)) (λ y. register c s) (displaced (register c b) n) a (bad_address b) q
+      (open_to true (bad_address b) a h.kernel o))
 
   pub adds : Adds c m next
   unfolding exec effect

@@ -12,6 +12,7 @@ use Rattle.ev_mem.specs.declared.region.Region.{Region}
 use Rattle.ev_mem.specs.Memory.{Memory, place_in}
 use Rattle.ev_apic.specs.declared.apic.Apic.{Apic}
 use Rattle.ev_proc.specs.ProcessorStep.{has_fred, executed, ran}
+use Rattle.ev_listing.specs.Marks.{Mark, Never}
 use Rattle.ev_symbolic.specs.Value.{M, Op, OAdd, OSub, OAnd, OOr, OXor, OShl, OShr, OLess, OSame, V, K, P, X, B, F, FVar, FOp, Fact, number}
 use Rattle.ev_symbolic.specs.State.{Loc, Word, SS, Win, Line, Descriptor, Ground, Block, in_win, in_text, loc_eq}
 use Rattle.ev_symbolic.specs.Run.{brun}
@@ -89,18 +90,18 @@ pub record IsOpen (regions : List Region) (a : ℕ) : Type 0 where
 abbrev pub Open : Env → List Win → List Region → Type 0
 Open e W regions = (l : Loc) → in_win W l ≡ true → IsOpen regions (addr e l)
 
--- the code: what stands at an address, the address after it, and whether the abstract machine makes a step with it
+-- the code: what stands at an address, the address after it, and when the abstract machine makes a step with it
 pub record Cell : Type 0 where
   pub ins : Ins
   pub next : ℕ
-  pub mark : Bool
+  pub mark : Mark
 
 abbrev pub Code : Type 0
 Code = ℕ → Option Cell
 
 -- an instruction that the abstract machine doesn't see
 abbrev pub edge_cell : Ins → ℕ → Cell
-edge_cell i next = record { ins = i; next = next; mark = false }
+edge_cell i next = record { ins = i; next = next; mark = Never }
 
 -- each instruction is followed by the address behind its bytes
 abbrev pub Spaced : Code → Type 0

@@ -41,16 +41,12 @@ lines_at l (i ∷ is) = record { at = l; ins = i; next = shift l (length (spelli
 
 -- ---- the code table
 
-abbrev pub is_seen : Mark → Bool
-is_seen Never = false
-is_seen mark = true
-
 abbrev pub Cells : Type 0
 Cells = List (ℕ × Cell)
 
 abbrev pub with_cell : Mark → ℕ → ℕ → Option Ins → Cells → Cells
 with_cell mark a next None rest = rest
-with_cell mark a next (Some i) rest = (a, record { ins = i; next = next; mark = is_seen mark }) ∷ rest
+with_cell mark a next (Some i) rest = (a, record { ins = i; next = next; mark = mark }) ∷ rest
 
 abbrev pub cells_from : Places → ℕ → List Marked → Cells
 cells_from env a [] = []

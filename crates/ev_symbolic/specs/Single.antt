@@ -50,6 +50,7 @@ abbrev pub LoadsAllowed : Processor → Memory → ℕ → Type 0
 LoadsAllowed c m next = (d b : ℕ) (n : ℤ) (a : ℕ) → IsAt c (Load d b n) next → displaced (register c b) n ≡ a
     → access_event (view m false) false (bad_address b) a ≡ None → Leads c m (Load d b n) (onward c (set c.regs d (m.words a)) next) m.words
 
+-- the same of a store
 abbrev pub StoresAllowed : Processor → Memory → ℕ → Type 0
 StoresAllowed c m next = (b : ℕ) (n : ℤ) (s a : ℕ) → IsAt c (Store b n s) next → displaced (register c b) n ≡ a
     → access_event (view m false) true (bad_address b) a ≡ None → Leads c m (Store b n s) (onward c c.regs next) (put_at m.words a (register c s))
@@ -58,10 +59,12 @@ StoresAllowed c m next = (b : ℕ) (n : ℤ) (s a : ℕ) → IsAt c (Store b n s
 abbrev pub Raises : Processor → Memory → Ins → Event → Type 0
 Raises c m i e = (a : Apic) (nmi : Bool) → executed c a m nmi (Some i) ≡ delivering c a m nmi e c.rip
 
+-- a load that raises its event
 abbrev pub LoadsRaise : Processor → Memory → ℕ → Type 0
 LoadsRaise c m next = (d b : ℕ) (n : ℤ) (a : ℕ) (e : Event) → IsAt c (Load d b n) next → displaced (register c b) n ≡ a
     → access_event (view m false) false (bad_address b) a ≡ Some e → Raises c m (Load d b n) e
 
+-- a store that raises its event
 abbrev pub StoresRaise : Processor → Memory → ℕ → Type 0
 StoresRaise c m next = (b : ℕ) (n : ℤ) (s a : ℕ) (e : Event) → IsAt c (Store b n s) next → displaced (register c b) n ≡ a
     → access_event (view m false) true (bad_address b) a ≡ Some e → Raises c m (Store b n s) e

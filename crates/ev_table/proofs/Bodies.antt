@@ -15,7 +15,7 @@ use Rattle.ev_concrete.specs.ConcreteRun.{Marks}
 use Rattle.ev_symbolic.specs.Agrees.{Code}
 use Rattle.ev_symbolic.specs.Listed.{cells_from, cells_in, AllFound}
 use Rattle.ev_symbolic.proofs.Values.{and_left, and_right}
-use Rattle.ev_table.specs.Table.{AreMarked, is_call}
+use Rattle.ev_table.specs.Table.{AreMarked, is_call, reads_no_memory}
 use Rattle.ev_table.proofs.Cells.{found_first, found_rest}
 use Rattle.ev_table.proofs.Labels.{AllOfBodies, all_append, lines_of_bodies}
 use Rattle.ev_table.proofs.Expanded.{all_unmarked, all_of_body, all_plain}

@@ -15,7 +15,7 @@ use Rattle.ev_asm.specs.Assembly.{Name, size, total_size}
 use Rattle.ev_listing.specs.Expansion.{item_label, expansion, expansions}
 use Rattle.ev_listing.specs.Marks.{Mark, Never, Always, IfNonzero, IfEqual, Marked, stmts_of}
 use Rattle.ev_symbolic.proofs.Values.{and_left, and_right}
-use Rattle.ev_table.specs.Table.{is_call}
+use Rattle.ev_table.specs.Table.{is_call, reads_no_memory}
 
 -- a name that begins with "b"
 abbrev pub is_of_body : Name → Bool
@@ -42,14 +42,9 @@ names_body s = true
 abbrev pub name_bodies : List Marked → Bool
 name_bodies ls = list_all (λ (l : Marked). names_body l.stmt) ls
 
--- a mark that depends on no memory
-abbrev pub is_plain : Mark → Bool
-is_plain Never = true
-is_plain Always = true
-is_plain _ = false
-
-abbrev pub are_plain : List Marked → Bool
-are_plain ls = list_all (λ (l : Marked). is_plain l.mark) ls
+-- no mark of these lines does
+abbrev pub read_no_memory : List Marked → Bool
+read_no_memory ls = list_all (λ (l : Marked). reads_no_memory l.mark) ls
 
 unmarked : (mode : Mode) (b : ℕ) (key : Key) (f : ℕ → ℕ) (n : ℕ) (item : Item) → are_unmarked (expansion mode b key f n item) ≡ true
 unfolding expansion
@@ -123,7 +118,7 @@ of_body mode b key f n Take = refl
 of_body mode b key f n Finish = refl
 of_body mode b key f n Ret = refl
 
-plain : (mode : Mode) (b : ℕ) (key : Key) (f : ℕ → ℕ) (n : ℕ) (item : Item) → is_call item ≡ false → are_plain (expansion mode b key f n item) ≡ true
+plain : (mode : Mode) (b : ℕ) (key : Key) (f : ℕ → ℕ) (n : ℕ) (item : Item) → is_call item ≡ false → read_no_memory (expansion mode b key f n item) ≡ true
 unfolding expansion is_call
 plain mode b key f n (Set d v) h = refl
 plain mode b key f n (Copy d s) h = refl
@@ -218,9 +213,9 @@ module _ (mode : Mode) (b : ℕ) (key : Key) where
       (expansions mode b key f (suc n) items) (of_body mode b key f n item) (all_of_body f (suc n) items)
 
   pub all_plain : (f : ℕ → ℕ) (n : ℕ) (items : List Item) → list_all (λ item. not (is_call item)) items ≡ true
-      → are_plain (expansions mode b key f n items) ≡ true
+      → read_no_memory (expansions mode b key f n items) ≡ true
   all_plain f n [] h = refl
-  all_plain f n (item ∷ items) h = all_append (λ (l : Marked). is_plain l.mark) (expansion mode b key f n item) (expansions mode b key f (suc n) items)
+  all_plain f n (item ∷ items) h = all_append (λ (l : Marked). reads_no_memory l.mark) (expansion mode b key f n item) (expansions mode b key f (suc n) items)
       (plain mode b key f n item (not_call (is_call item) (and_left _ _ h))) (all_plain f (suc n) items (and_right (not (is_call item)) _ h))
 
   total_append : (xs ys : List Stmt) → total_size (xs ++ ys) ≡ total_size xs + total_size ys

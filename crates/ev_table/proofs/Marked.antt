@@ -10,14 +10,14 @@ use Rattle.ev_asm.specs.Assembly.{Places, size, total_size}
 use Rattle.ev_listing.specs.Marks.{Mark, Never, Always, IfNonzero, IfEqual, Marked, Listing, stmts_of, with_mark, marks, all_marks}
 use Rattle.ev_concrete.specs.ConcreteRun.{Marks, mark_at}
 use Rattle.ev_symbolic.specs.Agrees.{Cell}
-use Rattle.ev_symbolic.specs.Listed.{Cells, is_seen, instruction, with_cell, cells_from, cells_in, cell_at}
+use Rattle.ev_symbolic.specs.Listed.{Cells, instruction, with_cell, cells_from, cells_in, cell_at}
 use Rattle.ev_symbolic.proofs.Values.{and_left, and_right}
 use Rattle.ev_symbolic.proofs.Blocks.{unsome}
 use Rattle.ev_fetch.proofs.Regions.{Each, each_append}
 use Rattle.ev_fetch.proofs.Placed.{end_of, IsWithin, Inside, Disjoint}
 use Rattle.ev_fetch.proofs.Spellings.{spelling_some}
-use Rattle.ev_table.specs.Table.{MarkedAt, AreMarked}
-use Rattle.ev_table.proofs.Expanded.{is_never, is_unmarked, are_unmarked, is_plain, are_plain}
+use Rattle.ev_table.specs.Table.{MarkedAt, AreMarked, reads_no_memory}
+use Rattle.ev_table.proofs.Expanded.{is_never, is_unmarked, are_unmarked, read_no_memory}
 
 -- ---- entries of other addresses
 
@@ -159,63 +159,63 @@ each_marked (b ∷ bs) d u =
 
 -- ---- the marks of cells
 
-abbrev IsSeenAt : Marks → ℕ × Cell → Type 0
-IsSeenAt ms x = is_seen (mark_at ms x.0) ≡ x.1.mark
+abbrev HasMark : Marks → ℕ × Cell → Type 0
+HasMark ms x = mark_at ms x.0 ≡ x.1.mark
 
-cells_seen : (ms : Marks) (env : Places) (a : ℕ) (ls : List Marked) → AreMarked ms a ls → Each (IsSeenAt ms) (cells_from env a ls)
-cells_seen ms env a [] h = tt
-cells_seen ms env a (l ∷ ls) h = one l.stmt h.0 (cells_seen ms env (a + size l.stmt) ls h.1)
+cells_marked : (ms : Marks) (env : Places) (a : ℕ) (ls : List Marked) → AreMarked ms a ls → Each (HasMark ms) (cells_from env a ls)
+cells_marked ms env a [] h = tt
+cells_marked ms env a (l ∷ ls) h = one l.stmt h.0 (cells_marked ms env (a + size l.stmt) ls h.1)
   where
-    one : (s : Stmt) → MarkedAt ms a l.mark s → Each (IsSeenAt ms) (cells_from env (a + size s) ls)
-        → Each (IsSeenAt ms) (with_cell l.mark a (a + size s) (instruction env a s) (cells_from env (a + size s) ls))
+    one : (s : Stmt) → MarkedAt ms a l.mark s → Each (HasMark ms) (cells_from env (a + size s) ls)
+        → Each (HasMark ms) (with_cell l.mark a (a + size s) (instruction env a s) (cells_from env (a + size s) ls))
     one (Label name) h k = k
-    one (Plain i) h k = (ap is_seen h, k)
-    one (Jump c name) h k = (ap is_seen h, k)
+    one (Plain i) h k = (h, k)
+    one (Jump c name) h k = (h, k)
 
-all_seen : (ms : Marks) (env : Places) (bs : List Listing) → EachMarked ms bs → Each (IsSeenAt ms) (cells_in env bs)
-all_seen ms env [] h = tt
-all_seen ms env (b ∷ bs) h = each_append (IsSeenAt ms) (cells_from env b.address b.lines) (cells_in env bs) (cells_seen ms env b.address b.lines h.0)
-    (all_seen ms env bs h.1)
+all_marked : (ms : Marks) (env : Places) (bs : List Listing) → EachMarked ms bs → Each (HasMark ms) (cells_in env bs)
+all_marked ms env [] h = tt
+all_marked ms env (b ∷ bs) h = each_append (HasMark ms) (cells_from env b.address b.lines) (cells_in env bs) (cells_marked ms env b.address b.lines h.0)
+    (all_marked ms env bs h.1)
 
-found_seen : (ms : Marks) (xs : Cells) (a : ℕ) (x : Cell) → Each (IsSeenAt ms) xs → cell_at xs a ≡ Some x → is_seen (mark_at ms a) ≡ x.mark
-found_seen ms [] a x h q = absurd (cc)
-found_seen ms (y ∷ ys) a x h q = pick (y.0 == a) refl q (found_seen ms ys a x h.1)
+found_marked : (ms : Marks) (xs : Cells) (a : ℕ) (x : Cell) → Each (HasMark ms) xs → cell_at xs a ≡ Some x → mark_at ms a ≡ x.mark
+found_marked ms [] a x h q = absurd (cc)
+found_marked ms (y ∷ ys) a x h q = pick (y.0 == a) refl q (found_marked ms ys a x h.1)
   where
-    pick : (b : Bool) → (y.0 == a) ≡ b → (if b then Some y.1 else cell_at ys a) ≡ Some x → (cell_at ys a ≡ Some x → is_seen (mark_at ms a) ≡ x.mark)
-        → is_seen (mark_at ms a) ≡ x.mark
-    pick true r w k = subst (λ (b : ℕ). is_seen (mark_at ms b) ≡ x.mark) (eqb-true y.0 a r) (h.0 ∙ ap (λ (z : Cell). z.mark) (unsome y.1 x w))
+    pick : (b : Bool) → (y.0 == a) ≡ b → (if b then Some y.1 else cell_at ys a) ≡ Some x → (cell_at ys a ≡ Some x → mark_at ms a ≡ x.mark)
+        → mark_at ms a ≡ x.mark
+    pick true r w k = subst (λ (b : ℕ). mark_at ms b ≡ x.mark) (eqb-true y.0 a r) (h.0 ∙ ap (λ (z : Cell). z.mark) (unsome y.1 x w))
     pick false r w k = k w
 
--- a cell is seen where its address is marked
-pub seen_at : (env : Places) (bs : List Listing) → Disjoint bs → all_unmarked bs ≡ true → (a : ℕ) (x : Cell) → cell_at (cells_in env bs) a ≡ Some x
-    → is_seen (mark_at (all_marks bs) a) ≡ x.mark
-seen_at env bs d u a x q = found_seen (all_marks bs) (cells_in env bs) a x (all_seen (all_marks bs) env bs (each_marked bs d u)) q
+-- a cell's mark is that of its address
+pub cell_mark : (env : Places) (bs : List Listing) → Disjoint bs → all_unmarked bs ≡ true → (a : ℕ) (x : Cell) → cell_at (cells_in env bs) a ≡ Some x
+    → mark_at (all_marks bs) a ≡ x.mark
+cell_mark env bs d u a x q = found_marked (all_marks bs) (cells_in env bs) a x (all_marked (all_marks bs) env bs (each_marked bs d u)) q
 
 -- ---- marks that depend on no memory
 
 abbrev pub all_plain : List Listing → Bool
 all_plain [] = true
-all_plain (b ∷ bs) = are_plain b.lines && all_plain bs
+all_plain (b ∷ bs) = read_no_memory b.lines && all_plain bs
 
 abbrev PlainAt : Marks → ℕ → Type 0
-PlainAt ms q = is_plain (mark_at ms q) ≡ true
+PlainAt ms q = reads_no_memory (mark_at ms q) ≡ true
 
-plain_with : (m : Mark) (a q : ℕ) (rest : Marks) → is_plain m ≡ true → PlainAt rest q → PlainAt (with_mark m a rest) q
+plain_with : (m : Mark) (a q : ℕ) (rest : Marks) → reads_no_memory m ≡ true → PlainAt rest q → PlainAt (with_mark m a rest) q
 plain_with Never a q rest h k = k
 plain_with Always a q rest h k = pick (a == q) k
   where
-    pick : (b : Bool) → is_plain (mark_at rest q) ≡ true → is_plain (if b then Always else mark_at rest q) ≡ true
+    pick : (b : Bool) → reads_no_memory (mark_at rest q) ≡ true → reads_no_memory (if b then Always else mark_at rest q) ≡ true
     pick true k = refl
     pick false k = k
 plain_with IfNonzero a q rest h k = absurd (cc)
 plain_with IfEqual a q rest h k = absurd (cc)
 
-plain_lines : (a q : ℕ) (ls : List Marked) (ys : Marks) → are_plain ls ≡ true → PlainAt ys q → PlainAt (marks a ls ++ ys) q
+plain_lines : (a q : ℕ) (ls : List Marked) (ys : Marks) → read_no_memory ls ≡ true → PlainAt ys q → PlainAt (marks a ls ++ ys) q
 unfolding marks
 plain_lines a q [] ys h k = k
 plain_lines a q (l ∷ ls) ys h k = subst (λ (ms : Marks). PlainAt ms q) (sym (with_append l.mark a (marks (a + size l.stmt) ls) ys))
-    (plain_with l.mark a q (marks (a + size l.stmt) ls ++ ys) (and_left _ _ h) (plain_lines (a + size l.stmt) q ls ys (and_right (is_plain l.mark) _ h) k))
+    (plain_with l.mark a q (marks (a + size l.stmt) ls ++ ys) (and_left _ _ h) (plain_lines (a + size l.stmt) q ls ys (and_right (reads_no_memory l.mark) _ h) k))
 
-pub plain_at : (bs : List Listing) (q : ℕ) → all_plain bs ≡ true → is_plain (mark_at (all_marks bs) q) ≡ true
+pub plain_at : (bs : List Listing) (q : ℕ) → all_plain bs ≡ true → reads_no_memory (mark_at (all_marks bs) q) ≡ true
 plain_at [] q h = refl
-plain_at (b ∷ bs) q h = plain_lines b.address q b.lines (all_marks bs) (and_left _ _ h) (plain_at bs q (and_right (are_plain b.lines) _ h))
+plain_at (b ∷ bs) q h = plain_lines b.address q b.lines (all_marks bs) (and_left _ _ h) (plain_at bs q (and_right (read_no_memory b.lines) _ h))

@@ -25,21 +25,21 @@ use Rattle.ev_listing.specs.Marks.{Mark, Never, Always, IfNonzero, IfEqual, List
 use Rattle.ev_concrete.specs.Opening.{kernel_listings, listings, body_listings}
 use Rattle.ev_concrete.specs.ConcreteRun.{marks_of, mark_at}
 use Rattle.ev_symbolic.specs.Agrees.{Cell}
-use Rattle.ev_symbolic.specs.Listed.{is_seen, cells_from, cells_in, AllFound}
+use Rattle.ev_symbolic.specs.Listed.{cells_from, cells_in, AllFound}
 use Rattle.ev_symbolic.proofs.Listed.{all_found}
 use Rattle.ev_symbolic.proofs.Values.{and_left, and_right}
 use Rattle.ev_fetch.proofs.Regions.{Each}
 use Rattle.ev_fetch.proofs.Placed.{Disjoint}
 use Rattle.ev_fetch.proofs.Sizes.{items_size, few_items, listings_disjoint}
-use Rattle.ev_table.specs.Table.{code_table, other_exit, exit_address, RetCell, places_of, item_lines, item_cells, AreMarked, is_call}
+use Rattle.ev_table.specs.Table.{code_table, other_exit, exit_address, RetCell, places_of, item_lines, item_cells, AreMarked, is_call, reads_no_memory}
 use Rattle.ev_table.proofs.Cells.{found_first, found_rest}
 use Rattle.ev_table.proofs.Distinct.{listings_distinct}
-use Rattle.ev_table.proofs.Expanded.{is_of_body, is_plain, same_sizes}
+use Rattle.ev_table.proofs.Expanded.{is_of_body, same_sizes}
 use Rattle.ev_table.proofs.Items.{item_found, item_marked, next_size}
 use Rattle.ev_table.proofs.Labels.{place_behind, cells_in_same, exit_inner, all_places_append, cells_in_append}
 use Rattle.ev_table.proofs.Kernel.{kernel_cells, kernel_inner, kernel_unmarked, kernel_plain, exit_is}
 use Rattle.ev_table.proofs.Bodies.{labels, unmarked, plain, body_found, body_marked}
-use Rattle.ev_table.proofs.Marked.{all_unmarked, all_plain, EachMarked, each_marked, seen_at, plain_at}
+use Rattle.ev_table.proofs.Marked.{all_unmarked, all_plain, EachMarked, each_marked, cell_mark, plain_at}
 
 -- a jump leads to the target of its distance
 pub leads_to : (target next : ℕ) → target < 2 ^ 64 → next < 2 ^ 64 → displaced next (distance target next) ≡ target
@@ -170,13 +170,6 @@ module _ (mode : Mode) (image : Image) where
         low : (a : ℕ) → (0xffffffff82000000 ≤ a) × (a ≤ 0xffffffff82800000) → (is_canonical a ≡ true) × (a + 16 < 2 ^ 64)
         low a r = let r0 = r.0 in let r1 = r.1 in (canonical a (omega arith) (omega arith), omega arith)
 
-    pub log_stands : (n i s : ℕ) (b : Body) → slice_get image.bodies n ≡ Some b → slice_get (body_items b) i ≡ Some (Log s)
-        → code_table mode image (item_address mode n b i) ≡ Some (record { ins = GsStore (pos 0x28) s; next = item_address mode n b (suc i); mark = true })
-    unfolding expansion size spelling four_bytes
-    log_stands n i s b h k =
-        (item_stands n i b (Log s) h k).0 ∙ ap (λ (a : ℕ). Some (record { ins = GsStore (pos 0x28) s; next = a; mark = true }))
-        (let e : item_address mode n b i + 9 ≡ item_address mode n b (suc i) = omega (arith, next_address n i b (Log s) k) in e)
-
     pub ret_stands : (n i : ℕ) (b : Body) → slice_get image.bodies n ≡ Some b → slice_get (body_items b) i ≡ Some Ret
         → RetCell (code_table mode image) (item_address mode n b i) (exit_address mode b.key)
     unfolding expansion size
@@ -184,7 +177,7 @@ module _ (mode : Mode) (image : Image) where
         let a : ℕ = item_address mode n b i in
         let E : ℕ = place env (exit_of mode b.key) in
         record {
-          cell = record { ins = Jmp (distance E (a + 5)); next = a + 5; mark = false };
+          cell = record { ins = Jmp (distance E (a + 5)); next = a + 5; mark = Never };
           distance = distance E (a + 5);
           is = (item_stands n i b Ret h k).0;
           jump = refl;
@@ -220,29 +213,12 @@ module _ (mode : Mode) (image : Image) where
         (body_marked mode image (marks_of mode image) 0 image.bodies body_marks n b h))
         i item k)
 
-    pub cell_seen : (a : ℕ) (x : Cell) → code_table mode image a ≡ Some x → is_seen (mark_at (marks_of mode image) a) ≡ x.mark
-    cell_seen a x q = seen_at env (listings mode image) apart no_marks a x q
+    pub cell_marked : (a : ℕ) (x : Cell) → code_table mode image a ≡ Some x → mark_at (marks_of mode image) a ≡ x.mark
+    cell_marked a x q = cell_mark env (listings mode image) apart no_marks a x q
 
-    pub unmarked_edge : (a : ℕ) (x : Cell) → code_table mode image a ≡ Some x → x.mark ≡ false → mark_at (marks_of mode image) a ≡ Never
-    unmarked_edge a x q m = never (mark_at (marks_of mode image) a) (cell_seen a x q ∙ m)
-      where
-        never : (m : Mark) → is_seen m ≡ false → m ≡ Never
-        never Never h = refl
-        never _ h = absurd (cc)
-
-    -- no mark depends on memory
+    -- no mark reads memory
     pub marks_plain : list_all (λ (b : Body). list_all (λ item. not (is_call item)) (body_items b)) image.bodies ≡ true → (a : ℕ)
-        → is_plain (mark_at (marks_of mode image) a) ≡ true
+        → reads_no_memory (mark_at (marks_of mode image) a) ≡ true
     unfolding listings
     marks_plain none a =
         plain_at (listings mode image) a (plain_append bodies (kernel_listings mode) (plain mode image 0 image.bodies none) (kernel_plain mode))
-
-    pub marked_seen : list_all (λ (b : Body). list_all (λ item. not (is_call item)) (body_items b)) image.bodies ≡ true → (a : ℕ) (x : Cell)
-        → code_table mode image a ≡ Some x → x.mark ≡ true → mark_at (marks_of mode image) a ≡ Always
-    marked_seen none a x q m = always (mark_at (marks_of mode image) a) (cell_seen a x q ∙ m) (marks_plain none a)
-      where
-        always : (m : Mark) → is_seen m ≡ true → is_plain m ≡ true → m ≡ Always
-        always Never h k = absurd (cc)
-        always Always h k = refl
-        always IfNonzero h k = absurd (cc)
-        always IfEqual h k = absurd (cc)

@@ -1,14 +1,14 @@
 -- The code of an image in a mode as a table.
-use Rattle.std.specs.Prelude.{◌≡◌, ℤ, ℕ, pos, suc, ◌+◌, ◌^◌, ◌≤◌, ◌<◌, Bool, true, false, not, List, [], ◌∷◌, ◌++◌, length, Some, slice_get}
+use Rattle.std.specs.Prelude.{◌≡◌, ℤ, ℕ, suc, ◌+◌, ◌^◌, ◌≤◌, ◌<◌, Bool, true, false, not, List, [], ◌∷◌, ◌++◌, length, Some, slice_get}
 use Rattle.std.specs.List.{list_all}
 use Rattle.ev_isa.specs.Word.{displaced, is_canonical}
-use Rattle.ev_isa.specs.declared.instruction.Ins.TheVariants.{GsStore, Jmp}
+use Rattle.ev_isa.specs.declared.instruction.Ins.TheVariants.{Jmp}
 use Rattle.ev_isa.specs.declared.mode.Mode.{Mode}
 use Rattle.ev_isa.specs.declared.mode.Mode.TheVariants.{Idt, Fred}
 use Rattle.ev_body.specs.declared.key.Key.{Key}
 use Rattle.ev_body.specs.declared.key.Key.TheVariants.{Nmi}
 use Rattle.ev_body.specs.declared.item.Item.{Item}
-use Rattle.ev_body.specs.declared.item.Item.TheVariants.{Log, Call, Ret}
+use Rattle.ev_body.specs.declared.item.Item.TheVariants.{Call, Ret}
 use Rattle.ev_body.specs.declared.body.Body.{Body}
 use Rattle.ev_body.specs.declared.image.Image.{Image}
 use Rattle.ev_body.specs.Bodies.{key_number, body_items}
@@ -19,11 +19,11 @@ use Rattle.ev_asm.specs.declared.statement.Stmt.{Stmt}
 use Rattle.ev_asm.specs.declared.statement.Stmt.TheVariants.{Label}
 use Rattle.ev_asm.specs.Assembly.{Name, Places, place, places, size, total_size}
 use Rattle.ev_listing.specs.Expansion.{item_label, own_label, exit_of, item_address, expansion, function_address}
-use Rattle.ev_listing.specs.Marks.{Mark, Always, Marked, stmts_of, all_places}
+use Rattle.ev_listing.specs.Marks.{Mark, Never, Always, Marked, stmts_of, all_places}
 use Rattle.ev_concrete.specs.Opening.{kernel_listings, listings}
 use Rattle.ev_concrete.specs.ConcreteRun.{Marks, marks_of, mark_at}
 use Rattle.ev_symbolic.specs.Agrees.{Cell, Code, Spaced}
-use Rattle.ev_symbolic.specs.Listed.{Cells, is_seen, cells_from, cells_in, AllFound, code_of}
+use Rattle.ev_symbolic.specs.Listed.{Cells, cells_from, cells_in, AllFound, code_of}
 use Rattle.ev_blocks.specs.Fred.{fexit}
 
 -- the cells of an image's code by their addresses
@@ -43,13 +43,13 @@ abbrev pub exit_address : Mode → Key → ℕ
 exit_address mode Nmi = nmi_exit mode
 exit_address mode _ = other_exit mode
 
--- an unmarked jump to an exit
+-- a jump to an exit, which the abstract machine doesn't see
 pub record RetCell (code : Code) (a exit : ℕ) : Type 0 where
   pub cell : Cell
   pub distance : ℤ
   pub is : code a ≡ Some cell
   pub jump : cell.ins ≡ Jmp distance
-  pub unmarked : cell.mark ≡ false
+  pub unmarked : cell.mark ≡ Never
   pub leads : displaced cell.next distance ≡ exit
 
 -- the places of the labels of an image's code
@@ -122,12 +122,6 @@ OwnLabelsArePlaced = (mode : Mode) (image : Image) → IsImage image → (n i : 
 abbrev pub ExitsArePlaced : Type 0
 ExitsArePlaced = (mode : Mode) (image : Image) (key : Key) → place (places_of mode image) (exit_of mode key) ≡ exit_address mode key
 
--- `log` is its marked store to the port
-abbrev pub LogStands : Type 0
-LogStands = (mode : Mode) (image : Image) → IsImage image → (n i s : ℕ) (b : Body) → slice_get image.bodies n ≡ Some b
-    → item_at (Some b) i ≡ Some (Log s)
-    → code_table mode image (item_address mode n b i) ≡ Some (record { ins = GsStore (pos 0x28) s; next = item_address mode n b (suc i); mark = true })
-
 -- `ret` is a jump to the exit of its body's key
 abbrev pub RetStands : Type 0
 RetStands = (mode : Mode) (image : Image) → IsImage image → (n i : ℕ) (b : Body) → slice_get image.bodies n ≡ Some b
@@ -143,16 +137,22 @@ abbrev pub ItemsAreCanonical : Type 0
 ItemsAreCanonical = (mode : Mode) (image : Image) → IsImage image → (n i : ℕ) (b : Body) → slice_get image.bodies n ≡ Some b
     → (is_canonical (item_address mode n b i) ≡ true) × (item_address mode n b i + 16 < 2 ^ 64)
 
--- an address is marked where its cell is
+-- an address has the mark of its cell
 abbrev pub CellsAreMarked : Type 0
 CellsAreMarked = (mode : Mode) (image : Image) → IsImage image → (a : ℕ) (x : Cell) → code_table mode image a ≡ Some x
-    → is_seen (mark_at (marks_of mode image) a) ≡ x.mark
+    → mark_at (marks_of mode image) a ≡ x.mark
 
--- and always seen there, where no body has a `call`
-abbrev pub MarkedCellsAreSeen : Type 0
-MarkedCellsAreSeen = (mode : Mode) (image : Image) → IsImage image
+-- whether a mark is told without memory
+abbrev pub reads_no_memory : Mark → Bool
+reads_no_memory Never = true
+reads_no_memory Always = true
+reads_no_memory _ = false
+
+-- so is each mark where no body has a `call`
+abbrev pub MarksReadNoMemory : Type 0
+MarksReadNoMemory = (mode : Mode) (image : Image) → IsImage image
     → list_all (λ (b : Body). list_all (λ item. not (is_call item)) (body_items b)) image.bodies ≡ true
-    → (a : ℕ) (x : Cell) → code_table mode image a ≡ Some x → x.mark ≡ true → mark_at (marks_of mode image) a ≡ Always
+    → (a : ℕ) → reads_no_memory (mark_at (marks_of mode image) a) ≡ true
 
 -- keys other than that of NMIs have one exit
 abbrev pub OthersHaveOneExit : Type 0

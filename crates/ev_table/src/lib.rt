@@ -2,10 +2,11 @@
 //! the items of bodies, and which cells the abstract machine sees.
 #![tactic(auto)]
 
-ghost use Rattle.ev_table.specs.Table.{KernelStands, CellsAreSpaced, ItemsStand, ItemsAreMarked, ItemsFollow, ItemLabelsArePlaced, OwnLabelsArePlaced, ExitsArePlaced, LogStands, RetStands, OthersHaveOneExit, BodiesBeginWithItems, ItemsAreCanonical, CellsAreMarked, MarkedCellsAreSeen};
+ghost use Rattle.ev_table.specs.Table.{KernelStands, CellsAreSpaced, ItemsStand, ItemsAreMarked, ItemsFollow, ItemLabelsArePlaced, OwnLabelsArePlaced, ExitsArePlaced, RetStands, OthersHaveOneExit, BodiesBeginWithItems, ItemsAreCanonical, CellsAreMarked, MarksReadNoMemory};
 
 /// In both modes, for every image: the kernel's cells stand in the table, the cells of each item
-/// stand at its address with its marks, and an address is marked where its cell is. Own.
+/// stand at its address with its marks, and an address has the mark of its cell; marks read memory
+/// only where a body has a `call`. Own.
 pub fn table()
     ensures kernel { KernelStands }
     ensures spaced { CellsAreSpaced }
@@ -15,11 +16,10 @@ pub fn table()
     ensures labels { ItemLabelsArePlaced }
     ensures own_labels { OwnLabelsArePlaced }
     ensures placed { ExitsArePlaced }
-    ensures logs { LogStands }
     ensures rets { RetStands }
     ensures exits { OthersHaveOneExit }
     ensures first_items { BodiesBeginWithItems }
     ensures canonical { ItemsAreCanonical }
     ensures marks { CellsAreMarked }
-    ensures always { MarkedCellsAreSeen }
+    ensures memory { MarksReadNoMemory }
 {}

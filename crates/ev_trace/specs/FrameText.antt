@@ -14,9 +14,11 @@ mode_text Fred = codes "fred"
 abbrev pub Noted : Type 0
 Noted = ℕ × FrameNote
 
+-- the line of a frame: its address, and its words from the lowest up
 abbrev pub frame_text : Text → Noted → Text
 frame_text mode f = line_text mode (decimal f.0 ∷ codes "frame" ∷ hex f.1.address ∷ map hex f.1.words.items)
 
+-- the lines of frames
 abbrev pub frames_text : Text → List Noted → Text
 frames_text mode fs = flat_map (frame_text mode) fs
 
@@ -26,9 +28,11 @@ pub record Totals : Type 0 where
   pub frames : ℕ
   pub low : Option ℕ
 
+-- the lowest address of a frame, if there was one
 abbrev pub low_text : Option ℕ → Text
 low_text None = codes "none"
 low_text (Some a) = hex a
 
+-- the line of the totals
 abbrev pub totals_text : Text → Totals → Text
 totals_text mode t = line_text mode (codes "steps" ∷ decimal t.steps ∷ codes "frames" ∷ decimal t.frames ∷ codes "low" ∷ low_text t.low ∷ [])

@@ -166,9 +166,36 @@ module _ (mode : Mode) (image : Image) (p r : ℕ) (t : Task) (u : UserMemory) (
       → Follows (user.executed (user_view u) t (t.rip + length (spelling i)) i)
       (executed c a m nmi (Some i))
   unfolding user.executed exec special user_may spelling
-  instruction Int1 n h short fit = record { cause = Debug; is = tt; event = refl; saved_is = refl; own = refl; canonical = h; behind = λ e. short; step_is = refl }
-  instruction Int3 n h short fit = record { cause = Breakpoint; is = tt; event = refl; saved_is = refl; own = refl; canonical = h; behind = λ e. short; step_is = refl }
-  instruction Syscall n h short fit = record { cause = Call; is = tt; event = refl; saved_is = refl; own = refl; canonical = h; behind = λ e. short; step_is = refl }
+  instruction Int1 n h short fit = record {
+    cause = Debug;
+    is = tt;
+    event = refl;
+    saved_is = refl;
+    own = refl;
+    canonical = h;
+    behind = λ e. short;
+    step_is = refl;
+  }
+  instruction Int3 n h short fit = record {
+    cause = Breakpoint;
+    is = tt;
+    event = refl;
+    saved_is = refl;
+    own = refl;
+    canonical = h;
+    behind = λ e. short;
+    step_is = refl;
+  }
+  instruction Syscall n h short fit = record {
+    cause = Call;
+    is = tt;
+    event = refl;
+    saved_is = refl;
+    own = refl;
+    canonical = h;
+    behind = λ e. short;
+    step_is = refl;
+  }
   instruction (IntN k) n h short fit = numbered k (n k refl) h short
   instruction Sti n h short fit = faulted Protection tt
   instruction Cli n h short fit = faulted Protection tt

@@ -166,7 +166,8 @@ entered_words p x e side (Some n) bodies h k = with (slice_get bodies n) refl
 
 pub delivered_words : (image : Image) (p : ℕ) (x : Processor) (e : Event) → IsSmallEvent e → HasWords x → HasWords (delivered image p x e).0
 unfolding delivered
-delivered_words image p x e h k = entered_words p x e (side_of x.bodies) (first_body 0 image.bodies (event_key e.kind e.vector) (side_of x.bodies)) image.bodies h k
+delivered_words image p x e h k =
+    entered_words p x e (side_of x.bodies) (first_body 0 image.bodies (event_key e.kind e.vector) (side_of x.bodies)) image.bodies h k
 
 raised_numbers : (image : Image) (m : Machine) (p : ℕ) (e : Event) → IsSmallEvent e → HoldsNumbers m → HoldsNumbers (raised image m p e).0
 raised_numbers image m p e h k =

@@ -25,7 +25,8 @@ access write = access_of true write
 abbrev pub IsIn : Bool → ℕ → Bool → Type 0
 IsIn write a present = (((text_base ≤ a) × (a < text_base + 0x10000)) × (write ≡ false)) ⊎ (IsPageWord a × (present ≡ true))
 
-pub accessed : (present : NatSet) (user write : Bool) (a : ℕ) → fault_at present (access_of user write) (place_of a) ≡ None → IsIn write a (present ((a - page_base) / 0x1000))
+pub accessed : (present : NatSet) (user write : Bool) (a : ℕ) → fault_at present (access_of user write) (place_of a) ≡ None
+    → IsIn write a (present ((a - page_base) / 0x1000))
 unfolding fault_at place_of
 accessed present user write a h =
     pick (nat_le text_base a && nat_lt a (text_base + 0x10000)) (nat_le page_base a && nat_lt a (page_base + 0x1000 * 256)) (nat_lt a (2 ^ 63)) write

@@ -12,6 +12,7 @@ use Rattle.ev_built.specs.RunTakes.{is_built}
 use Rattle.ev_image.specs.declared.head.Head.TheVariants as Head
 use Rattle.ev_image.specs.Reads.{Opened, opened}
 use Rattle.ev_io.specs.InputLines.{lines_of}
+use Rattle.ev_pair.specs.Chains.{KeepsChains}
 use Rattle.ev_pair.specs.Safety.{RunIsSafe}
 use Rattle.ev_script.specs.Script.{read_script}
 
@@ -29,6 +30,11 @@ pub record HoldsRun (bytes : List ℕ) (image : KernelImage) (script : List Line
 abbrev pub FramesAreSafe : Type 0
 FramesAreSafe = (bytes : List ℕ) (image : KernelImage) (script : List Line) → HoldsRun bytes image script
     → (mode : Mode) → RunIsSafe mode image script
+
+-- behind each of its lines the bodies on a processor are a legal chain, no longer than the bound that `check` prints, and than `nest`
+abbrev pub ChainsAreKept : Type 0
+ChainsAreKept = (bytes : List ℕ) (image : KernelImage) (script : List Line) → HoldsRun bytes image script
+    → KeepsChains image script
 
 -- in the trace of such a run each call runs at most once, was queued before it ran, and ran before it is reported as done
 abbrev pub CallsAreKept : Type 0

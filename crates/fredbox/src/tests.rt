@@ -127,13 +127,13 @@ fn first_refusal(rt: HostRuntime) -> Result<(), Fail> {
         (
             "run",
             "fill\nscript\n",
-            "turn 0\naccept 0\nturn\n",
+            "turn 0\nedge 0 1\nturn\n",
             Status::BadDocument(14, Cause::Count),
         ),
         (
             "run",
             "fill\nscript\n",
-            "turn 0\naccept 0\nend\n",
+            "turn 0\nedge 0 1\nend\n",
             Status::NotBuilt,
         ),
     ];

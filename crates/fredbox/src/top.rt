@@ -10,7 +10,7 @@ ghost use Rattle.ev_io.specs.Transfer.{Draws, DrawsWithin, Rose};
 ghost use Rattle.ev_status.specs.declared.status.Status.{Status};
 ghost use Rattle.fredbox.specs.Answer.{SaysBuilt, SpeaksOfImage, comes_of};
 ghost use Rattle.fredbox.specs.Broken.{BreaksOff, nothing_read};
-ghost use Rattle.fredbox.specs.Safe.{CallsAreKept, FramesAreSafe};
+ghost use Rattle.fredbox.specs.Safe.{CallsAreKept, ChainsAreKept, FramesAreSafe};
 ghost use Rattle.fredbox.specs.Taken.{IsUnwritten, Took};
 
 use crate::asm::asm;
@@ -114,6 +114,8 @@ pub fn top<'a, S: Source, K: Sink>(
         → (result ≡ status) × (K.taken sink.new ≡ append_known (K.taken sink.old) text) }
     // in either mode no frame of a document's run holds a word that was live just before its step
     ensures safe { FramesAreSafe }
+    // behind each of its lines the bodies on a processor are a legal chain, within the bound
+    ensures chains { ChainsAreKept }
     // and in its trace each call runs at most once, was queued before, and ran before it is reported
     ensures calls { CallsAreKept }
     // before an answer other than Done, WriteFault and NoMemory the sink isn't touched

@@ -32,7 +32,8 @@ loop-line-preserved g c =
     let lt : i < length ls = omega arith in record {
       at = λ image r script. subst (λ done. IsRun c.args.mode image done c.put_line.new.machine) (sym (up_to_place ls i (i + 1) _ e lt))
           (c.in_ok-put_line.ensures.run image (take i ls) (c.loop-line.invariant.at image r script) (script_line image ls i (Turn 0) script lt));
-      wrote = λ image r script. more_written _ _ _ _ _ _ _ (c.loop-line.invariant.wrote image r script) (one_place c.args.frames image ls i (i + 1) _ e lt c.args.mode)
+      wrote = λ image r script. more_written _ _ _ _ _ _ _ (c.loop-line.invariant.wrote image r script)
+          (one_place c.args.frames image ls i (i + 1) _ e lt c.args.mode)
           (c.in_ok-put_line.ensures.ok image (take i ls) (c.loop-line.invariant.at image r script));
       processors = c.put_line.ensures.same ∙ c.loop-line.invariant.processors;
       totals = omega arith;

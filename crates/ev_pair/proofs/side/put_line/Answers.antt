@@ -9,7 +9,7 @@ use Rattle.ev_concrete.specs.ConcreteRun.{noted}
 use Rattle.ev_concrete.specs.RunText.{shown_frames}
 use Rattle.ev_core.specs.Local.{optional}
 use Rattle.ev_io.proofs.Writes.{then_ok, first_failed, second_failed, ok_then, err_then, err_now}
-use Rattle.ev_pair.proofs.Shown.{turns_and_arrivals, arrival_shown, turn_shown, nothing_more}
+use Rattle.ev_pair.proofs.Shown.{no_stops, arrival_shown, acceptance_shown, turn_shown, nothing_more}
 use Rattle.ev_built.specs.Built.{line_is_built}
 use Rattle.ev_abstract.specs.Script.{is_line}
 use Rattle.ev_core.specs.Run.{IsRun}
@@ -17,7 +17,7 @@ use Rattle.ev_pair.specs.SideText.{shown_line}
 use Rattle.ev_pair.proofs.side.put_line.Goals as goal
 
 pub returns-in_default-line : goal.returns-in_default-line
-returns-in_default-line g c = absurd (turns_and_arrivals c.args.line.now c.requires.built c.in_default.not-Arrive c.in_default-line.not-Turn)
+returns-in_default-line g c = absurd (no_stops c.args.line.now c.requires.built c.in_default.not-Arrive c.in_default-1.not-Accept c.in_default-line.not-Turn)
 
 pub turn-turned-requires-clause-place : goal.turn-turned-requires-clause-place
 turn-turned-requires-clause-place g c = ltb-true c.in-Turn.p _ (ap (is_within _) (sym c.in-Turn.is) ∙ c.requires.within)
@@ -82,3 +82,15 @@ pub returns-in-Arrive-clause-ok : goal.returns-in-Arrive-clause-ok
 returns-in-Arrive-clause-ok g c image done r =
     nothing_more (g.K.Sink.taken c.args.sink.now) _
     (ap (shown_line c.args.frames c.args.mode image done) c.in-Arrive.is ∙ arrival_shown c.args.frames c.args.mode image done c.in-Arrive.p c.in-Arrive.key)
+
+pub accept_mail-requires : goal.accept_mail-requires
+accept_mail-requires g c = ltb-true c.in-Accept.p _ (ap (is_within _) (sym c.in-Accept.is) ∙ c.requires.within)
+
+pub returns-in-Accept-clause-run : goal.returns-in-Accept-clause-run
+returns-in-Accept-clause-run g c image done r is =
+    subst (λ l. IsRun c.args.mode image (done ++ l ∷ []) c.accept_mail.new.self) (sym c.in-Accept.is) (c.accept_mail.ensures.run c.args.mode image done r)
+
+pub returns-in-Accept-clause-ok : goal.returns-in-Accept-clause-ok
+returns-in-Accept-clause-ok g c image done r =
+    nothing_more (g.K.Sink.taken c.args.sink.now) _
+    (ap (shown_line c.args.frames c.args.mode image done) c.in-Accept.is ∙ acceptance_shown c.args.frames c.args.mode image done c.in-Accept.p)

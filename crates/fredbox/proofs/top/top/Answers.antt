@@ -2,7 +2,7 @@ use Rattle.std.proofs.Common.{subst}
 use Rattle.ev_command.specs.declared.command.Command.{Command}
 use Rattle.fredbox.specs.Answer.{comes_of}
 use Rattle.fredbox.proofs.AnswerLaws.{answered, same_command}
-use Rattle.fredbox.proofs.Safe.{all_calls_are_kept, frames_are_safe}
+use Rattle.fredbox.proofs.Safe.{all_calls_are_kept, all_chains_are_kept, frames_are_safe}
 use Rattle.fredbox.proofs.top.top.Goals as goal
 
 pub returns-in-Ok-Some-clause-usage : goal.returns-in-Ok-Some-clause-usage
@@ -25,6 +25,15 @@ returns-in-Ok-None-clause-safe g c = frames_are_safe
 
 pub returns-in-Err-clause-safe : goal.returns-in-Err-clause-safe
 returns-in-Err-clause-safe g c = frames_are_safe
+
+pub returns-in-Ok-Some-clause-chains : goal.returns-in-Ok-Some-clause-chains
+returns-in-Ok-Some-clause-chains g c = all_chains_are_kept
+
+pub returns-in-Ok-None-clause-chains : goal.returns-in-Ok-None-clause-chains
+returns-in-Ok-None-clause-chains g c = all_chains_are_kept
+
+pub returns-in-Err-clause-chains : goal.returns-in-Err-clause-chains
+returns-in-Err-clause-chains g c = all_chains_are_kept
 
 pub returns-in-Ok-Some-clause-calls : goal.returns-in-Ok-Some-clause-calls
 returns-in-Ok-Some-clause-calls g c = all_calls_are_kept

@@ -22,3 +22,10 @@ returns-clause-run c mode image script h =
     let within = subst (λ k. c.args.p < k) h.at.shows.processors c.requires.place in
     let has = c.requires.body mode image _ (run image script) (as_run mode image script _ h c.args.p c.requires.place) in
     arrived_run mode image c.args.p c.args.v within c.requires.vector c.ranges.v.fits has script _ r _ (c.arrive.ensures.shows _ _ r.at.shows)
+
+pub returns-clause-arrives : goal.returns-clause-arrives
+returns-clause-arrives c mode image s m h =
+    let so : IsStandingAs mode image s m (the_view c.self.inside) = subst (λ v. IsStandingAs mode image s m v) (sym c.self.view_is) h in
+    let within = subst (λ k. c.args.p < k) h.at.shows.processors c.requires.place in
+    let has = c.requires.body mode image s m h in
+    arrived_stands mode image c.args.p c.args.v within c.requires.vector c.ranges.v.fits has s m _ so _ (c.arrive.ensures.shows _ _ so.at.shows)
