@@ -159,10 +159,10 @@ fred_crossing = refl
 
 -- ---- a call to oneself
 
-unfoldable pub to_oneself : KernelImage
+unfoldable to_oneself : KernelImage
 to_oneself = calling (body Key.Sys User (Item.Call 2 0 0 12 ∷ Item.Kick 0 12 ∷ Item.Sti ∷ Item.Wait 2 ∷ Item.Cli ∷ Item.Ret ∷ []))
 
-unfoldable pub to_oneself_script : List Line
+unfoldable to_oneself_script : List Line
 to_oneself_script = turns 0 6 ++ Accept 0 ∷ turns 0 9
 
 to_oneself_kept : rules to_oneself ≡ None
@@ -183,10 +183,10 @@ abbrev calls_of : List ℕ → List Item
 calls_of [] = Item.Ret ∷ []
 calls_of (k ∷ ks) = Item.Call k 1 0 12 ∷ Item.Kick 1 12 ∷ calls_of ks
 
-unfoldable pub all_sites : KernelImage
+unfoldable all_sites : KernelImage
 all_sites = calling (body Key.Sys User (calls_of (numbers_from 0 8)))
 
-unfoldable pub all_sites_script : List Line
+unfoldable all_sites_script : List Line
 all_sites_script = turns 0 18 ++ Accept 1 ∷ turns 1 4 ++ turns 0 5 ++ turns 1 3 ++ turns 0 4
 
 all_sites_kept : rules all_sites ≡ None
@@ -203,7 +203,7 @@ fred_all_sites = refl
 
 -- ---- two `take`s in a row with nothing to take; then a function that calls and waits, between `take` and `finish`
 
-unfoldable pub within_function : KernelImage
+unfoldable within_function : KernelImage
 within_function = record {
   processors = 2;
   nest = 2;
@@ -222,7 +222,7 @@ within_function = record {
       } ∷ []);
 }
 
-unfoldable pub within_function_script : List Line
+unfoldable within_function_script : List Line
 within_function_script = Arrive 1 (Key.Irq 0xfb) ∷ turns 1 2 ++ Arrive 1 (Key.Irq 0xfb) ∷ turns 1 5 ++ turns 0 4 ++ Accept 1 ∷ turns 1 6
     ++ Accept 0 ∷ turns 0 8 ++ turns 1 3 ++ turns 0 2
 
