@@ -33,5 +33,4 @@ mod FramesOverNoLiveWord
 mod AgreementOfMachines
 mod ShownEntries
 mod CallsOnBothMachines
-mod PlacesOfCallRecords
 mod PlacesOfInstructions

@@ -18,7 +18,16 @@ fn words_of_a_record(rt: HostRuntime) {
         fetch: false,
     };
     // Site 3 of processor 1; the function's address and the link are no part of the view.
-    let words = [1, 0xffff_ffff_8202_0000, 0x77, 0x1234, 0x1_0000_0001, 5, 0x103, 6];
+    let words = [
+        1,
+        0xffff_ffff_8202_0000,
+        0x77,
+        0x1234,
+        0x1_0000_0001,
+        5,
+        0x103,
+        6,
+    ];
     let mut address = 0xffff_8880_0001_08c0;
     for word in words {
         assert_eq!(rt; mem.store(address, word, kernel), Ok(()));
@@ -42,6 +51,10 @@ fn words_of_a_record(rt: HostRuntime) {
         arg: 0,
     };
     for (from, site) in [(1, 2), (1, 4), (0, 3), (31, 7)] {
-        assert_eq!(rt; call_view(&mem, from, site), untouched, "site {site} of {from}");
+        assert_eq!(rt;
+            call_view(&mem, from, site),
+            untouched,
+            "site {site} of {from}"
+        );
     }
 }
