@@ -20,7 +20,7 @@ use Rattle.ev_concrete.specs.ConcreteRun.{System, marks_of, accept_mail, concret
 use Rattle.ev_concrete.specs.Depth.{bodies_on}
 use Rattle.ev_built.specs.Built.{line_is_built}
 use Rattle.ev_relation.specs.Relation.{InboxIs}
-use Rattle.ev_refine.proofs.Opens.{no_vector}
+use Rattle.ev_relation.proofs.NoVectors.{no_vector}
 use Rattle.ev_refine.proofs.Refine.{acceptances_stand}
 use Rattle.ev_core.specs.Local.{accepted}
 use Rattle.ev_core.specs.Mail.{HasNoMail}

@@ -235,13 +235,27 @@ low_windows Fred (InFred (FromUser way)) h = refl
 low_windows Fred (InFred FromKernel) h = refl
 low_windows Fred (InFred (fred.Leaves FredToTask)) h = refl
 low_windows Fred (InFred (fred.Leaves FredToKernel)) h = refl
-low_windows Fred (InBody FredFrame s) h = refl
+low_windows Fred (InBody FredFrame AtTable) h = refl
+low_windows Fred (InBody FredFrame AtJump) h = refl
+low_windows Fred (InBody FredFrame AtItem) h = refl
+low_windows Fred (InBody FredFrame (AtNumber n)) h = refl
+low_windows Fred (InBody FredFrame (AtNumbers rcx rax rdx)) h = refl
+low_windows Fred (InBody FredFrame AtUserWord) h = refl
+low_windows Fred (InBody FredFrame (AtPageWord is_page)) h = refl
+low_windows Fred (InBody FredFrame BehindSti) h = refl
 low_windows Idt (InIdt Sys) h = refl
 low_windows Idt (InIdt (Stub o has v)) h = refl
 low_windows Idt (InIdt (Common o pf)) h = refl
 low_windows Idt (InIdt (idt.Leaves (IdtToTask by))) h = refl
 low_windows Idt (InIdt (idt.Leaves IdtToKernel)) h = refl
-low_windows Idt (InBody IdtFrame s) h = refl
+low_windows Idt (InBody IdtFrame AtTable) h = refl
+low_windows Idt (InBody IdtFrame AtJump) h = refl
+low_windows Idt (InBody IdtFrame AtItem) h = refl
+low_windows Idt (InBody IdtFrame (AtNumber n)) h = refl
+low_windows Idt (InBody IdtFrame (AtNumbers rcx rax rdx)) h = refl
+low_windows Idt (InBody IdtFrame AtUserWord) h = refl
+low_windows Idt (InBody IdtFrame (AtPageWord is_page)) h = refl
+low_windows Idt (InBody IdtFrame BehindSti) h = refl
 low_windows mode _ h = let clash : false ≡ true = h in absurd (cc)
 
 -- few edges are left at each
