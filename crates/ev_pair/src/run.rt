@@ -1,6 +1,6 @@
 // Runs of scripts.
 
-ghost use Rattle.std.specs.Prelude.{◌≡◌, ◌<◌, ◌≤◌, ◌^◌, true, [], ◌∷◌, length, OnOk, OnErr};
+ghost use Rattle.std.specs.Prelude.{◌≡◌, ◌<◌, ◌≤◌, ◌^◌, true, [], ◌∷◌, length, Err, OnOk, OnErr};
 ghost use Rattle.std.specs.List.{list_all};
 ghost use Rattle.std.specs.Io.KnownBytes.{append_known};
 ghost use Rattle.ev_isa.specs.declared.mode.Mode.{Mode};
@@ -15,6 +15,7 @@ ghost use Rattle.ev_pair.specs.Modes.{all_built, modes_of};
 ghost use Rattle.ev_pair.specs.Outcome.{OnWriteFault};
 ghost use Rattle.ev_pair.specs.Safety.{RunIsSafe};
 ghost use Rattle.ev_pair.specs.Within.{is_within};
+ghost use Rattle.ev_pair.specs.declared.fault.RunFault.{RunFault};
 
 use crate::fault::RunFault;
 use crate::modes::Modes;
@@ -112,6 +113,7 @@ fn run_one<L: Ledger, K: Sink>(
     ensures failed { OnErr result
         (TookPrefix (K.taken sink.old) (K.taken sink.new)
         (run_text accepted.now.image script.now (mode ∷ []) frames)) }
+    ensures unwritten { result ≡ Err RunFault.NoMemory → sink.new ≡ sink.old }
     ensures later { K.faults sink.old ≤ K.faults sink.new }
     ensures cause { OnWriteFault result (Rose (K.faults sink.old) (K.faults sink.new)) }
 {
@@ -144,6 +146,7 @@ fn run_both<L: Ledger, K: Sink>(
     ensures failed { OnErr result
         (TookPrefix (K.taken sink.old) (K.taken sink.new)
         (run_text accepted.now.image script.now (Idt ∷ Fred ∷ []) frames)) }
+    ensures unwritten { result ≡ Err RunFault.NoMemory → sink.new ≡ sink.old }
     ensures later { K.faults sink.old ≤ K.faults sink.new }
     ensures cause { OnWriteFault result (Rose (K.faults sink.old) (K.faults sink.new)) }
 {
@@ -180,6 +183,7 @@ fn run_counted<L: Ledger, K: Sink>(
     ensures failed { OnErr result
         (TookPrefix (K.taken sink.old) (K.taken sink.new)
         (run_text accepted.now.image script.now (modes_of modes) frames)) }
+    ensures unwritten { result ≡ Err RunFault.NoMemory → sink.new ≡ sink.old }
     ensures later { K.faults sink.old ≤ K.faults sink.new }
     ensures cause { OnWriteFault result (Rose (K.faults sink.old) (K.faults sink.new)) }
 {
@@ -221,6 +225,7 @@ pub fn run_modes<K: Sink>(
         (TookPrefix (K.taken sink.old) (K.taken sink.new)
         (run_text accepted.now.image script.now (modes_of modes) frames)) }
     ensures safe { (mode : Mode) → RunIsSafe mode accepted.now.image script.now }
+    ensures unwritten { result ≡ Err RunFault.NoMemory → sink.new ≡ sink.old }
     ensures later { K.faults sink.old ≤ K.faults sink.new }
     ensures cause { OnWriteFault result (Rose (K.faults sink.old) (K.faults sink.new)) }
 {

@@ -9,11 +9,11 @@ use Rattle.ev_isa.specs.Spelling.{spelling, four_bytes}
 use Rattle.ev_isa.specs.Word.{displaced, is_canonical}
 use Rattle.ev_isa.specs.declared.mode.Mode.{Mode}
 use Rattle.ev_isa.specs.declared.mode.Mode.TheVariants.{Idt, Fred}
-use Rattle.ev_isa.specs.declared.instruction.Ins.TheVariants.{GsStore, Jmp}
+use Rattle.ev_isa.specs.declared.instruction.Ins.TheVariants.{Jmp}
 use Rattle.ev_body.specs.declared.key.Key.{Key}
 use Rattle.ev_body.specs.declared.key.Key.TheVariants.{Nmi}
 use Rattle.ev_body.specs.declared.item.Item.{Item}
-use Rattle.ev_body.specs.declared.item.Item.TheVariants.{Log, Ret}
+use Rattle.ev_body.specs.declared.item.Item.TheVariants.{Ret}
 use Rattle.ev_body.specs.declared.body.Body.{Body}
 use Rattle.ev_body.specs.declared.image.Image.{Image}
 use Rattle.ev_body.specs.Bodies.{key_number, body_items}
@@ -169,13 +169,6 @@ module _ (mode : Mode) (image : Image) where
       where
         low : (a : ℕ) → (0xffffffff82000000 ≤ a) × (a ≤ 0xffffffff82800000) → (is_canonical a ≡ true) × (a + 16 < 2 ^ 64)
         low a r = let r0 = r.0 in let r1 = r.1 in (canonical a (omega arith) (omega arith), omega arith)
-
-    pub log_stands : (n i s : ℕ) (b : Body) → slice_get image.bodies n ≡ Some b → slice_get (body_items b) i ≡ Some (Log s)
-        → code_table mode image (item_address mode n b i) ≡ Some (record { ins = GsStore (pos 0x28) s; next = item_address mode n b (suc i); mark = true })
-    unfolding expansion size spelling four_bytes
-    log_stands n i s b h k =
-        (item_stands n i b (Log s) h k).0 ∙ ap (λ (a : ℕ). Some (record { ins = GsStore (pos 0x28) s; next = a; mark = true }))
-        (let e : item_address mode n b i + 9 ≡ item_address mode n b (suc i) = omega (arith, next_address n i b (Log s) k) in e)
 
     pub ret_stands : (n i : ℕ) (b : Body) → slice_get image.bodies n ≡ Some b → slice_get (body_items b) i ≡ Some Ret
         → RetCell (code_table mode image) (item_address mode n b i) (exit_address mode b.key)

@@ -1,14 +1,14 @@
 -- The code of an image in a mode as a table.
-use Rattle.std.specs.Prelude.{◌≡◌, ℤ, ℕ, pos, suc, ◌+◌, ◌^◌, ◌≤◌, ◌<◌, Bool, true, false, not, List, [], ◌∷◌, ◌++◌, length, Some, slice_get}
+use Rattle.std.specs.Prelude.{◌≡◌, ℤ, ℕ, suc, ◌+◌, ◌^◌, ◌≤◌, ◌<◌, Bool, true, false, not, List, [], ◌∷◌, ◌++◌, length, Some, slice_get}
 use Rattle.std.specs.List.{list_all}
 use Rattle.ev_isa.specs.Word.{displaced, is_canonical}
-use Rattle.ev_isa.specs.declared.instruction.Ins.TheVariants.{GsStore, Jmp}
+use Rattle.ev_isa.specs.declared.instruction.Ins.TheVariants.{Jmp}
 use Rattle.ev_isa.specs.declared.mode.Mode.{Mode}
 use Rattle.ev_isa.specs.declared.mode.Mode.TheVariants.{Idt, Fred}
 use Rattle.ev_body.specs.declared.key.Key.{Key}
 use Rattle.ev_body.specs.declared.key.Key.TheVariants.{Nmi}
 use Rattle.ev_body.specs.declared.item.Item.{Item}
-use Rattle.ev_body.specs.declared.item.Item.TheVariants.{Log, Call, Ret}
+use Rattle.ev_body.specs.declared.item.Item.TheVariants.{Call, Ret}
 use Rattle.ev_body.specs.declared.body.Body.{Body}
 use Rattle.ev_body.specs.declared.image.Image.{Image}
 use Rattle.ev_body.specs.Bodies.{key_number, body_items}
@@ -121,12 +121,6 @@ OwnLabelsArePlaced = (mode : Mode) (image : Image) → IsImage image → (n i : 
 -- the exits stand where they stand without bodies
 abbrev pub ExitsArePlaced : Type 0
 ExitsArePlaced = (mode : Mode) (image : Image) (key : Key) → place (places_of mode image) (exit_of mode key) ≡ exit_address mode key
-
--- `log` is its marked store to the port
-abbrev pub LogStands : Type 0
-LogStands = (mode : Mode) (image : Image) → IsImage image → (n i s : ℕ) (b : Body) → slice_get image.bodies n ≡ Some b
-    → item_at (Some b) i ≡ Some (Log s)
-    → code_table mode image (item_address mode n b i) ≡ Some (record { ins = GsStore (pos 0x28) s; next = item_address mode n b (suc i); mark = true })
 
 -- `ret` is a jump to the exit of its body's key
 abbrev pub RetStands : Type 0

@@ -2,7 +2,7 @@
 //! the items of bodies, and which cells the abstract machine sees.
 #![tactic(auto)]
 
-ghost use Rattle.ev_table.specs.Table.{KernelStands, CellsAreSpaced, ItemsStand, ItemsAreMarked, ItemsFollow, ItemLabelsArePlaced, OwnLabelsArePlaced, ExitsArePlaced, LogStands, RetStands, OthersHaveOneExit, BodiesBeginWithItems, ItemsAreCanonical, CellsAreMarked, MarkedCellsAreSeen};
+ghost use Rattle.ev_table.specs.Table.{KernelStands, CellsAreSpaced, ItemsStand, ItemsAreMarked, ItemsFollow, ItemLabelsArePlaced, OwnLabelsArePlaced, ExitsArePlaced, RetStands, OthersHaveOneExit, BodiesBeginWithItems, ItemsAreCanonical, CellsAreMarked, MarkedCellsAreSeen};
 
 /// In both modes, for every image: the kernel's cells stand in the table, the cells of each item
 /// stand at its address with its marks, and an address is marked where its cell is. Own.
@@ -15,7 +15,6 @@ pub fn table()
     ensures labels { ItemLabelsArePlaced }
     ensures own_labels { OwnLabelsArePlaced }
     ensures placed { ExitsArePlaced }
-    ensures logs { LogStands }
     ensures rets { RetStands }
     ensures exits { OthersHaveOneExit }
     ensures first_items { BodiesBeginWithItems }

@@ -22,7 +22,6 @@ returns c = record {
   labels = λ mode image given n i b h l. labels_placed mode image given n i b h l;
   own_labels = λ mode image given n i b item c cs off high h l found. own_labels_placed mode image i c cs high item off given n b h l found;
   placed = λ mode image key. whole.exit_is_there mode image key;
-  logs = λ mode image given n i s b h k. whole.log_stands mode image given n i s b h k;
   rets = λ mode image given n i b h k. whole.ret_stands mode image given n i b h k;
   exits = λ mode key h. whole.exit_of_others mode key h;
   first_items = λ mode n b. whole.first_item mode n b;
