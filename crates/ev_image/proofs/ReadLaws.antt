@@ -3,8 +3,8 @@ use Rattle.std.proofs.Common.{◌≡◌, ℕ, suc, ◌+◌, ◌≤◌, Bool, tru
 use Rattle.ev_body.specs.KernelImage.{KernelImage}
 use Rattle.ev_io.specs.declared.cause.Cause.{Cause}
 use Rattle.ev_io.specs.declared.lines.LineFault.{LineFault}
-use Rattle.ev_io.specs.Transfer.{Rose}
-use Rattle.ev_io.specs.Lines.{Reading, OnReadFault}
+use Rattle.ev_io.specs.Lines as byte_lines
+use Rattle.ev_io.specs.Lines.{Reading}
 use Rattle.ev_io.specs.InputLines.{ByteFault, TooLarge, TooLong, NotAscii, lines_of, text_of, line_fault, joined, Next, Says, Ends, Faulty, next_said, Skips}
 use Rattle.ev_io.specs.Tokens.{tokens_of, is_passed_over}
 use Rattle.ev_io.specs.Follow.{cause_of, tokens_follow, line_follows, read, Stands}
@@ -12,7 +12,7 @@ use Rattle.ev_io.proofs.NextLaws.{over_first, said_first, fault_first}
 use Rattle.ev_io.proofs.StandLaws.{stands_part}
 use Rattle.ev_image.specs.declared.head.Head.{Head}
 use Rattle.ev_image.specs.Head.{head_follows}
-use Rattle.ev_image.specs.Reads.{Opened, image_in, opened, fault_of, ReadsImage, OnRead}
+use Rattle.ev_image.specs.Reads.{Opened, image_in, opened, fault_of, ReadsImage, CountsRead}
 
 -- ---- nothing follows the line `script` but lines that are passed over
 
@@ -200,9 +200,10 @@ script_line old bytes now rest s new rest' n image o p k e = (
       ∙ ap (λ (m : ℕ). Ok (record { image = image; lines = m; bytes = new.gone; behind = lines_of k.0 })) (sym k.2),
 )
 
-pub read_cause : (U : Type 0) (x : LineFault) (a b c : ℕ) → a ≤ b → OnReadFault {T = Option ℕ} (Err x) (Rose b c) → OnRead {T = U} (Err (fault_of x))
-    (Rose a c)
-read_cause U LineFault.ReadFault a b c h k = omega (arith, h, k)
-read_cause U (LineFault.TooLarge n) a b c h k = tt
-read_cause U (LineFault.TooLong n) a b c h k = tt
-read_cause U (LineFault.NotAscii n m) a b c h k = tt
+-- the fault is counted behind lines that were read
+pub read_counts : (U : Type 0) (x : LineFault) (a b c : ℕ) → b ≡ a → byte_lines.CountsRead {T = Option ℕ} b c (Err x)
+    → CountsRead {T = U} a c (Err (fault_of x))
+read_counts U LineFault.ReadFault a b c h k = omega (arith, h, k)
+read_counts U (LineFault.TooLarge n) a b c h k = k ∙ h
+read_counts U (LineFault.TooLong n) a b c h k = k ∙ h
+read_counts U (LineFault.NotAscii n m) a b c h k = k ∙ h

@@ -4,6 +4,7 @@ use Rattle.ev_body.specs.KernelImage.{KernelImage}
 use Rattle.ev_io.specs.declared.cause.Cause.{Cause}
 use Rattle.ev_io.specs.declared.lines.LineFault.{LineFault}
 use Rattle.ev_io.specs.Lines.{Reading}
+use Rattle.ev_io.specs.Transfer.{Rose}
 use Rattle.ev_io.specs.Tokens.{Token}
 use Rattle.ev_io.specs.InputLines.{lines_of}
 use Rattle.ev_io.specs.Follow.{line_follows, FollowsPart}
@@ -60,7 +61,7 @@ ReadsImage old bytes new rest (Err (ImageFault.BadLine n cause)) = opened old.nu
 ReadsImage old bytes new rest (Err ImageFault.Read) = FollowsPart head_follows old Head.Image bytes new rest
 ReadsImage old bytes new rest (Err ImageFault.NoMemory) = Unit {0}
 
--- a fault of reading has its cause
-abbrev pub OnRead : {T : Type 0} → Result T ImageFault → Type 0 → Type 0
-OnRead (Err ImageFault.Read) P = P
-OnRead _ P = Unit {0}
+-- a fault of reading is counted, and with any other answer none is
+abbrev pub CountsRead : {T : Type 0} → ℕ → ℕ → Result T ImageFault → Type 0
+CountsRead before now (Err ImageFault.Read) = Rose before now
+CountsRead before now _ = now ≡ before

@@ -2,12 +2,12 @@
 
 ghost use Rattle.std.specs.Prelude.{◌≡◌, ◌≤◌, ℕ, List, [], Some, IfOk};
 ghost use Rattle.ev_body.specs.WellFormed.{IsImage};
-ghost use Rattle.ev_io.specs.Transfer.{Draws, Rose};
+ghost use Rattle.ev_io.specs.Transfer.{Draws};
 ghost use Rattle.ev_io.specs.Lines.{coming, drawn};
 ghost use Rattle.ev_io.specs.Tokens.{tokens_of};
 ghost use Rattle.ev_text.specs.UserText.{Comes};
 ghost use Rattle.ev_image.specs.Head.{head_follows};
-ghost use Rattle.ev_image.specs.Reads.{OnRead, Reached, ReadsImage, fault_of};
+ghost use Rattle.ev_image.specs.Reads.{CountsRead, Reached, ReadsImage, fault_of};
 ghost use Rattle.ev_image.specs.declared.head.Head.TheVariants as Head;
 
 use crate::draft::Draft;
@@ -63,7 +63,7 @@ fn read_draft<S: Source>(alloc: Global, lines: &mut Lines, src: &mut S) -> Resul
     ensures most { drawn lines.new ≤ 8388609 }
 
     ensures later { S.faults src.old ≤ S.faults src.new }
-    ensures cause { OnRead result (Rose (S.faults src.old) (S.faults src.new)) }
+    ensures cause { CountsRead (S.faults src.old) (S.faults src.new) result }
 {
     let mut head = Head::Image;
     loop {
@@ -124,7 +124,7 @@ pub fn read_image<S: Source>(
     ensures most { drawn lines.new ≤ 8388609 }
 
     ensures later { S.faults src.old ≤ S.faults src.new }
-    ensures cause { OnRead result (Rose (S.faults src.old) (S.faults src.new)) }
+    ensures cause { CountsRead (S.faults src.old) (S.faults src.new) result }
 {
     match read_draft(alloc, lines, src) {
         Ok(draft) => Ok(image_of(draft)),

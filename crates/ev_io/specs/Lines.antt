@@ -3,6 +3,7 @@ use Rattle.std.specs.Prelude.{◌≡◌, ◌<◌, ◌≤◌, ◌⊎◌, ℕ, ◌
 use Rattle.std.specs.List.{prefix_len}
 use Rattle.std.specs.Option.{option_map}
 use Rattle.std.specs.Io.KnownBytes.{prepend_known}
+use Rattle.ev_io.specs.Transfer.{Rose}
 use Rattle.ev_io.specs.declared.lines.LineFault.{LineFault}
 use Rattle.ev_io.specs.declared.lines.LineFault.TheVariants.{ReadFault, TooLong, TooLarge, NotAscii}
 
@@ -82,10 +83,10 @@ Numbers old new (Ok (Some n)) = (n ≡ old + 1) × (new ≡ old + 1)
 Numbers old new (Ok None) = new ≡ old
 Numbers old new (Err f) = new ≡ old
 
--- a fault of reading has its cause
-abbrev pub OnReadFault : {T : Type 0} → Result T LineFault → Type 0 → Type 0
-OnReadFault (Err ReadFault) P = P
-OnReadFault _ P = Unit {0}
+-- a fault of reading is counted, and with any other answer none is
+abbrev pub CountsRead : {T : Type 0} → ℕ → ℕ → Result T LineFault → Type 0
+CountsRead before now (Err ReadFault) = Rose before now
+CountsRead before now _ = now ≡ before
 
 -- a line and a line feed and the rest are the bytes, or a last line that lacks the line feed is
 pub record IsFirstLine (line rest bytes : List ℕ) : Type 0 where

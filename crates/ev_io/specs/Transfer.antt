@@ -7,6 +7,10 @@ use Rattle.std.specs.Io.KnownBytes.{prepend_known, append_known}
 abbrev pub Rose : ℕ → ℕ → Type 0
 Rose before now = min (before + 1) (2 ^ 64 - 1) ≤ now
 
+-- a call that failed counts a fault, and one that did not counts none
+abbrev pub Counts : {T E : Type 0} → ℕ → ℕ → Result T E → Type 0
+Counts before now r = MatchResult r (λ _. now ≡ before) (λ _. Rose before now)
+
 -- at Ok(n) the first n bytes left stand at the buffer's start and are no longer left; at Err none is gone
 abbrev pub Reads : {E : Type 0} → Option (List ℕ) → Option (List ℕ) → List ℕ → Result ℕ E → Type 0
 Reads old new buf r = MatchResult r (λ n. old ≡ prepend_known (take n buf) new) (λ _. new ≡ old)

@@ -1,8 +1,8 @@
 // Bytes that were read and not yet given.
 
-ghost use Rattle.std.specs.Prelude.{◌≡◌, ◌≤◌, ◌<◌, length, OnErr, IfOk, [], ◌∷◌, true, false, IsTrue, ◌↔◌};
+ghost use Rattle.std.specs.Prelude.{◌≡◌, ◌≤◌, ◌<◌, length, IfOk, [], ◌∷◌, true, false, IsTrue, ◌↔◌};
 ghost use Rattle.std.specs.Io.KnownBytes.{prepend_known, IsAtEnd};
-ghost use Rattle.ev_io.specs.Transfer.{Draws, Reads, Rose};
+ghost use Rattle.ev_io.specs.Transfer.{Counts, Draws, Reads};
 
 use crate::transfer::{Failed, Source};
 use std::alloc::{AllocError, Global};
@@ -65,7 +65,7 @@ impl Chunk {
         ensures end { IfOk result (λ more. more ≡ false
             → (self.new ≡ []) × IsAtEnd (S.left src.new)) }
         ensures later { S.faults src.old ≤ S.faults src.new }
-        ensures cause { OnErr result (Rose (S.faults src.old) (S.faults src.new)) }
+        ensures cause { Counts (S.faults src.old) (S.faults src.new) result }
     {
         self.at = 0;
         self.end = 0;
@@ -88,7 +88,7 @@ impl Chunk {
         ensures end { IfOk result (λ more. more ≡ false
             → (self.new ≡ []) × IsAtEnd (S.left src.new)) }
         ensures later { S.faults src.old ≤ S.faults src.new }
-        ensures cause { OnErr result (Rose (S.faults src.old) (S.faults src.new)) }
+        ensures cause { Counts (S.faults src.old) (S.faults src.new) result }
     {
         if !self.is_empty() {
             return Ok(true);
@@ -106,7 +106,7 @@ pub fn read_into<S: Source>(room: &mut [u8], most: u64, src: &mut S) -> Result<u
     ensures bytes { Reads (S.left src.old) (S.left src.new) room.new result }
     ensures end { IfOk result (λ n. n ≡ 0 → IsAtEnd (S.left src.old)) }
     ensures later { S.faults src.old ≤ S.faults src.new }
-    ensures cause { OnErr result (Rose (S.faults src.old) (S.faults src.new)) }
+    ensures cause { Counts (S.faults src.old) (S.faults src.new) result }
 {
     let most = most.min(room.len() as u64) as usize;
     src.read(&mut room[..most])

@@ -1,8 +1,8 @@
 // Lines from a source.
 
 ghost use Rattle.std.specs.Prelude.{◌≡◌, ◌≤◌, ◌<◌, ℕ, ◌+◌, length, [], true, false, IfOk, IfSome, IfNone, List, Some};
-ghost use Rattle.ev_io.specs.Transfer.{Draws, Rose};
-ghost use Rattle.ev_io.specs.Lines.{Answers, First, Gives, Numbers, OnReadFault, Stops, TakesLine, coming, drawn, outcomes};
+ghost use Rattle.ev_io.specs.Transfer.{Draws};
+ghost use Rattle.ev_io.specs.Lines.{Answers, CountsRead, First, Gives, Numbers, Stops, TakesLine, coming, drawn, outcomes};
 ghost use Rattle.ev_io.specs.InputLines.{Skips};
 ghost use Rattle.std.specs.Io.KnownBytes.{IsAtEnd};
 
@@ -84,7 +84,8 @@ impl Lines {
             (coming self.new.chunk (S.left src.new)) result }
         ensures number { Numbers self.old.number self.new.number result }
         ensures grew { IfOk result (λ o. IfSome o (λ _. self.old.gone < self.new.gone)) }
-        ensures none { IfOk result (λ o. IfNone o (self.new.gone ≡ self.old.gone)) }
+        ensures none { IfOk result (λ o. IfNone o ((self.new.gone ≡ self.old.gone)
+            × (self.new.text ≡ []))) }
 
         // at a fault the text is what was read of the line
         ensures stops { Stops result self.old.gone (coming self.old.chunk (S.left src.old))
@@ -96,7 +97,7 @@ impl Lines {
         ensures within { self.new.gone ≤ 8388608 }
 
         ensures later { S.faults src.old ≤ S.faults src.new }
-        ensures cause { OnReadFault result (Rose (S.faults src.old) (S.faults src.new)) }
+        ensures cause { CountsRead (S.faults src.old) (S.faults src.new) result }
     {
         self.text.clear();
         let number = self.number + 1;
@@ -117,6 +118,7 @@ impl Lines {
             → Skips self.old bytes self.new (coming self.new.chunk (S.left src.new)) result }
         ensures number { IfOk result (λ o. IfSome o (λ n. self.new.number ≡ n)) }
         ensures grew { IfOk result (λ o. IfSome o (λ _. self.old.gone < self.new.gone)) }
+        ensures none { IfOk result (λ o. IfNone o (self.new.text ≡ [])) }
 
         // bytes are read only as they are given or kept, up to byte 8,388,609
         ensures draws { Draws (drawn self.old) (drawn self.new) (S.left src.old) (S.left src.new) }
@@ -124,7 +126,7 @@ impl Lines {
         ensures within { self.new.gone ≤ 8388608 }
 
         ensures later { S.faults src.old ≤ S.faults src.new }
-        ensures cause { OnReadFault result (Rose (S.faults src.old) (S.faults src.new)) }
+        ensures cause { CountsRead (S.faults src.old) (S.faults src.new) result }
     {
         loop {
             match self.next(src) {
@@ -146,7 +148,7 @@ impl Lines {
         self.number
     }
 
-    /// The line that was given last, without its line feed.
+    /// The line that was given last, without its line feed; nothing behind the last one.
     pub fn text(&self) -> &[u8]
         ensures { result.now ≡ self.now.text }
     {
@@ -175,14 +177,15 @@ fn read_line<S: Source>(
     ensures stops { Stops result gone.old (coming chunk.old (S.left src.old)) text.new gone.new
         (coming chunk.new (S.left src.new)) }
     ensures grew { IfOk result (λ found. found ≡ true → gone.old < gone.new) }
-    ensures none { IfOk result (λ found. found ≡ false → gone.new ≡ gone.old) }
+    ensures none { IfOk result (λ found. found ≡ false → (gone.new ≡ gone.old)
+        × (text.new ≡ [])) }
     ensures draws { Draws (gone.old + length chunk.old) (gone.new + length chunk.new)
         (S.left src.old) (S.left src.new) }
     ensures most { gone.new + length chunk.new ≤ 8388609 }
     ensures grows { gone.old ≤ gone.new }
     ensures within { gone.new ≤ 8388608 }
     ensures later { S.faults src.old ≤ S.faults src.new }
-    ensures cause { OnReadFault result (Rose (S.faults src.old) (S.faults src.new)) }
+    ensures cause { CountsRead (S.faults src.old) (S.faults src.new) result }
 {
     loop {
         match chunk.fill(INPUT_LIMIT + 1 - *gone, src) {

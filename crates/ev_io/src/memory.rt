@@ -1,7 +1,7 @@
 // A source and a sink in memory, whose calls fail where a list says so.
 
 ghost use Rattle.std.specs.Prelude.{◌≡◌, [], ◌<◌, ◌≤◌, ◌+◌, ◌-◌, ◌^◌, ℕ, Some, take, drop, length, min, Contains, IfOk, MatchResult, OnErr, IsOk, IsErr, ◌↔◌, ◌⊎◌, vec_len, vec_capacity};
-ghost use Rattle.ev_io.specs.Transfer.{Reads, Rose, Writes};
+ghost use Rattle.ev_io.specs.Transfer.{Counts, Reads, Writes};
 
 use crate::transfer::{Failed, Sink, Source, fail};
 
@@ -46,7 +46,7 @@ impl Source for MemSource {
         ensures end { IfOk result (λ n. n ≡ 0 → 0 < length buf.new
             → drop self.old.at self.old.bytes.items ≡ []) }
         ensures later { self.old.faults ≤ self.new.faults }
-        ensures cause { OnErr result (Rose self.old.faults self.new.faults) }
+        ensures cause { Counts self.old.faults self.new.faults result }
 
         ensures failing { IsErr result ↔ Contains self.old.fails.items self.old.calls }
         ensures most { IfOk result
@@ -55,7 +55,6 @@ impl Source for MemSource {
             (λ _. self.new.at ≡ self.old.at) }
         ensures calls { self.new.calls ≡ min (self.old.calls + 1) (2 ^ 64 - 1) }
         ensures fault { OnErr result (self.new.faults ≡ min (self.old.faults + 1) (2 ^ 64 - 1)) }
-        ensures no_fault { IfOk result (λ _. self.new.faults ≡ self.old.faults) }
         ensures same_bytes { self.new.bytes ≡ self.old.bytes }
         ensures same_fails { self.new.fails ≡ self.old.fails }
     {
@@ -95,15 +94,15 @@ impl Sink for MemSink {
             result }
         ensures some { 0 < length piece.now → IfOk result (λ n. 0 < n) }
         ensures later { self.old.faults ≤ self.new.faults }
-        ensures cause { OnErr result (Rose self.old.faults self.new.faults) }
+        ensures cause { Counts self.old.faults self.new.faults result }
 
         ensures failing { IsErr result
             ↔ (Contains self.old.fails.items self.old.calls
             ⊎ (vec_capacity self.old.taken < vec_len self.old.taken + length piece.now)) }
         ensures whole { IfOk result (λ n. n ≡ length piece.now) }
+        ensures room { vec_capacity self.old.taken ≤ vec_capacity self.new.taken }
         ensures calls { self.new.calls ≡ min (self.old.calls + 1) (2 ^ 64 - 1) }
         ensures fault { OnErr result (self.new.faults ≡ min (self.old.faults + 1) (2 ^ 64 - 1)) }
-        ensures no_fault { IfOk result (λ _. self.new.faults ≡ self.old.faults) }
         ensures same_fails { self.new.fails ≡ self.old.fails }
     {
         let fails = self.fails.contains(&self.calls);

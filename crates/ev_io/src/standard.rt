@@ -3,7 +3,7 @@
 
 ghost use Rattle.std.specs.Prelude.{◌≡◌, ◌≤◌, ◌<◌, ◌+◌, ◌-◌, ◌^◌, ⊤, min, length, IfOk, OnErr, None};
 ghost use Rattle.std.specs.Io.KnownBytes.{ReadConsumes, WriteAppends};
-ghost use Rattle.ev_io.specs.Transfer.{Reads, Rose, Writes};
+ghost use Rattle.ev_io.specs.Transfer.{Counts, Reads, Writes};
 
 use crate::transfer::{Failed, Sink, Source, fail};
 use std::io::{Read, Write};
@@ -36,12 +36,11 @@ impl<R: Read> Source for StdSource<R> {
         ensures bytes { Reads None None buf.new result }
         ensures end { IfOk result (λ n. n ≡ 0 → 0 < length buf.new → ⊤) }
         ensures later { self.old.faults ≤ self.new.faults }
-        ensures cause { OnErr result (Rose self.old.faults self.new.faults) }
+        ensures cause { Counts self.old.faults self.new.faults result }
 
         ensures told { ReadConsumes (R.remaining self.old.reader)
             (R.remaining self.new.reader) result buf.new }
         ensures fault { OnErr result (self.new.faults ≡ min (self.old.faults + 1) (2 ^ 64 - 1)) }
-        ensures no_fault { IfOk result (λ _. self.new.faults ≡ self.old.faults) }
     {
         match self.reader.read(buf) {
             Ok(n) => Ok(n),
@@ -79,13 +78,12 @@ impl<W: Write> Sink for StdSink<W> {
         ensures bytes { Writes None None piece.now result }
         ensures some { 0 < length piece.now → IfOk result (λ n. 0 < n) }
         ensures later { self.old.faults ≤ self.new.faults }
-        ensures cause { OnErr result (Rose self.old.faults self.new.faults) }
+        ensures cause { Counts self.old.faults self.new.faults result }
 
         ensures told { IfOk result
             (λ n. WriteAppends (W.contents self.old.writer) (W.contents self.new.writer) result
             piece.now) }
         ensures fault { OnErr result (self.new.faults ≡ min (self.old.faults + 1) (2 ^ 64 - 1)) }
-        ensures no_fault { IfOk result (λ _. self.new.faults ≡ self.old.faults) }
     {
         match self.writer.write(piece) {
             Ok(n) if n > 0 || piece.is_empty() => Ok(n),

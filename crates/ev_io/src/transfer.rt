@@ -1,8 +1,8 @@
 // A source and a sink of bytes.
 
-ghost use Rattle.std.specs.Prelude.{ℕ, ◌≡◌, ◌<◌, ◌≤◌, ◌+◌, ◌-◌, ◌^◌, min, List, Option, length, IfOk, OnErr};
+ghost use Rattle.std.specs.Prelude.{ℕ, ◌≡◌, ◌<◌, ◌≤◌, ◌+◌, ◌-◌, ◌^◌, min, List, Option, length, IfOk};
 ghost use Rattle.std.specs.Io.KnownBytes.{IsAtEnd};
-ghost use Rattle.ev_io.specs.Transfer.{Reads, Rose, Writes};
+ghost use Rattle.ev_io.specs.Transfer.{Counts, Reads, Writes};
 
 /// A read or a write failed, and moved no byte.
 #[derive(Clone, Copy, Debug, Drop, PartialEq, Eq)]
@@ -23,7 +23,7 @@ pub trait Source {
         ensures bytes { Reads (left self.old) (left self.new) buf.new result }
         ensures end { IfOk result (λ n. n ≡ 0 → 0 < length buf.new → IsAtEnd (left self.old)) }
         ensures later { faults self.old ≤ faults self.new }
-        ensures cause { OnErr result (Rose (faults self.old) (faults self.new)) };
+        ensures cause { Counts (faults self.old) (faults self.new) result };
 }
 
 /// Where bytes go. Own.
@@ -41,7 +41,7 @@ pub trait Sink {
         ensures bytes { Writes (taken self.old) (taken self.new) piece.now result }
         ensures some { 0 < length piece.now → IfOk result (λ n. 0 < n) }
         ensures later { faults self.old ≤ faults self.new }
-        ensures cause { OnErr result (Rose (faults self.old) (faults self.new)) };
+        ensures cause { Counts (faults self.old) (faults self.new) result };
 }
 
 /// Counts a fault, up to the count's last value.

@@ -1,6 +1,6 @@
 // Runs of scripts.
 
-ghost use Rattle.std.specs.Prelude.{◌≡◌, ◌<◌, ◌≤◌, ◌^◌, true, [], ◌∷◌, length, OnOk, OnErr};
+ghost use Rattle.std.specs.Prelude.{◌≡◌, ◌<◌, ◌≤◌, ◌^◌, true, [], ◌∷◌, length, Err, OnOk, OnErr};
 ghost use Rattle.std.specs.List.{list_all};
 ghost use Rattle.std.specs.Io.KnownBytes.{append_known};
 ghost use Rattle.ev_isa.specs.declared.mode.Mode.{Mode};
@@ -18,6 +18,7 @@ ghost use Rattle.ev_pair.specs.Modes.{all_built, modes_of};
 ghost use Rattle.ev_pair.specs.Outcome.{OnWriteFault};
 ghost use Rattle.ev_pair.specs.Safety.{RunIsSafe};
 ghost use Rattle.ev_pair.specs.Within.{is_within};
+ghost use Rattle.ev_pair.specs.declared.fault.RunFault.{RunFault};
 
 use crate::fault::RunFault;
 use crate::modes::Modes;
@@ -115,6 +116,7 @@ fn run_one<L: Ledger, K: Sink>(
     ensures failed { OnErr result
         (TookPrefix (K.taken sink.old) (K.taken sink.new)
         (run_text accepted.now.image script.now (mode ∷ []) frames)) }
+    ensures unwritten { result ≡ Err RunFault.NoMemory → sink.new ≡ sink.old }
     ensures later { K.faults sink.old ≤ K.faults sink.new }
     ensures cause { OnWriteFault result (Rose (K.faults sink.old) (K.faults sink.new)) }
 {
@@ -147,6 +149,7 @@ fn run_both<L: Ledger, K: Sink>(
     ensures failed { OnErr result
         (TookPrefix (K.taken sink.old) (K.taken sink.new)
         (run_text accepted.now.image script.now (Idt ∷ Fred ∷ []) frames)) }
+    ensures unwritten { result ≡ Err RunFault.NoMemory → sink.new ≡ sink.old }
     ensures later { K.faults sink.old ≤ K.faults sink.new }
     ensures cause { OnWriteFault result (Rose (K.faults sink.old) (K.faults sink.new)) }
 {
@@ -183,6 +186,7 @@ fn run_counted<L: Ledger, K: Sink>(
     ensures failed { OnErr result
         (TookPrefix (K.taken sink.old) (K.taken sink.new)
         (run_text accepted.now.image script.now (modes_of modes) frames)) }
+    ensures unwritten { result ≡ Err RunFault.NoMemory → sink.new ≡ sink.old }
     ensures later { K.faults sink.old ≤ K.faults sink.new }
     ensures cause { OnWriteFault result (Rose (K.faults sink.old) (K.faults sink.new)) }
 {
@@ -228,6 +232,7 @@ pub fn run_modes<K: Sink>(
     ensures safe { (mode : Mode) → RunIsSafe mode accepted.now.image script.now }
     ensures chains { KeepsChains accepted.now.image script.now }
     ensures calls { KeepsCalls (trace accepted.now.image script.now) }
+    ensures unwritten { result ≡ Err RunFault.NoMemory → sink.new ≡ sink.old }
     ensures later { K.faults sink.old ≤ K.faults sink.new }
     ensures cause { OnWriteFault result (Rose (K.faults sink.old) (K.faults sink.new)) }
 {

@@ -2,8 +2,8 @@
 use Rattle.std.proofs.Common.{◌≡◌, ℕ, ◌+◌, ◌≤◌, List, length, Option, Some, None, Result, Ok, Err, refl, ap, sym, ◌∙◌, arith}
 use Rattle.ev_io.specs.declared.cause.Cause.{Cause}
 use Rattle.ev_io.specs.declared.lines.LineFault.{LineFault}
-use Rattle.ev_io.specs.Transfer.{Rose}
-use Rattle.ev_io.specs.Lines.{Reading, OnReadFault}
+use Rattle.ev_io.specs.Lines as byte_lines
+use Rattle.ev_io.specs.Lines.{Reading}
 use Rattle.ev_io.specs.InputLines.{TooLarge, TooLong, NotAscii, lines_of, Ends, next_said, Skips}
 use Rattle.ev_io.specs.Tokens.{Token, tokens_of}
 use Rattle.ev_io.specs.Follow.{read, Stands}
@@ -14,7 +14,7 @@ use Rattle.ev_probe.specs.ProbeLine.{probe_line}
 use Rattle.ev_probe.specs.Told.{Told}
 use Rattle.ev_probe.specs.Probe.{report_text}
 use Rattle.ev_probe.specs.Answer.{told_of}
-use Rattle.ev_probe.specs.Input.{OnRead, Refuses, fault_of, follows, input_text, read_line, read_told, then_told, whole}
+use Rattle.ev_probe.specs.Input.{CountsRead, Refuses, fault_of, follows, input_text, read_line, read_told, then_told, whole}
 
 -- ---- what a line does
 
@@ -85,12 +85,13 @@ told_line n before lines l t h e = ap (then_told told_of) h ∙ ap (λ (x : Told
 
 -- ---- causes of faults of reading
 
-pub read_cause : (U : Type 0) (x : LineFault) (a b c : ℕ) → a ≤ b → OnReadFault {T = Option ℕ} (Err x) (Rose b c) → OnRead {T = U} (Err (fault_of x))
-    (Rose a c)
-read_cause U LineFault.ReadFault a b c h k = omega (arith, h, k)
-read_cause U (LineFault.TooLarge n) a b c h k = tt
-read_cause U (LineFault.TooLong n) a b c h k = tt
-read_cause U (LineFault.NotAscii n m) a b c h k = tt
+-- the fault is counted behind lines that were read
+pub read_counts : (U : Type 0) (x : LineFault) (a b c : ℕ) → b ≡ a → byte_lines.CountsRead {T = Option ℕ} b c (Err x)
+    → CountsRead {T = U} a c (Err (fault_of x))
+read_counts U LineFault.ReadFault a b c h k = omega (arith, h, k)
+read_counts U (LineFault.TooLarge n) a b c h k = k ∙ h
+read_counts U (LineFault.TooLong n) a b c h k = k ∙ h
+read_counts U (LineFault.NotAscii n m) a b c h k = k ∙ h
 
 -- ---- the text of an input
 

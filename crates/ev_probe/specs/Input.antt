@@ -3,6 +3,7 @@ use Rattle.std.specs.Prelude.{◌≡◌, ℕ, ◌+◌, List, length, Option, Som
 use Rattle.ev_io.specs.declared.cause.Cause.{Cause}
 use Rattle.ev_io.specs.declared.lines.LineFault.{LineFault}
 use Rattle.ev_io.specs.Lines.{Reading}
+use Rattle.ev_io.specs.Transfer.{Rose}
 use Rattle.ev_io.specs.InputLines.{lines_of}
 use Rattle.ev_io.specs.Tokens.{Token}
 use Rattle.ev_io.specs.Follow.{read, Stands, FollowsPart}
@@ -74,7 +75,7 @@ abbrev pub ReadsProbe : Reading → List ℕ → Reading → Option (List ℕ) �
 ReadsProbe old bytes new rest r =
     MatchResult r (λ x. read_told old.number old.gone (lines_of bytes) ≡ Ok (told x)) (Refuses old bytes new rest)
 
--- a fault of reading has its cause
-abbrev pub OnRead : {T : Type 0} → Result T InputFault → Type 0 → Type 0
-OnRead (Err InputFault.Read) P = P
-OnRead _ P = Unit {0}
+-- a fault of reading is counted, and with any other answer none is
+abbrev pub CountsRead : {T : Type 0} → ℕ → ℕ → Result T InputFault → Type 0
+CountsRead before now (Err InputFault.Read) = Rose before now
+CountsRead before now _ = now ≡ before

@@ -1,10 +1,10 @@
 // Reading the input of a probe.
 
 ghost use Rattle.std.specs.Prelude.{◌≡◌, ◌≤◌, ℕ, List, [], Some, true, IfOk};
-ghost use Rattle.ev_io.specs.Transfer.{Draws, Rose};
+ghost use Rattle.ev_io.specs.Transfer.{Draws};
 ghost use Rattle.ev_io.specs.Lines.{coming, drawn};
 ghost use Rattle.ev_probe.specs.ProbeLine.{is_allowed};
-ghost use Rattle.ev_probe.specs.Input.{OnRead, ReadsFirst, ReadsLine, ReadsProbe, fault_of};
+ghost use Rattle.ev_probe.specs.Input.{CountsRead, ReadsFirst, ReadsLine, ReadsProbe, fault_of};
 
 use crate::line::ProbeLine;
 use crate::probing::{ProbeFault, line_of, report_of};
@@ -51,7 +51,7 @@ fn first_line<S: Source>(
     ensures draws { Draws (drawn lines.old) (drawn lines.new) (S.left src.old) (S.left src.new) }
     ensures most { drawn lines.new ≤ 8388609 }
     ensures later { S.faults src.old ≤ S.faults src.new }
-    ensures cause { OnRead result (Rose (S.faults src.old) (S.faults src.new)) }
+    ensures cause { CountsRead (S.faults src.old) (S.faults src.new) result }
 {
     match lines.next_said(src) {
         Err(fault) => Err(fault_of(fault)),
@@ -78,7 +78,7 @@ fn only_line<S: Source>(
     ensures draws { Draws (drawn lines.old) (drawn lines.new) (S.left src.old) (S.left src.new) }
     ensures most { drawn lines.new ≤ 8388609 }
     ensures later { S.faults src.old ≤ S.faults src.new }
-    ensures cause { OnRead result (Rose (S.faults src.old) (S.faults src.new)) }
+    ensures cause { CountsRead (S.faults src.old) (S.faults src.new) result }
 {
     let line = first_line(alloc, lines, src)?;
     match lines.next_said(src) {
@@ -109,7 +109,7 @@ pub fn read_probe<S: Source>(
     ensures most { drawn lines.new ≤ 8388609 }
 
     ensures later { S.faults src.old ≤ S.faults src.new }
-    ensures cause { OnRead result (Rose (S.faults src.old) (S.faults src.new)) }
+    ensures cause { CountsRead (S.faults src.old) (S.faults src.new) result }
 {
     let line = only_line(alloc, lines, src)?;
     match report_of(alloc, &line) {

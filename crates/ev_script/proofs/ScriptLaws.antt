@@ -7,8 +7,8 @@ use Rattle.std.proofs.lemmas.Bool.Decides.{nat_tests}
 use Rattle.ev_body.specs.KernelImage.{KernelImage}
 use Rattle.ev_io.specs.declared.cause.Cause.{Cause}
 use Rattle.ev_io.specs.declared.lines.LineFault.{LineFault}
-use Rattle.ev_io.specs.Transfer.{Rose}
-use Rattle.ev_io.specs.Lines.{Reading, OnReadFault}
+use Rattle.ev_io.specs.Lines as byte_lines
+use Rattle.ev_io.specs.Lines.{Reading}
 use Rattle.ev_io.specs.InputLines.{TooLarge, TooLong, NotAscii, lines_of, Ends, next_said, Skips}
 use Rattle.ev_io.specs.Tokens.{Token, tokens_of}
 use Rattle.ev_io.specs.Follow.{read, Stands}
@@ -16,7 +16,7 @@ use Rattle.ev_io.proofs.StandLaws.{stands_refused, stands_faulty, stands_last, s
 use Rattle.ev_abstract.specs.Script.{IsScript, is_line}
 use Rattle.ev_abstract.specs.declared.script_line.Line.{Line}
 use Rattle.ev_script.specs.ScriptLine.{line_of_tokens}
-use Rattle.ev_script.specs.Script.{ends, said_by, said, one_more, Standing, Open, Ended, then_stands, follows, whole, read_script, fault_of, Refuses, OnRead}
+use Rattle.ev_script.specs.Script.{ends, said_by, said, one_more, Standing, Open, Ended, then_stands, follows, whole, read_script, fault_of, Refuses, CountsRead}
 use Rattle.ev_script.proofs.LineLaws.{first_tokens_tell}
 
 pub first_tokens_end : (ts : List Token) → ends (take 6 ts) ≡ ends ts
@@ -128,11 +128,13 @@ whole_script image old bytes now rest script new p k =
 
 -- ---- causes of faults of reading
 
-pub read_cause : (U : Type 0) (x : LineFault) (a b c : ℕ) → a ≤ b → OnReadFault {T = Option ℕ} (Err x) (Rose b c) → OnRead {T = U} (Err (fault_of x)) (Rose a c)
-read_cause U LineFault.ReadFault a b c h k = omega (arith, h, k)
-read_cause U (LineFault.TooLarge n) a b c h k = tt
-read_cause U (LineFault.TooLong n) a b c h k = tt
-read_cause U (LineFault.NotAscii n m) a b c h k = tt
+-- the fault is counted behind lines that were read
+pub read_counts : (U : Type 0) (x : LineFault) (a b c : ℕ) → b ≡ a → byte_lines.CountsRead {T = Option ℕ} b c (Err x)
+    → CountsRead {T = U} a c (Err (fault_of x))
+read_counts U LineFault.ReadFault a b c h k = omega (arith, h, k)
+read_counts U (LineFault.TooLarge n) a b c h k = k ∙ h
+read_counts U (LineFault.TooLong n) a b c h k = k ∙ h
+read_counts U (LineFault.NotAscii n m) a b c h k = k ∙ h
 
 pub more_formed : (image : KernelImage) (script : List Line) (line : Line) → IsScript image script → is_line image line ≡ true
     → IsScript image (script ++ line ∷ [])

@@ -5,6 +5,7 @@ use Rattle.ev_body.specs.KernelImage.{KernelImage}
 use Rattle.ev_io.specs.declared.cause.Cause.{Cause}
 use Rattle.ev_io.specs.declared.lines.LineFault.{LineFault}
 use Rattle.ev_io.specs.Lines.{Reading}
+use Rattle.ev_io.specs.Transfer.{Rose}
 use Rattle.ev_io.specs.InputLines.{lines_of}
 use Rattle.ev_io.specs.Tokens.{Token, is_empty}
 use Rattle.ev_io.specs.Follow.{read, Stands, FollowsPart}
@@ -88,7 +89,7 @@ abbrev pub ReadsToEnd : {A : Type 0} → KernelImage → Reading → List ℕ �
 ReadsToEnd image old bytes new rest r =
     MatchResult r (λ script. Stands (follows image) old (Open []) bytes new rest (Ended script.items)) (Refuses image old bytes new rest)
 
--- a fault of reading has its cause
-abbrev pub OnRead : {T : Type 0} → Result T ScriptFault → Type 0 → Type 0
-OnRead (Err ScriptFault.Read) P = P
-OnRead _ P = Unit {0}
+-- a fault of reading is counted, and with any other answer none is
+abbrev pub CountsRead : {T : Type 0} → ℕ → ℕ → Result T ScriptFault → Type 0
+CountsRead before now (Err ScriptFault.Read) = Rose before now
+CountsRead before now _ = now ≡ before

@@ -1,11 +1,11 @@
 // Reading scripts.
 
 ghost use Rattle.std.specs.Prelude.{◌≡◌, ◌≤◌, ◌<◌, ℕ, List, [], map, true, Some, IfOk, IfSome, vec_len};
-ghost use Rattle.ev_io.specs.Transfer.{Draws, Rose};
+ghost use Rattle.ev_io.specs.Transfer.{Draws};
 ghost use Rattle.ev_io.specs.Lines.{coming, drawn};
 ghost use Rattle.ev_io.specs.Tokens.{tokens_of};
 ghost use Rattle.ev_abstract.specs.Script.{IsScript, is_line};
-ghost use Rattle.ev_script.specs.Script.{OnRead, ReadsScript, ReadsToEnd, ends, fault_of, said};
+ghost use Rattle.ev_script.specs.Script.{CountsRead, ReadsScript, ReadsToEnd, ends, fault_of, said};
 
 use crate::line::line_of_tokens;
 use ev_abstract::Line;
@@ -102,7 +102,7 @@ fn read_to_end<S: Source>(
     ensures draws { Draws (drawn lines.old) (drawn lines.new) (S.left src.old) (S.left src.new) }
     ensures most { drawn lines.new ≤ 8388609 }
     ensures later { S.faults src.old ≤ S.faults src.new }
-    ensures cause { OnRead result (Rose (S.faults src.old) (S.faults src.new)) }
+    ensures cause { CountsRead (S.faults src.old) (S.faults src.new) result }
 {
     let mut script = Vec::new(alloc);
     loop {
@@ -146,7 +146,7 @@ pub fn read_lines<S: Source>(
     ensures most { drawn lines.new ≤ 8388609 }
 
     ensures later { S.faults src.old ≤ S.faults src.new }
-    ensures cause { OnRead result (Rose (S.faults src.old) (S.faults src.new)) }
+    ensures cause { CountsRead (S.faults src.old) (S.faults src.new) result }
 {
     let script = read_to_end(alloc, lines, src, image)?;
     match lines.next_said(src) {
@@ -179,7 +179,7 @@ pub fn read_script<S: Source>(
     ensures most { drawn lines.new ≤ 8388609 }
 
     ensures later { S.faults src.old ≤ S.faults src.new }
-    ensures cause { OnRead result (Rose (S.faults src.old) (S.faults src.new)) }
+    ensures cause { CountsRead (S.faults src.old) (S.faults src.new) result }
 {
     read_lines(alloc, lines, src, image.image())
 }

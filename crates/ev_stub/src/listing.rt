@@ -1,6 +1,6 @@
 // Lines at their addresses.
 
-ghost use Rattle.std.specs.Prelude.{[], ◌∷◌, ◌++◌, ◌≡◌, map, OnOk};
+ghost use Rattle.std.specs.Prelude.{[], ◌∷◌, ◌++◌, ◌≡◌, map, OnOk, OnErr};
 ghost use Rattle.ev_stub.specs.Lines.{marked_of, listings_of};
 
 use crate::line::Line;
@@ -22,8 +22,9 @@ pub fn add_listing(
     address: u64,
     lines: &[Line],
 ) -> Result<(), AllocError>
-    ensures { OnOk result (listings_of listings.new.items ≡ listings_of listings.old.items
+    ensures ok { OnOk result (listings_of listings.new.items ≡ listings_of listings.old.items
         ++ record { address = address; lines = map marked_of lines.now } ∷ []) }
+    ensures err { OnErr result (listings.new.items ≡ listings.old.items) }
 {
     let mut copied = Vec::new(alloc);
     copied.extend_from_slice(lines)?;

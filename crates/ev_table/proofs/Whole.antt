@@ -9,11 +9,11 @@ use Rattle.ev_isa.specs.Spelling.{spelling, four_bytes}
 use Rattle.ev_isa.specs.Word.{displaced, is_canonical}
 use Rattle.ev_isa.specs.declared.mode.Mode.{Mode}
 use Rattle.ev_isa.specs.declared.mode.Mode.TheVariants.{Idt, Fred}
-use Rattle.ev_isa.specs.declared.instruction.Ins.TheVariants.{GsStore, Jmp}
+use Rattle.ev_isa.specs.declared.instruction.Ins.TheVariants.{Jmp}
 use Rattle.ev_body.specs.declared.key.Key.{Key}
 use Rattle.ev_body.specs.declared.key.Key.TheVariants.{Nmi}
 use Rattle.ev_body.specs.declared.item.Item.{Item}
-use Rattle.ev_body.specs.declared.item.Item.TheVariants.{Log, Ret}
+use Rattle.ev_body.specs.declared.item.Item.TheVariants.{Ret}
 use Rattle.ev_body.specs.declared.body.Body.{Body}
 use Rattle.ev_body.specs.declared.image.Image.{Image}
 use Rattle.ev_body.specs.Bodies.{key_number, body_items}

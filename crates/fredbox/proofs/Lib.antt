@@ -1,4 +1,5 @@
 pub mod TakenLaws
 pub mod AnswerLaws
+pub mod FaultLaws
 pub mod ReadFormed
 pub mod Safe

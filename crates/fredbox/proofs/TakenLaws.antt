@@ -34,7 +34,7 @@ use Rattle.fredbox.specs.Taken.{Took, Wrote}
 took_text : (old new : Option (List ℕ)) (come : Comes) (text : Text) (s : Status) → come Done text → Wrote old new text s → Took old new come s
 took_text old new come text Done c w = (text, c, w)
 took_text old new come text WriteFault c w = (text, c, w)
-took_text old new come text NoMemory c w = inr (text, c, w)
+took_text old new come text NoMemory c w = w
 took_text old new come text ReadFault c w = absurd w
 took_text old new come text Usage c w = absurd w
 took_text old new come text (BadDocument n cause) c w = absurd w
@@ -121,4 +121,4 @@ probe_refused o bytes r new rest (InputFault.BadLine n cause) h e =
     let refused = refused_text bytes n cause (subst (λ (r : Reading). read_line r.number r.gone (lines_of bytes) ≡ Err (n, cause)) h e) in
     subst (λ x. Took o o (or_line x (Is Done)) (BadDocument n cause)) (sym refused) ((refl, refl), refl)
 probe_refused o bytes r new rest InputFault.Read h e = refl
-probe_refused o bytes r new rest InputFault.NoMemory h e = inl refl
+probe_refused o bytes r new rest InputFault.NoMemory h e = refl

@@ -1,4 +1,6 @@
--- The answers to faults of reading. Own.
+-- The answers to faults of reading, and the count of them. Own.
+use Rattle.std.specs.Prelude.{◌≡◌, ℕ}
+use Rattle.ev_io.specs.Transfer.{Rose}
 use Rattle.ev_image.specs.declared.reading.ImageFault.{ImageFault}
 use Rattle.ev_probe.specs.declared.input.InputFault.{InputFault}
 use Rattle.ev_script.specs.declared.reading.ScriptFault.{ScriptFault}
@@ -22,3 +24,8 @@ abbrev pub input_status : InputFault → Status
 input_status InputFault.Read = ReadFault
 input_status (InputFault.BadLine n cause) = BadDocument n cause
 input_status InputFault.NoMemory = NoMemory
+
+-- a fault of reading is counted where it is answered, and with any other answer none is
+abbrev pub CountsRead : ℕ → ℕ → Status → Type 0
+CountsRead before now ReadFault = Rose before now
+CountsRead before now _ = now ≡ before

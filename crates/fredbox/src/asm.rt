@@ -10,6 +10,7 @@ ghost use Rattle.ev_script.specs.Script.{read_script};
 ghost use Rattle.ev_status.specs.declared.status.Status.{Status};
 ghost use Rattle.fredbox.specs.Answer.{comes};
 ghost use Rattle.fredbox.specs.Broken.{ScriptBreaks};
+ghost use Rattle.fredbox.specs.Faults.{CountsRead};
 ghost use Rattle.fredbox.specs.Taken.{IsUnwritten, Took, Wrote};
 
 use crate::faults::script_status;
@@ -23,6 +24,7 @@ use std::alloc::Global;
 /// Writes the lines of an image's user text.
 fn write_text<K: Sink>(image: &Image, sink: &mut K) -> Status
     ensures wrote { Wrote (K.taken sink.old) (K.taken sink.new) (asm_text image.now) result }
+    ensures unwritten { IsUnwritten result → sink.new ≡ sink.old }
     ensures cause { result ≡ Status.WriteFault → Rose (K.faults sink.old) (K.faults sink.new) }
 {
     match put_user_text(image, sink) {
@@ -53,7 +55,7 @@ pub(crate) fn asm<S: Source, K: Sink>(
         (coming lines.new.chunk (S.left src.new)) }
     ensures draws { Draws (drawn lines.old) (drawn lines.new) (S.left src.old) (S.left src.new) }
     ensures most { drawn lines.new ≤ 8388609 }
-    ensures read { result ≡ Status.ReadFault → Rose (S.faults src.old) (S.faults src.new) }
+    ensures read { CountsRead (S.faults src.old) (S.faults src.new) result }
     ensures write { result ≡ Status.WriteFault → Rose (K.faults sink.old) (K.faults sink.new) }
     ensures command { result ≢ Status.Usage }
 {

@@ -9,6 +9,7 @@ ghost use Rattle.ev_script.specs.Script.{read_script};
 ghost use Rattle.ev_status.specs.declared.status.Status.{Status};
 ghost use Rattle.fredbox.specs.Answer.{bound_text, comes};
 ghost use Rattle.fredbox.specs.Broken.{ScriptBreaks};
+ghost use Rattle.fredbox.specs.Faults.{CountsRead};
 ghost use Rattle.fredbox.specs.Taken.{IsUnwritten, Took, Wrote};
 
 use crate::faults::script_status;
@@ -35,6 +36,7 @@ fn bound_line(bound: u8) -> ArrayString<64>
 /// Writes the line of an accepted image.
 fn write_bound<K: Sink>(bound: u8, sink: &mut K) -> Status
     ensures wrote { Wrote (K.taken sink.old) (K.taken sink.new) (bound_text bound) result }
+    ensures unwritten { IsUnwritten result → sink.new ≡ sink.old }
     ensures cause { result ≡ Status.WriteFault → Rose (K.faults sink.old) (K.faults sink.new) }
 {
     match put_all(sink, bound_line(bound).as_str().as_bytes()) {
@@ -64,7 +66,7 @@ pub(crate) fn check<S: Source, K: Sink>(
         (coming lines.new.chunk (S.left src.new)) }
     ensures draws { Draws (drawn lines.old) (drawn lines.new) (S.left src.old) (S.left src.new) }
     ensures most { drawn lines.new ≤ 8388609 }
-    ensures read { result ≡ Status.ReadFault → Rose (S.faults src.old) (S.faults src.new) }
+    ensures read { CountsRead (S.faults src.old) (S.faults src.new) result }
     ensures write { result ≡ Status.WriteFault → Rose (K.faults sink.old) (K.faults sink.new) }
     ensures command { result ≢ Status.Usage }
 {

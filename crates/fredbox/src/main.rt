@@ -1,6 +1,10 @@
 //! Runs a kernel image and a script as real bytes, and prints the handler trace.
 #![tactic(auto)]
 
+ghost use Rattle.std.specs.Prelude.{◌≡◌};
+ghost use Rattle.std.specs.Process.{exit_status};
+ghost use Rattle.ev_status.specs.FaultText.{exit_code};
+
 mod asm;
 mod check;
 mod faults;
@@ -44,16 +48,23 @@ fn run_program(rt: &HostRuntime) -> Status {
     top(alloc, &texts, &mut src, &mut sink)
 }
 
-fn main(rt: HostRuntime) -> ExitCode {
-    let status = run_program(&rt);
+/// Says on standard error what came of the call, and answers with its exit status, whether or not
+/// the line could be written.
+fn conclude(rt: &HostRuntime, status: &Status) -> ExitCode
+    ensures { exit_status result ≡ exit_code status.now }
+{
     let mut fault = ArrayString::new();
-    let code = print_fault(&status, &mut fault);
+    let code = print_fault(status, &mut fault);
     if code != 0 {
         let text = fault.as_str();
-        // The status says it too, so a line that cannot be written is let go.
         let _ = eprintln!(rt; "{text}");
     }
     ExitCode::from(code)
+}
+
+fn main(rt: HostRuntime) -> ExitCode {
+    let status = run_program(&rt);
+    conclude(&rt, &status)
 }
 
 #[cfg(test)]

@@ -9,6 +9,7 @@ ghost use Rattle.ev_probe.specs.Told.{told};
 ghost use Rattle.ev_status.specs.declared.status.Status.{Status};
 ghost use Rattle.fredbox.specs.Answer.{comes_of};
 ghost use Rattle.fredbox.specs.Broken.{BreaksOff, nothing_read};
+ghost use Rattle.fredbox.specs.Faults.{CountsRead};
 ghost use Rattle.fredbox.specs.Taken.{IsUnwritten, Took, Wrote};
 
 use crate::faults::input_status;
@@ -22,6 +23,7 @@ use std::alloc::Global;
 fn write_report<K: Sink>(report: &Report, sink: &mut K) -> Status
     ensures wrote { Wrote (K.taken sink.old) (K.taken sink.new)
         (report_text (told report.now)) result }
+    ensures unwritten { IsUnwritten result → sink.new ≡ sink.old }
     ensures cause { result ≡ Status.WriteFault → Rose (K.faults sink.old) (K.faults sink.new) }
 {
     let mut text = ArrayString::new();
@@ -49,7 +51,7 @@ pub(crate) fn probe<S: Source, K: Sink>(
         → BreaksOff Probe bytes (S.left src.new) }
     ensures draws { Draws (drawn lines.old) (drawn lines.new) (S.left src.old) (S.left src.new) }
     ensures most { drawn lines.new ≤ 8388609 }
-    ensures read { result ≡ Status.ReadFault → Rose (S.faults src.old) (S.faults src.new) }
+    ensures read { CountsRead (S.faults src.old) (S.faults src.new) result }
     ensures write { result ≡ Status.WriteFault → Rose (K.faults sink.old) (K.faults sink.new) }
     ensures command { result ≢ Status.Usage }
 {

@@ -14,6 +14,7 @@ ghost use Rattle.ev_script.specs.Script.{read_script};
 ghost use Rattle.ev_status.specs.declared.status.Status.{Status};
 ghost use Rattle.fredbox.specs.Answer.{comes, modes_of};
 ghost use Rattle.fredbox.specs.Broken.{ScriptBreaks};
+ghost use Rattle.fredbox.specs.Faults.{CountsRead};
 ghost use Rattle.fredbox.specs.Taken.{IsUnwritten, Took, Wrote};
 
 use crate::faults::script_status;
@@ -66,6 +67,7 @@ fn write_run<K: Sink>(
     requires few { length script.now < 2 ^ 32 }
     ensures wrote { Wrote (K.taken sink.old) (K.taken sink.new)
         (run_text accepted.now.image script.now (modes_of mode) frames) result }
+    ensures unwritten { IsUnwritten result → sink.new ≡ sink.old }
     ensures cause { result ≡ Status.WriteFault → Rose (K.faults sink.old) (K.faults sink.new) }
 {
     match run_modes(alloc, accepted, script, modes_asked(mode), frames, sink) {
@@ -99,7 +101,7 @@ pub(crate) fn run<S: Source, K: Sink>(
         (coming lines.new.chunk (S.left src.new)) }
     ensures draws { Draws (drawn lines.old) (drawn lines.new) (S.left src.old) (S.left src.new) }
     ensures most { drawn lines.new ≤ 8388609 }
-    ensures read { result ≡ Status.ReadFault → Rose (S.faults src.old) (S.faults src.new) }
+    ensures read { CountsRead (S.faults src.old) (S.faults src.new) result }
     ensures write { result ≡ Status.WriteFault → Rose (K.faults sink.old) (K.faults sink.new) }
     ensures command { result ≢ Status.Usage }
 {

@@ -10,6 +10,7 @@ ghost use Rattle.ev_io.specs.Transfer.{Draws, DrawsWithin, Rose};
 ghost use Rattle.ev_status.specs.declared.status.Status.{Status};
 ghost use Rattle.fredbox.specs.Answer.{SaysBuilt, SpeaksOfImage, comes_of};
 ghost use Rattle.fredbox.specs.Broken.{BreaksOff, nothing_read};
+ghost use Rattle.fredbox.specs.Faults.{CountsRead};
 ghost use Rattle.fredbox.specs.Safe.{CallsAreKept, ChainsAreKept, FramesAreSafe};
 ghost use Rattle.fredbox.specs.Taken.{IsUnwritten, Took};
 
@@ -44,7 +45,7 @@ fn of_image<S: Source, K: Sink>(
         → BreaksOff command bytes (S.left src.new) }
     ensures draws { Draws (drawn lines.old) (drawn lines.new) (S.left src.old) (S.left src.new) }
     ensures most { drawn lines.new ≤ 8388609 }
-    ensures read { result ≡ Status.ReadFault → Rose (S.faults src.old) (S.faults src.new) }
+    ensures read { CountsRead (S.faults src.old) (S.faults src.new) result }
     ensures write { result ≡ Status.WriteFault → Rose (K.faults sink.old) (K.faults sink.new) }
     ensures command { result ≢ Status.Usage }
 {
@@ -71,7 +72,7 @@ fn answer<S: Source, K: Sink>(alloc: Global, command: Command, src: &mut S, sink
     ensures broken { result ≡ Status.ReadFault → (bytes : List ℕ) → S.left src.old ≡ Some bytes
         → BreaksOff command bytes (S.left src.new) }
     ensures most { DrawsWithin 0 (S.left src.old) (S.left src.new) }
-    ensures read { result ≡ Status.ReadFault → Rose (S.faults src.old) (S.faults src.new) }
+    ensures read { CountsRead (S.faults src.old) (S.faults src.new) result }
     ensures write { result ≡ Status.WriteFault → Rose (K.faults sink.old) (K.faults sink.new) }
     ensures command { result ≢ Status.Usage }
 {
@@ -100,8 +101,8 @@ pub fn top<'a, S: Source, K: Sink>(
     // and no others are
     ensures command { result ≡ Status.Usage → (c : Command)
         → SaysBuilt (map (λ w. w.now) words.entry.now) c → ⊥ }
-    // what the sink took is the text that the bytes come to, at a refusal nothing, and at an early
-    // end a prefix
+    // what the sink took is the text that the bytes come to, or a prefix where the sink failed; else
+    // nothing
     ensures took { (c : Command) → SaysBuilt (map (λ w. w.now) words.entry.now) c
         → (bytes : List ℕ) → S.left src.old ≡ Some bytes
         → Took (K.taken sink.old) (K.taken sink.new) (comes_of c bytes) result }
@@ -118,7 +119,7 @@ pub fn top<'a, S: Source, K: Sink>(
     ensures chains { ChainsAreKept }
     // and in its trace each call runs at most once, was queued before, and ran before it is reported
     ensures calls { CallsAreKept }
-    // before an answer other than Done, WriteFault and NoMemory the sink isn't touched
+    // before an answer other than Done and WriteFault the sink isn't touched
     ensures unwritten { IsUnwritten result → sink.new ≡ sink.old }
     // Done comes behind the last byte
     ensures end { (c : Command) → SaysBuilt (map (λ w. w.now) words.entry.now) c
@@ -130,7 +131,8 @@ pub fn top<'a, S: Source, K: Sink>(
         → BreaksOff c bytes (S.left src.new) }
     // at most 8,388,609 bytes are read
     ensures most { DrawsWithin 0 (S.left src.old) (S.left src.new) }
-    ensures read { result ≡ Status.ReadFault → Rose (S.faults src.old) (S.faults src.new) }
+    // a fault of the source is answered as ReadFault, and one of the sink comes before WriteFault
+    ensures read { CountsRead (S.faults src.old) (S.faults src.new) result }
     ensures write { result ≡ Status.WriteFault → Rose (K.faults sink.old) (K.faults sink.new) }
 {
     match command_of(alloc, words) {

@@ -6,7 +6,7 @@ use Rattle.ev_image.specs.declared.draft.Draft.{Draft}
 use Rattle.ev_image.specs.declared.head.Head.TheVariants as Head
 use Rattle.ev_image.specs.Head.{head_follows}
 use Rattle.ev_image.specs.Reads.{image_in}
-use Rattle.ev_image.proofs.ReadLaws.{no_script, faulty, bad_line, script_line, read_cause}
+use Rattle.ev_image.proofs.ReadLaws.{no_script, faulty, bad_line, script_line, read_counts}
 use Rattle.ev_image.proofs.reading.read_draft.Goals as goal
 
 pub loop-fault-init : goal.loop-fault-init
@@ -15,7 +15,7 @@ loop-fault-init g c = record {
   before = refl;
   reached = ([], refl);
   draws = draws_nothing _ _;
-  count = omega arith;
+  count = refl;
 }
 
 pub returns-in-Err-clause-reads : goal.returns-in-Err-clause-reads
@@ -32,7 +32,7 @@ pub returns-in-Err-clause-later : goal.returns-in-Err-clause-later
 returns-in-Err-clause-later g c = omega (arith, c.loop-fault.invariant.count, c.next_said.ensures.later)
 
 pub returns-in-Err-clause-cause : goal.returns-in-Err-clause-cause
-returns-in-Err-clause-cause g c = rw c.fault_of.ensures (read_cause Draft c.in-Err.fault _ _ _ c.loop-fault.invariant.count c.in-Err.ensures.cause)
+returns-in-Err-clause-cause g c = rw c.fault_of.ensures (read_counts Draft c.in-Err.fault _ _ _ c.loop-fault.invariant.count c.in-Err.ensures.cause)
 
 pub returns-in-Ok-None-clause-reads : goal.returns-in-Ok-None-clause-reads
 returns-in-Ok-None-clause-reads g c = λ bytes e.
@@ -91,5 +91,5 @@ loop-fault-preserved g c =
       before = ap image_in c.in-Err-opened.ensures.0 ∙ c.in-Err-opened.ensures.1;
       reached = (tokens_of c.text.result.now ∷ reached.0, (c.loop-fault.head, reached.1, c.in-Ok.ensures ∙ ap Ok same));
       draws = draws_then _ _ _ _ _ _ c.loop-fault.invariant.draws c.next_said.ensures.draws;
-      count = omega (arith, c.loop-fault.invariant.count, c.next_said.ensures.later);
+      count = omega (arith, c.loop-fault.invariant.count, c.in-Ok-Some.ensures.cause);
     }

@@ -17,7 +17,7 @@ invariant-loop-fault g l =
       before : image_in l.head ≡ None;
       reached : Reached l.head;
       draws : Draws (drawn l.fn.lines) (drawn l.lines) (left l.fn.src) (left l.src);
-      count : faults l.fn.src ≤ faults l.src;
+      count : faults l.src ≡ faults l.fn.src;
     }
 
 abbrev pub decreases-loop-fault : goal.decreases-loop-fault

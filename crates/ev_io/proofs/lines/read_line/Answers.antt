@@ -211,5 +211,5 @@ loop-text-preserved g c =
       printable = subst (All IsPrintable) (sym c.push.ensures) (All-push IsPrintable t b kept.printable (is_fine b c.if-b-lt32.false c.if-b-gt126.false));
       same = comes ∙ prepend_prepend t (b ∷ []) rest ∙ ap (λ x. prepend_known x rest) (sym c.push.ensures);
       draws = draws_more _ c.loop-text.gone _ _ _ _ _ _ kept.draws c.fill.ensures.draws (omega (arith, ap length c.pop-b.ensures));
-      count = omega (arith, kept.count, c.fill.ensures.later);
+      count = omega (arith, kept.count, c.in-Ok-true.ensures.cause);
     }

@@ -16,7 +16,7 @@ invariant-loop-text g l =
       printable : All IsPrintable l.text;
       same : coming l.fn.chunk (left l.fn.src) ≡ prepend_known l.text (coming l.chunk (left l.src));
       draws : Draws (l.fn.gone + length l.fn.chunk) (l.gone + length l.chunk) (left l.fn.src) (left l.src);
-      count : faults l.fn.src ≤ faults l.src;
+      count : faults l.src ≡ faults l.fn.src;
     }
 
 abbrev pub decreases-loop-text : goal.decreases-loop-text

@@ -4,7 +4,7 @@ use Rattle.ev_io.specs.Tokens.{tokens_of}
 use Rattle.ev_io.proofs.Bytes.{draws_nothing, draws_then}
 use Rattle.ev_io.proofs.StandLaws.{stands_first, stands_more}
 use Rattle.ev_script.specs.Script.{Open, follows, said}
-use Rattle.ev_script.proofs.ScriptLaws.{follow_more, follow_end, follow_bad, faulty, bad_line, last_line, read_cause, more_formed, said_at}
+use Rattle.ev_script.proofs.ScriptLaws.{follow_more, follow_end, follow_bad, faulty, bad_line, last_line, read_counts, more_formed, said_at}
 use Rattle.ev_script.proofs.reading.read_to_end.Goals as goal
 
 pub loop-fault-init : goal.loop-fault-init
@@ -13,7 +13,7 @@ loop-fault-init g c = record {
   formed = rw c.new-script.ensures.items refl;
   few = omega (arith, c.new-script.ensures.len);
   draws = draws_nothing _ _;
-  count = omega arith;
+  count = refl;
 }
 
 pub returns-in-Err-clause-reads : goal.returns-in-Err-clause-reads
@@ -29,7 +29,7 @@ pub returns-in-Err-clause-later : goal.returns-in-Err-clause-later
 returns-in-Err-clause-later g c = omega (arith, c.loop-fault.invariant.count, c.next_said.ensures.later)
 
 pub returns-in-Err-clause-cause : goal.returns-in-Err-clause-cause
-returns-in-Err-clause-cause g c = rw c.fault_of.ensures (read_cause (Vec Line Global) c.in-Err.fault _ _ _ c.loop-fault.invariant.count c.in-Err.ensures.cause)
+returns-in-Err-clause-cause g c = rw c.fault_of.ensures (read_counts (Vec Line Global) c.in-Err.fault _ _ _ c.loop-fault.invariant.count c.in-Err.ensures.cause)
 
 pub returns-in-Ok-None-clause-reads : goal.returns-in-Ok-None-clause-reads
 returns-in-Ok-None-clause-reads g c = λ bytes e.
@@ -96,5 +96,5 @@ loop-fault-preserved g c =
       formed = rw grown (more_formed c.args.image.now c.loop-fault.script.items line c.loop-fault.invariant.formed said.formed);
       few = omega (arith, said.room, c.len.ensures, c.in-Ok.ensures.len);
       draws = draws_then _ _ _ _ _ _ c.loop-fault.invariant.draws c.next_said.ensures.draws;
-      count = omega (arith, c.loop-fault.invariant.count, c.next_said.ensures.later);
+      count = omega (arith, c.loop-fault.invariant.count, c.in-Ok-Some.ensures.cause);
     }

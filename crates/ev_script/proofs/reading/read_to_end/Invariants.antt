@@ -16,7 +16,7 @@ invariant-loop-fault g l =
       formed : IsScript l.image l.script.items;
       few : vec_len l.script ≤ 200000;
       draws : Draws (drawn l.fn.lines) (drawn l.lines) (left l.fn.src) (left l.src);
-      count : faults l.fn.src ≤ faults l.src;
+      count : faults l.src ≡ faults l.fn.src;
     }
 
 abbrev pub decreases-loop-fault : goal.decreases-loop-fault

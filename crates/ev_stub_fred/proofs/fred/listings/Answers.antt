@@ -20,5 +20,5 @@ around lines =
 pub returns : goal.returns
 unfolding fred_listings
 returns c =
-    rw (c.in_ok-add_listing-4.ensures, c.in_ok-add_listing-3.ensures, c.in_ok-add_listing-2.ensures, c.in_ok-add_listing.ensures, c.new-listings.ensures.items)
+    rw (c.in_ok-add_listing-4.ensures.ok, c.in_ok-add_listing-3.ensures.ok, c.in_ok-add_listing-2.ensures.ok, c.in_ok-add_listing.ensures.ok, c.new-listings.ensures.items)
     (ap around (ap (map marked_of) c.deref.ensures.value ∙ c.in_ok-handlers.ensures))

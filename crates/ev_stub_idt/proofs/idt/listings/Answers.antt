@@ -9,15 +9,15 @@ unfolding idt_listings vector_stubs
 returns c =
     rw (
       c.in_ok-add_stubs.ensures,
-      c.in_ok-add_listing-9.ensures,
-      c.in_ok-add_listing-8.ensures,
-      c.in_ok-add_listing-7.ensures,
-      c.in_ok-add_listing-6.ensures,
-      c.in_ok-add_listing-5.ensures,
-      c.in_ok-add_listing-4.ensures,
-      c.in_ok-add_listing-3.ensures,
-      c.in_ok-add_listing-2.ensures,
-      c.in_ok-add_listing.ensures,
+      c.in_ok-add_listing-9.ensures.ok,
+      c.in_ok-add_listing-8.ensures.ok,
+      c.in_ok-add_listing-7.ensures.ok,
+      c.in_ok-add_listing-6.ensures.ok,
+      c.in_ok-add_listing-5.ensures.ok,
+      c.in_ok-add_listing-4.ensures.ok,
+      c.in_ok-add_listing-3.ensures.ok,
+      c.in_ok-add_listing-2.ensures.ok,
+      c.in_ok-add_listing.ensures.ok,
       c.new-listings.ensures.items,
     )
     (λ i. record { address = no_body; lines = c.none.ensures i } ∷ record { address = sys_entry; lines = c.sys.ensures i } ∷ record {

@@ -1,10 +1,13 @@
 use Rattle.std.proofs.Common.{sym, subst}
+use Rattle.ev_body.specs.KernelImage.{KernelImage}
 use Rattle.ev_command.specs.declared.command.Command.{Command}
 use Rattle.ev_command.specs.declared.command.Command.TheVariants.{Run, Asm, Check}
 use Rattle.ev_io.proofs.Bytes.{draws_then}
 use Rattle.fredbox.specs.Answer.{comes_of}
 use Rattle.fredbox.specs.Broken.{BreaksOff}
+use Rattle.fredbox.specs.Faults.{CountsRead}
 use Rattle.fredbox.specs.Taken.{Took}
+use Rattle.fredbox.proofs.FaultLaws.{counts_behind, image_counts}
 use Rattle.fredbox.proofs.TakenLaws.{fresh_coming, opened_from, opened_took, script_broke, stands_behind}
 use Rattle.fredbox.proofs.top.of_image.Goals as goal
 
@@ -45,3 +48,16 @@ returns-in-Check-clause-broken g c = λ h bytes e.
     let at = opened_from c.args.lines.now c.read_image.new.lines bytes reads.0 c.in-Ok.image c.requires.fresh reads.2 in
     subst (λ (x : Command). BreaksOff x bytes (g.S.Source.left c.check.new.src)) (sym c.in-Check.is)
     (script_broke Check bytes c.in-Ok.image c.read_image.new.lines c.check.new.lines reads.0 _ tt at (c.check.ensures.broken h reads.0 reads.1))
+
+pub returns-in-Err-clause-read : goal.returns-in-Err-clause-read
+returns-in-Err-clause-read g c =
+    subst (CountsRead _ _) (sym c.image_status.ensures.is) (image_counts KernelImage _ _ c.in-Err.fault c.in-Err.ensures.cause)
+
+pub returns-in-Run-clause-read : goal.returns-in-Run-clause-read
+returns-in-Run-clause-read g c = counts_behind _ _ _ _ c.in-Ok.ensures.cause c.run.ensures.read
+
+pub returns-in-Asm-clause-read : goal.returns-in-Asm-clause-read
+returns-in-Asm-clause-read g c = counts_behind _ _ _ _ c.in-Ok.ensures.cause c.asm.ensures.read
+
+pub returns-in-Check-clause-read : goal.returns-in-Check-clause-read
+returns-in-Check-clause-read g c = counts_behind _ _ _ _ c.in-Ok.ensures.cause c.check.ensures.read

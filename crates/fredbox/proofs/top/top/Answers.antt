@@ -1,6 +1,7 @@
 use Rattle.std.proofs.Common.{subst}
 use Rattle.ev_command.specs.declared.command.Command.{Command}
 use Rattle.fredbox.specs.Answer.{comes_of}
+use Rattle.fredbox.specs.Faults.{CountsRead}
 use Rattle.fredbox.proofs.AnswerLaws.{answered, same_command}
 use Rattle.fredbox.proofs.Safe.{all_calls_are_kept, all_chains_are_kept, frames_are_safe}
 use Rattle.fredbox.proofs.top.top.Goals as goal
@@ -15,7 +16,7 @@ returns-in-Ok-Some-clause-answers g c = λ said says bytes e status text comes n
     answered (record { excludes = c.acceptance_laws.ensures.excludes; refusal = c.acceptance_laws.ensures.refusal; bound = c.acceptance_laws.ensures.bound })
     _ _ c.in-Ok-Some.command bytes _ status text (c.answer.ensures.took bytes e)
     (subst (λ (x : Command). comes_of x bytes status text) same comes)
-    (λ r. no_read (c.answer.ensures.read r)) (λ w. no_write (c.answer.ensures.write w)) enough
+    (λ r. no_read (subst (CountsRead _ _) r c.answer.ensures.read)) (λ w. no_write (c.answer.ensures.write w)) enough
 
 pub returns-in-Ok-Some-clause-safe : goal.returns-in-Ok-Some-clause-safe
 returns-in-Ok-Some-clause-safe g c = frames_are_safe

@@ -1,4 +1,4 @@
-use Rattle.std.proofs.Common.{◌≤◌, ◌∙◌, ap, sym, arith}
+use Rattle.std.proofs.Common.{◌≤◌, ◌∙◌, ap, sym, refl, arith}
 use Rattle.ev_io.specs.Tokens.{tokens_of, is_passed_over}
 use Rattle.ev_io.proofs.Bytes.{draws_nothing, draws_then}
 use Rattle.ev_io.proofs.NextLaws.{passes_none, given, passes_more, says_it, ends_it, skips_fault}
@@ -8,7 +8,7 @@ pub loop-fault-init : goal.loop-fault-init
 loop-fault-init g c = record {
   passes = λ bytes e. passes_none c.args.self.now bytes _ e;
   draws = draws_nothing _ _;
-  count = omega arith;
+  count = refl;
   grown = omega arith;
 }
 
@@ -24,7 +24,7 @@ returns-in-Err-clause-draws g c = draws_then _ _ _ _ _ _ c.loop-fault.invariant.
 pub returns-in-Ok-None-clause-said : goal.returns-in-Ok-None-clause-said
 returns-in-Ok-None-clause-said g c = λ bytes e.
     let line = rw c.in-Ok-None.field-0-is at c.in-Ok-None.ensures.line in
-    let none = rw c.in-Ok-None.field-0-is at c.in-Ok-None.ensures.none in
+    let none = (rw c.in-Ok-None.field-0-is at c.in-Ok-None.ensures.none).0 in
     let number = rw c.in-Ok-None.field-0-is at c.in-Ok-None.ensures.number in
     let within : c.loop-fault.self.gone ≤ 8388608 = omega (arith, none, c.next.ensures.within) in
     ends_it c.args.self.now bytes c.loop-fault.self _ c.next.new.self within (c.loop-fault.invariant.passes bytes e) line number none
@@ -61,6 +61,6 @@ loop-fault-preserved g c =
           passes_more c.args.self.now bytes c.loop-fault.self _ c.next.new.self _ passes given number.1
           (ap (λ t. is_passed_over (tokens_of t)) (sym c.text.ensures) ∙ over);
       draws = draws_then _ _ _ _ _ _ c.loop-fault.invariant.draws c.next.ensures.draws;
-      count = omega (arith, c.loop-fault.invariant.count, c.next.ensures.later);
+      count = omega (arith, c.loop-fault.invariant.count, c.in-Ok-Some.ensures.cause);
       grown = omega (arith, c.loop-fault.invariant.grown, grew);
     }

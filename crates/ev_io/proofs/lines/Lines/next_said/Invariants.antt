@@ -11,7 +11,7 @@ invariant-loop-fault g l =
     record {
       passes : (bytes : List ℕ) → coming l.fn.self.chunk (left l.fn.src) ≡ Some bytes → Passes l.fn.self bytes l.self (coming l.self.chunk (left l.src));
       draws : Draws (drawn l.fn.self) (drawn l.self) (left l.fn.src) (left l.src);
-      count : faults l.fn.src ≤ faults l.src;
+      count : faults l.src ≡ faults l.fn.src;
       grown : l.fn.self.gone ≤ l.self.gone;
     }
 
