@@ -1,8 +1,8 @@
--- Calls on both machines: calls that cross, a call to oneself, all eight sites at once, interrupts that find nothing to take, and a function that calls and
--- waits between `take` and `finish`. What visible steps show are the entries; and, but for the eight sites, before every step, edges too, each call record is in its place. A record that no
--- body of its owner fills has what the abstract machine says of it. The head of a queue leads to its calls, the last one first. What a body took is linked from
--- registers: while `take` turns it round, RAX leads to what is left, the last one first, and R14 to what is turned; behind the load of a link RCX is what is left
--- beyond the record in RAX. Then, and in `finish`, R14 leads to the calls that are still to run.
+-- Calls on both machines: calls that cross, a call to oneself, all eight sites at once, interrupts that find nothing to take, and a function that calls
+-- and waits between `take` and `finish`. What visible steps show are the entries; and, but for the eight sites, before every step, edges too, each call
+-- record is in its place. A record that no body of its owner fills has what the abstract machine says of it. The head of a queue leads to its calls, the
+-- last one first. What a body took is linked from registers: while `take` turns it round, RAX leads to what is left, the last one first, and R14 to what
+-- is turned; behind the load of a link RCX is what is left beyond the record in RAX. Then, and in `finish`, R14 leads to the calls that are still to run.
 use Rattle.std.specs.Prelude.{◌≡◌, refl, ℕ, zero, suc, ◌+◌, ◌-◌, List, [], ◌∷◌, ◌++◌, Bool, true, false, ◌&&◌, ◌||◌, nat_lt, nat_le, ◌==◌, if◌then◌else◌, Option, Some, None, reverse, slice_get}
 use Rattle.std.specs.List.{list_all}
 use Rattle.ev_isa.specs.Word.{NatMap, numbers_from}
