@@ -132,7 +132,8 @@ are_forms (InNmi (Begins b)) = record { known = refl; own = refl; apart = refl }
 are_forms (InNmi (nmi.Leaves x)) = record { known = refl; own = refl; apart = refl }
 are_forms (InBody layout s) = let t = both_layouts layout (fills s) in record { known = t.0; own = t.1; apart = t.2 }
   where
-    both_layouts : (layout : Layout) (own_record : Bool) → (form.are_forms (body_windows layout own_record).known ≡ true) × (form.are_forms (body_windows layout own_record).own ≡ true)
+    both_layouts : (layout : Layout) (own_record : Bool) → (form.are_forms (body_windows layout own_record).known ≡ true)
+        × (form.are_forms (body_windows layout own_record).own ≡ true)
         × (all_apart apart_in_one (body_windows layout own_record).known (body_windows layout own_record).own ≡ true)
     both_layouts FredFrame true = (refl, refl, refl)
     both_layouts FredFrame false = (refl, refl, refl)
