@@ -432,7 +432,8 @@ module _ (mode : Mode) (image : Image) (built : IsBuilt image) (good : IsImage i
     words_same = tasks_same p (seat_under mode r (suc n)) [] small narrow s.memory.words words' tt changes refl p small
 
     there : StandsOn mode image p now s' z
-    there = own_becomes mode image p (left p) s s' x (seat_under mode r (suc n)) d as' words' x.tasks x.slots x.resched now_bodies (body_edges mode image) on small
+    there = own_becomes mode image p (left p) s s' x (seat_under mode r (suc n)) d as' words' x.tasks x.slots x.resched
+        now_bodies (body_edges mode image) on small
         (four_tasks image good p hp) mv (λ i d. inr (area_under mode r n)) narrow [] (none_spares p).allowed changes on.marked
         (λ f. current_is p (seat_under mode r (suc n)) [] small narrow s.memory.words words' tt changes p words_same mode x.running (on.current f))
         (λ f. mark_is p (seat_under mode r (suc n)) [] small narrow s.memory.words words' tt changes p words_same ∙ on.mark f)

@@ -436,7 +436,8 @@ module _ (mode : Mode) (image : Image) (built : IsBuilt image) (good : IsImage i
           knows = plain_knows mode o.κ on.frame plain (blocks.holds (body mode BehindSti));
           means = means_at mode image o.κ plain BehindSti u o.w b' s.memory.words (item, next_is);
         } in
-        let still_there = went_stays image.processors s p cpu None Sti (step.fetches mode image built good facts left s m h p hp c.rip cell at_sti.0).1 refl ∙ o.acts in
+        let still_there = went_stays image.processors s p cpu None Sti
+        (step.fetches mode image built good facts left s m h p hp c.rip cell at_sti.0).1 refl ∙ o.acts in
         step.visible_with mode image built good facts left s m h p hp o (λ on. a.state.blocked ∙ unblocked mode) cell at_sti.0 refl a.kernel (s.apics p) cpu
         s.memory.words None (step.sends_nothing mode image built good facts left s m h p hp)
         (switches_on c s.memory (c.rip + 1) a.flags a.kernel refl a.state.flags

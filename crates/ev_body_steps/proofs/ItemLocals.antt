@@ -44,7 +44,8 @@ keeps_rsp regs (Some x) h = get_or-set_other regs x.0 4 x.1 0 (λ e. let l = h.0
 abbrev eight : List ℕ → List ℕ
 eight xs = get_or xs 6 0 ∷ get_or xs 7 0 ∷ get_or xs 8 0 ∷ get_or xs 9 0 ∷ get_or xs 10 0 ∷ get_or xs 11 0 ∷ get_or xs 12 0 ∷ get_or xs 13 0 ∷ []
 
-module _ (mode : Mode) (image : Image) (e : Env) (c : Processor) (m : Memory) (offset : ℕ) (rax rcx rdx : V) (g : Flags) (s : ItemState mode e c m offset rax rcx rdx g)
+module _ (mode : Mode) (image : Image) (e : Env) (c : Processor) (m : Memory) (offset : ℕ)
+    (rax rcx rdx : V) (g : Flags) (s : ItemState mode e c m offset rax rcx rdx g)
     (b : BodyContext) (locals : Locals mode image e.var b) where
   -- a register is the local that it stands for
   pub local_at : (r : ℕ) → 6 ≤ r → r < 14 → register c r ≡ local b r

@@ -343,7 +343,8 @@ module _ (mode : Mode) (image : Image) (built : IsBuilt image) (good : IsImage i
     -- ---- jumps
 
     -- one that leads to an item
-    to_item : (item : Item) → item_at (Some body') b.place ≡ Some item → (ins : Ins) → code (at b.place) ≡ Some (record { ins = ins; next = at (suc b.place); mark = Always })
+    to_item : (item : Item) → item_at (Some body') b.place ≡ Some item
+        → (ins : Ins) → code (at b.place) ≡ Some (record { ins = ins; next = at (suc b.place); mark = Always })
         → is_return (Some ins) ≡ false → (t : ℕ)
         → (IsAt c ins (at (suc b.place)) → Leads c s.memory ins (onward c c.regs (at t)) s.memory.words)
         → item_step image m p b item ≡ (with_context m p (behind None t b.flags), []) → shown_always p (bodies_on s p) c s.memory.words (Some ins) ≡ [] → Does
@@ -417,7 +418,8 @@ module _ (mode : Mode) (image : Image) (built : IsBuilt image) (good : IsImage i
     by_jcc cond t hi =
         let k = flags_at cond t hi in
         let inside : t < length (body_items body') = (ruled.leads b.place (Jcc cond t) t hi refl).0 in
-        let j : JumpCell code (at b.place) (at (suc b.place)) (at t) (λ d. Ins.Jcc cond d) = jcc_cell mode image facts b.body body' is b.place cond t hi inside in
+        let j : JumpCell code (at b.place) (at (suc b.place)) (at t) (λ d. Ins.Jcc cond d)
+        = jcc_cell mode image facts b.body body' is b.place cond t hi inside in
         let status : a.flags.status ≡ k.0 = ap (λ (g : Flags). g.status) same ∙ subst (λ o. FlagsAre mode image o f) k.1 a.means.flags in
         let decides : holds cond (flags_of c.flags).status ≡ holds cond k.0
         = ap (λ n. holds cond (flags_of n).status) a.state.flags ∙ ap (λ (g : Flags). holds cond g.status) (flags_of-flags_word a.flags)

@@ -139,7 +139,8 @@ module _ (mode : Mode) (image : Image) (built : IsBuilt image) (good : IsImage i
           let on_it : is_legal (l.0.body ∷ bodies_of image (numbers (d ∷ ds))) ≡ true = l.0.over.legal in
           let two : bodies_of image (numbers (d ∷ ds)) ≡ l.1.0.body ∷ bodies_of image (numbers ds)
           = ap (λ z. cons_body z (bodies_of image (numbers ds))) l.1.0.is_body in
-          absurd (no_kernel l.0.body l.0.is_body (and_left (covers l.0.body.side Kernel) _ (and_left _ _ (ap (λ z. is_legal (l.0.body ∷ z)) (sym two) ∙ on_it))))
+          absurd (no_kernel l.0.body l.0.is_body (and_left (covers l.0.body.side Kernel) _
+          (and_left _ _ (ap (λ z. is_legal (l.0.body ∷ z)) (sym two) ∙ on_it))))
 
   module _ (over : is_over_task o.κ ≡ true) where
     pub one : step.Alone mode image built good facts left s m h p hp o
@@ -169,7 +170,8 @@ module _ (mode : Mode) (image : Image) (built : IsBuilt image) (good : IsImage i
     unfolding variable_of
     register_is r l =
         saved_is mode env s.memory.words (saved_offset r) (variable_of r) (saved_register mode r l) a.state.words
-        ∙ each_below (λ r. v (variable_of r) ≡ get_or (saved_registers v) r 0) refl refl refl refl refl refl refl refl refl refl refl refl refl refl refl refl r l
+        ∙ each_below (λ r. v (variable_of r) ≡ get_or (saved_registers v) r 0)
+        refl refl refl refl refl refl refl refl refl refl refl refl refl refl refl refl r l
         ∙ ap (λ (xs : List ℕ). get_or xs r 0) (sym saved.regs ∙ ap (λ (y : Processor). y.regs) one.task.is ∙ ap (λ (t : Task). t.regs) task_is)
 
   pub by_getreg : a.offset ≡ 0 → a.flags ≡ f → (d r : ℕ) → item_at (Some body') b.place ≡ Some (GetReg d r) → Does
@@ -326,12 +328,17 @@ module _ (mode : Mode) (image : Image) (built : IsBuilt image) (good : IsImage i
         → (IsAt c ins (steps.at mode image built good facts left s m h p hp o body' is ss extra v f a (suc b.place))
         → Leads c s.memory ins (onward c c.regs (steps.at mode image built good facts left s m h p hp o body' is ss extra v f a (suc b.place))) ws)
         → item_step image m p b item
-        ≡ (with_context (with_task_at m p t) p (steps.behind mode image built good facts left s m h p hp o body' is ss extra v f a None (suc b.place) b.flags), [])
+        ≡ (
+          with_context (with_task_at m p t) p (steps.behind mode image built good facts left s m h p hp
+              o body' is ss extra v f a None (suc b.place) b.flags),
+          [],
+        )
         → shown_always p (bodies_on s p) c s.memory.words (Some ins) ≡ [] → Does
     writes item hi ins seen offset near same back does meaning shows =
         let next : ℕ = steps.at mode image built good facts left s m h p hp o body' is ss extra v f a (suc b.place) in
         let b' : BodyContext = steps.behind mode image built good facts left s m h p hp o body' is ss extra v f a None (suc b.place) b.flags in
-        let cells : ItemCells code (item_address mode b.body body' b.place) next item ins = cells_of mode image facts b.body body' is b.place item ins hi seen in
+        let cells : ItemCells code (item_address mode b.body body' b.place) next item ins
+        = cells_of mode image facts b.body body' is b.place item ins hi seen in
         let here : code c.rip ≡ Some (record { ins = ins; next = next; mark = Always })
         = ap code (steps.rip_is mode image built good facts left s m h p hp o body' is ss extra v f a near
         ∙ ap (λ k. item_address mode b.body body' b.place + k) offset) ∙ cells.seen in record {

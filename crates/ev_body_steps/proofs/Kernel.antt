@@ -71,7 +71,7 @@ use Rattle.ev_relation.proofs.Standing.{ran_returns}
 use Rattle.ev_relation.proofs.After.{none_spares}
 use Rattle.ev_relation.proofs.CallKinds.{is_over_task, is_over_body, is_plain_kind, origin_of, cs_of, level_of, OverOf, means_as, over_as, of_task, of_body, stands_on_body, plain_level}
 use Rattle.ev_body_steps.proofs.Return.{Exits, fred_mark, idt_mark, fred_exits, idt_exits, fred_exits_to_body, idt_exits_to_body}
-use Rattle.ev_body_steps.proofs.BodyTables.{table_place, table_reads}
+use Rattle.ev_relation.proofs.BodyTables.{table_place, table_reads}
 use Rattle.ev_relation.proofs.Depth.{body_at, ends_a_body}
 use Rattle.ev_relation.proofs.Items.{which}
 use Rattle.ev_body_steps.proofs.ItemWords.{word_of}
@@ -417,7 +417,8 @@ module _ (mode : Mode) (image : Image) (built : IsBuilt image) (good : IsImage i
           means.0 means.1 means.2 long ctx.item hi
       at_body act BehindSti k ss ss_is extra v f n at means long enough hi =
           let last : k ≡ 1 = n ∙ behind_steps mode in
-          let z : interrupts.NextItem mode image built good facts left s m h p hp o body' is ss v f = interrupts.to_item mode image built good facts left s m h p hp o body' is ss ss_is extra v f
+          let z : interrupts.NextItem mode image built good facts left s m h p hp o body' is ss v f
+          = interrupts.to_item mode image built good facts left s m h p hp o body' is ss ss_is extra v f
           (subst (λ j. At code (block mode (body mode BehindSti)) j (env ss extra v f) c s.memory) last at) means.0 means.1 long
           (subst (λ j. edges mode (body mode BehindSti) j ≤ on.own) last enough) in
           items.by_item mode image built good facts left s m h p hp o body' is z.act ss ss_is z.extra v f z.at z.means z.place long z.enough
@@ -439,7 +440,8 @@ module _ (mode : Mode) (image : Image) (built : IsBuilt image) (good : IsImage i
       -- which of them, by what was interrupted and the mode
       at_the_end : (act : Stood on.own b c s.memory) (og : Origin) → origin_of κ ≡ og → (m : Mode) → m ≡ mode → (spot : Spot) (k ss : ℕ) → IsKernelSs mode ss
           → (extra v : ℕ → ℕ) (f : Flags) → k ≡ (block m spot).steps → At code (block m spot) k (env ss extra v f) c s.memory
-          → OverOf mode image og m spot (env ss extra v f) w b → length c.regs ≡ 16 → edges m spot k ≤ on.own → blocks.switches spot ≡ false → item_at (Some body') b.place ≡ Some ctx.item
+          → OverOf mode image og m spot (env ss extra v f) w b → length c.regs ≡ 16 → edges m spot k ≤ on.own
+          → blocks.switches spot ≡ false → item_at (Some body') b.place ≡ Some ctx.item
           → Result
       unfolding eval
       at_the_end act UserCode oq Fred q (InFred (FromUser way)) k ss ss_is extra v f n at means long enough off hi =

@@ -25,7 +25,6 @@ pub mod ItemUser
 pub mod ItemPage
 pub mod ItemPages
 pub mod KernelItems
-pub mod BodyTables
 pub mod Kernel
 pub mod BodyRaising
 pub mod BodyRaisingFred

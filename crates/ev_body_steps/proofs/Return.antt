@@ -189,7 +189,8 @@ module _ (image : Image) (mode : Mode) (p : ℕ) (hp : p < 32) (κ : Kind) (σ :
 
 -- ---- words that a block tells at its end
 
-pub tells_word : (code : Code) (b : Block) (z : SS) (e : Env) (c : Processor) (m : Memory) → At code b b.steps e c m → brun b b.steps ≡ Some z → (l : Loc) (v : V)
+pub tells_word : (code : Code) (b : Block) (z : SS) (e : Env) (c : Processor) (m : Memory) → At code b b.steps e c m
+    → brun b b.steps ≡ Some z → (l : Loc) (v : V)
     → find l z.words ≡ Some v → m.words (addr e l) ≡ eval e v
 tells_word code b z e c m at runs l v h =
     let a : Agrees e b.ground z c m = at_end code b b.steps z runs e c m at in

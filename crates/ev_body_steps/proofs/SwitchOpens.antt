@@ -600,7 +600,8 @@ module _ (mode : Mode) (image : Image) (built : IsBuilt image) (good : IsImage i
   same_rest : rest_in mode κ ss u ≡ rest_in mode κ ss w
   same_rest =
       let same : untracked u ≡ untracked w = sym (ap untracked runs.is) in
-      let level : level_in mode κ u ≡ level_in mode κ w = level_of mode κ u over ∙ sym (ap (λ (y : Processor). y.level) runs.is) ∙ sym (level_of mode κ w over) in
+      let level : level_in mode κ u ≡ level_in mode κ w
+      = level_of mode κ u over ∙ sym (ap (λ (y : Processor). y.level) runs.is) ∙ sym (level_of mode κ w over) in
       (λ i. record (same i) { cpl = 0; cs = 0x10; ss = ss; level = level i })
 
   descriptor : base_of u.gdt (task_selector p next) ≡ Some t.gs
@@ -661,7 +662,8 @@ module _ (mode : Mode) (image : Image) (built : IsBuilt image) (good : IsImage i
       let level : is_level_rsp ((stack_top p next + 0) % M) ≡ true =
       let few = four in let l = next_there in let p' = small in
       ap is_level_rsp (let e : (stack_top p next + 0) % M ≡ stack_top p next = omega arith in e) ∙ top_is_level p next small (omega arith) in
-      let fit : Fits code E B = switch_fits mode image p o.σ seat hp good.count.1 κ ss u (next_bases p r next extra) (next_values mode words p next t.gs v) f r next
+      let fit : Fits code E B = switch_fits mode image p o.σ seat hp good.count.1 κ ss u (next_bases p r next extra)
+      (next_values mode words p next t.gs v) f r next
       names facts y.spot y.is fred y.told (y.descriptors selector_small descriptor) (y.tops level) in
       let access : Open E B.ground.known s.memory.regions = switch_opens mode image p o.σ seat hp good.count.1 κ ss u (next_bases p r next extra)
       (next_values mode words p next t.gs v) f r next names y.spot y.is s.memory h.regions_are in

@@ -432,7 +432,8 @@ module _ (mode : Mode) (image : Image) (built : IsBuilt image) (good : IsImage i
           cells = h.shares.cells;
         } in
         step.turn_to mode image built good facts left s m h p hp first cell hc refl kernel (s.apics p) back s.memory.words None
-        (step.sends_nothing mode image built good facts left s m h p hp) (y.back (s.apics p) (s.latches p)) τ narrow [] (none_spares p).allowed (λ n far far'. refl) (with_processor m p x') [] turned x' becomes
+        (step.sends_nothing mode image built good facts left s m h p hp) (y.back (s.apics p) (s.latches p)) τ narrow [] (none_spares p).allowed
+        (λ n far far'. refl) (with_processor m p x') [] turned x' becomes
         (step.context_numbers mode image built good facts left s m h p hp b [] bodies chosen Ret meant.1.ret (with_processor m p x') [] turned)
         (record { nmi = domain.nmi; mail_nmi = domain.mail_nmi; bodies = tt })
         (ap (λ t. if t then length x.bodies - 1 else (if begins_body c (Some cell.ins) then suc (length x.bodies) else length x.bodies))

@@ -28,7 +28,7 @@ use Rattle.ev_concrete.specs.ConcreteRun.{System, marks_of, arrived_at, concrete
 use Rattle.ev_built.specs.Built.{line_is_built}
 use Rattle.ev_relation.specs.Relation.{InTables}
 use Rattle.ev_relation.proofs.UserBody.{user_word_is}
-use Rattle.ev_body_steps.proofs.BodyTables.{kernel_word_is}
+use Rattle.ev_relation.proofs.BodyTables.{kernel_word_is}
 use Rattle.ev_refine.proofs.Refine.{arrivals_stand}
 use Rattle.ev_core.specs.State.{Parts, Shows, local_of}
 use Rattle.ev_core.specs.Run.{MachineView, IsRun, IsStandingAs}

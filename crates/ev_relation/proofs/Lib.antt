@@ -21,6 +21,7 @@ pub mod Depth
 pub mod Items
 pub mod UserState
 pub mod UserBody
+pub mod BodyTables
 pub mod CodeFacts
 pub mod Saved
 pub mod Visible

@@ -218,7 +218,8 @@ module _ (mode : Mode) (image : Image) where
       by_switch true on =
           let t = means_switch mode image κ a.stands.spot _ w b m.words a.means on in
           let names = names_tasks mode image q κ σ a.stands.ss w a.stands.extra a.stands.var a.stands.flags _ w b t.1 in
-          switch_stays q κ σ a.stands.ss w a.stands.extra a.stands.var a.stands.flags a.stands.spot a.stands.k c m words hq few hs t.0 t.1.task t.1.next names.1 spares
+          switch_stays q κ σ a.stands.ss w a.stands.extra a.stands.var a.stands.flags a.stands.spot a.stands.k c m words hq few hs t.0
+          t.1.task t.1.next names.1 spares
           (exits_stay (switch_elsewhere mode a.stands.spot t.0)) a.stands.at
       by_switch false off =
           let over = means_over mode image κ a.stands.spot _ w b m.words a.means off in
