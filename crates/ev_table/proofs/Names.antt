@@ -44,7 +44,8 @@ parse (x ∷ xs) (y ∷ ys) us vs a b m n h =
 
 -- ---- names of bodies
 
-item_form : (b n : ℕ) (name : Name) → own_label b n name ≡ 0x62 ∷ (decimal b ++ 0x69 ∷ (decimal n ++ name))
+-- a label of an item's own: "b", the body, "i", the item, and the rest
+pub item_form : (b n : ℕ) (name : Name) → own_label b n name ≡ 0x62 ∷ (decimal b ++ 0x69 ∷ (decimal n ++ name))
 item_form b n name =
     ap (λ (l : List ℕ). 0x62 ∷ (l ++ name)) (append_assoc (decimal b) (0x69 ∷ []) (decimal n))
     ∙ ap (λ (l : List ℕ). 0x62 ∷ l) (append_assoc (decimal b) (0x69 ∷ decimal n) name)
