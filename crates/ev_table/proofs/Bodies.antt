@@ -1,5 +1,5 @@
 -- The listings of an image's bodies: their labels and marks, and each body's own part.
-use Rattle.std.proofs.Common.{◌≡◌, ℕ, zero, suc, ◌+◌, true, ◌&&◌, List, [], ◌∷◌, ◌++◌, Some, refl, sym, ap, ◌∙◌, subst, arith}
+use Rattle.std.proofs.Common.{◌≡◌, ℕ, zero, suc, ◌+◌, true, ◌&&◌, List, [], ◌∷◌, Some, refl, ap, ◌∙◌, subst, arith}
 use Rattle.std.specs.Prelude.{not, slice_get}
 use Rattle.std.specs.List.{list_all}
 use Rattle.ev_isa.specs.declared.mode.Mode.{Mode}
@@ -9,13 +9,13 @@ use Rattle.ev_body.specs.Bodies.{body_items}
 use Rattle.ev_asm.specs.Assembly.{Places, places}
 use Rattle.ev_listing.specs.AddressMap.{body_code}
 use Rattle.ev_listing.specs.Expansion.{function_address, body_stmts}
-use Rattle.ev_listing.specs.Marks.{Listing, stmts_of, all_places}
+use Rattle.ev_listing.specs.Marks.{stmts_of, all_places}
 use Rattle.ev_concrete.specs.Opening.{body_listings}
 use Rattle.ev_concrete.specs.ConcreteRun.{Marks}
 use Rattle.ev_symbolic.specs.Agrees.{Code}
 use Rattle.ev_symbolic.specs.Listed.{cells_from, cells_in, AllFound}
 use Rattle.ev_symbolic.proofs.Values.{and_left, and_right}
-use Rattle.ev_table.specs.Table.{AreMarked, is_call, reads_no_memory}
+use Rattle.ev_table.specs.Table.{AreMarked, is_call}
 use Rattle.ev_table.proofs.Cells.{found_first, found_rest}
 use Rattle.ev_table.proofs.Labels.{AllOfBodies, all_append, lines_of_bodies}
 use Rattle.ev_table.proofs.Expanded.{all_unmarked, all_of_body, all_plain}

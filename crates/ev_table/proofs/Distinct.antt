@@ -1,6 +1,6 @@
 -- The cells of listings that have no address in common stand at distinct addresses, one behind the other.
-use Rattle.std.proofs.Common.{◌≡◌, ℕ, ◌+◌, ◌<◌, ◌≤◌, Bool, true, false, List, [], ◌∷◌, ◌++◌, length, Some, refl, sym, ap, ◌∙◌, arith, ne_eqb, subst, inl, inr, length-append}
-use Rattle.std.specs.Prelude.{◌==◌, if◌then◌else◌}
+use Rattle.std.proofs.Common.{◌≡◌, ℕ, ◌+◌, ◌<◌, ◌≤◌, true, false, List, [], ◌∷◌, length, refl, sym, ap, ◌∙◌, arith, ne_eqb, subst, inl, inr, length-append}
+use Rattle.std.specs.Prelude.{if◌then◌else◌}
 use Rattle.ev_isa.specs.Spelling.{spelling}
 use Rattle.ev_asm.specs.Assembly.{Places, total_size}
 use Rattle.ev_listing.specs.Marks.{Listing, stmts_of}

@@ -1,7 +1,7 @@
 -- What items become, whatever they are: their labels begin with "b" and bear no mark, their sizes don't depend on functions, and only `call` has marks that
 -- depend on memory.
 use Rattle.std.proofs.Common.{◌≡◌, ℕ, suc, ◌+◌, Bool, true, false, ◌&&◌, List, [], ◌∷◌, ◌++◌, refl, ap, ◌∙◌, arith}
-use Rattle.std.specs.List.{list_all, list_any}
+use Rattle.std.specs.List.{list_all}
 use Rattle.std.specs.Prelude.{not, ◌==◌}
 use Rattle.std.proofs.lemmas.List.{map-append}
 use Rattle.ev_isa.specs.Spelling.{spelling, four_bytes}
@@ -10,10 +10,10 @@ use Rattle.ev_body.specs.declared.key.Key.{Key}
 use Rattle.ev_body.specs.declared.item.Item.{Item}
 use Rattle.ev_body.specs.declared.item.Item.TheVariants.{Set, Copy, Alu, Jcc, Goto, Nop, Log, Cpu, Slot, Put, Cell, SetCell, AddCell, SwapCell, Uget, Uput, GetReg, SetReg, SetRip, Map, Unmap, Resched, Sti, Cli, Eoi, Send, Call, Kick, Wait, Take, Finish, Ret}
 use Rattle.ev_asm.specs.declared.statement.Stmt.{Stmt}
-use Rattle.ev_asm.specs.declared.statement.Stmt.TheVariants.{Label, Plain, Jump}
+use Rattle.ev_asm.specs.declared.statement.Stmt.TheVariants.{Label}
 use Rattle.ev_asm.specs.Assembly.{Name, size, total_size}
-use Rattle.ev_listing.specs.Expansion.{item_label, expansion, expansions}
-use Rattle.ev_listing.specs.Marks.{Mark, Never, Always, IfNonzero, IfEqual, Marked, stmts_of}
+use Rattle.ev_listing.specs.Expansion.{expansion, expansions}
+use Rattle.ev_listing.specs.Marks.{Mark, Never, Marked, stmts_of}
 use Rattle.ev_symbolic.proofs.Values.{and_left, and_right}
 use Rattle.ev_table.specs.Table.{is_call, reads_no_memory}
 

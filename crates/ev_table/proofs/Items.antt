@@ -1,5 +1,5 @@
 -- What holds of the code of a body's items holds of each item's own, at its address.
-use Rattle.std.proofs.Common.{◌≡◌, ℕ, zero, suc, ◌+◌, List, [], ◌∷◌, ◌++◌, take, Some, refl, sym, ap, ◌∙◌, subst, arith, append_assoc}
+use Rattle.std.proofs.Common.{◌≡◌, ℕ, zero, suc, ◌+◌, List, [], ◌∷◌, ◌++◌, take, Some, refl, sym, ap, ◌∙◌, subst, arith}
 use Rattle.std.specs.Prelude.{slice_get}
 use Rattle.ev_isa.specs.declared.mode.Mode.{Mode}
 use Rattle.ev_body.specs.declared.key.Key.{Key}
@@ -13,7 +13,7 @@ use Rattle.ev_listing.specs.Statements.{label}
 use Rattle.ev_concrete.specs.ConcreteRun.{Marks}
 use Rattle.ev_symbolic.specs.Agrees.{Code}
 use Rattle.ev_symbolic.specs.Listed.{Cells, instruction, with_cell, cells_from, AllFound}
-use Rattle.ev_table.specs.Table.{MarkedAt, AreMarked}
+use Rattle.ev_table.specs.Table.{AreMarked}
 use Rattle.ev_table.proofs.Cells.{found_first, found_rest}
 use Rattle.ev_table.proofs.Expanded.{size_cons}
 

@@ -5,7 +5,7 @@ use Rattle.ev_isa.specs.declared.mode.Mode.{Mode}
 use Rattle.ev_isa.specs.declared.mode.Mode.TheVariants.{Idt, Fred}
 use Rattle.ev_body.specs.declared.key.Key.{Key}
 use Rattle.ev_body.specs.declared.key.Key.TheVariants.{Nmi}
-use Rattle.ev_asm.specs.Assembly.{size, place, places, distance}
+use Rattle.ev_asm.specs.Assembly.{size, place, places}
 use Rattle.ev_listing.specs.Expansion.{exit_of}
 use Rattle.ev_listing.specs.IdtCode.{idt_listings}
 use Rattle.ev_listing.specs.FredCode.{fred_listings}

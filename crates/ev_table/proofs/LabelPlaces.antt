@@ -11,6 +11,7 @@ use Rattle.ev_body.specs.declared.body.Body.{Body}
 use Rattle.ev_body.specs.declared.image.Image.{Image}
 use Rattle.ev_body.specs.Bodies.{body_items}
 use Rattle.ev_body.specs.WellFormed.{IsImage, is_body}
+use Rattle.ev_abstract.specs.Rules.{is_take}
 use Rattle.ev_asm.specs.declared.statement.Stmt.{Stmt}
 use Rattle.ev_asm.specs.declared.statement.Stmt.TheVariants.{Label, Plain, Jump}
 use Rattle.ev_asm.specs.Assembly.{Name, Places, is_name, place, places, size, total_size}
@@ -24,13 +25,13 @@ use Rattle.ev_fetch.proofs.Sizes.{few_items}
 use Rattle.ev_table.specs.Table.{places_of}
 use Rattle.ev_table.proofs.Expanded.{size_cons}
 use Rattle.ev_table.proofs.Names.{NoDigit, IsOwn, not_own, not_other}
-use Rattle.ev_table.proofs.Whole.{places_split, address}
+use Rattle.ev_table.proofs.Whole.{all_at, places_split, address}
 
 -- ---- the labels of an item
 
-abbrev pub Owns : ℕ → ℕ → Stmt → Type 0
-Owns m k (Label name) = IsOwn m k name
-Owns m k s = Unit {0}
+abbrev pub Owns : ℕ → ℕ → Bool → Stmt → Type 0
+Owns m k takes (Label name) = IsOwn m k takes name
+Owns m k takes s = Unit {0}
 
 abbrev is_label : Stmt → Bool
 is_label (Label name) = true
@@ -40,76 +41,77 @@ abbrev has_label : List Marked → Bool
 has_label [] = false
 has_label (l ∷ ls) = is_label l.stmt || has_label ls
 
-own : (m k : ℕ) (x : Name) (c d : ℕ) → x ≡ c ∷ d ∷ [] → 58 ≤ c → IsOwn m k (own_label m k x)
-own m k x c d e h = inl (x, refl, subst NoDigit (sym e) (λ g. let u = g.1 in omega arith), subst (λ (y : Name). 0 < length y) (sym e) (omega arith))
+pub own : (m k : ℕ) (t : Bool) (x : Name) (c d : ℕ) → x ≡ c ∷ d ∷ [] → 58 ≤ c → IsOwn m k t (own_label m k x)
+own m k t x c d e h = inl (x, refl, subst NoDigit (sym e) (λ g. let u = g.1 in omega arith), subst (λ (y : Name). 0 < length y) (sym e) (omega arith))
 
-no_labels : (m k : ℕ) (ls : List Marked) → has_label ls ≡ false → Each (λ (l : Marked). Owns m k l.stmt) ls
-no_labels m k [] h = tt
-no_labels m k (l ∷ ls) h = one l.stmt h (no_labels m k ls)
+no_labels : (m k : ℕ) (t : Bool) (ls : List Marked) → has_label ls ≡ false → Each (λ (l : Marked). Owns m k t l.stmt) ls
+no_labels m k t [] h = tt
+no_labels m k t (l ∷ ls) h = one l.stmt h (no_labels m k t ls)
   where
     one : (s : Stmt) → (is_label s || has_label ls) ≡ false
-        → (has_label ls ≡ false → Each (λ (l : Marked). Owns m k l.stmt) ls) → Owns m k s × Each (λ (l : Marked). Owns m k l.stmt) ls
+        → (has_label ls ≡ false → Each (λ (l : Marked). Owns m k t l.stmt) ls) → Owns m k t s × Each (λ (l : Marked). Owns m k t l.stmt) ls
     one (Label name) q f = absurd (cc)
     one (Plain i) q f = (tt, f q)
     one (Jump c name) q f = (tt, f q)
 
 -- past one line that is no label, and past four
-past : {X : Type 0} → X → Unit {0} × X
+pub past : {X : Type 0} → X → Unit {0} × X
 past x = (tt, x)
 
-past4 : {X : Type 0} → X → Unit {0} × (Unit {0} × (Unit {0} × (Unit {0} × X)))
+pub past4 : {X : Type 0} → X → Unit {0} × (Unit {0} × (Unit {0} × (Unit {0} × X)))
 past4 x = past (past (past (past x)))
 
-pub item_owns : (mode : Mode) (m : ℕ) (key : Key) (f : ℕ → ℕ) (k : ℕ) (item : Item) → Each (λ (l : Marked). Owns m k l.stmt) (expansion mode m key f k item)
-unfolding expansion
-item_owns mode m key f k (Set d v) = no_labels m k (expansion mode m key f k (Set d v)) refl
-item_owns mode m key f k (Copy d s) = no_labels m k (expansion mode m key f k (Copy d s)) refl
-item_owns mode m key f k (Alu o d s) = no_labels m k (expansion mode m key f k (Alu o d s)) refl
-item_owns mode m key f k (Jcc c j) = no_labels m k (expansion mode m key f k (Jcc c j)) refl
-item_owns mode m key f k (Goto j) = no_labels m k (expansion mode m key f k (Goto j)) refl
-item_owns mode m key f k Nop = no_labels m k (expansion mode m key f k Nop) refl
-item_owns mode m key f k (Log s) = no_labels m k (expansion mode m key f k (Log s)) refl
-item_owns mode m key f k (Cpu d) = no_labels m k (expansion mode m key f k (Cpu d)) refl
-item_owns mode m key f k (Slot d x) = no_labels m k (expansion mode m key f k (Slot d x)) refl
-item_owns mode m key f k (Put x s) = no_labels m k (expansion mode m key f k (Put x s)) refl
-item_owns mode m key f k (Cell d x) = no_labels m k (expansion mode m key f k (Cell d x)) refl
-item_owns mode m key f k (SetCell x s) = no_labels m k (expansion mode m key f k (SetCell x s)) refl
-item_owns mode m key f k (AddCell x d) = no_labels m k (expansion mode m key f k (AddCell x d)) refl
-item_owns mode m key f k (SwapCell x d) = no_labels m k (expansion mode m key f k (SwapCell x d)) refl
-item_owns mode m key f k (Uget d s) = no_labels m k (expansion mode m key f k (Uget d s)) refl
-item_owns mode m key f k (Uput s t) = no_labels m k (expansion mode m key f k (Uput s t)) refl
-item_owns mode m key f k (GetReg d r) = no_labels m k (expansion mode m key f k (GetReg d r)) refl
-item_owns mode m key f k (SetReg r s) = no_labels m k (expansion mode m key f k (SetReg r s)) refl
-item_owns mode m key f k (SetRip v) = no_labels m k (expansion mode m key f k (SetRip v)) refl
-item_owns mode m key f k (Map s) = (tt, (tt, (tt, (tt, (tt, (tt, (tt, (own m k (codes "M1") 77 49 refl (omega arith), (tt, (tt, (tt, (tt, tt))))))))))))
-item_owns mode m key f k (Unmap s) = (tt, (tt, (tt, (tt, (tt, (tt, (tt, (own m k (codes "M1") 77 49 refl (omega arith), (tt, (tt, (tt, (tt, tt))))))))))))
-item_owns mode m key f k Resched = no_labels m k (expansion mode m key f k Resched) refl
-item_owns mode m key f k Sti = no_labels m k (expansion mode m key f k Sti) refl
-item_owns mode m key f k Cli = no_labels m k (expansion mode m key f k Cli) refl
-item_owns mode m key f k Eoi = no_labels m k (expansion mode m key f k Eoi) refl
-item_owns mode m key f k (Send to x) = no_labels m k (expansion mode m key f k (Send to x)) refl
-item_owns mode m key f k Item.Bp = no_labels m k (expansion mode m key f k Item.Bp) refl
-item_owns mode m key f k (Kick to s) = past
-    (past (past (past (past (past (past (own m k (codes "K1") 75 49 refl (omega arith), past (own m k (codes "K2") 75 50 refl (omega arith), tt))))))))
-item_owns mode m key f k (Wait site) = (own m k (codes "W0") 87 48 refl (omega arith), (tt, (tt, (tt, (tt, (tt, tt))))))
+pub item_owns : (mode : Mode) (m : ℕ) (key : Key) (f : ℕ → ℕ) (k : ℕ) (item : Item)
+    → Each (λ (l : Marked). Owns m k (is_take item) l.stmt) (expansion mode m key f k item)
+unfolding expansion is_take
+item_owns mode m key f k (Set d v) = no_labels m k false (expansion mode m key f k (Set d v)) refl
+item_owns mode m key f k (Copy d s) = no_labels m k false (expansion mode m key f k (Copy d s)) refl
+item_owns mode m key f k (Alu o d s) = no_labels m k false (expansion mode m key f k (Alu o d s)) refl
+item_owns mode m key f k (Jcc c j) = no_labels m k false (expansion mode m key f k (Jcc c j)) refl
+item_owns mode m key f k (Goto j) = no_labels m k false (expansion mode m key f k (Goto j)) refl
+item_owns mode m key f k Nop = no_labels m k false (expansion mode m key f k Nop) refl
+item_owns mode m key f k (Log s) = no_labels m k false (expansion mode m key f k (Log s)) refl
+item_owns mode m key f k (Cpu d) = no_labels m k false (expansion mode m key f k (Cpu d)) refl
+item_owns mode m key f k (Slot d x) = no_labels m k false (expansion mode m key f k (Slot d x)) refl
+item_owns mode m key f k (Put x s) = no_labels m k false (expansion mode m key f k (Put x s)) refl
+item_owns mode m key f k (Cell d x) = no_labels m k false (expansion mode m key f k (Cell d x)) refl
+item_owns mode m key f k (SetCell x s) = no_labels m k false (expansion mode m key f k (SetCell x s)) refl
+item_owns mode m key f k (AddCell x d) = no_labels m k false (expansion mode m key f k (AddCell x d)) refl
+item_owns mode m key f k (SwapCell x d) = no_labels m k false (expansion mode m key f k (SwapCell x d)) refl
+item_owns mode m key f k (Uget d s) = no_labels m k false (expansion mode m key f k (Uget d s)) refl
+item_owns mode m key f k (Uput s t) = no_labels m k false (expansion mode m key f k (Uput s t)) refl
+item_owns mode m key f k (GetReg d r) = no_labels m k false (expansion mode m key f k (GetReg d r)) refl
+item_owns mode m key f k (SetReg r s) = no_labels m k false (expansion mode m key f k (SetReg r s)) refl
+item_owns mode m key f k (SetRip v) = no_labels m k false (expansion mode m key f k (SetRip v)) refl
+item_owns mode m key f k (Map s) = past4 (past (past (past (own m k false (codes "M1") 77 49 refl (omega arith), past4 tt))))
+item_owns mode m key f k (Unmap s) = past4 (past (past (past (own m k false (codes "M1") 77 49 refl (omega arith), past4 tt))))
+item_owns mode m key f k Resched = no_labels m k false (expansion mode m key f k Resched) refl
+item_owns mode m key f k Sti = no_labels m k false (expansion mode m key f k Sti) refl
+item_owns mode m key f k Cli = no_labels m k false (expansion mode m key f k Cli) refl
+item_owns mode m key f k Eoi = no_labels m k false (expansion mode m key f k Eoi) refl
+item_owns mode m key f k (Send to x) = no_labels m k false (expansion mode m key f k (Send to x)) refl
+item_owns mode m key f k Item.Bp = no_labels m k false (expansion mode m key f k Item.Bp) refl
+item_owns mode m key f k (Kick to s) = past4
+    (past (past (past (own m k false (codes "K1") 75 49 refl (omega arith), past (own m k false (codes "K2") 75 50 refl (omega arith), tt)))))
+item_owns mode m key f k (Wait site) = (own m k false (codes "W0") 87 48 refl (omega arith), (tt, (tt, (tt, (tt, (tt, tt))))))
 item_owns mode m key f k (Call site to func s) =
     past4 (past (past (past (
-      own m k (codes "L1") 76 49 refl (omega arith),
+      own m k false (codes "L1") 76 49 refl (omega arith),
       past4 (past4 (past (past (past (
-        own m k (codes "L2") 76 50 refl (omega arith),
-        past4 (past4 (own m k (codes "L3") 76 51 refl (omega arith), tt)),
+        own m k false (codes "L2") 76 50 refl (omega arith),
+        past4 (past4 (own m k false (codes "L3") 76 51 refl (omega arith), tt)),
       ))))),
     ))))
 item_owns mode m key f k Take =
     past4 (
-      own m k (codes "T1") 84 49 refl (omega arith),
+      own m k true (codes "T1") 84 49 refl (omega arith),
       past4 (past (past (past (
-        inr refl,
-        past4 (past (past (own m k (codes "T3") 84 51 refl (omega arith), tt))),
+        inr (refl, refl),
+        past4 (past (past (own m k true (codes "T3") 84 51 refl (omega arith), tt))),
       )))),
     )
-item_owns mode m key f k Finish = no_labels m k (expansion mode m key f k Finish) refl
-item_owns mode m key f k Ret = no_labels m k (expansion mode m key f k Ret) refl
+item_owns mode m key f k Finish = no_labels m k false (expansion mode m key f k Finish) refl
+item_owns mode m key f k Ret = no_labels m k false (expansion mode m key f k Ret) refl
 
 -- ---- places of other names
 
@@ -165,12 +167,12 @@ abbrev pub Small : ℕ → Type 0
 Small n = n < 2 ^ 64
 
 module _ (mode : Mode) (m : ℕ) (key : Key) (f : ℕ → ℕ) (hm : Small m) (n i : ℕ) (hn : Small n) (hi : Small i) where
-  item_lacks : (k : ℕ) → Small k → (ls : List Marked) → Each (λ (l : Marked). Owns m k l.stmt) ls → Lack (item_label n i) ls
-  item_lacks k hk [] h = tt
-  item_lacks k hk (l ∷ ls) h = (one l.stmt h.0, item_lacks k hk ls h.1)
+  item_lacks : (k : ℕ) (t : Bool) → Small k → (ls : List Marked) → Each (λ (l : Marked). Owns m k t l.stmt) ls → Lack (item_label n i) ls
+  item_lacks k t hk [] h = tt
+  item_lacks k t hk (l ∷ ls) h = (one l.stmt h.0, item_lacks k t hk ls h.1)
     where
-      one : (s : Stmt) → Owns m k s → Other (item_label n i) s
-      one (Label name) q = not_own m k n i name hm hk hn hi q
+      one : (s : Stmt) → Owns m k t s → Other (item_label n i) s
+      one (Label name) q = not_own m k n i t name hm hk hn hi q
       one (Plain x) q = tt
       one (Jump c name) q = tt
 
@@ -180,7 +182,7 @@ module _ (mode : Mode) (m : ℕ) (key : Key) (f : ℕ → ℕ) (hm : Small m) (n
   items_lack h k (item ∷ items) small = (
     not_other m k n i hm (omega arith) hn hi (λ e q. h e),
     each_append (λ (l : Marked). Other (item_label n i) l.stmt) (expansion mode m key f k item) (expansions mode m key f (suc k) items)
-        (item_lacks k (omega arith) (expansion mode m key f k item) (item_owns mode m key f k item)) (items_lack h (suc k) items (omega arith)),
+        (item_lacks k (is_take item) (omega arith) (expansion mode m key f k item) (item_owns mode m key f k item)) (items_lack h (suc k) items (omega arith)),
   )
 
 pub same_name : (name : Name) → is_name name name ≡ true
@@ -208,7 +210,7 @@ module _ (mode : Mode) (n : ℕ) (key : Key) (f : ℕ → ℕ) (hn : Small n) wh
       (not_other n k n (k + suc i) hn (omega arith) hn ki (λ e q. absurd (omega arith)))
       ∙ ap (λ (ps : Places). place ps name) (places_append a here more rest)
       ∙ place_behind a here (places (a + one) (stmts_of more) ++ rest) name
-      (item_lacks mode n key f hn n (k + suc i) hn ki k (omega arith) here (item_owns mode n key f k item))
+      (item_lacks mode n key f hn n (k + suc i) hn ki k (is_take item) (omega arith) here (item_owns mode n key f k item))
       ∙ ap (λ (j : ℕ). place (places (a + one) (stmts_of more) ++ rest) (item_label n j)) (let e : k + suc i ≡ suc k + i = omega arith in e)
       ∙ item_placed (a + one) (suc k) items i rest (omega arith) (omega arith)
       ∙ (let e : (a + one) + total_size (stmts_of (expansions mode n key f (suc k) (take i items)))
@@ -239,7 +241,7 @@ module _ (mode : Mode) (image : Image) where
   body_placed bytes m (x ∷ xs) rest (suc j) i b h few q l =
       let within : j < length xs = slice_get_within xs j b q in
       let short = few_items bytes x (and_left _ _ h) in
-      let goodness = few_items bytes b (at xs j (and_right (is_body bytes x) _ h) q) in
+      let goodness = few_items bytes b (all_at (is_body bytes) xs j b (and_right (is_body bytes x) _ h) q) in
       let behind : Places = all_places (body_listings mode image (suc m) xs) ++ rest in
       ap (λ (ps : Places). place ps (item_label (m + suc j) i))
       (append_assoc (places (body_code m) (stmts_of (body_stmts mode image m x))) (all_places (body_listings mode image (suc m) xs)) rest)
@@ -250,11 +252,6 @@ module _ (mode : Mode) (image : Image) where
       ≡ body_code n + total_size (stmts_of (expansions mode n b.key (function_address mode image) 0 (take i (body_items b)))))
       (let z : suc m + j ≡ m + suc j = omega arith in z)
       (body_placed bytes (suc m) xs rest j i b (and_right (is_body bytes x) _ h) (omega arith) q l)
-    where
-      at : (bs : List Body) (j : ℕ) → list_all (is_body bytes) bs ≡ true → slice_get bs j ≡ Some b → is_body bytes b ≡ true
-      at [] j h q = absurd (cc)
-      at (y ∷ ys) zero h q = subst (λ (z : Body). is_body bytes z ≡ true) (let e : y ≡ b = cc in e) (and_left _ _ h)
-      at (y ∷ ys) (suc j) h q = at ys j (and_right (is_body bytes y) _ h) q
 
   pub labels_placed : IsImage image → (n i : ℕ) (b : Body) → slice_get image.bodies n ≡ Some b → i < length (body_items b)
       → place (places_of mode image) (item_label n i) ≡ item_address mode n b i

@@ -10,3 +10,5 @@ pub mod Whole
 pub mod Names
 pub mod LabelPlaces
 pub mod OwnPlaces
+pub mod FirstPlaces
+pub mod TakenPlace

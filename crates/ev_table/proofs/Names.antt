@@ -44,7 +44,8 @@ parse (x ∷ xs) (y ∷ ys) us vs a b m n h =
 
 -- ---- names of bodies
 
-item_form : (b n : ℕ) (name : Name) → own_label b n name ≡ 0x62 ∷ (decimal b ++ 0x69 ∷ (decimal n ++ name))
+-- a label of an item's own: "b", the body, "i", the item, and the rest
+pub item_form : (b n : ℕ) (name : Name) → own_label b n name ≡ 0x62 ∷ (decimal b ++ 0x69 ∷ (decimal n ++ name))
 item_form b n name =
     ap (λ (l : List ℕ). 0x62 ∷ (l ++ name)) (append_assoc (decimal b) (0x69 ∷ []) (decimal n))
     ∙ ap (λ (l : List ℕ). 0x62 ∷ l) (append_assoc (decimal b) (0x69 ∷ decimal n) name)
@@ -73,19 +74,19 @@ own_tells m k n i x y hm hk hn hi a b h =
     let s = parse (decimal k) (decimal i) x y (digits k hk) (digits i hi) a b (tail_same 0x69 0x69 (decimal k ++ x) (decimal i ++ y) r.1) in
     (r.0, decimal_injective k i hk hi s.0, s.1)
 
--- what the labels of item k of body m look like
-abbrev pub IsOwn : ℕ → ℕ → Name → Type 0
-IsOwn m k name = ((x : Name) × (name ≡ own_label m k x) × NoDigit x × (0 < length x)) ⊎ (name ≡ taken_label m)
+-- what the labels of item k of body m look like: that behind an exchange is given by a `take` alone
+abbrev pub IsOwn : ℕ → ℕ → Bool → Name → Type 0
+IsOwn m k takes name = ((x : Name) × (name ≡ own_label m k x) × NoDigit x × (0 < length x)) ⊎ ((takes ≡ true) × (name ≡ taken_label m))
 
-own_differs : (m k n i : ℕ) (name : Name) → m < 2 ^ 64 → k < 2 ^ 64 → n < 2 ^ 64 → i < 2 ^ 64 → IsOwn m k name → name ≡ item_label n i → ⊥
-own_differs m k n i name hm hk hn hi (inl own) h =
-    let t = own_tells m k n i own.0 [] hm hk hn hi own.2 tt (sym (item_form m k own.0) ∙ sym own.1 ∙ h ∙ plain_form n i) in
-    let none : length own.0 ≡ 0 = ap (λ (x : Name). length x) t.2 in
+own_differs : (m k n i : ℕ) (t : Bool) (name : Name) → m < 2 ^ 64 → k < 2 ^ 64 → n < 2 ^ 64 → i < 2 ^ 64 → IsOwn m k t name → name ≡ item_label n i → ⊥
+own_differs m k n i t name hm hk hn hi (inl own) h =
+    let tells = own_tells m k n i own.0 [] hm hk hn hi own.2 tt (sym (item_form m k own.0) ∙ sym own.1 ∙ h ∙ plain_form n i) in
+    let none : length own.0 ≡ 0 = ap (λ (x : Name). length x) tells.2 in
     let some : 0 < length own.0 = own.3 in
     omega (arith, none, some)
-own_differs m k n i name hm hk hn hi (inr e) h =
+own_differs m k n i t name hm hk hn hi (inr e) h =
     let r = same_body m n (0x54 ∷ 0x32 ∷ []) (0x69 ∷ (decimal i ++ [])) hm hn (not_digit 0x54 (omega arith)) (not_digit 0x69 (omega arith))
-    (sym e ∙ h ∙ plain_form n i) in
+    (sym e.1 ∙ h ∙ plain_form n i) in
     let z : 0x54 ≡ 0x69 = head_same 0x54 0x69 (0x32 ∷ []) (decimal i ++ []) r.1 in
     omega (arith, z)
 
@@ -112,24 +113,25 @@ other_name x y h = pick (is_name x y) refl
     pick true q = absurd (h (names_same x y q))
     pick false q = refl
 
-pub not_own : (m k n i : ℕ) (name : Name) → m < 2 ^ 64 → k < 2 ^ 64 → n < 2 ^ 64 → i < 2 ^ 64 → IsOwn m k name → is_name name (item_label n i) ≡ false
-not_own m k n i name hm hk hn hi own = other_name name (item_label n i) (own_differs m k n i name hm hk hn hi own)
+pub not_own : (m k n i : ℕ) (t : Bool) (name : Name) → m < 2 ^ 64 → k < 2 ^ 64 → n < 2 ^ 64 → i < 2 ^ 64 → IsOwn m k t name
+    → is_name name (item_label n i) ≡ false
+not_own m k n i t name hm hk hn hi own = other_name name (item_label n i) (own_differs m k n i t name hm hk hn hi own)
 
 pub not_other : (m k n i : ℕ) → m < 2 ^ 64 → k < 2 ^ 64 → n < 2 ^ 64 → i < 2 ^ 64 → ((m ≡ n) → (k ≡ i) → ⊥) → is_name (item_label m k) (item_label n i) ≡ false
 not_other m k n i hm hk hn hi h =
     other_name (item_label m k) (item_label n i) (λ e. let t = item_differs m k n i hm hk hn hi e in h t.0 t.1)
 
 -- a label that an item has of its own is no other item's, and no label of an item
-pub own_apart : (m k n i : ℕ) (name x : Name) → m < 2 ^ 64 → k < 2 ^ 64 → n < 2 ^ 64 → i < 2 ^ 64 → NoDigit x → 0 < length x
-    → ((m ≡ n) → (k ≡ i) → ⊥) → IsOwn m k name → is_name name (own_label n i x) ≡ false
-own_apart m k n i name x hm hk hn hi nd some h own = other_name name (own_label n i x) (differs own)
+pub own_apart : (m k n i : ℕ) (t : Bool) (name x : Name) → m < 2 ^ 64 → k < 2 ^ 64 → n < 2 ^ 64 → i < 2 ^ 64 → NoDigit x → 0 < length x
+    → ((m ≡ n) → (k ≡ i) → ⊥) → IsOwn m k t name → is_name name (own_label n i x) ≡ false
+own_apart m k n i t name x hm hk hn hi nd some h own = other_name name (own_label n i x) (differs own)
   where
-    differs : IsOwn m k name → name ≡ own_label n i x → ⊥
+    differs : IsOwn m k t name → name ≡ own_label n i x → ⊥
     differs (inl o) e =
-        let t = own_tells m k n i o.0 x hm hk hn hi o.2 nd (sym (item_form m k o.0) ∙ sym o.1 ∙ e ∙ item_form n i x) in h t.0 t.1
+        let tells = own_tells m k n i o.0 x hm hk hn hi o.2 nd (sym (item_form m k o.0) ∙ sym o.1 ∙ e ∙ item_form n i x) in h tells.0 tells.1
     differs (inr o) e =
         let r = same_body m n (0x54 ∷ 0x32 ∷ []) (0x69 ∷ (decimal i ++ x)) hm hn (not_digit 0x54 (omega arith)) (not_digit 0x69 (omega arith))
-        (sym o ∙ e ∙ item_form n i x) in
+        (sym o.1 ∙ e ∙ item_form n i x) in
         let z : 0x54 ≡ 0x69 = head_same 0x54 0x69 (0x32 ∷ []) (decimal i ++ x) r.1 in
         omega (arith, z)
 
@@ -142,3 +144,27 @@ item_apart m k n i x hm hk hn hi nd some = other_name (item_label m k) (own_labe
         let t = own_tells m k n i [] x hm hk hn hi tt nd (sym (plain_form m k) ∙ e ∙ item_form n i x) in
         let none : length x ≡ 0 = sym (ap (λ (y : Name). length y) t.2) in
         omega (arith, none, some)
+
+-- ---- the label behind an exchange
+
+taken_differs : (m n : ℕ) (us : List ℕ) → m < 2 ^ 64 → n < 2 ^ 64 → 0x62 ∷ (decimal m ++ 0x69 ∷ us) ≡ taken_label n → ⊥
+taken_differs m n us hm hn h =
+    let r = same_body m n (0x69 ∷ us) (0x54 ∷ 0x32 ∷ []) hm hn (not_digit 0x69 (omega arith)) (not_digit 0x54 (omega arith)) h in
+    let z : 0x69 ≡ 0x54 = head_same 0x69 0x54 us (0x32 ∷ []) r.1 in
+    omega (arith, z)
+
+-- it is no label of an item
+pub item_not_taken : (m k n : ℕ) → m < 2 ^ 64 → n < 2 ^ 64 → is_name (item_label m k) (taken_label n) ≡ false
+item_not_taken m k n hm hn = other_name (item_label m k) (taken_label n) (λ e. taken_differs m n (decimal k ++ []) hm hn (sym (plain_form m k) ∙ e))
+
+-- nor one that an item of another body has, or an item that is no `take`
+pub own_not_taken : (m k n : ℕ) (t : Bool) (name : Name) → m < 2 ^ 64 → n < 2 ^ 64 → ((m ≡ n) → t ≡ false) → IsOwn m k t name
+    → is_name name (taken_label n) ≡ false
+own_not_taken m k n t name hm hn h own = other_name name (taken_label n) (differs own)
+  where
+    differs : IsOwn m k t name → name ≡ taken_label n → ⊥
+    differs (inl o) e = taken_differs m n (decimal k ++ o.0) hm hn (sym (item_form m k o.0) ∙ sym o.1 ∙ e)
+    differs (inr o) e =
+        let r = same_body m n (0x54 ∷ 0x32 ∷ []) (0x54 ∷ 0x32 ∷ []) hm hn (not_digit 0x54 (omega arith)) (not_digit 0x54 (omega arith)) (sym o.1 ∙ e) in
+        let z : true ≡ false = sym o.0 ∙ h r.0 in
+        absurd (cc)

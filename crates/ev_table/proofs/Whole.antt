@@ -5,7 +5,6 @@ use Rattle.std.specs.List.{list_all}
 use Rattle.std.proofs.lemmas.Bool.{leb-true, leb-false}
 use Rattle.std.proofs.lemmas.List.{length-take}
 use Rattle.std.proofs.lemmas.Option.{slice_get_within}
-use Rattle.ev_isa.specs.Spelling.{spelling, four_bytes}
 use Rattle.ev_isa.specs.Word.{displaced, is_canonical}
 use Rattle.ev_isa.specs.declared.mode.Mode.{Mode}
 use Rattle.ev_isa.specs.declared.mode.Mode.TheVariants.{Idt, Fred}
@@ -21,7 +20,7 @@ use Rattle.ev_body.specs.WellFormed.{IsImage, is_body}
 use Rattle.ev_asm.specs.Assembly.{Name, Places, place, size, total_size, distance}
 use Rattle.ev_listing.specs.AddressMap.{body_code}
 use Rattle.ev_listing.specs.Expansion.{exit_of, item_address, expansion, expansions, function_address, body_stmts}
-use Rattle.ev_listing.specs.Marks.{Mark, Never, Always, IfNonzero, IfEqual, Listing, stmts_of, all_places}
+use Rattle.ev_listing.specs.Marks.{Never, Listing, stmts_of, all_places}
 use Rattle.ev_concrete.specs.Opening.{kernel_listings, listings, body_listings}
 use Rattle.ev_concrete.specs.ConcreteRun.{marks_of, mark_at}
 use Rattle.ev_symbolic.specs.Agrees.{Cell}
@@ -82,11 +81,11 @@ plain_append : (xs ys : List Listing) → all_plain xs ≡ true → all_plain ys
 plain_append [] ys h k = k
 plain_append (x ∷ xs) ys h k = ap (λ t. t && all_plain (xs ++ ys)) (and_left _ (all_plain xs) h) ∙ plain_append xs ys (and_right _ (all_plain xs) h) k
 
-first_each : (P : Listing → Type 0) (xs ys : List Listing) → Each P (xs ++ ys) → Each P xs
+pub first_each : {X : Type 0} (P : X → Type 0) (xs ys : List X) → Each P (xs ++ ys) → Each P xs
 first_each P [] ys h = tt
 first_each P (x ∷ xs) ys h = (h.0, first_each P xs ys h.1)
 
-all_at : (t : Body → Bool) (bs : List Body) (n : ℕ) (b : Body) → list_all t bs ≡ true → slice_get bs n ≡ Some b → t b ≡ true
+pub all_at : (t : Body → Bool) (bs : List Body) (n : ℕ) (b : Body) → list_all t bs ≡ true → slice_get bs n ≡ Some b → t b ≡ true
 all_at t [] n b h q = absurd (cc)
 all_at t (x ∷ xs) zero b h q = subst (λ (y : Body). t y ≡ true) (let e : x ≡ b = cc in e) (and_left _ _ h)
 all_at t (x ∷ xs) (suc n) b h q = all_at t xs n b (and_right (t x) _ h) q

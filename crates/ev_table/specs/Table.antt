@@ -1,6 +1,6 @@
 -- The code of an image in a mode as a table.
-use Rattle.std.specs.Prelude.{◌≡◌, ℤ, ℕ, suc, ◌+◌, ◌^◌, ◌≤◌, ◌<◌, Bool, true, false, not, List, [], ◌∷◌, ◌++◌, length, Some, slice_get}
-use Rattle.std.specs.List.{list_all}
+use Rattle.std.specs.Prelude.{◌≡◌, ℤ, ℕ, suc, ◌+◌, ◌^◌, ◌≤◌, ◌<◌, Bool, true, false, not, List, [], ◌∷◌, ◌++◌, length, take, Some, slice_get}
+use Rattle.std.specs.List.{list_all, list_any}
 use Rattle.ev_isa.specs.Word.{displaced, is_canonical}
 use Rattle.ev_isa.specs.declared.instruction.Ins.TheVariants.{Jmp}
 use Rattle.ev_isa.specs.declared.mode.Mode.{Mode}
@@ -8,23 +8,25 @@ use Rattle.ev_isa.specs.declared.mode.Mode.TheVariants.{Idt, Fred}
 use Rattle.ev_body.specs.declared.key.Key.{Key}
 use Rattle.ev_body.specs.declared.key.Key.TheVariants.{Nmi}
 use Rattle.ev_body.specs.declared.item.Item.{Item}
-use Rattle.ev_body.specs.declared.item.Item.TheVariants.{Call, Ret}
+use Rattle.ev_body.specs.declared.item.Item.TheVariants.{Call, Take, Ret}
 use Rattle.ev_body.specs.declared.body.Body.{Body}
 use Rattle.ev_body.specs.declared.image.Image.{Image}
 use Rattle.ev_body.specs.Bodies.{key_number, body_items}
 use Rattle.ev_body.specs.WellFormed.{IsImage}
 use Rattle.ev_abstract.specs.Run.{item_at}
+use Rattle.ev_abstract.specs.Rules.{is_take}
 use Rattle.ev_listing.specs.AddressMap.{exit_entry, exitn_entry, body_code}
 use Rattle.ev_asm.specs.declared.statement.Stmt.{Stmt}
 use Rattle.ev_asm.specs.declared.statement.Stmt.TheVariants.{Label}
 use Rattle.ev_asm.specs.Assembly.{Name, Places, place, places, size, total_size}
-use Rattle.ev_listing.specs.Expansion.{item_label, own_label, exit_of, item_address, expansion, function_address}
+use Rattle.ev_listing.specs.Expansion.{item_label, own_label, taken_label, exit_of, item_address, expansion, function_address}
 use Rattle.ev_listing.specs.Marks.{Mark, Never, Always, Marked, stmts_of, all_places}
 use Rattle.ev_concrete.specs.Opening.{kernel_listings, listings}
 use Rattle.ev_concrete.specs.ConcreteRun.{Marks, marks_of, mark_at}
 use Rattle.ev_symbolic.specs.Agrees.{Cell, Code, Spaced}
 use Rattle.ev_symbolic.specs.Listed.{Cells, cells_from, cells_in, AllFound, code_of}
 use Rattle.ev_blocks.specs.Fred.{fexit}
+use Rattle.ev_blocks.specs.Calls.{at_taken}
 
 -- the cells of an image's code by their addresses
 abbrev pub code_table : Mode → Image → Code
@@ -117,6 +119,13 @@ OwnLabelsArePlaced = (mode : Mode) (image : Image) → IsImage image → (n i : 
     → slice_get image.bodies n ≡ Some b → item_at (Some b) i ≡ Some item
     → IsPlacedIn mode n b.key (function_address mode image) i item (c ∷ cs) off
     → place (places_of mode image) (own_label n i (c ∷ cs)) ≡ item_address mode n b i + off
+
+-- The label behind the exchange of `take`, to which `finish` jumps, names its body and no item: it stands in the body's first `take`, so many bytes behind
+-- its beginning. An accepted image has no other there (`breaks_calls`).
+abbrev pub TakenLabelsArePlaced : Type 0
+TakenLabelsArePlaced = (mode : Mode) (image : Image) → IsImage image → (n i : ℕ) (b : Body) → slice_get image.bodies n ≡ Some b
+    → item_at (Some b) i ≡ Some Take → list_any is_take (take i (body_items b)) ≡ false
+    → place (places_of mode image) (taken_label n) ≡ item_address mode n b i + at_taken
 
 -- the exits stand where they stand without bodies
 abbrev pub ExitsArePlaced : Type 0

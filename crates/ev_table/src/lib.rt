@@ -2,7 +2,7 @@
 //! the items of bodies, and which cells the abstract machine sees.
 #![tactic(auto)]
 
-ghost use Rattle.ev_table.specs.Table.{KernelStands, CellsAreSpaced, ItemsStand, ItemsAreMarked, ItemsFollow, ItemLabelsArePlaced, OwnLabelsArePlaced, ExitsArePlaced, RetStands, OthersHaveOneExit, BodiesBeginWithItems, ItemsAreCanonical, CellsAreMarked, MarksReadNoMemory};
+ghost use Rattle.ev_table.specs.Table.{KernelStands, CellsAreSpaced, ItemsStand, ItemsAreMarked, ItemsFollow, ItemLabelsArePlaced, OwnLabelsArePlaced, TakenLabelsArePlaced, ExitsArePlaced, RetStands, OthersHaveOneExit, BodiesBeginWithItems, ItemsAreCanonical, CellsAreMarked, MarksReadNoMemory};
 
 /// In both modes, for every image: the kernel's cells stand in the table, the cells of each item
 /// stand at its address with its marks, and an address has the mark of its cell; marks read memory
@@ -15,6 +15,7 @@ pub fn table()
     ensures follow { ItemsFollow }
     ensures labels { ItemLabelsArePlaced }
     ensures own_labels { OwnLabelsArePlaced }
+    ensures taken_labels { TakenLabelsArePlaced }
     ensures placed { ExitsArePlaced }
     ensures rets { RetStands }
     ensures exits { OthersHaveOneExit }

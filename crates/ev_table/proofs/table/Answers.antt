@@ -6,6 +6,7 @@ use Rattle.ev_table.proofs.Kernel as kernel
 use Rattle.ev_table.proofs.LabelPlaces.{labels_placed}
 use Rattle.ev_table.proofs.OwnPlaces.{own_labels_placed}
 use Rattle.ev_table.proofs.Whole as whole
+use Rattle.ev_table.proofs.TakenPlace.{taken_placed}
 use Rattle.ev_table.proofs.table.Goals as goal
 
 kernel_stands : KernelStands
@@ -21,6 +22,7 @@ returns c = record {
   follow = λ mode image n i b item k. whole.next_address mode image n i b item k;
   labels = λ mode image given n i b h l. labels_placed mode image given n i b h l;
   own_labels = λ mode image given n i b item c cs off high h l found. own_labels_placed mode image i c cs high item off given n b h l found;
+  taken_labels = λ mode image given n i b h k first. taken_placed mode image given n i b h k first;
   placed = λ mode image key. whole.exit_is_there mode image key;
   rets = λ mode image given n i b h k. whole.ret_stands mode image given n i b h k;
   exits = λ mode key h. whole.exit_of_others mode key h;
