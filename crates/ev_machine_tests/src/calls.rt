@@ -18,21 +18,20 @@ fn words_of_a_record(rt: HostRuntime) {
         fetch: false,
     };
     // Site 3 of processor 1; the function's address and the link are no part of the view.
-    let words = [
-        1,
-        0xffff_ffff_8202_0000,
-        0x77,
-        0x1234,
-        0x1_0000_0001,
-        5,
-        0x103,
-        6,
-    ];
-    let mut address = 0xffff_8880_0001_08c0;
-    for word in words {
-        assert_eq!(rt; mem.store(address, word, kernel), Ok(()));
-        address += 8;
-    }
+    assert_eq!(rt; mem.store(0xffff_8880_0001_08c0, 1, kernel), Ok(()));
+    assert_eq!(rt;
+        mem.store(0xffff_8880_0001_08c8, 0xffff_ffff_8202_0000, kernel),
+        Ok(())
+    );
+    assert_eq!(rt; mem.store(0xffff_8880_0001_08d0, 0x77, kernel), Ok(()));
+    assert_eq!(rt; mem.store(0xffff_8880_0001_08d8, 0x1234, kernel), Ok(()));
+    assert_eq!(rt;
+        mem.store(0xffff_8880_0001_08e0, 0x1_0000_0001, kernel),
+        Ok(())
+    );
+    assert_eq!(rt; mem.store(0xffff_8880_0001_08e8, 5, kernel), Ok(()));
+    assert_eq!(rt; mem.store(0xffff_8880_0001_08f0, 0x103, kernel), Ok(()));
+    assert_eq!(rt; mem.store(0xffff_8880_0001_08f8, 6, kernel), Ok(()));
     let queued = RecordView {
         used: true,
         from: 1,
