@@ -1,3 +1,4 @@
 pub mod Slots
+pub mod Spans
 pub mod FirstWords
 pub mod Bytes

@@ -1,5 +1,6 @@
 pub mod Memory
 pub mod Mapped
+pub mod Spans
 pub mod Conditions
 pub mod Access
 pub mod Code

@@ -1,8 +1,9 @@
 // The error code of a page fault (SDM volume 3, 4.7).
 
 ghost use Rattle.std.specs.Prelude.{⊤, ◌≡◌, [], ◌∷◌, codes};
-ghost use Rattle.ev_isa.specs.Pages.{fault_code, fault_if};
-ghost use Rattle.ev_mem.specs.Access.{access_of};
+ghost use Rattle.ev_isa.specs.Word.{NatSet};
+ghost use Rattle.ev_isa.specs.Pages.{fault_code, fault_if, fault_at};
+ghost use Rattle.ev_mem.specs.Access.{access_of, place_by_kind};
 
 use crate::region::Who;
 use bitflags::{Flag, Flags, bitflag_items};
@@ -63,5 +64,17 @@ pub fn fault_if(refused: bool, who: Who, write: bool, present: bool) -> Option<u
         Some(error_code(who, write, present))
     } else {
         None
+    }
+}
+
+/// The error code of an access to an address in no region.
+#[tactic(auto, unfolding(ev_isa::specs::Pages::fault_at))]
+pub fn absent(a: u64, who: Who, write: bool) -> u64
+    ensures { (s : NatSet) → fault_at s (access_of who write) (place_by_kind a None) ≡ Some result }
+{
+    if a < 0x8000_0000_0000_0000 {
+        error_code(who, write, false)
+    } else {
+        error_code(who, write, who.cpl == 3)
     }
 }

@@ -1,15 +1,17 @@
 // Memory, and what reaches it.
 
-ghost use Rattle.std.specs.Prelude.{◌≡◌, true, false, ◌==◌, ◌+◌, ◌%◌, ◌^◌, is_some, if◌then◌else◌, OnOk, OnErr, IfOk};
+ghost use Rattle.std.specs.Prelude.{◌≡◌, ◌<◌, true, false, ◌==◌, ◌+◌, ◌%◌, ◌^◌, [], ◌∷◌, length, is_some, if◌then◌else◌, IfSome, OnOk, OnErr, IfOk, IfErr};
 ghost use Rattle.ev_isa.specs.Word.{is_canonical, is_aligned, wrap};
-ghost use Rattle.ev_mem.specs.Memory.{page_fault, present_in, code_bytes};
+ghost use Rattle.ev_isa.specs.Pages.{fault_at};
+ghost use Rattle.ev_mem.specs.Memory.{page_fault, present_in, place_by, code_bytes};
 ghost use Rattle.ev_mem.specs.Mapped.{memory, slot_in};
+ghost use Rattle.ev_mem.specs.Spans.{span_in};
 ghost use Rattle.ev_mem.specs.Access.{access_of, or_fault, with_word, with_word_if};
 ghost use Rattle.ev_mem.specs.Conditions.{AreRegions, first_words};
 
 use crate::code::window;
-use crate::error_code::fault_if;
-use crate::lookup::{kind_at, slot};
+use crate::error_code::{absent, fault_if};
+use crate::lookup::{Span, all_spans, find};
 use crate::opening::{all_first_words, copied};
 use crate::region::{PageFault, Region, RegionKind, Who};
 use ev_isa::NoMemory;
@@ -25,16 +27,18 @@ const PAGE_MAP: u64 = 0xffff_8880_0082_0000;
 pub struct Mem {
     regions: Vec<Region>,
     words: Vec<u64>,
+    spans: Vec<Span>,
 }
 
 impl Model for Mem {
-    ghost use Rattle.ev_mem.specs.Mapped.{MappedWords, AreMapped};
+    ghost use Rattle.ev_mem.specs.Mapped.{MappedWords};
+    ghost use Rattle.ev_mem.specs.Spans.{IsKept};
 
     ghost Value = { MappedWords };
 
     ghost view = { λ m. record { regions = m.regions.items; words = m.words.items } };
 
-    ghost invariant = { λ m. AreMapped m.regions.items m.words.items };
+    ghost invariant = { λ m. IsKept m.regions.items m.words.items m.spans.items };
 }
 
 impl Mem {
@@ -64,10 +68,40 @@ impl Mem {
     {
         let kept = copied(alloc, regions)?;
         let words = all_first_words(alloc, regions, text)?;
+        let spans = all_spans(alloc, regions)?;
         Ok(Mem {
             regions: kept,
             words,
+            spans,
         })
+    }
+
+    /// The span that holds the address, if one does.
+    fn find(&self, a: u64) -> Option<Span>
+        ensures { result ≡ span_in self.now.regions a }
+    {
+        find(&self.spans, a)
+    }
+
+    /// The place of an address that the span holds among the words of all regions.
+    fn place(&self, span: Span, a: u64) -> usize
+        requires { Some span ≡ span_in self.now.regions a }
+        ensures is { slot_in self.now.regions a ≡ Some result }
+        ensures within { result < length self.now.words }
+    {
+        let _ = &self.words;
+        span.start + ((a - span.region.base) / 8) as usize
+    }
+
+    /// The place of the address among the words of all regions, one region after another.
+    fn slot(&self, a: u64) -> Option<usize>
+        ensures is { result ≡ slot_in self.now.regions a }
+        ensures within { IfSome result (λ i. i < length self.now.words) }
+    {
+        match self.find(a) {
+            Some(span) => Some(self.place(span, a)),
+            None => None,
+        }
     }
 
     /// The word at an address, and 0 where there is none.
@@ -78,10 +112,31 @@ impl Mem {
         if a % 8 != 0 {
             return 0;
         }
-        match slot(&self.regions, a) {
+        match self.slot(a) {
             Some(i) => self.words[i],
             None => 0,
         }
+    }
+
+    /// The word at an address, whose place is i.
+    #[tactic(auto, unfolding(crate::specs::Mapped::memory))]
+    fn get(&self, a: u64, i: usize) -> u64
+        requires aligned { is_aligned a ≡ true }
+        requires there { slot_in self.now.regions a ≡ Some i }
+        requires within { i < length self.now.words }
+        ensures { result ≡ (memory self.now).words a }
+    {
+        self.words[i]
+    }
+
+    /// The word at an address, whose place is i, becomes v.
+    fn put(&mut self, a: u64, i: usize, v: u64)
+        requires aligned { is_aligned a ≡ true }
+        requires there { slot_in self.old.regions a ≡ Some i }
+        requires within { i < length self.old.words }
+        ensures { memory self.new ≡ with_word (memory self.old) a v }
+    {
+        self.words[i] = v;
     }
 
     /// The word of a region at an address becomes v. The page's rules are not asked: they were before,
@@ -91,8 +146,8 @@ impl Mem {
         requires mapped { is_some (slot_in self.old.regions a) ≡ true }
         ensures { memory self.new ≡ with_word (memory self.old) a v }
     {
-        if let Some(i) = slot(&self.regions, a) {
-            self.words[i] = v;
+        if let Some(i) = self.slot(a) {
+            self.put(a, i, v);
         }
     }
 
@@ -102,23 +157,50 @@ impl Mem {
         self.word(PAGE_MAP + 8 * u64::from(page)) == 1
     }
 
-    /// The error code of the page fault of an access, if it has one.
+    /// The error code of the page fault of an access to a region of this kind, if it has one.
     #[tactic(auto, unfolding(crate::specs::Mapped::memory, ev_isa::specs::Pages::fault_at))]
-    pub fn fault(&self, a: u64, who: Who, write: bool) -> Option<u64>
-        ensures { result ≡ page_fault (memory self.now) (access_of who write) a }
+    fn fault_in(&self, kind: RegionKind, who: Who, write: bool) -> Option<u64>
+        ensures { result ≡ fault_at (present_in (memory self.now)) (access_of who write) (place_by kind) }
     {
-        match kind_at(&self.regions, a) {
-            Some(RegionKind::Text) => fault_if(write, who, write, true),
-            Some(RegionKind::Page(page)) => {
+        match kind {
+            RegionKind::Text => fault_if(write, who, write, true),
+            RegionKind::Page(page) => {
                 if self.is_present(page) {
                     fault_if(who.fetch, who, write, true)
                 } else {
                     fault_if(true, who, write, false)
                 }
             }
-            Some(RegionKind::Kernel) => fault_if(who.cpl == 3, who, write, true),
-            None if a < 0x8000_0000_0000_0000 => fault_if(true, who, write, false),
-            None => fault_if(true, who, write, who.cpl == 3),
+            RegionKind::Kernel => fault_if(who.cpl == 3, who, write, true),
+        }
+    }
+
+    /// The error code of the page fault of an access, if it has one.
+    pub fn fault(&self, a: u64, who: Who, write: bool) -> Option<u64>
+        ensures { result ≡ page_fault (memory self.now) (access_of who write) a }
+    {
+        match self.find(a) {
+            Some(span) => self.fault_in(span.region.kind, who, write),
+            None => Some(absent(a, who, write)),
+        }
+    }
+
+    /// The place of the word that an access reaches, or its page fault.
+    fn reach(&self, a: u64, who: Who, write: bool) -> Result<usize, PageFault>
+        ensures ok { IfOk result (λ i. (page_fault (memory self.now) (access_of who write) a ≡ None)
+            × (slot_in self.now.regions a ≡ Some i) × (i < length self.now.words)) }
+        ensures err { IfErr result (λ e. (e.address ≡ a)
+            × (page_fault (memory self.now) (access_of who write) a ≡ Some e.code)) }
+    {
+        match self.find(a) {
+            Some(span) => match self.fault_in(span.region.kind, who, write) {
+                Some(code) => Err(PageFault { code, address: a }),
+                None => Ok(self.place(span, a)),
+            },
+            None => {
+                let code = absent(a, who, write);
+                Err(PageFault { code, address: a })
+            }
         }
     }
 
@@ -133,16 +215,25 @@ impl Mem {
         }
     }
 
+    /// The three words from an address on. A word that no region holds is 0.
+    fn three_words(&self, a: u64) -> [u64; 3]
+        requires { is_aligned a ≡ true }
+        ensures { let m = memory self.now in result ≡ m.words a ∷ m.words (a + 8) ∷ m.words (a + 16) ∷ [] }
+    {
+        if let Some(span) = self.find(a) {
+            let i = self.place(span, a);
+            if (a - span.region.base) / 8 + 2 < span.region.words {
+                return [self.words[i], self.words[i + 1], self.words[i + 2]];
+            }
+        }
+        [self.word(a), self.word_after(a, 8), self.word_after(a, 16)]
+    }
+
     /// The fifteen bytes at an address, which need not be aligned. A byte that no word holds is 0.
     pub fn fetch(&self, rip: u64) -> [u8; 15]
         ensures { result ≡ code_bytes (memory self.now).words rip }
     {
-        let first = rip - rip % 8;
-        let words = [
-            self.word(first),
-            self.word_after(first, 8),
-            self.word_after(first, 16),
-        ];
+        let words = self.three_words(rip - rip % 8);
         window(words, (rip % 8) as usize)
     }
 
@@ -153,9 +244,9 @@ impl Mem {
         ensures { result ≡ or_fault a (page_fault (memory self.now) (access_of who false) a)
             ((memory self.now).words a) }
     {
-        match self.fault(a, who, false) {
-            Some(code) => Err(PageFault { code, address: a }),
-            None => Ok(self.word(a)),
+        match self.reach(a, who, false) {
+            Ok(i) => Ok(self.get(a, i)),
+            Err(fault) => Err(fault),
         }
     }
 
@@ -167,13 +258,8 @@ impl Mem {
         ensures ok { OnOk result (memory self.new ≡ with_word (memory self.old) a v) }
         ensures err { OnErr result (self.new ≡ self.old) }
     {
-        match self.fault(a, who, true) {
-            Some(code) => Err(PageFault { code, address: a }),
-            None => {
-                self.set_word(a, v);
-                Ok(())
-            }
-        }
+        self.swap(a, v, who)?;
+        Ok(())
     }
 
     /// The word at an address becomes v, and the old one is answered, or there is the page fault of
@@ -186,8 +272,9 @@ impl Mem {
         ensures ok { OnOk result (memory self.new ≡ with_word (memory self.old) a v) }
         ensures err { OnErr result (self.new ≡ self.old) }
     {
-        let old = self.word(a);
-        self.store(a, v, who)?;
+        let i = self.reach(a, who, true)?;
+        let old = self.get(a, i);
+        self.put(a, i, v);
         Ok(old)
     }
 
@@ -202,8 +289,10 @@ impl Mem {
             (wrap ((memory self.old).words a + v))) }
         ensures err { OnErr result (self.new ≡ self.old) }
     {
-        let old = self.word(a);
-        self.swap(a, old.wrapping_add(v), who)
+        let i = self.reach(a, who, true)?;
+        let before = self.get(a, i);
+        self.put(a, i, before.wrapping_add(v));
+        Ok(before)
     }
 
     /// The word at an address becomes `new` where it is `old`, and the old word is answered, or
@@ -217,13 +306,11 @@ impl Mem {
             ((memory self.old).words a == old) (memory self.old) a new) }
         ensures err { OnErr result (self.new ≡ self.old) }
     {
-        let word = self.word(a);
+        let i = self.reach(a, who, true)?;
+        let word = self.get(a, i);
         if word == old {
-            return self.swap(a, new, who);
+            self.put(a, i, new);
         }
-        match self.fault(a, who, true) {
-            Some(code) => Err(PageFault { code, address: a }),
-            None => Ok(word),
-        }
+        Ok(word)
     }
 }

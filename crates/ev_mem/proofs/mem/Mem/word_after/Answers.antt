@@ -6,4 +6,4 @@ use Rattle.ev_mem.proofs.mem.Mem.word_after.Goals as goal
 pub returns-in-None : goal.returns-in-None
 returns-in-None c =
     let h : 2 ^ 64 ≤ c.args.a + c.args.distance = omega (arith, c.in-None.ensures {u = tt}) in
-    none_past _ (c.args.a + c.args.distance) c.self.invariant h ∙ ap (λ m. (memory m).words (c.args.a + c.args.distance)) c.self.view_is
+    none_past _ (c.args.a + c.args.distance) c.self.invariant.mapped h ∙ ap (λ m. (memory m).words (c.args.a + c.args.distance)) c.self.view_is
