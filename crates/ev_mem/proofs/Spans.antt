@@ -35,11 +35,15 @@ kind_by (Some s) = Some s.region.kind
 none_within : (r : Region) (a : ℕ) → nat_lt 0 r.words ≡ false → is_within r a ≡ false
 none_within r a h = grind (arith, nat_tests)
 
+-- the spans of regions, by whether the first one has words
+abbrev spans_by : Bool → ℕ → Region → List Region → List Span
+spans_by x n r rs = if x then record { region = r; start = n } ∷ spans_from (n + r.words) rs else spans_from (n + r.words) rs
+
 one_slot : (n : ℕ) (r : Region) (rs : List Region) (a : ℕ)
     → option_map (λ (i : ℕ). (n + r.words) + i) (slot_in rs a) ≡ slot_by a (first_span (spans_from (n + r.words) rs) a) → (x y : Bool)
     → nat_lt 0 r.words ≡ x → is_within r a ≡ y → (o : Option ℕ) → slot_in rs a ≡ o
     → option_map (λ (i : ℕ). n + i) (if y then Some ((a - r.base) / 8) else option_map (λ (i : ℕ). r.words + i) o)
-    ≡ slot_by a (first_span (if x then record { region = r; start = n } ∷ spans_from (n + r.words) rs else spans_from (n + r.words) rs) a)
+    ≡ slot_by a (first_span (spans_by x n r rs) a)
 one_slot n r rs a more true true w e o f = rw e refl
 one_slot n r rs a more true false w e None f = rw e (cc (ap (option_map (λ (i : ℕ). (n + r.words) + i)) f))
 one_slot n r rs a more true false w e (Some i) f =
@@ -61,10 +65,11 @@ zero_more (Some i) = ap Some (zero-add i)
 pub slot_is : (rs : List Region) (a : ℕ) (o : Option Span) → o ≡ span_in rs a → slot_in rs a ≡ slot_by a o
 slot_is rs a o e = sym (zero_more (slot_in rs a)) ∙ slot_from 0 rs a ∙ ap (slot_by a) (sym e)
 
-one_place : (n : ℕ) (r : Region) (rs : List Region) (a : ℕ) → place_in rs a ≡ place_by_kind a (kind_by (first_span (spans_from (n + r.words) rs) a)) → (x y : Bool)
+one_place : (n : ℕ) (r : Region) (rs : List Region) (a : ℕ)
+    → place_in rs a ≡ place_by_kind a (kind_by (first_span (spans_from (n + r.words) rs) a)) → (x y : Bool)
     → nat_lt 0 r.words ≡ x → is_within r a ≡ y
     → (if y then place_by r.kind else place_in rs a)
-    ≡ place_by_kind a (kind_by (first_span (if x then record { region = r; start = n } ∷ spans_from (n + r.words) rs else spans_from (n + r.words) rs) a))
+    ≡ place_by_kind a (kind_by (first_span (spans_by x n r rs) a))
 one_place n r rs a more true true w e = rw e refl
 one_place n r rs a more true false w e = rw e more
 one_place n r rs a more false true w e = cc (none_within r a w)
@@ -89,7 +94,8 @@ there r a h k = grind (arith, nat_tests)
 
 -- ---- any span that holds an address is the first one
 
-one_holder : (s : Span) (ss : List Span) (a : ℕ) → IsHolder ss a (first_span ss a) → (x : Bool) → is_within s.region a ≡ x → (o : Option Span) → first_span ss a ≡ o
+one_holder : (s : Span) (ss : List Span) (a : ℕ) → IsHolder ss a (first_span ss a) → (x : Bool) → is_within s.region a ≡ x → (o : Option Span)
+    → first_span ss a ≡ o
     → IsHolder (s ∷ ss) a (if x then Some s else o)
 one_holder s ss a more true e o f = ((0, omega arith, refl), e)
 one_holder s ss a more false e None f =
@@ -128,8 +134,10 @@ either i j = elim (cases_lt i j) [ inl h ↦ inl (omega arith) | inr h ↦ inr h
 
 same_holder : (ss : List Span) (a : ℕ) (o p : Option Span) → AreAscending ss → IsHolder ss a o → IsHolder ss a p → o ≡ p
 same_holder ss a None None up h k = refl
-same_holder ss a None (Some t) up h k = let e : is_within t.region a ≡ false = All-contains (λ (x : Span). is_within x.region a ≡ false) ss t h k.0 in cc (k.1, e)
-same_holder ss a (Some s) None up h k = let e : is_within s.region a ≡ false = All-contains (λ (x : Span). is_within x.region a ≡ false) ss s k h.0 in cc (h.1, e)
+same_holder ss a None (Some t) up h k =
+    let e : is_within t.region a ≡ false = All-contains (λ (x : Span). is_within x.region a ≡ false) ss t h k.0 in cc (k.1, e)
+same_holder ss a (Some s) None up h k =
+    let e : is_within s.region a ≡ false = All-contains (λ (x : Span). is_within x.region a ≡ false) ss s k h.0 in cc (h.1, e)
 same_holder ss a (Some s) (Some t) up h k =
     ap Some (one_held ss a s t up h.0 h.1 k.0 k.1 h.0.0 k.0.0 h.0.1 k.0.1 h.0.2 k.0.2 (either h.0.0 k.0.0))
 
@@ -138,7 +146,8 @@ pub found : (rs : List Region) (ss : List Span) (a : ℕ) (o : Option Span) → 
 found rs ss a o m h = same_holder ss a o (span_in rs a) m.ascending h (moved (spans_from 0 rs) ss a (span_in rs a) m.same (first_holds (spans_from 0 rs) a))
 
 -- it holds other addresses too
-pub also : (rs : List Region) (ss : List Span) (a b : ℕ) (s : Span) → AreSearched rs ss → Some s ≡ span_in rs a → is_within s.region b ≡ true → Some s ≡ span_in rs b
+pub also : (rs : List Region) (ss : List Span) (a b : ℕ) (s : Span) → AreSearched rs ss → Some s ≡ span_in rs a → is_within s.region b ≡ true
+    → Some s ≡ span_in rs b
 also rs ss a b s m e h =
     let P : Option Span → Type 0 = IsHolder (spans_from 0 rs) a in
     let k : IsHolder (spans_from 0 rs) a (Some s) = subst P (sym e) (first_holds (spans_from 0 rs) a) in
@@ -159,7 +168,7 @@ abbrev IsClearOf : Region → Span → Type 0
 IsClearOf r s = AreApart r s.region
 
 one_apart : (n : ℕ) (r q : Region) (rs : List Region) → AreApart r q → All (IsClearOf r) (spans_from (n + q.words) rs) → (x : Bool)
-    → All (IsClearOf r) (if x then record { region = q; start = n } ∷ spans_from (n + q.words) rs else spans_from (n + q.words) rs)
+    → All (IsClearOf r) (spans_by x n q rs)
 one_apart n r q rs h more true = All-cons (IsClearOf r) (record { region = q; start = n }) (spans_from (n + q.words) rs) h more
 one_apart n r q rs h more false = more
 
@@ -179,8 +188,8 @@ clear_cons s ss h k =
 
 one_clear : (n : ℕ) (r : Region) (rs : List Region) → All (IsClearOf r) (spans_from (n + r.words) rs)
     → AreClear (spans_from (n + r.words) rs) (spans_from (n + r.words) rs) → (x : Bool)
-    → AreClear (if x then record { region = r; start = n } ∷ spans_from (n + r.words) rs else spans_from (n + r.words) rs)
-    (if x then record { region = r; start = n } ∷ spans_from (n + r.words) rs else spans_from (n + r.words) rs)
+    → AreClear (spans_by x n r rs)
+    (spans_by x n r rs)
 one_clear n r rs h more true = clear_cons (record { region = r; start = n }) (spans_from (n + r.words) rs) h more
 one_clear n r rs h more false = more
 
@@ -192,7 +201,7 @@ abbrev IsFilled : Span → Type 0
 IsFilled s = 0 < s.region.words
 
 one_filled : (n : ℕ) (r : Region) (rs : List Region) → All IsFilled (spans_from (n + r.words) rs) → (x : Bool) → nat_lt 0 r.words ≡ x
-    → All IsFilled (if x then record { region = r; start = n } ∷ spans_from (n + r.words) rs else spans_from (n + r.words) rs)
+    → All IsFilled (spans_by x n r rs)
 one_filled n r rs more true e = All-cons IsFilled (record { region = r; start = n }) (spans_from (n + r.words) rs) (grind (arith, nat_tests)) more
 one_filled n r rs more false e = more
 

@@ -9,7 +9,7 @@ use crate::region::Region;
 use std::alloc::{AllocError, Global};
 
 /// A region that has words, and the number of its first word among the words of all regions.
-#[derive(Clone, Copy, Debug, Drop, PartialEq, Eq)]
+#[derive(Clone, Copy, Debug, Drop)]
 pub struct Span {
     pub region: Region,
     pub start: usize,
@@ -42,7 +42,7 @@ pub fn all_spans(alloc: Global, regions: &[Region]) -> Result<Vec<Span>, AllocEr
     Ok(spans)
 }
 
-/// The last span that begins at or below the address, or the first: spans are halved until one is left.
+/// The last span that begins at or below the address, or the first one: by halves.
 fn last_below(spans: &[Span], a: u64) -> usize
     requires some { 0 < length spans.now }
     requires ascending { AreAscending spans.now }

@@ -160,7 +160,8 @@ impl Mem {
     /// The error code of the page fault of an access to a region of this kind, if it has one.
     #[tactic(auto, unfolding(crate::specs::Mapped::memory, ev_isa::specs::Pages::fault_at))]
     fn fault_in(&self, kind: RegionKind, who: Who, write: bool) -> Option<u64>
-        ensures { result ≡ fault_at (present_in (memory self.now)) (access_of who write) (place_by kind) }
+        ensures { result ≡ fault_at (present_in (memory self.now)) (access_of who write)
+            (place_by kind) }
     {
         match kind {
             RegionKind::Text => fault_if(write, who, write, true),
@@ -218,7 +219,8 @@ impl Mem {
     /// The three words from an address on. A word that no region holds is 0.
     fn three_words(&self, a: u64) -> [u64; 3]
         requires { is_aligned a ≡ true }
-        ensures { let m = memory self.now in result ≡ m.words a ∷ m.words (a + 8) ∷ m.words (a + 16) ∷ [] }
+        ensures { let m = memory self.now in
+            result ≡ m.words a ∷ m.words (a + 8) ∷ m.words (a + 16) ∷ [] }
     {
         if let Some(span) = self.find(a) {
             let i = self.place(span, a);

@@ -10,28 +10,28 @@ pub index-requires-then-a-span : goal.index-requires-then-a-span
 index-requires-then-a-span c =
     omega (
       arith,
-      (word_ahead (record { regions = c.self.inside.regions.items; words = c.self.inside.words.items }) c.args.self.now c.self.inside.spans.items
-          c.args.a 1 c.place-i.result c.in-Some.span c.self.view_is c.self.invariant c.requires c.in-Some.ensures c.place-i.ensures.is (omega (arith, c.if-a-span.true))).0,
+      (word_ahead _ c.args.self.now _ c.args.a 1 c.place-i.result c.in-Some.span c.self.view_is c.self.invariant c.requires c.in-Some.ensures
+          c.place-i.ensures.is (omega (arith, c.if-a-span.true))).0,
     )
 
 pub index-requires-then-a-span-2 : goal.index-requires-then-a-span-2
 index-requires-then-a-span-2 c =
     omega (
       arith,
-      (word_ahead (record { regions = c.self.inside.regions.items; words = c.self.inside.words.items }) c.args.self.now c.self.inside.spans.items
-          c.args.a 2 c.place-i.result c.in-Some.span c.self.view_is c.self.invariant c.requires c.in-Some.ensures c.place-i.ensures.is c.if-a-span.true).0,
+      (word_ahead _ c.args.self.now _ c.args.a 2 c.place-i.result c.in-Some.span c.self.view_is c.self.invariant c.requires c.in-Some.ensures
+          c.place-i.ensures.is c.if-a-span.true).0,
     )
 
 pub returns-then-a-span : goal.returns-then-a-span
 returns-then-a-span c =
     let t = c.if-a-span.true in
-    let e : c.index.result.now ≡ (memory c.args.self.now).words c.args.a = read_ahead (record { regions = c.self.inside.regions.items; words = c.self.inside.words.items }) c.args.self.now c.self.inside.spans.items
-    c.args.a 0 c.place-i.result c.in-Some.span c.index.result.now _ _ c.self.view_is c.self.invariant c.requires c.in-Some.ensures c.place-i.ensures.is
-    (omega (arith, t)) (omega arith) (omega arith) c.index.ensures in
-    let f : c.index-then-a-span.result.now ≡ (memory c.args.self.now).words (c.args.a + 8) = read_ahead (record { regions = c.self.inside.regions.items; words = c.self.inside.words.items }) c.args.self.now c.self.inside.spans.items
-    c.args.a 1 c.place-i.result c.in-Some.span c.index-then-a-span.result.now _ _ c.self.view_is c.self.invariant c.requires c.in-Some.ensures c.place-i.ensures.is
-    (omega (arith, t)) (omega arith) (omega arith) c.index-then-a-span.ensures in
-    let g : c.index-then-a-span-2.result.now ≡ (memory c.args.self.now).words (c.args.a + 16) = read_ahead (record { regions = c.self.inside.regions.items; words = c.self.inside.words.items }) c.args.self.now c.self.inside.spans.items
-    c.args.a 2 c.place-i.result c.in-Some.span c.index-then-a-span-2.result.now _ _ c.self.view_is c.self.invariant c.requires c.in-Some.ensures c.place-i.ensures.is
-    t (omega arith) (omega arith) c.index-then-a-span-2.ensures in
+    let e : c.index.result.now ≡ (memory c.args.self.now).words c.args.a =
+    read_ahead _ c.args.self.now _ c.args.a 0 c.place-i.result c.in-Some.span _ _ _ c.self.view_is c.self.invariant c.requires c.in-Some.ensures
+    c.place-i.ensures.is (omega (arith, t)) (omega arith) (omega arith) c.index.ensures in
+    let f : c.index-then-a-span.result.now ≡ (memory c.args.self.now).words (c.args.a + 8) =
+    read_ahead _ c.args.self.now _ c.args.a 1 c.place-i.result c.in-Some.span _ _ _ c.self.view_is c.self.invariant c.requires c.in-Some.ensures
+    c.place-i.ensures.is (omega (arith, t)) (omega arith) (omega arith) c.index-then-a-span.ensures in
+    let g : c.index-then-a-span-2.result.now ≡ (memory c.args.self.now).words (c.args.a + 16) =
+    read_ahead _ c.args.self.now _ c.args.a 2 c.place-i.result c.in-Some.span _ _ _ c.self.view_is c.self.invariant c.requires c.in-Some.ensures
+    c.place-i.ensures.is t (omega arith) (omega arith) c.index-then-a-span-2.ensures in
     cc
