@@ -35,11 +35,15 @@ get_number f n (suc k) (suc i) h = get_number f (suc n) k i (omega arith) ∙ ap
 length_region : (text : List ℕ) (r : Region) → length (words_of_region text r) ≡ r.words
 length_region text r = length_numbers (λ (k : ℕ). first_by r.kind text (8 * k)) 0 r.words
 
-pub length_all : (rs : List Region) (text : List ℕ) → length (all_first_words rs text) ≡ words_in rs
+length_all : (rs : List Region) (text : List ℕ) → length (all_first_words rs text) ≡ words_in rs
 length_all [] text = refl
 length_all (r ∷ rs) text =
     rw (sum_by-cons (λ (q : Region). q.words) r rs)
     (omega (arith, length-append (words_of_region text r) (all_first_words rs text), length_region text r, length_all rs text))
+
+-- how many words the regions have
+pub count_first : (rs : List Region) (text ws : List ℕ) → ws ≡ all_first_words rs text → words_in rs ≡ length ws
+count_first rs text ws e = sym (length_all rs text) ∙ ap length (sym e)
 
 word_first : (r : Region) (rs : List Region) (text : List ℕ) (a : ℕ) → IsPlaced r → a % 8 ≡ 0
     → (word_by (all_first_words rs text) (slot_in rs a) ≡ first_in rs text a) → (x : Bool) → is_within r a ≡ x → (o : Option ℕ) → slot_in rs a ≡ o
@@ -83,8 +87,8 @@ placed rs text h k d l =
     let r : Region = get_or rs k d in
     (h.aligned k d l, canonical_below (r.base + 8 * r.words) (h.canonical k d l (r.base + 8 * r.words) (omega arith) (omega arith)))
 
-pub are_mapped : (rs kept : List Region) (text ws : List ℕ) → AreRegions rs text → kept ≡ rs → ws ≡ all_first_words rs text → AreMapped kept ws
-are_mapped rs kept text ws h e g = rw (e, g) (record { whole = length_all rs text; placed = placed rs text h })
+pub are_mapped : (rs kept : List Region) (text other ws : List ℕ) → AreRegions rs text → kept ≡ rs → ws ≡ all_first_words rs other → AreMapped kept ws
+are_mapped rs kept text other ws h e g = rw (e, g) (record { whole = length_all rs other; placed = placed rs text h })
 
 pub memory_of : (rs kept : List Region) (text ws : List ℕ) → AreRegions rs text → kept ≡ rs → ws ≡ all_first_words rs text
     → memory (record { regions = kept; words = ws }) ≡ record { regions = rs; words = first_words rs text }

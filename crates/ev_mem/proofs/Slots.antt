@@ -1,5 +1,5 @@
 -- Where addresses lie among regions, and what a write at such a place leaves. Own.
-use Rattle.std.proofs.Common.{◌≡◌, ◌<◌, ◌≤◌, ◌≢◌, ℕ, ◌+◌, ◌-◌, ◌*◌, ◌/◌, ◌%◌, ◌^◌, Bool, true, false, ◌==◌, nat_lt, if◌then◌else◌, List, [], ◌∷◌, Option, Some, None, length, set, All, refl, sym, ◌∙◌, ap, arith, eqb-true, get_or-set_same, get_or-set_other, is_some}
+use Rattle.std.proofs.Common.{◌≡◌, ◌<◌, ◌≤◌, ◌≢◌, ◌⊎◌, inl, inr, ℕ, ◌+◌, ◌-◌, ◌*◌, ◌/◌, ◌%◌, ◌^◌, Bool, true, false, ◌==◌, nat_lt, if◌then◌else◌, List, [], ◌∷◌, Option, Some, None, length, set, All, refl, sym, ◌∙◌, ap, arith, eqb-true, get_or-set_same, get_or-set_other, is_some}
 use Rattle.std.proofs.lemmas.Bool.Decides.{nat_tests}
 use Rattle.std.proofs.lemmas.List.Elements.{All-head, All-tail}
 use Rattle.std.proofs.lemmas.List.Sums.{sum_by-cons}
@@ -13,6 +13,13 @@ use Rattle.ev_mem.specs.Mapped.{is_within, slot_in, word_by, words_in, memory, M
 
 pub within : (r : Region) (a : ℕ) → is_within r a ≡ true → (r.base ≤ a) × (a < r.base + 8 * r.words)
 within r a h = grind (arith, nat_tests)
+
+pub within_is : (r : Region) (a : ℕ) → r.base ≤ a → a < r.base + 8 * r.words → is_within r a ≡ true
+within_is r a h k = grind (arith, nat_tests)
+
+pub not_within : (r : Region) (a : ℕ) → (a < r.base) ⊎ (r.base + 8 * r.words ≤ a) → is_within r a ≡ false
+not_within r a (inl h) = grind (arith, nat_tests)
+not_within r a (inr h) = grind (arith, nat_tests)
 
 -- an address's place lies among the words
 below : (r : Region) (rs : List Region) (a i : ℕ) → ((j : ℕ) → slot_in rs a ≡ Some j → j < words_in rs) → (x : Bool) → is_within r a ≡ x → (o : Option ℕ)

@@ -17,7 +17,7 @@ use Rattle.ev_mem.specs.Access.{place_by_kind}
 use Rattle.ev_mem.specs.Mapped.{is_within, slot_in, memory, MappedWords, AreMapped}
 use Rattle.ev_mem.specs.Conditions.{AreApart, AllApart}
 use Rattle.ev_mem.specs.Spans.{spans_from, first_span, span_in, IsHolder, AreAscending, AreSearched, IsKept}
-use Rattle.ev_mem.proofs.Slots.{within, slot_below}
+use Rattle.ev_mem.proofs.Slots.{within, within_is, not_within, slot_below}
 
 -- ---- what the first span that holds an address says
 
@@ -82,15 +82,6 @@ place_from n (r ∷ rs) a = one_place n r rs a (place_from (n + r.words) rs a) (
 -- the place of an address is that of its span's kind
 pub place_is : (rs : List Region) (a : ℕ) (o : Option Span) → o ≡ span_in rs a → place_in rs a ≡ place_by_kind a (kind_by o)
 place_is rs a o e = place_from 0 rs a ∙ ap (λ (p : Option Span). place_by_kind a (kind_by p)) (sym e)
-
--- an address below a region or above it
-not_within : (r : Region) (a : ℕ) → (a < r.base) ⊎ (r.base + 8 * r.words ≤ a) → is_within r a ≡ false
-not_within r a (inl h) = grind (arith, nat_tests)
-not_within r a (inr h) = grind (arith, nat_tests)
-
--- an address in a region
-there : (r : Region) (a : ℕ) → r.base ≤ a → a < r.base + 8 * r.words → is_within r a ≡ true
-there r a h k = grind (arith, nat_tests)
 
 -- ---- any span that holds an address is the first one
 
@@ -281,7 +272,7 @@ pub word_ahead : (v m : MappedWords) (ss : List Span) (a n i : ℕ) (s : Span) �
 word_ahead v m ss a n i s q k h e f l =
     let e' : Some s ≡ span_in v.regions a = e ∙ ap (λ (x : MappedWords). span_in x.regions a) (sym q) in
     let b : (s.region.base ≤ a) × (a < s.region.base + 8 * s.region.words) = bounds v.regions a s e' in
-    let w : is_within s.region (a + 8 * n) ≡ true = there s.region (a + 8 * n) (omega (arith, b)) (omega (arith, b)) in
+    let w : is_within s.region (a + 8 * n) ≡ true = within_is s.region (a + 8 * n) (omega (arith, b)) (omega (arith, b)) in
     let e2 : Some s ≡ span_in v.regions (a + 8 * n) = also v.regions ss a (a + 8 * n) s k.searched e' w in
     let g : i ≡ s.start + (a - s.region.base) / 8 = cc (f, slot_is m.regions a (Some s) e) in
     let p : s.start + (a + 8 * n - s.region.base) / 8 ≡ i + n = omega (arith, b, g) in
