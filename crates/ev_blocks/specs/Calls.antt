@@ -144,11 +144,15 @@ behind_next = 10
 abbrev pub record_forms : Layout → Forms
 record_forms layout = private (InRecord ∷ body_forms layout)
 
+-- of a record: whose it is, and of which site
+abbrev pub site_words : List Word
+site_words = word (at_base record_tag 0x20) (X 27) ∷ word (at_base record_tag 0x30) (X 28) ∷ []
+
 -- its words once it is filled, but for the link: 25 is its number and 26 its argument
 abbrev pub filled_words : (address func : ℕ) → List Word
 filled_words address func =
     word (at_base record_tag 0) (K 1) ∷ word (at_base record_tag 8) (K address) ∷ word (at_base record_tag 0x10) (X 26)
-    ∷ word (at_base record_tag 0x28) (X 25) ∷ word (at_base record_tag 0x38) (K func) ∷ []
+    ∷ word (at_base record_tag 0x28) (X 25) ∷ word (at_base record_tag 0x38) (K func) ∷ site_words
 
 -- the opening so many bytes behind the item's beginning
 abbrev pub item_opening : Layout → ℕ → SS
@@ -229,7 +233,7 @@ block_of_call fred layout (BehindBusy s) =
     call_block fred layout (call_forms layout (BehindBusy s)) [] behind_state (fill_code 0 0 0 s) (with_rax (K 1) (item_opening layout behind_state)) 4
 block_of_call fred layout (AtFill address func to s) =
     call_block fred layout (call_forms layout (AtFill address func to s)) [] behind_state (fill_code address func to s)
-    (with_record (word (at_base record_tag 0x28) (X 25) ∷ []) (with_rax (K 0) (item_opening layout behind_state))) 13
+    (with_record (word (at_base record_tag 0x28) (X 25) ∷ site_words) (with_rax (K 0) (item_opening layout behind_state))) 13
 block_of_call fred layout (AtHead address func to) =
     call_block fred layout (call_forms layout (AtHead address func to)) [] at_head []
     (with_head to (with_record (filled_words address func) (item_opening layout at_head))) 0

@@ -54,7 +54,7 @@ module _ (mode : Mode) (image : Image) (built : IsBuilt image) (good : IsImage i
   on = step.on mode image built good facts left s m h p hp
 
   -- at the instruction that meets it, behind those that the item has before
-  pub by_fault : (act : Active mode image p on.own o.κ o.σ on.frame (switches_at mode image on.switching o.below) o.w o.b c s.memory)
+  pub by_fault : (act : Active mode image p on.own o.κ o.σ on.frame (switches_at mode image on.switching o.below) (first_fill on.fills) o.w o.b c s.memory)
       → TellsNoCr2 (block mode act.stands.spot) → (ss : ℕ) → IsKernelSs mode ss → (extra v : ℕ → ℕ) (f : Flags) (offset : ℕ) (rax rcx rdx : V) (g : Flags)
       → ItemState mode (here mode p o.κ o.σ ss o.w extra v f) c s.memory offset rax rcx rdx g → length c.regs ≡ 16 → is_canonical c.rip ≡ true
       → code_end ≤ c.rip → (cell : Cell) → code_table mode image c.rip ≡ Some cell → cell.mark ≡ Always → (code address : ℕ)
@@ -77,7 +77,7 @@ module _ (mode : Mode) (image : Image) (built : IsBuilt image) (good : IsImage i
         canonical = canonical;
         outside = refl;
         inside = inside;
-        stood = λ n. turns.stands_any mode image p on.own o.κ o.σ on.frame (switches_at mode image on.switching o.below) o.w o.b c s.memory
+        stood = λ n. turns.stands_any mode image p on.own o.κ o.σ on.frame (switches_at mode image on.switching o.below) (first_fill on.fills) o.w o.b c s.memory
             act (act.switches ∙ o.off)
             untold n;
         machine = m;

@@ -217,7 +217,7 @@ module _ (mode : Mode) (image : Image) (built : IsBuilt image) (good : IsImage i
   -- the contexts, of which the last one is b
   module _ (b : BodyContext) (below : List BodyContext) (hb : x.bodies ≡ b ∷ below) (last : Activation) (others : List Activation)
       (acts : s.activations p ≡ last ∷ others)
-      (k : Chain mode image p on.own r on.returning (x.tasks on.returning) on.frame on.switching (b ∷ below) (last ∷ others) c s.memory) where
+      (k : Chain mode image p on.own r on.returning (x.tasks on.returning) on.frame on.switching on.fills (b ∷ below) (last ∷ others) c s.memory) where
     abbrev n : ℕ
     n = length below
 
@@ -230,12 +230,12 @@ module _ (mode : Mode) (image : Image) (built : IsBuilt image) (good : IsImage i
     abbrev σ : Seat
     σ = seat_of mode image r (b ∷ below)
 
-    abbrev act : Active mode image p on.own κ σ on.frame (switches_at mode image on.switching below) w b c s.memory
+    abbrev act : Active mode image p on.own κ σ on.frame (switches_at mode image on.switching below) (first_fill on.fills) w b c s.memory
     act = k.6
 
     -- IF is the context's
     masked : interrupts_on c ≡ b.interrupts
-    masked = chain_masked mode image p on.own r on.returning (x.tasks on.returning) on.frame on.switching b below (last ∷ others) c s.memory k
+    masked = chain_masked mode image p on.own r on.returning (x.tasks on.returning) on.frame on.switching on.fills b below (last ∷ others) c s.memory k
 
     plain : ArePlain image (b ∷ below)
     plain = subst (ArePlain image) hb (step.plain mode image built good facts left s m h p hp)
@@ -311,8 +311,8 @@ module _ (mode : Mode) (image : Image) (built : IsBuilt image) (good : IsImage i
       at_item =
           let now : Kept mode image p c = step.kept_now mode image built good facts left s m h p hp in
           let under : Kept mode image p w = chain_kept mode image p (body_edges mode image) r on.returning (x.tasks on.returning) on.frame
-          (chained mode image on.switching below) below others w s.memory (over_any mode image
-          (λ q. Chain mode image p (body_edges mode image) r on.returning (x.tasks on.returning) on.frame (chained mode image on.switching below) below others q
+          (chained mode image on.switching below) (rest_fills on.fills) below others w s.memory (over_any mode image
+          (λ q. Chain mode image p (body_edges mode image) r on.returning (x.tasks on.returning) on.frame (chained mode image on.switching below) (rest_fills on.fills) below others q
           s.memory) _ w k.4) in
           record {
             kernel = ap is_user agrees.rest;
@@ -352,7 +352,7 @@ module _ (mode : Mode) (image : Image) (built : IsBuilt image) (good : IsImage i
           k.3,
           k.4,
           k.5,
-          stands_any mode image p on.own κ σ on.frame (switches_at mode image on.switching below) w b c s.memory act in_it.off in_it.untold a,
+          stands_any mode image p on.own κ σ on.frame (switches_at mode image on.switching below) (first_fill on.fills) w b c s.memory act in_it.off in_it.untold a,
         );
       }
 

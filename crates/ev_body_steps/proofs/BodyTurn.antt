@@ -187,10 +187,10 @@ module _ (mode : Mode) (image : Image) where
       told (Some v) h = absurd (cc)
 
   -- with the edges of a body
-  pub stands_any : (p left : ℕ) (κ : Kind) (σ : Seat) (f : Frame) (sw : Bool) (w : Processor) (b : BodyContext) (c : Processor) (m : Memory)
-      → (act : Active mode image p left κ σ f sw w b c m) → blocks.switches act.stands.spot ≡ false → TellsNoCr2 (block mode act.stands.spot) → (a : ℕ)
+  pub stands_any : (p left : ℕ) (κ : Kind) (σ : Seat) (f : Frame) (sw : Bool) (g : Option Filling) (w : Processor) (b : BodyContext) (c : Processor) (m : Memory)
+      → (act : Active mode image p left κ σ f sw g w b c m) → blocks.switches act.stands.spot ≡ false → TellsNoCr2 (block mode act.stands.spot) → (a : ℕ)
       → Active mode image p (body_edges mode image) κ σ f sw w b (record c { cr2 = a }) m
-  stands_any p left κ σ f sw w b c m act off none a = record {
+  stands_any p left κ σ f sw g w b c m act off none a = record {
     stands = record {
       spot = act.stands.spot;
       k = act.stands.k;
@@ -247,7 +247,7 @@ module _ (mode : Mode) (image : Image) (built : IsBuilt image) (good : IsImage i
     pub quiet : AreQuiet (b ∷ below)
     pub outside : is_in_repeat c.rip ≡ is_in_repeat saved
     pub inside : code_end ≤ saved  -- it stands in the bodies' code
-    pub chain : (a : ℕ) → Chain mode image p (body_edges mode image) r to (x.tasks to) on.frame on.switching (b ∷ below) (last ∷ others)
+    pub chain : (a : ℕ) → Chain mode image p (body_edges mode image) r to (x.tasks to) on.frame on.switching on.fills (b ∷ below) (last ∷ others)
         (record c { rip = saved; cr2 = a }) s.memory
 
   -- The event that comes, which leaves this local APIC, and what the abstract machine makes of it.
@@ -380,7 +380,7 @@ module _ (mode : Mode) (image : Image) (built : IsBuilt image) (good : IsImage i
     above : AllAbove (top_at p (seat_under mode r (suc n))) (interrupted c (s.activations p))
     above =
         let others = above_less (top_at p (seat_under mode r (suc n))) (top_at p (seat_under mode r n)) (deeper mode p r n) u.others
-        (chain_above mode image p (body_edges mode image) r to (x.tasks to) on.frame on.switching u.b u.below u.last u.others w s.memory u.plain
+        (chain_above mode image p (body_edges mode image) r to (x.tasks to) on.frame on.switching on.fills u.b u.below u.last u.others w s.memory u.plain
         (u.chain c.cr2)) in
         subst (λ ys. AllAbove (top_at p (seat_under mode r (suc n))) (interrupted c ys)) (sym u.acts)
         (rsp_over mode p r n (rsp c) y.at.at_top, others)
@@ -397,21 +397,21 @@ module _ (mode : Mode) (image : Image) (built : IsBuilt image) (good : IsImage i
     spared = below_spared mode image p r [] s.memory.words words' entered_context (u.b ∷ u.below) small narrow deep tt refl
         (subst (λ σ. Changes p σ [] s.memory.words words') (sym seat_now) changes) plain_now
 
-    under : (a : ℕ) → Chain mode image p (body_edges mode image) r to (x.tasks to) on.frame on.switching (u.b ∷ u.below) (under_now ∷ u.others)
+    under : (a : ℕ) → Chain mode image p (body_edges mode image) r to (x.tasks to) on.frame on.switching on.fills (u.b ∷ u.below) (under_now ∷ u.others)
         (record w { cr2 = a }) mem
     under a =
         let k = u.chain a in
-        chain_stays mode image p (body_edges mode image) r to (x.tasks to) on.frame on.switching (u.b ∷ u.below) (under_now ∷ u.others) (record w { cr2 = a })
+        chain_stays mode image p (body_edges mode image) r to (x.tasks to) on.frame on.switching on.fills (u.b ∷ u.below) (under_now ∷ u.others) (record w { cr2 = a })
         s.memory words' hp good.count.1 spared (inl u.inside) (k.0, k.1, k.2, k.3, k.4, k.5, k.6)
 
-    chain : Chain mode image p (body_edges mode image) r to (x.tasks to) on.frame on.switching now_bodies (last_now ∷ under_now ∷ u.others) d mem
+    chain : Chain mode image p (body_edges mode image) r to (x.tasks to) on.frame on.switching on.fills now_bodies (last_now ∷ under_now ∷ u.others) d mem
     chain =
         let at_kind = subst (λ k. Beneath mode image (keeps_cr2 mode image k)
-        (λ v. Chain mode image p (body_edges mode image) r to (x.tasks to) on.frame (chained mode image on.switching (u.b ∷ u.below)) (u.b ∷ u.below)
+        (λ v. Chain mode image p (body_edges mode image) r to (x.tasks to) on.frame (chained mode image on.switching (u.b ∷ u.below)) (rest_fills on.fills) (u.b ∷ u.below)
         (under_now ∷ u.others) v mem) w
         × Leads mode p k on.frame w mem.words
         × Active mode image p (body_edges mode image) k (seat_by mode k r (seat_of mode image r (u.b ∷ u.below)) (room_of mode image (u.b ∷ u.below))) on.frame
-        (switches_at mode image on.switching (u.b ∷ u.below)) w entered_context d mem) (sym no_nmi) (
+        (switches_at mode image on.switching (u.b ∷ u.below)) (first_fill on.fills) w entered_context d mem) (sym no_nmi) (
           under,
           tt,
           subst (λ σ. Active mode image p (body_edges mode image) FromBody σ on.frame false w entered_context d mem)
@@ -441,7 +441,7 @@ module _ (mode : Mode) (image : Image) (built : IsBuilt image) (good : IsImage i
         (λ i f. refl) on.tasks (begun.blocking ∙ sym (none_nmi image now_bodies plain_now))
         y.set (subst (λ q. ApicIs mode image q y.set now_bodies) (sym (at_same s.apics p p apic refl)) y.apic_is)
         (let f = few_inner mode image (s.latches p) in omega arith)
-        (subst (λ ys. Chain mode image p (body_edges mode image) r to (x.tasks to) on.frame on.switching now_bodies ys d mem) (sym acts_are) chain)
+        (subst (λ ys. Chain mode image p (body_edges mode image) r to (x.tasks to) on.frame on.switching on.fills now_bodies ys d mem) (sym acts_are) chain)
 
     all : Stands mode image (put_at left p now) s' m'
     all =
@@ -470,7 +470,7 @@ module _ (mode : Mode) (image : Image) (built : IsBuilt image) (good : IsImage i
     frame_fits : begun.frame + 8 * frame_size (middle.cpus p) e ≤ top_at p (seat_under mode r (suc n))
     frame_fits =
         let fred : has_fred (middle.cpus p) ≡ has_fred w = ap has_fred (at_same s.cpus p p d refl)
-        ∙ (chain_kept mode image p (body_edges mode image) r to (x.tasks to) on.frame on.switching now_bodies
+        ∙ (chain_kept mode image p (body_edges mode image) r to (x.tasks to) on.frame on.switching on.fills now_bodies
         (last_now ∷ under_now ∷ u.others) d mem chain).fred
         ∙ sym y.at.fred in
         let same : frame_size (middle.cpus p) e ≡ frame_size w e

@@ -226,7 +226,7 @@ module _ (mode : Mode) (image : Image) (built : IsBuilt image) (good : IsImage i
   on = step.on mode image built good facts left s m h p hp
 
   abbrev Stood : ℕ → BodyContext → Processor → Memory → Type 0
-  Stood now b cpu mem = Active mode image p now o.κ o.σ on.frame (switches_at mode image on.switching o.below) o.w b cpu mem
+  Stood now b cpu mem = Active mode image p now o.κ o.σ on.frame (switches_at mode image on.switching o.below) (first_fill on.fills) o.w b cpu mem
 
   -- the address of an item of the body
   abbrev place : ℕ → ℕ
@@ -449,7 +449,7 @@ module _ (mode : Mode) (image : Image) (built : IsBuilt image) (good : IsImage i
         (goes_on_inside false (not (is_user c)) (not (nat_le nmi_entry c.rip && nat_lt c.rip repeat_entry)) (is_jump (Some Sti))
         (is_in_repeat c.rip) (length x.bodies) refl (step.outside mode image built good facts left s m h p hp o a.act) ∙ ap length o.bodies)
         now (few_edges mode image (body mode BehindSti) (behind_is_spot mode) 0)
-        (subst (λ as'. Chain mode image p now x.running on.returning (x.tasks on.returning) on.frame on.switching (b' ∷ o.below) as' cpu mem) (sym still_there)
+        (subst (λ as'. Chain mode image p now x.running on.returning (x.tasks on.returning) on.frame on.switching on.fills (b' ∷ o.below) as' cpu mem) (sym still_there)
         (step.with_last mode image built good facts left s m h p hp o b' o.kind ctx now cpu s.memory.words [] (none_spares p).allowed
         (step.unknown_none o.below) (λ y far near. refl) act))
         refl

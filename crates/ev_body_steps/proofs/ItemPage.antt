@@ -239,7 +239,7 @@ module _ (mode : Mode) (image : Image) (built : IsBuilt image) (good : IsImage i
   env ss extra v f = here mode p o.κ o.σ ss o.w extra v f
 
   abbrev Stood : ℕ → BodyContext → Processor → Memory → Type 0
-  Stood now b cpu mem = Active mode image p now o.κ o.σ on.frame (switches_at mode image on.switching o.below) o.w b cpu mem
+  Stood now b cpu mem = Active mode image p now o.κ o.σ on.frame (switches_at mode image on.switching o.below) (first_fill on.fills) o.w b cpu mem
 
   -- At the item: the move is an edge.
   pub to_page : (act : Stood on.own b c s.memory) (ss : ℕ) → IsKernelSs mode ss → (extra v : ℕ → ℕ) (f : Flags)

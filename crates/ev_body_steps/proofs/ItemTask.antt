@@ -255,8 +255,8 @@ module _ (mode : Mode) (image : Image) (built : IsBuilt image) (good : IsImage i
         (λ i q d. beyond_registers regs var i q ∙ another_variable j value v i d) (opening_of mode).words word.alone a.state.words)
 
     chains : (b' : BodyContext) → kind_of image b' o.below ≡ o.κ → IsContext mode image b' → (now : ℕ) (cpu : Processor)
-        → Active mode image p now o.κ o.σ on.frame (switches_at mode image on.switching o.below) w b' cpu (with_words s.memory ws)
-        → Chain mode image p now x.running on.returning (tasks on.returning) on.frame on.switching (b' ∷ o.below) (o.last ∷ o.others) cpu
+        → Active mode image p now o.κ o.σ on.frame (switches_at mode image on.switching o.below) (first_fill on.fills) w b' cpu (with_words s.memory ws)
+        → Chain mode image p now x.running on.returning (tasks on.returning) on.frame on.switching on.fills (b' ∷ o.below) (o.last ∷ o.others) cpu
         (with_words s.memory ws)
     chains b' kind ctx now cpu act = over_nothing o.below alone_is.none o.others alone_is.no_others kind act seat_is
       where
@@ -270,23 +270,23 @@ module _ (mode : Mode) (image : Image) (built : IsBuilt image) (good : IsImage i
         written = at_same x.tasks x.running on.returning t (on.is_returning
             ∙ ap (λ t. if t then get_or x.waiting 0 x.running else x.running) alone_is.still)
 
-        alone : kind_of image b' [] ≡ o.κ → Active mode image p now o.κ o.σ on.frame (switches_at mode image on.switching []) w b' cpu mem
+        alone : kind_of image b' [] ≡ o.κ → Active mode image p now o.κ o.σ on.frame (switches_at mode image on.switching []) (first_fill on.fills) w b' cpu mem
             → o.σ ≡ record { stack = x.running; used = 0 }
-            → Chain mode image p now x.running on.returning (tasks on.returning) on.frame on.switching (b' ∷ []) (o.last ∷ []) cpu mem
+            → Chain mode image p now x.running on.returning (tasks on.returning) on.frame on.switching on.fills (b' ∷ []) (o.last ∷ []) cpu mem
         alone k act q =
             let tail = subst (λ z. Beneath mode image (keeps_cr2 mode image z)
-            (λ v. Chain mode image p (body_edges mode image) x.running on.returning t on.frame (chained mode image on.switching []) [] [] v mem) w
+            (λ v. Chain mode image p (body_edges mode image) x.running on.returning t on.frame (chained mode image on.switching []) (rest_fills on.fills) [] [] v mem) w
             × LeadsTo mode p z on.frame w mem.words
             × Active mode image p now z (seat_by mode z x.running (seat_of mode image x.running []) (room_of mode image [])) on.frame
-            (switches_at mode image on.switching []) w b' cpu mem) (sym k)
-            (over_kind mode image p now x.running on.returning t on.frame on.switching w b' cpu mem o.κ over runs
-            (subst (λ z. Active mode image p now o.κ z on.frame on.switching w b' cpu mem) q act)) in
-            subst (λ z. Chain mode image p now x.running on.returning z on.frame on.switching (b' ∷ []) (o.last ∷ []) cpu mem) (sym written)
+            (switches_at mode image on.switching []) (first_fill on.fills) w b' cpu mem) (sym k)
+            (over_kind mode image p now x.running on.returning t on.frame on.switching on.fills w b' cpu mem o.κ over runs
+            (subst (λ z. Active mode image p now o.κ z on.frame on.switching on.fills w b' cpu mem) q act)) in
+            subst (λ z. Chain mode image p now x.running on.returning z on.frame on.switching on.fills (b' ∷ []) (o.last ∷ []) cpu mem) (sym written)
             (w, ctx, o.outer, tt, tail.0, tail.1, tail.2)
 
         over_nothing : (ds : List BodyContext) → ds ≡ [] → (as' : List Activation) → as' ≡ [] → kind_of image b' ds ≡ o.κ
-            → Active mode image p now o.κ o.σ on.frame (switches_at mode image on.switching ds) w b' cpu mem → o.σ ≡ record { stack = x.running; used = 0 }
-            → Chain mode image p now x.running on.returning (tasks on.returning) on.frame on.switching (b' ∷ ds) (o.last ∷ as') cpu mem
+            → Active mode image p now o.κ o.σ on.frame (switches_at mode image on.switching ds) (first_fill on.fills) w b' cpu mem → o.σ ≡ record { stack = x.running; used = 0 }
+            → Chain mode image p now x.running on.returning (tasks on.returning) on.frame on.switching on.fills (b' ∷ ds) (o.last ∷ as') cpu mem
         over_nothing [] e [] e' k act q = alone k act q
         over_nothing [] e (z ∷ zs) e' k act q = absurd (cc)
         over_nothing (d ∷ ds) e as' e' k act q = absurd (cc)

@@ -139,7 +139,7 @@ module _ (mode : Mode) (image : Image) (built : IsBuilt image) (good : IsImage i
 
   -- RAX is the address that local q has
   module _ (off : a.offset ≡ 16) (q : ℕ) (rax : register c 0 ≡ user_address (local b q))
-      (act : Active mode image p on.own o.κ o.σ on.frame (switches_at mode image on.switching o.below) o.w b c s.memory)
+      (act : Active mode image p on.own o.κ o.σ on.frame (switches_at mode image on.switching o.below) (first_fill on.fills) o.w b c s.memory)
       (untold : TellsNoCr2 (block mode act.stands.spot)) where
     abbrev address : ℕ
     address = user_address (local b q)

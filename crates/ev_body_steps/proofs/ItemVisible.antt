@@ -107,7 +107,7 @@ module _ (mode : Mode) (image : Image) (built : IsBuilt image) (good : IsImage i
   env ss extra v f = here mode p o.κ o.σ ss o.w extra v f
 
   abbrev Stood : ℕ → BodyContext → Processor → Memory → Type 0
-  Stood now b cpu mem = Active mode image p now o.κ o.σ on.frame (switches_at mode image on.switching o.below) o.w b cpu mem
+  Stood now b cpu mem = Active mode image p now o.κ o.σ on.frame (switches_at mode image on.switching o.below) (first_fill on.fills) o.w b cpu mem
 
   -- the address of an item of the body
   abbrev pub at : ℕ → ℕ
@@ -144,8 +144,8 @@ module _ (mode : Mode) (image : Image) (built : IsBuilt image) (good : IsImage i
     pub known : (regs : List ℕ) (extra' : ℕ → ℕ) (f' : Flags)
         → Known (here mode p o.κ o.σ ss w extra' (with_registers regs var) f') (known_of mode) words (opening_of mode).words
     pub chains : (b : BodyContext) → kind_of image b o.below ≡ o.κ → IsContext mode image b → (now : ℕ) (cpu : Processor)
-        → Active mode image p now o.κ o.σ on.frame (switches_at mode image on.switching o.below) w b cpu (with_words s.memory words)
-        → Chain mode image p now x.running on.returning (tasks on.returning) on.frame on.switching (b ∷ o.below) (o.last ∷ o.others) cpu
+        → Active mode image p now o.κ o.σ on.frame (switches_at mode image on.switching o.below) (first_fill on.fills) w b cpu (with_words s.memory words)
+        → Chain mode image p now x.running on.returning (tasks on.returning) on.frame on.switching on.fills (b ∷ o.below) (o.last ∷ o.others) cpu
         (with_words s.memory words)
 
   -- where the block's words stay
@@ -241,7 +241,7 @@ module _ (mode : Mode) (image : Image) (built : IsBuilt image) (good : IsImage i
         locals = locals_behind mode image (env ss extra v f) c s.memory a.offset a.rax a.rcx a.rdx a.flags a.state o.b a.means.locals d.write d.local;
         flags = d.flags_are;
       } in
-      let act' : Active mode image p (edges mode (body mode AtItem) 0) o.κ o.σ on.frame (switches_at mode image on.switching o.below) w b' cpu mem = record {
+      let act' : Active mode image p (edges mode (body mode AtItem) 0) o.κ o.σ on.frame (switches_at mode image on.switching o.below) (first_fill on.fills) w b' cpu mem = record {
         stands = record {
           spot = body mode AtItem;
           k = 0;
@@ -274,7 +274,7 @@ module _ (mode : Mode) (image : Image) (built : IsBuilt image) (good : IsImage i
       (goes_on_inside (is_return (Some d.cell.ins)) (not (is_user c)) (not (nat_le nmi_entry c.rip && nat_lt c.rip repeat_entry)) (is_jump (Some d.cell.ins))
       (is_in_repeat c.rip) (length x.bodies) d.no_return (step.outside mode image built good facts left s m h p hp o a.act)) ∙ ap length o.bodies)
       (edges mode (body mode AtItem) 0) (omega arith)
-      (subst (λ as'. Chain mode image p (edges mode (body mode AtItem) 0) x.running on.returning (d.tasks on.returning) on.frame on.switching
+      (subst (λ as'. Chain mode image p (edges mode (body mode AtItem) 0) x.running on.returning (d.tasks on.returning) on.frame on.switching on.fills
       (b' ∷ o.below) as' cpu
       mem) (sym still_there) (d.over.chains b' o.kind ctx (edges mode (body mode AtItem) 0) cpu act'))
       d.shows

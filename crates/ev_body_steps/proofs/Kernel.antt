@@ -197,7 +197,7 @@ module _ (mode : Mode) (image : Image) (built : IsBuilt image) (good : IsImage i
     env ss extra v f = here mode p κ σ ss w extra v f
 
     abbrev Stood : ℕ → BodyContext → Processor → Memory → Type 0
-    Stood now b' cpu mem = Active mode image p now κ σ on.frame (switches_at mode image on.switching below) w b' cpu mem
+    Stood now b' cpu mem = Active mode image p now κ σ on.frame (switches_at mode image on.switching below) (first_fill on.fills) w b' cpu mem
 
     abbrev Alone : Type 0
     Alone = step.Alone mode image built good facts left s m h p hp o
@@ -310,7 +310,7 @@ module _ (mode : Mode) (image : Image) (built : IsBuilt image) (good : IsImage i
           (if begins_body c (Some cell.ins) then suc (length (processor m p).bodies) else length (processor m p).bodies))
           (ends_a_body (Some cell.ins) c x.place x.rip x.outside hu x.is) ∙ ap (λ (bs : List BodyContext). length bs - 1) o.bodies
           ∙ one_less (length below)) (body_edges mode image) (omega arith)
-          (subst (λ as'. Chain mode image p (body_edges mode image) r to t on.frame on.switching below as' back s.memory) (sym gone)
+          (subst (λ as'. Chain mode image p (body_edges mode image) r to t on.frame on.switching on.fills below as' back s.memory) (sym gone)
           (step.returns_to_below mode image built good facts left s m h p hp o c.cr2)) (x.silent p (bodies_on s p) c s.memory.words)
         where
           one_less : (n : ℕ) → suc n - 1 ≡ n
@@ -568,10 +568,10 @@ module _ (mode : Mode) (image : Image) (built : IsBuilt image) (good : IsImage i
   -- a step of a processor on which a body stands: an edge or a turn, and it writes no frame
   pub kernel_step : (b : BodyContext) (below : List BodyContext) → x.bodies ≡ b ∷ below → Result
   kernel_step b below hb = by_acts (s.activations p) refl
-      (subst (λ bs. Chain mode image p on.own r to t on.frame on.switching bs (s.activations p) c s.memory) hb
+      (subst (λ bs. Chain mode image p on.own r to t on.frame on.switching on.fills bs (s.activations p) c s.memory) hb
       (step.chain mode image built good facts left s m h p hp))
     where
-      by_acts : (as' : List Activation) → s.activations p ≡ as' → Chain mode image p on.own r to t on.frame on.switching (b ∷ below) as' c s.memory → Result
+      by_acts : (as' : List Activation) → s.activations p ≡ as' → Chain mode image p on.own r to t on.frame on.switching on.fills (b ∷ below) as' c s.memory → Result
       by_acts [] e k = absurd k
       by_acts (a ∷ as') e k = by_switch (blocks.switches k.6.stands.spot) refl
         where

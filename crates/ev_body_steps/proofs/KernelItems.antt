@@ -151,7 +151,7 @@ module _ (mode : Mode) (image : Image) (built : IsBuilt image) (good : IsImage i
     env ss extra v f = here mode p κ σ ss w extra v f
 
     abbrev Stood : ℕ → BodyContext → Processor → Memory → Type 0
-    Stood now b' cpu mem = Active mode image p now κ σ on.frame (switches_at mode image on.switching below) w b' cpu mem
+    Stood now b' cpu mem = Active mode image p now κ σ on.frame (switches_at mode image on.switching below) (first_fill on.fills) w b' cpu mem
 
     module _ (body' : Body) (is : slice_get image.bodies b.body ≡ Some body') where
       -- ---- an item

@@ -222,17 +222,17 @@ deeper Idt p r n = omega arith
 
 pub chain_above : (mode : Mode) (image : Image) (p left r to : ℕ) (t : Task) (f : Frame) (sw : Bool) (b : BodyContext) (below : List BodyContext)
     (a : Activation)
-    (as' : List Activation) (c : Processor) (m : Memory) → ArePlain image (b ∷ below) → Chain mode image p left r to t f sw (b ∷ below) (a ∷ as') c m
+    (as' : List Activation) (c : Processor) (m : Memory) → ArePlain image (b ∷ below) → Chain mode image p left r to t f sw fs (b ∷ below) (a ∷ as') c m
     → AllAbove (top_at p (seat_under mode r (length below))) as'
-chain_above mode image p left r to t f sw b [] a as' c m plain h =
-    let under : Chain mode image p (body_edges mode image) r to t f (chained mode image sw []) [] as' h.0 m
-    = over_any mode image (λ v. Chain mode image p (body_edges mode image) r to t f (chained mode image sw []) [] as' v m) _ h.0 h.4 in
+chain_above mode image p left r to t f sw fs b [] a as' c m plain h =
+    let under : Chain mode image p (body_edges mode image) r to t f (chained mode image sw []) (rest_fills fs) [] as' h.0 m
+    = over_any mode image (λ v. Chain mode image p (body_edges mode image) r to t f (chained mode image sw []) (rest_fills fs) [] as' v m) _ h.0 h.4 in
     subst (AllAbove (top_at p (seat_under mode r 0))) (sym under.2) tt
 chain_above mode image p left r to t f sw b (d ∷ ds) a [] c m plain h = tt
 chain_above mode image p left r to t f sw b (d ∷ ds) a (y ∷ ys) c m plain h =
     let w : Processor = h.0 in
-    let under : Chain mode image p (body_edges mode image) r to t f (chained mode image sw (d ∷ ds)) (d ∷ ds) (y ∷ ys) w m
-    = over_any mode image (λ v. Chain mode image p (body_edges mode image) r to t f (chained mode image sw (d ∷ ds)) (d ∷ ds) (y ∷ ys) v m) _ w h.4 in
+    let under : Chain mode image p (body_edges mode image) r to t f (chained mode image sw (d ∷ ds)) (rest_fills fs) (d ∷ ds) (y ∷ ys) w m
+    = over_any mode image (λ v. Chain mode image p (body_edges mode image) r to t f (chained mode image sw (d ∷ ds)) (rest_fills fs) (d ∷ ds) (y ∷ ys) v m) _ w h.4 in
     let seat : seat_of mode image r (b ∷ d ∷ ds) ≡ seat_under mode r (suc (length ds)) = plain_seat mode image r b (d ∷ ds) plain in
     let this : top_at p (seat_of mode image r (b ∷ d ∷ ds)) ≤ rsp w
     = frame_under (kind_of image b (d ∷ ds)) refl h.6.stands.spot (here mode p (kind_of image b (d ∷ ds)) (seat_of mode image r (b ∷ d ∷ ds)) h.6.stands.ss w
@@ -240,7 +240,7 @@ chain_above mode image p left r to t f sw b (d ∷ ds) a (y ∷ ys) c m plain h 
     let low : top_at p (seat_under mode r (suc (length ds))) ≤ rsp w = subst (λ σ. top_at p σ ≤ rsp w) seat this in (
       subst (λ n. top_at p (seat_under mode r (suc (length ds))) ≤ n) (sym h.3.0) low,
       above_less (top_at p (seat_under mode r (suc (length ds)))) (top_at p (seat_under mode r (length ds))) (deeper mode p r (length ds)) ys
-          (chain_above mode image p (body_edges mode image) r to t f (chained mode image sw (d ∷ ds)) d ds y ys w m plain.1 under),
+          (chain_above mode image p (body_edges mode image) r to t f (chained mode image sw (d ∷ ds)) (rest_fills fs) d ds y ys w m plain.1 under),
     )
   where
     frame_under : (κ : Kind) → kind_of image b (d ∷ ds) ≡ κ → (spot : Spot) (e : Env) → e.base top_tag ≡ top_at p (seat_of mode image r (b ∷ d ∷ ds))

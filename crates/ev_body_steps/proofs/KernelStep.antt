@@ -1,6 +1,6 @@
 -- What a step of kernel code gives: an edge, or a turn of the abstract machine; and steps inside blocks.
 use Rattle.std.proofs.Common.{◌≡◌, inl, inr, ℕ, suc, ◌+◌, ◌-◌, ◌*◌, ◌<◌, ◌≤◌, Bool, true, false, not, ◌&&◌, List, [], ◌∷◌, length, Option, Some, refl, sym, ap, ◌∙◌, subst, arith, None}
-use Rattle.std.specs.Prelude.{if◌then◌else◌, ◌==◌, get_or, slice_get, nat_le, nat_lt}
+use Rattle.std.specs.Prelude.{if◌then◌else◌, ◌==◌, ◌++◌, get_or, slice_get, is_some, nat_le, nat_lt}
 use Rattle.std.specs.List.{list_any}
 use Rattle.ev_isa.specs.Word.{NatMap, put_at, greatest_below}
 use Rattle.ev_isa.specs.Flags.{Flags, flags_word}
@@ -52,35 +52,37 @@ use Rattle.ev_relation.specs.Tasks.{CurrentIs}
 use Rattle.ev_relation.specs.Nmi.{Leads, inner_edges}
 use Rattle.ev_relation.specs.Named.{Named, is_task_word, is_slot, is_cell, is_page_bit, is_user_word, have_none, UnknownTo, Changes}
 use Rattle.ev_relation.specs.Domain.{IsQuiet, AreQuiet, IsInDomain}
-use Rattle.ev_relation.specs.Active.{item_place, address_of_item, here, IsKernelSs, Means, Active}
-use Rattle.ev_relation.specs.Relation.{ApicIs, IsContext, Beneath, keeps_cr2, switches_at, chained, Interrupted, body_edges, Chain, serves, StandsOn, Stands}
+use Rattle.ev_relation.specs.Filling.{first_fill, rest_fills}
+use Rattle.ev_relation.specs.Active.{item_place, address_of_item, here, IsKernelSs, fills_record, Means, Active}
+use Rattle.ev_relation.specs.Relation.{ApicIs, IsContext, Beneath, keeps_cr2, switches_at, chained, Interrupted, body_edges, most_edges, Chain, serves, StandsOn, Stands}
 use Rattle.ev_relation.specs.Step.{Simulated}
 use Rattle.ev_concrete.specs.Shown.{shown_always}
 use Rattle.ev_relation.proofs.Facts.{Facts}
 use Rattle.ev_relation.proofs.Maps.{at_same, at_other}
 use Rattle.ev_relation.proofs.ModeFacts.{is_fred}
-use Rattle.ev_relation.proofs.Spots.{is_spot, IsAtEntry, keeps_rsp, names_if, names_at, means_over, body_writes, runs_to_end}
+use Rattle.ev_relation.proofs.Spots.{is_spot, spot_unfilled, IsAtEntry, keeps_rsp, names_if, names_at, means_over, body_writes, runs_to_end}
 use Rattle.ev_relation.proofs.Fits.{IsSeat, InBodies, fits_at, opens_at, kernel_changes}
 use Rattle.ev_body_steps.proofs.Bodies.{Goes}
 use Rattle.ev_body_steps.proofs.Instructions.{stays_inside}
 use Rattle.ev_relation.proofs.Standing.{hidden, seen, inboxes_by, posted_by, went, after_went, Went, went_step, went_writes, went_safe, went_shows, went_shown, went_activations, went_stays, Moves, step_moves, masked_first}
-use Rattle.ev_relation.proofs.Stays.{means_again, leads_again, AreSpared, chain_stays, seat_fits, below_spared, marks_under}
+use Rattle.ev_relation.proofs.Stays.{AreKept, means_stay, free_small, rest_small, leads_again, AreSpared, chain_stays, seat_fits, below_spared, marks_under}
 use Rattle.ev_relation.proofs.Chains.{Kept, chain_kept, chain_plain, chain_open, chain_masked, word_interrupts, at_interrupts}
-use Rattle.ev_relation.proofs.After.{AreNames, AreSparing, own_word, none_spares, tasks_same, current_is, mark_is, slot_same, cell_same, page_same, user_same, few_inner, latch_parts, as_chain, apic_again, own_becomes, own_after, Becomes, stands_become}
+use Rattle.ev_relation.proofs.Records.{RecordsStay}
+use Rattle.ev_relation.proofs.After.{AreCallFree, AreSparing, own_word, none_spares, tasks_same, current_is, mark_is, slot_same, cell_same, page_same, user_same, few_inner, latch_parts, as_chain, apic_again, own_becomes, own_after, records_after, left_behind, contexts_kept, CallsAlike, stands_alike}
 use Rattle.ev_relation.proofs.CallKinds.{is_over_task, is_plain_kind, over_any, beneath_as, stands_alone, ArePlain, none_nmi, seat_under, area_under, plain_seat, plain_knows}
 use Rattle.ev_relation.proofs.Words.{IsBeside}
 use Rattle.ev_relation.proofs.Domains.{four_tasks}
 use Rattle.ev_law.proofs.Ruled.{body_ruled}
 use Rattle.ev_user.specs.Numbers.{AreOfWords, HoldsNumbers}
 use Rattle.ev_user.proofs.KeepsNumbers.{items_keep_numbers}
-use Rattle.ev_relation.proofs.Legality.{turn_legal, turn_bases, legal_few, context_serves}
+use Rattle.ev_relation.proofs.Legality.{turn_legal, turn_bases, turn_calls, legal_few, context_serves}
 use Rattle.ev_relation.proofs.Arrivals.{comes_to}
 use Rattle.ev_relation.proofs.Depth.{body_at, active_outside, stands_depth, goes_on_inside, bodies_behind, went_counts}
 
 -- the names of a block's writes
 rsp_spares : (p : ℕ) → p < 32 → (rsp : Bool) → AreSparing p (names_if rsp p)
 rsp_spares p hp true = record {
-  allowed = record { written = (hp, tt); own = λ q d. (own_word p q d, tt); calls = refl };
+  free = record { allowed = record { written = (hp, tt); own = λ q d. (own_word p q d, tt) }; calls = refl };
   tasks = refl;
   slots = refl;
   cells = refl;
@@ -143,13 +145,13 @@ module _ (mode : Mode) (image : Image) (built : IsBuilt image) (good : IsImage i
   narrow_task = let n = on.running in let four = four_tasks image good p hp in omega arith
 
   abbrev pub Chained : (now : ℕ) (t : Task) → List BodyContext → List Activation → Processor → Memory → Type 0
-  Chained now t bs as' cpu mem = Chain mode image p now r to t on.frame on.switching bs as' cpu mem
+  Chained now t bs as' cpu mem = Chain mode image p now r to t on.frame on.switching on.fills bs as' cpu mem
 
   pub chain : Chained on.own t x.bodies (s.activations p) c s.memory
-  chain = as_chain mode image on.layer p on.own on.more r to t on.frame on.switching x.bodies (s.activations p) c s.memory on.runs
+  chain = as_chain mode image on.layer p on.own on.more r to t on.frame on.switching on.fills x.bodies (s.activations p) c s.memory on.runs
 
   pub plain : ArePlain image x.bodies
-  plain = chain_plain mode image p on.own r to t on.frame on.switching x.bodies (s.activations p) c s.memory chain
+  plain = chain_plain mode image p on.own r to t on.frame on.switching on.fills x.bodies (s.activations p) c s.memory chain
 
   pub none_is_nmi : list_any (is_nmi_body image) x.bodies ≡ false
   none_is_nmi = none_nmi image x.bodies plain
@@ -162,7 +164,7 @@ module _ (mode : Mode) (image : Image) (built : IsBuilt image) (good : IsImage i
 
   -- what no activation changes of the processor
   pub kept_now : Kept mode image p c
-  kept_now = chain_kept mode image p on.own r to t on.frame on.switching x.bodies (s.activations p) c s.memory chain
+  kept_now = chain_kept mode image p on.own r to t on.frame on.switching on.fills x.bodies (s.activations p) c s.memory chain
 
   -- the classes in service are those of the contexts
   abbrev pub ServesAlike : List BodyContext → Type 0
@@ -207,14 +209,15 @@ module _ (mode : Mode) (image : Image) (built : IsBuilt image) (good : IsImage i
     -- an edge: the processor stands for the same behind it, and it writes no word of the abstract machine's
     pub edge_to : (cell : Cell) → code c.rip ≡ Some cell → cell.mark ≡ Never → is_return (Some cell.ins) ≡ false
         → is_user c ≡ false → is_in_repeat c.rip ≡ false → (cpu : Processor) (words : NatMap ℕ) → Executes cell.ins cpu words
-        → (σ : Seat) → σ.stack < 7 → (names : List Named) → AreNames p names → have_none is_page_bit names ≡ true → have_none is_cell names ≡ true
+        → (σ : Seat) → σ.stack < 7 → (names : List Named) → AreCallFree p names → have_none is_page_bit names ≡ true → have_none is_cell names ≡ true
         → have_none is_user_word names ≡ true → Changes p σ names s.memory.words words → (now : ℕ) → now < on.own
         → StandsOn mode image p (now + inner_edges (s.latches p)) (Behind (s.apics p) cpu words None) x → Result
-    edge_to cell hc hm hr hu out cpu words he σ narrow names allowed no_page no_cell no_user changes now fewer there =
+    edge_to cell hc hm hr hu out cpu words he σ narrow names free no_page no_cell no_user changes now fewer there =
         let run : Went s p (s.apics p) cpu words None = runs cell hc hu (s.apics p) cpu words None (he (s.apics p) (s.latches p)) in
-        let all : Stands mode image (put_at left p (now + inner_edges (s.latches p))) (Behind (s.apics p) cpu words None) m
-        = stands_become mode image left s (Behind (s.apics p) cpu words None) m m p (now + inner_edges (s.latches p)) x σ cpu _ words good built.accepted
-        (four_tasks image good) h hp (moves (s.apics p) cpu words None) narrow names allowed changes
+        let written = free.written in
+        let all : Stands mode image (left_behind mode image p (now + inner_edges (s.latches p))) (Behind (s.apics p) cpu words None) m
+        = stands_alike mode image left s (Behind (s.apics p) cpu words None) m m p (now + inner_edges (s.latches p)) x σ cpu _ words good built.accepted
+        (four_tasks image good) h hp (moves (s.apics p) cpu words None) narrow names free changes
         (record {
           own = refl;
           others = λ q e. refl;
@@ -222,12 +225,12 @@ module _ (mode : Mode) (image : Image) (built : IsBuilt image) (good : IsImage i
           mail_nmi = refl;
           records = refl;
           queue = refl;
-          user = λ a u. user_same p σ names small narrow s.memory.words words allowed.written changes no_user a u ∙ h.shares.user a u;
+          user = λ a u. user_same p σ names small narrow s.memory.words words written changes no_user a u ∙ h.shares.user a u;
           held = h.shares.held;
-          pages = λ i l. page_same p σ names small narrow s.memory.words words allowed.written changes no_page i l ∙ h.shares.pages i l;
-          cells = λ k l. cell_same p σ names small narrow s.memory.words words allowed.written changes no_cell k l ∙ h.shares.cells k l;
+          pages = λ i l. page_same p σ names small narrow s.memory.words words written changes no_page i l ∙ h.shares.pages i l;
+          cells = λ k l. cell_same p σ names small narrow s.memory.words words written changes no_cell k l ∙ h.shares.cells k l;
         })
-        h.legal h.bases h.numbers domain there in
+        h.legal h.bases h.numbers h.told h.calls domain there in
         let bound = on.enough in record {
           safe = went_safe mode image s p (s.apics p) cpu words None run;
           counts = went_counts image.processors s p (s.apics p) cpu words None cell.ins run (fetches c.rip cell hc).1 (length x.bodies) (length x.bodies) depth
@@ -236,9 +239,9 @@ module _ (mode : Mode) (image : Image) (built : IsBuilt image) (good : IsImage i
               (is_jump (Some cell.ins)) (is_in_repeat c.rip) (length x.bodies) hr out);
           how = inl (record {
             hidden = hidden (marks_of mode image) s p first hu (facts.marks c.rip cell hc ∙ hm);
-            now = put_at left p (now + inner_edges (s.latches p));
-            fewer = subst (λ n. n < left p) (sym (at_same left p p (now + inner_edges (s.latches p)) refl)) (omega arith);
-            stands = subst (λ y. Stands mode image (put_at left p (now + inner_edges (s.latches p))) y.0 m)
+            now = left_behind mode image p (now + inner_edges (s.latches p));
+            fewer = subst (λ n. n < left p) (sym (at_same (λ q. most_edges mode image) p p (now + inner_edges (s.latches p)) refl)) (omega arith);
+            stands = subst (λ y. Stands mode image (left_behind mode image p (now + inner_edges (s.latches p))) y.0 m)
                 (sym (went_step image.processors s p (s.apics p) cpu words None run)) all;
             writes = went_writes image.processors s p (s.apics p) cpu words None run;
           });
@@ -248,27 +251,28 @@ module _ (mode : Mode) (image : Image) (built : IsBuilt image) (good : IsImage i
     pub turn_to : (cell : Cell) → code c.rip ≡ Some cell → cell.mark ≡ Always → is_user c ≡ false
         → (a : Apic) (cpu : Processor) (words : NatMap ℕ) (sent : Option Send) (z : Sends sent)
         → executed c (s.apics p) s.memory (s.latches p) (Some cell.ins) ≡ went cpu a words (s.latches p) sent
-        → (σ : Seat) → σ.stack < 7 → (names : List Named) → AreNames p names → Changes p σ names s.memory.words words
-        → (m' : Machine) (es : List Entry) → turn image m p ≡ (m', es) → (x' : abstract.Processor) → Becomes mode image p z.machine m' x' words
+        → (σ : Seat) → σ.stack < 7 → (names : List Named) → AreCallFree p names → Changes p σ names s.memory.words words
+        → (m' : Machine) (es : List Entry) → turn image m p ≡ (m', es) → (x' : abstract.Processor) → CallsAlike mode image p z.machine m' x' words
         → HoldsNumbers m' → IsInDomain x'
         → bodies_behind (length x.bodies) c cell.ins sent ≡ length x'.bodies
         → (now : ℕ) → StandsOn mode image p (now + inner_edges (s.latches p)) (Behind a cpu words sent) x'
         → went_shows p s cell.ins cpu words sent ≡ es → Result
-    turn_to cell hc hm hu a cpu words sent z he σ narrow names allowed changes m' es ht x' becomes numbers inside told now there hes =
+    turn_to cell hc hm hu a cpu words sent z he σ narrow names free changes m' es ht x' becomes numbers inside told now there hes =
         let run : Went s p a cpu words sent = runs cell hc hu a cpu words sent he in
-        let all : Stands mode image (put_at left p (now + inner_edges (s.latches p))) (Behind a cpu words sent) m'
-        = stands_become mode image left (Posted sent) (Behind a cpu words sent) z.machine m' p (now + inner_edges (s.latches p)) x' σ cpu _ words
-        good built.accepted (four_tasks image good) z.stands hp (moves a cpu words sent) narrow names allowed changes becomes
-        (turn_legal image good built.accepted m p hp h.legal (m', es) ht) (turn_bases image m p h.bases (m', es) ht) numbers inside there in
-        let turned : Stands mode image (put_at left p (now + inner_edges (s.latches p))) (Behind a cpu words sent) (turn image m p).0 =
-        subst (λ q. Stands mode image (put_at left p (now + inner_edges (s.latches p))) (Behind a cpu words sent) q.0) (sym ht) all in record {
+        let all : Stands mode image (left_behind mode image p (now + inner_edges (s.latches p))) (Behind a cpu words sent) m'
+        = stands_alike mode image left (Posted sent) (Behind a cpu words sent) z.machine m' p (now + inner_edges (s.latches p)) x' σ cpu _ words
+        good built.accepted (four_tasks image good) z.stands hp (moves a cpu words sent) narrow names free changes becomes
+        (turn_legal image good built.accepted m p hp h.legal (m', es) ht) (turn_bases image m p h.bases (m', es) ht) numbers
+        (h.told ++ es) (turn_calls image good built.accepted m p hp h.legal h.told h.calls (m', es) ht) inside there in
+        let turned : Stands mode image (left_behind mode image p (now + inner_edges (s.latches p))) (Behind a cpu words sent) (turn image m p).0 =
+        subst (λ q. Stands mode image (left_behind mode image p (now + inner_edges (s.latches p))) (Behind a cpu words sent) q.0) (sym ht) all in record {
           safe = went_safe mode image s p a cpu words sent run;
           counts = went_counts image.processors s p a cpu words sent cell.ins run (fetches c.rip cell hc).1 (length x.bodies) (length x'.bodies) depth
               (stands_depth mode image facts p (now + inner_edges (s.latches p)) (Behind a cpu words sent) x' there) told;
           how = inr (record {
             seen = seen (marks_of mode image) s p first hu (facts.marks c.rip cell hc ∙ hm);
-            now = put_at left p (now + inner_edges (s.latches p));
-            stands = subst (λ q. Stands mode image (put_at left p (now + inner_edges (s.latches p))) q.0 (turn image m p).0)
+            now = left_behind mode image p (now + inner_edges (s.latches p));
+            stands = subst (λ q. Stands mode image (left_behind mode image p (now + inner_edges (s.latches p))) q.0 (turn image m p).0)
                 (sym (went_step image.processors s p a cpu words sent run)) turned;
             entries = went_shown (marks_of mode image) s p a cpu words sent cell.ins run hu (facts.marks c.rip cell hc ∙ hm) (fetches c.rip cell hc).1
                 ∙ hes ∙ sym (ap (λ (q : Step). q.1) ht);
@@ -324,9 +328,10 @@ module _ (mode : Mode) (image : Image) (built : IsBuilt image) (good : IsImage i
     pub w : Processor
     pub interrupted : Interrupted mode image below w others
     pub under : Beneath mode image (keeps_cr2 mode image κ)
-        (λ v. Chain mode image p (body_edges mode image) r to t on.frame (chained mode image on.switching below) below others v s.memory) w
+        (λ v. Chain mode image p (body_edges mode image) r to t on.frame (chained mode image on.switching below) (rest_fills on.fills) below others v s.memory) w
     pub leads : Leads mode p κ on.frame w s.memory.words
     pub off : switches_at mode image on.switching below ≡ false  -- its exit, if it is in it, switches to no other task
+    pub unfilled : first_fill on.fills ≡ None  -- it fills no call record
     pub first : next_of c (s.apics p) (s.latches p) ≡ Next.Instruction
     pub chosen : Unblocked b → choice image x ≡ Choice.Next
 
@@ -355,7 +360,7 @@ module _ (mode : Mode) (image : Image) (built : IsBuilt image) (good : IsImage i
     -- ---- IF is the context's
 
     pub masked : interrupts_on c ≡ b.interrupts
-    masked = chain_masked mode image p on.own r to t on.frame on.switching b below (s.activations p) c s.memory
+    masked = chain_masked mode image p on.own r to t on.frame on.switching on.fills b below (s.activations p) c s.memory
         (subst (λ bs. Chained on.own t bs (s.activations p) c s.memory) o.bodies chain)
 
     -- so it is in the flags of each block where the processor is
@@ -369,7 +374,7 @@ module _ (mode : Mode) (image : Image) (built : IsBuilt image) (good : IsImage i
     first = o.first
 
     abbrev pub Stood : ℕ → BodyContext → Processor → Memory → Type 0
-    Stood now b' cpu mem = Active mode image p now κ σ on.frame (switches_at mode image on.switching below) w b' cpu mem
+    Stood now b' cpu mem = Active mode image p now κ σ on.frame (switches_at mode image on.switching below) (first_fill on.fills) w b' cpu mem
 
     pub all_plain : ArePlain image (b ∷ below)
     all_plain = subst (ArePlain image) o.bodies plain
@@ -408,13 +413,13 @@ module _ (mode : Mode) (image : Image) (built : IsBuilt image) (good : IsImage i
 
     -- ---- what stands below
 
-    pub lower : Chain mode image p (body_edges mode image) r to t on.frame (chained mode image on.switching below) below o.others w s.memory
+    pub lower : Chain mode image p (body_edges mode image) r to t on.frame (chained mode image on.switching below) (rest_fills on.fills) below o.others w s.memory
     lower = over_any mode image
-        (λ v. Chain mode image p (body_edges mode image) r to t on.frame (chained mode image on.switching below) below o.others v s.memory)
+        (λ v. Chain mode image p (body_edges mode image) r to t on.frame (chained mode image on.switching below) (rest_fills on.fills) below o.others v s.memory)
         (keeps_cr2 mode image κ) w o.under
 
     pub kept : Kept mode image p w
-    kept = chain_kept mode image p (body_edges mode image) r to t on.frame (chained mode image on.switching below) below o.others w s.memory lower
+    kept = chain_kept mode image p (body_edges mode image) r to t on.frame (chained mode image on.switching below) (rest_fills on.fills) below o.others w s.memory lower
 
     pub fred_is : has_fred w ≡ is_fred mode
     fred_is = kept.fred
@@ -429,8 +434,8 @@ module _ (mode : Mode) (image : Image) (built : IsBuilt image) (good : IsImage i
     pub alone : is_over_task κ ≡ true → Alone
     alone h =
         let none : below ≡ [] = stands_alone image b below (ap is_over_task o.kind ∙ h) in
-        let k : Chain mode image p (body_edges mode image) r to t on.frame (chained mode image on.switching []) [] o.others w s.memory
-        = subst (λ ds. Chain mode image p (body_edges mode image) r to t on.frame (chained mode image on.switching ds) ds o.others w s.memory) none lower in
+        let k : Chain mode image p (body_edges mode image) r to t on.frame (chained mode image on.switching []) (rest_fills on.fills) [] o.others w s.memory
+        = subst (λ ds. Chain mode image p (body_edges mode image) r to t on.frame (chained mode image on.switching ds) (rest_fills on.fills) ds o.others w s.memory) none lower in
         record {
           none = none;
           task = k.0;
@@ -439,10 +444,10 @@ module _ (mode : Mode) (image : Image) (built : IsBuilt image) (good : IsImage i
         }
 
     -- where it returns, with any CR2 and NMIs open
-    pub returns_to_below : (cr2 : ℕ) → Chain mode image p (body_edges mode image) r to t on.frame on.switching below o.others
+    pub returns_to_below : (cr2 : ℕ) → Chain mode image p (body_edges mode image) r to t on.frame on.switching (rest_fills on.fills) below o.others
         (record w { cr2 = cr2; nmi_blocked = false }) s.memory
-    returns_to_below cr2 = chain_open mode image p (body_edges mode image) r to t on.frame on.switching below o.others (record w { cr2 = cr2 }) s.memory
-        (subst (λ sw. Chain mode image p (body_edges mode image) r to t on.frame sw below o.others (record w { cr2 = cr2 }) s.memory) (same below o.off)
+    returns_to_below cr2 = chain_open mode image p (body_edges mode image) r to t on.frame on.switching (rest_fills on.fills) below o.others (record w { cr2 = cr2 }) s.memory
+        (subst (λ sw. Chain mode image p (body_edges mode image) r to t on.frame sw (rest_fills on.fills) below o.others (record w { cr2 = cr2 }) s.memory) (same below o.off)
         (any_cr2 κ plain_kind _ o.under cr2))
       where
         same : (ds : List BodyContext) → switches_at mode image on.switching ds ≡ false → chained mode image on.switching ds ≡ on.switching
@@ -458,32 +463,35 @@ module _ (mode : Mode) (image : Image) (built : IsBuilt image) (good : IsImage i
         any_cr2 NmiFromBody q C h a = let clash : false ≡ true = q in absurd (cc)
 
     -- a step that writes its own stretch of the stack, and words that no block below knows
-    pub below_stays : (names : List Named) → AreNames p names → UnknownTo below names → (words : NatMap ℕ) → Changes p σ names s.memory.words words
+    pub below_stays : (names : List Named) → AreCallFree p names → UnknownTo below names → (words : NatMap ℕ) → Changes p σ names s.memory.words words
         → Beneath mode image (keeps_cr2 mode image κ)
-        (λ v. Chain mode image p (body_edges mode image) r to t on.frame (chained mode image on.switching below) below o.others v (with_words s.memory words)) w
-    below_stays names allowed unknown words changes =
+        (λ v. Chain mode image p (body_edges mode image) r to t on.frame (chained mode image on.switching below) (rest_fills on.fills) below o.others v (with_words s.memory words)) w
+    below_stays names free unknown words changes =
         let z = narrow_task in
         let spared : AreSpared mode image p r below s.memory.words words
-        = below_spared mode image p r names s.memory.words words b below small (omega arith) shallow allowed.written unknown
+        = below_spared mode image p r names s.memory.words words b below small (omega arith) shallow free.allowed.written unknown
         (subst (λ y. Changes p y names s.memory.words words) (sym seat_is) changes) all_plain in
+        let all : AreKept p on.fills (b ∷ below) s.memory.words words = subst (λ bs. AreKept p on.fills bs s.memory.words words) o.bodies
+        (contexts_kept mode image left s m h p σ words names small narrow good.count.1 free changes p hp) in
         beneath_as mode image (keeps_cr2 mode image κ) _ _ w
-        (λ v e k. chain_stays mode image p (body_edges mode image) r to t on.frame (chained mode image on.switching below) below o.others v s.memory words hp
-        good.count.1 spared (marks_under mode image p below w v o.others s.memory.words words o.interrupted e) k) o.under
+        (λ v e k. chain_stays mode image p (body_edges mode image) (body_edges mode image) r to t on.frame (chained mode image on.switching below) (rest_fills on.fills) below o.others v s.memory words hp
+        good.count.1 spared all.1 (rest_small on.fills (free_small x.records on.fills on.free))
+        (marks_under mode image p below w v o.others s.memory.words words o.interrupted e) (omega arith) (omega arith) k) o.under
 
     -- the chain with another last context of the same kind
     pub with_last : (b' : BodyContext) → kind_of image b' below ≡ κ → IsContext mode image b' → (now : ℕ) (cpu : Processor) (words : NatMap ℕ)
-        → (names : List Named) → AreNames p names → UnknownTo below names → Changes p σ names s.memory.words words
+        → (names : List Named) → AreCallFree p names → UnknownTo below names → Changes p σ names s.memory.words words
         → Stood now b' cpu (with_words s.memory words) → Chained now t (b' ∷ below) (o.last ∷ o.others) cpu (with_words s.memory words)
-    with_last b' k ctx' now cpu words names allowed unknown changes act =
+    with_last b' k ctx' now cpu words names free unknown changes act =
         let mem : Memory = with_words s.memory words in
         let at = subst (λ n. Beneath mode image (keeps_cr2 mode image n)
-        (λ v. Chain mode image p (body_edges mode image) r to t on.frame (chained mode image on.switching below) below o.others v mem) w
+        (λ v. Chain mode image p (body_edges mode image) r to t on.frame (chained mode image on.switching below) (rest_fills on.fills) below o.others v mem) w
         × Leads mode p n on.frame w mem.words
         × Active mode image p now n (seat_by mode n r (seat_of mode image r below) (room_of mode image below)) on.frame
-        (switches_at mode image on.switching below) w b' cpu mem) (sym k) (
-          below_stays names allowed unknown words changes,
+        (switches_at mode image on.switching below) (first_fill on.fills) w b' cpu mem) (sym k) (
+          below_stays names free unknown words changes,
           leads_again mode image p κ on.frame w s.memory.words words o.leads,
-          subst (λ y. Active mode image p now κ y on.frame (switches_at mode image on.switching below) w b' cpu mem) (sym o.seat) act,
+          subst (λ y. Active mode image p now κ y on.frame (switches_at mode image on.switching below) (first_fill on.fills) w b' cpu mem) (sym o.seat) act,
         ) in
         (w, ctx', o.outer, o.interrupted, at.0, at.1, at.2)
 
@@ -499,14 +507,15 @@ module _ (mode : Mode) (image : Image) (built : IsBuilt image) (good : IsImage i
         let goes_on : Chained now t x.bodies (activations_by s p (s.activations p) cpu Stepped.Ran) cpu (with_words s.memory words)
         = subst (λ as'. Chained now t x.bodies as' cpu (with_words s.memory words)) (sym same)
         (subst (λ bs. Chained now t bs (o.last ∷ o.others) cpu (with_words s.memory words)) (sym o.bodies)
-        (with_last b o.kind ctx now cpu words names sparing.allowed unknown changes act)) in
+        (with_last b o.kind ctx now cpu words names sparing.free unknown changes act)) in
         let there : StandsOn mode image p (now + inner_edges (s.latches p)) (Behind (s.apics p) cpu words None) x
-        = own_after mode image p (left p) s (Behind (s.apics p) cpu words None) x σ cpu _ words x.tasks x.bodies now on small (four_tasks image good p hp)
+        = own_after mode image p (left p) s (Behind (s.apics p) cpu words None) x σ cpu _ words x.tasks on.fills x.bodies now on small (four_tasks image good p hp)
         (moves (s.apics p) cpu words None) beside narrow names sparing changes (λ i d. refl) on.tasks
         (hb ∙ sym none_is_nmi) x.pending
         (apic_again mode image (s.apics p) _ x.pending x.bodies x.bodies (at_same s.apics p p (s.apics p) refl) (λ class. refl) on.apic)
+        on.free (λ k. refl)
         (let l = on.enough in let f = on.few in omega arith) goes_on in
-        edge_to first cell hc hm hr hu out cpu words he σ narrow names sparing.allowed sparing.pages sparing.cells no_user changes now fewer there
+        edge_to first cell hc hm hr hu out cpu words he σ narrow names sparing.free sparing.pages sparing.cells no_user changes now fewer there
 
     -- ---- what the abstract machine does
 
@@ -549,7 +558,7 @@ module _ (mode : Mode) (image : Image) (built : IsBuilt image) (good : IsImage i
     pub visible_with : Unblocked b → (cell : Cell) → code c.rip ≡ Some cell → cell.mark ≡ Always → is_user c ≡ false
         → (a : Apic) (cpu : Processor) (words : NatMap ℕ) (sent : Option Send) (z : Sends sent)
         → executed c (s.apics p) s.memory (s.latches p) (Some cell.ins) ≡ went cpu a words (s.latches p) sent → cpu.nmi_blocked ≡ false
-        → (names : List Named) → AreNames p names → Changes p σ names s.memory.words words
+        → (names : List Named) → AreCallFree p names → Changes p σ names s.memory.words words
         → (m' : Machine) (es : List Entry) → turn image m p ≡ (m', es) → (tasks : NatMap Task) (slots : NatMap ℕ) (bs : List BodyContext)
         → Makes z.machine m' words tasks slots bs → AreQuiet bs → ApicIs mode image a x.pending bs
         → bodies_behind (length x.bodies) c cell.ins sent ≡ length bs
@@ -557,25 +566,27 @@ module _ (mode : Mode) (image : Image) (built : IsBuilt image) (good : IsImage i
         → Chained now (tasks to) bs (went_activations image.processors s p cpu sent) cpu (with_words s.memory words)
         → went_shows p s cell.ins cpu words sent ≡ es → Result
     unfolding comes_to
-    visible_with unblocked cell hc hm hu a cpu words sent z he hb names allowed changes m' es ht tasks slots bs y quiet apic told now few goes_on hes =
+    visible_with unblocked cell hc hm hu a cpu words sent z he hb names free changes m' es ht tasks slots bs y quiet apic told now few goes_on hes =
         let sender : abstract.Processor = processor z.machine p in
         let was : abstract.Processor = record x { mail = sender.mail; mail_nmi = sender.mail_nmi } in
         let x' : abstract.Processor = record was { tasks = tasks; slots = slots; resched = y.resched; bodies = bs } in
         let none : list_any (is_nmi_body image) bs ≡ false
-        = none_nmi image bs (chain_plain mode image p now r to (tasks to) on.frame on.switching bs _ cpu (with_words s.memory words) goes_on) in
+        = none_nmi image bs (chain_plain mode image p now r to (tasks to) on.frame on.switching on.fills bs _ cpu (with_words s.memory words) goes_on) in
+        let posted : StandsOn mode image p (left p) (Posted sent) was = comes_to mode image p (left p) s s.apics s.latches
+        (inboxes_by image.processors s p sent) x x.pending sender.mail x.nmi sender.mail_nmi refl refl on on.apic in
         let there : StandsOn mode image p (now + inner_edges (s.latches p)) (Behind a cpu words sent) x'
-        = own_becomes mode image p (left p) (Posted sent) (Behind a cpu words sent) was σ cpu _ words tasks slots y.resched bs now
-        (comes_to mode image p (left p) s s.apics s.latches (inboxes_by image.processors s p sent) x x.pending sender.mail x.nmi sender.mail_nmi refl refl on
-        on.apic) small (four_tasks image good p hp) (moves a cpu words sent) beside narrow names allowed changes
+        = own_becomes mode image p (left p) (Posted sent) (Behind a cpu words sent) was σ cpu _ words tasks slots y.resched on.fills bs now posted
+        small (four_tasks image good p hp) (moves a cpu words sent) beside narrow names free.allowed changes
         (λ e. y.asked (on.marked e)) y.current y.mark y.slots_are y.same_tasks y.good_tasks (hb ∙ sym none)
         x.pending (subst (λ y. ApicIs mode image y x.pending bs) (sym (at_same s.apics p p a refl)) apic)
+        on.free (records_after mode image p (left p) (Posted sent) was σ words posted small narrow names free changes on.fills (λ k. refl))
         (let f = few_inner mode image (s.latches p) in omega arith) goes_on in
         let inside : IsInDomain x' = record {
           nmi = domain.nmi;
           mail_nmi = (z.stands.domain p hp).mail_nmi;
           bodies = quiet;
         } in
-        turn_to first cell hc hm hu a cpu words sent z he σ narrow names allowed changes m' es ht x'
+        turn_to first cell hc hm hu a cpu words sent z he σ narrow names free changes m' es ht x'
         (record {
           own = y.own ∙ ap (λ (q : abstract.Processor). record q { tasks = tasks; slots = slots; resched = y.resched; bodies = bs }) z.own;
           others = y.others;
@@ -593,7 +604,7 @@ module _ (mode : Mode) (image : Image) (built : IsBuilt image) (good : IsImage i
     -- which stays
     pub visible : Unblocked b → (cell : Cell) → code c.rip ≡ Some cell → cell.mark ≡ Always → is_user c ≡ false
         → (cpu : Processor) (words : NatMap ℕ) → Executes cell.ins cpu words → cpu.nmi_blocked ≡ false
-        → (names : List Named) → AreNames p names → Changes p σ names s.memory.words words
+        → (names : List Named) → AreCallFree p names → Changes p σ names s.memory.words words
         → (m' : Machine) (es : List Entry) → turn image m p ≡ (m', es) → (tasks : NatMap Task) (slots : NatMap ℕ) (bs : List BodyContext)
         → Makes m m' words tasks slots bs → AreQuiet bs → ServesAlike bs
         → (if ends_body c (Some cell.ins) then length x.bodies - 1
@@ -601,32 +612,32 @@ module _ (mode : Mode) (image : Image) (built : IsBuilt image) (good : IsImage i
         → (now : ℕ) → now ≤ body_edges mode image
         → Chained now (tasks to) bs (activations_by s p (s.activations p) cpu Stepped.Ran) cpu (with_words s.memory words)
         → shown_always p (bodies_on s p) c s.memory.words (Some cell.ins) ≡ es → Result
-    visible unblocked cell hc hm hu cpu words he hb names allowed changes m' es ht tasks slots bs y quiet serving told now few goes_on hes =
+    visible unblocked cell hc hm hu cpu words he hb names free changes m' es ht tasks slots bs y quiet serving told now few goes_on hes =
         visible_with unblocked cell hc hm hu (s.apics p) cpu words None sends_nothing (he (s.apics p) (s.latches p)) hb
-        names allowed changes m' es ht tasks slots
+        names free changes m' es ht tasks slots
         bs y quiet (apic_again mode image (s.apics p) (s.apics p) x.pending x.bodies bs refl serving on.apic) told now few goes_on hes
 
     -- what holds of the components that a step leaves alone, by the names that it writes
-    module _ (names : List Named) (allowed : AreNames p names) (words : NatMap ℕ) (changes : Changes p σ names s.memory.words words) where
+    module _ (names : List Named) (free : AreCallFree p names) (words : NatMap ℕ) (changes : Changes p σ names s.memory.words words) where
       pub same_current : have_none is_task_word names ≡ true → on.switching ≡ false → CurrentIs mode p r words
-      same_current none e = current_is p σ names small narrow s.memory.words words allowed.written changes p
-          (tasks_same p σ names small narrow s.memory.words words allowed.written changes none p small) mode r (on.current e)
+      same_current none e = current_is p σ names small narrow s.memory.words words free.allowed.written changes p
+          (tasks_same p σ names small narrow s.memory.words words free.allowed.written changes none p small) mode r (on.current e)
 
       pub same_mark : have_none is_task_word names ≡ true → on.switching ≡ false → words (pcpu p + 0x20) ≡ (if x.resched then 1 else 0)
-      same_mark none e = mark_is p σ names small narrow s.memory.words words allowed.written changes p
-          (tasks_same p σ names small narrow s.memory.words words allowed.written changes none p small) ∙ on.mark e
+      same_mark none e = mark_is p σ names small narrow s.memory.words words free.allowed.written changes p
+          (tasks_same p σ names small narrow s.memory.words words free.allowed.written changes none p small) ∙ on.mark e
 
       pub same_slots : have_none is_slot names ≡ true → (k : ℕ) → k < 64 → words (pcpu p + slot_offset k) ≡ x.slots k
-      same_slots none k l = slot_same p σ names small narrow s.memory.words words allowed.written changes none p k small l ∙ on.slots k l
+      same_slots none k l = slot_same p σ names small narrow s.memory.words words free.allowed.written changes none p k small l ∙ on.slots k l
 
       pub same_user : have_none is_user_word names ≡ true → (a : ℕ) → IsUserWord a → words a ≡ m.words a
-      same_user none a u = user_same p σ names small narrow s.memory.words words allowed.written changes none a u ∙ h.shares.user a u
+      same_user none a u = user_same p σ names small narrow s.memory.words words free.allowed.written changes none a u ∙ h.shares.user a u
 
       pub same_pages : have_none is_page_bit names ≡ true → (i : ℕ) → i < 256 → words (page_map + 8 * i) ≡ (if m.present i then 1 else 0)
-      same_pages none i l = page_same p σ names small narrow s.memory.words words allowed.written changes none i l ∙ h.shares.pages i l
+      same_pages none i l = page_same p σ names small narrow s.memory.words words free.allowed.written changes none i l ∙ h.shares.pages i l
 
       pub same_cells : have_none is_cell names ≡ true → (k : ℕ) → k < 256 → words (cells_base + 8 * k) ≡ m.cells k
-      same_cells none k l = cell_same p σ names small narrow s.memory.words words allowed.written changes none k l ∙ h.shares.cells k l
+      same_cells none k l = cell_same p σ names small narrow s.memory.words words free.allowed.written changes none k l ∙ h.shares.cells k l
 
       -- a step that changes the bodies alone
       pub bodies_alone : AreSparing p names → have_none is_user_word names ≡ true → (bs : List BodyContext)
@@ -664,21 +675,35 @@ module _ (mode : Mode) (image : Image) (built : IsBuilt image) (good : IsImage i
     -- ---- inside a block
 
     pub over_spot : (act : Stood on.own b c s.memory) → is_spot mode act.stands.spot ≡ true
-    over_spot act = means_over mode image κ act.stands.spot _ w b s.memory.words act.means (act.switches ∙ o.off)
+    over_spot act = means_over mode image κ act.stands.spot _ w b (first_fill on.fills) s.memory.words act.means (act.switches ∙ o.off)
+        (act.fills ∙ ap is_some o.unfilled)
+
+    -- no spot but those of `call` fills a record
+    pub fills_none : (spot : Spot) → fills_record spot ≡ false → fills_record spot ≡ is_some (first_fill on.fills)
+    fills_none spot off = off ∙ sym (ap is_some o.unfilled)
+
+    pub spot_fills_none : (spot : Spot) → is_spot mode spot ≡ true → fills_record spot ≡ is_some (first_fill on.fills)
+    spot_fills_none spot over = fills_none spot (spot_unfilled mode spot over)
+
+    -- the records of its calls are as they were behind a step that writes no word of calls
+    pub calls_stay : (names : List Named) → AreCallFree p names → (words : NatMap ℕ) → Changes p σ names s.memory.words words
+        → RecordsStay b.calls s.memory.words words
+    calls_stay names free words changes = (subst (λ bs. AreKept p on.fills bs s.memory.words words) o.bodies
+        (contexts_kept mode image left s m h p σ words names small narrow good.count.1 free changes p hp)).0.0
 
     pub outside : (act : Stood on.own b c s.memory) → is_in_repeat c.rip ≡ false
-    outside act = active_outside mode image facts p on.own κ σ on.frame (switches_at mode image on.switching below) w b c s.memory ctx act
+    outside act = active_outside mode image facts p on.own κ σ on.frame (switches_at mode image on.switching below) (first_fill on.fills) w b c s.memory ctx act
 
     -- only SYSCALL's entry writes a word with a name, and it stands over a task
-    spot_names : (spot : Spot) (e : Env) → Means mode image κ spot e w b s.memory.words → UnknownTo below (names_at p spot)
+    spot_names : (spot : Spot) (e : Env) → Means mode image κ spot e w b (first_fill on.fills) s.memory.words → UnknownTo below (names_at p spot)
     spot_names spot e means = by_kind κ o.kind means below o.kind
       where
-        by_kind : (κ : Kind) → kind_of image b below ≡ κ → Means mode image κ spot e w b s.memory.words → (ds : List BodyContext) → kind_of image b ds ≡ κ
+        by_kind : (κ : Kind) → kind_of image b below ≡ κ → Means mode image κ spot e w b (first_fill on.fills) s.memory.words → (ds : List BodyContext) → kind_of image b ds ≡ κ
             → UnknownTo ds (names_at p spot)
         by_kind κ q means [] k = tt
         by_kind SystemCall q means (d ∷ ds) k = let z = ap length (stands_alone image b (d ∷ ds) (ap is_over_task k)) in absurd (omega arith)
         by_kind FromTask q means (d ∷ ds) k = let z = ap length (stands_alone image b (d ∷ ds) (ap is_over_task k)) in absurd (omega arith)
-        by_kind FromBody q means (d ∷ ds) k = subst (λ y. UnknownTo (d ∷ ds) (names_if y p)) (sym (body_writes mode image spot e w b means)) refl
+        by_kind FromBody q means (d ∷ ds) k = subst (λ y. UnknownTo (d ∷ ds) (names_if y p)) (sym (body_writes mode image spot e w b (first_fill on.fills) s.memory.words means)) refl
         by_kind NmiFromTask q means (d ∷ ds) k = absurd means
         by_kind NmiFromBody q means (d ∷ ds) k = absurd means
 
@@ -693,11 +718,13 @@ module _ (mode : Mode) (image : Image) (built : IsBuilt image) (good : IsImage i
         (ap (brun (block mode a.spot)) (let q : (S - suc a.k) + suc a.k ≡ S = omega arith in q) ∙ end.1) in
         let few = a.enough in
         let rsp : Bool = keeps_rsp a.spot in
+        let changes : Changes p σ (names_at p a.spot) s.memory.words i.words = kernel_changes mode image p σ in_seat hp good.count.1 κ a.ss w a.extra a.var
+        a.flags a.spot (over_spot act) s.memory.words i.words i.within in
         edge (edge_cell i.ins i.next) i.stands refl
         (stays_inside code (block mode a.spot) a.k e c s.memory a.at next.0 next.1 i.ins i.next i.stands)
         (ap is_user a.at.agrees.rest) (outside act) i.cpu i.words i.runs (i.blocking ∙ blocked)
         (names_at p a.spot) (rsp_spares p small rsp) (rsp_no_user p rsp) (spot_names a.spot e act.means)
-        (kernel_changes mode image p σ in_seat hp good.count.1 κ a.ss w a.extra a.var a.flags a.spot (over_spot act) s.memory.words i.words i.within)
+        changes
         (edges mode a.spot (suc a.k)) (one_less S a.k (blocks.behind a.spot) on.own lt few)
         (record {
           stands = record {
@@ -715,8 +742,10 @@ module _ (mode : Mode) (image : Image) (built : IsBuilt image) (good : IsImage i
             long = i.long ∙ a.long;
           };
           switches = act.switches;
+          fills = act.fills;
           knows = act.knows;
-          means = means_again mode image κ a.spot e w b s.memory.words i.words act.means;
+          means = means_stay mode image κ a.spot e w b (first_fill on.fills) s.memory.words i.words (spot_unfilled mode a.spot (over_spot act))
+              (calls_stay (names_at p a.spot) (rsp_spares p small rsp).free i.words changes) act.means;
         })
       where
         one_less : (n k behind own : ℕ) → k < n → (n - k) + behind ≤ own → (n - suc k) + behind < own
@@ -749,8 +778,8 @@ module _ (mode : Mode) (image : Image) (built : IsBuilt image) (good : IsImage i
       pub goes : (act : Stood on.own b c s.memory) (spot : Spot) (ss : ℕ) → IsKernelSs mode ss → (extra v : ℕ → ℕ) (f : Flags)
           → f.interrupts ≡ b.interrupts → is_user c ≡ false
           → Goes code c s.memory (block mode spot) (env ss extra v f) → edges mode spot 0 < on.own → length c.regs ≡ 16 → blocks.switches spot ≡ false
-          → Means mode image κ spot (env ss extra v f) w b s.memory.words → Result
-      goes act spot ss ss_is extra v f masked_by hu g fewer long off means =
+          → fills_record spot ≡ false → Means mode image κ spot (env ss extra v f) w b (first_fill on.fills) s.memory.words → Result
+      goes act spot ss ss_is extra v f masked_by hu g fewer long off none means =
           edge (edge_cell g.step.ins g.step.next) g.step.cell refl g.inner hu (outside act) g.step.cpu s.memory.words g.step.leads (g.step.blocking ∙ blocked)
           [] (none_spares p) refl (unknown_none below) (λ a far far'. refl) (edges mode spot 0) fewer
           (record {
@@ -769,6 +798,7 @@ module _ (mode : Mode) (image : Image) (built : IsBuilt image) (good : IsImage i
               long = g.step.long ∙ long;
             };
             switches = off ∙ sym o.off;
+            fills = fills_none spot none;
             knows = plain_knows mode κ on.frame plain_kind (blocks.holds spot);
             means = means;
           })

@@ -208,7 +208,7 @@ module _ (mode : Mode) (image : Image) (built : IsBuilt image) (good : IsImage i
   }
 
   module _ (b : BodyContext) (bodies : x.bodies ≡ b ∷ []) (last : Activation) (acts : s.activations p ≡ last ∷ [])
-      (k : Chain mode image p on.own r to (x.tasks to) on.frame on.switching (b ∷ []) (last ∷ []) c s.memory) (now_on : on.switching ≡ true) where
+      (k : Chain mode image p on.own r to (x.tasks to) on.frame on.switching on.fills (b ∷ []) (last ∷ []) c s.memory) (now_on : on.switching ≡ true) where
     abbrev κ : Kind
     κ = kind_of image b []
 
@@ -218,7 +218,7 @@ module _ (mode : Mode) (image : Image) (built : IsBuilt image) (good : IsImage i
     abbrev w : Processor
     w = k.0
 
-    abbrev act : Active mode image p on.own κ σ on.frame on.switching w b c s.memory
+    abbrev act : Active mode image p on.own κ σ on.frame on.switching on.fills w b c s.memory
     act = k.6
 
     abbrev spot : Spot
@@ -254,10 +254,10 @@ module _ (mode : Mode) (image : Image) (built : IsBuilt image) (good : IsImage i
 
     first : next_of c (s.apics p) (s.latches p) ≡ Next.Instruction
     first = masked_first c (s.apics p) (s.latches p) (step.latch mode image built good facts left s m h p hp)
-        (active_masked mode image p on.own κ σ on.frame on.switching w b c s.memory act ∙ off)
+        (active_masked mode image p on.own κ σ on.frame on.switching on.fills w b c s.memory act ∙ off)
 
     outside : is_in_repeat c.rip ≡ false
-    outside = active_outside mode image facts p on.own κ σ on.frame on.switching w b c s.memory k.1 act
+    outside = active_outside mode image facts p on.own κ σ on.frame on.switching on.fills w b c s.memory k.1 act
 
     kernel : is_user c ≡ false
     kernel = ap is_user act.stands.at.agrees.rest
@@ -286,7 +286,7 @@ module _ (mode : Mode) (image : Image) (built : IsBuilt image) (good : IsImage i
         let mem : Memory = with_words s.memory i.words in
         let stays : activations_by s p (s.activations p) i.cpu Stepped.Ran ≡ last ∷ []
         = went_stays image.processors s p i.cpu None i.ins ((step.fetches mode image built good facts left s m h p hp) c.rip cell i.stands).1 returns ∙ acts in
-        let act' : Active mode image p now κ σ on.frame on.switching w b i.cpu mem = record {
+        let act' : Active mode image p now κ σ on.frame on.switching on.fills w b i.cpu mem = record {
           stands = record {
             spot = spot;
             k = suc a.k;
@@ -305,7 +305,7 @@ module _ (mode : Mode) (image : Image) (built : IsBuilt image) (good : IsImage i
           knows = act.knows;
           means = means_again mode image κ spot env w b s.memory.words i.words act.means;
         } in
-        let chain : Chain mode image p now r to (x.tasks to) on.frame on.switching (b ∷ []) (last ∷ []) i.cpu mem = (
+        let chain : Chain mode image p now r to (x.tasks to) on.frame on.switching on.fills (b ∷ []) (last ∷ []) i.cpu mem = (
           w,
           k.1,
           k.2,
@@ -323,8 +323,8 @@ module _ (mode : Mode) (image : Image) (built : IsBuilt image) (good : IsImage i
         (λ j d. refl) on.tasks (i.blocking ∙ blocked ∙ sym none_nmi) x.pending
         (apic_again mode image (s.apics p) _ x.pending x.bodies x.bodies (at_same s.apics p p (s.apics p) refl) (λ class. refl) on.apic)
         (let l = on.enough in let f = on.few in omega arith)
-        (subst (λ as'. Chain mode image p now r to (x.tasks to) on.frame on.switching x.bodies as' i.cpu mem) (sym stays)
-        (subst (λ bs. Chain mode image p now r to (x.tasks to) on.frame on.switching bs (last ∷ []) i.cpu mem) (sym bodies) chain)) in
+        (subst (λ as'. Chain mode image p now r to (x.tasks to) on.frame on.switching on.fills x.bodies as' i.cpu mem) (sym stays)
+        (subst (λ bs. Chain mode image p now r to (x.tasks to) on.frame on.switching on.fills bs (last ∷ []) i.cpu mem) (sym bodies) chain)) in
         step.edge_to mode image built good facts left s m h p hp first cell i.stands refl returns kernel outside i.cpu i.words i.runs τ narrow
         (switch_names p) allowed refl refl refl changes now (one_less S a.k (blocks.behind spot) on.own lt few) there
       where
@@ -477,11 +477,11 @@ module _ (mode : Mode) (image : Image) (built : IsBuilt image) (good : IsImage i
   -- of an activation that is in such an exit, which stands on the task alone
   pub switch_step : (b : BodyContext) (below : List BodyContext) → x.bodies ≡ b ∷ below → (a : Activation) (as' : List Activation)
       → s.activations p ≡ a ∷ as'
-      → (k : Chain mode image p on.own r to (x.tasks to) on.frame on.switching (b ∷ below) (a ∷ as') c s.memory)
+      → (k : Chain mode image p on.own r to (x.tasks to) on.frame on.switching on.fills (b ∷ below) (a ∷ as') c s.memory)
       → blocks.switches k.6.stands.spot ≡ true → Result
   switch_step b [] hb a as' acts k sw =
       let none : as' ≡ [] = (over_any mode image
       (λ v. Chain mode image p (body_edges mode image) r to (x.tasks to) on.frame false [] as' v s.memory) _ k.0 k.4).2 in
       act_step b hb a (subst (λ ys. s.activations p ≡ a ∷ ys) none acts)
-      (subst (λ ys. Chain mode image p on.own r to (x.tasks to) on.frame on.switching (b ∷ []) (a ∷ ys) c s.memory) none k) (sym k.6.switches ∙ sw)
+      (subst (λ ys. Chain mode image p on.own r to (x.tasks to) on.frame on.switching on.fills (b ∷ []) (a ∷ ys) c s.memory) none k) (sym k.6.switches ∙ sw)
   switch_step b (d ∷ ds) hb a as' acts k sw = let clash : false ≡ true = sym k.6.switches ∙ sw in absurd (cc)

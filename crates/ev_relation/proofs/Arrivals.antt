@@ -1,6 +1,6 @@
 -- What comes to a processor between steps: its local APIC has other requested vectors, or its mail is another, and all else is as it was.
 use Rattle.std.proofs.Common.{◌≡◌, ℕ, zero, suc, ◌<◌, ◌≤◌, Bool, true, false, ◌||◌, List, [], ◌∷◌, length, get_or, refl, sym, ap, ◌∙◌, subst, ⊎_elim, arith}
-use Rattle.std.specs.Prelude.{◌==◌, ◌+◌, ◌^◌, reverse}
+use Rattle.std.specs.Prelude.{◌==◌, ◌+◌, ◌^◌, ◌++◌}
 use Rattle.std.specs.List.{list_any}
 use Rattle.std.proofs.Math.Bool.{or-false}
 use Rattle.std.proofs.lemmas.Bool.Decides.{eqb_tells}
@@ -27,16 +27,16 @@ use Rattle.ev_abstract.specs.Run.{line_step}
 use Rattle.ev_abstract.specs.Script.{is_line}
 use Rattle.ev_abstract.specs.declared.script_line.Line.TheVariants.{Arrive, Accept}
 use Rattle.ev_effect.specs.Task.{Task}
-use Rattle.ev_listing.specs.AddressMap.{pcpu, record_address}
 use Rattle.ev_concrete.specs.ConcreteRun.{System, arrived_at, accept_mail}
 use Rattle.ev_law.specs.Legal.{Legal}
 use Rattle.ev_law.proofs.Lines.{lines_keep_legal}
 use Rattle.ev_law.proofs.Machines.{alike_mail}
 use Rattle.ev_user.specs.Numbers.{AreCallers, AreOfWords, HasWords}
 use Rattle.ev_user.specs.Words.{HoldsWords}
-use Rattle.ev_calls.specs.Records.{RecordIs, Linked}
 use Rattle.ev_relation.specs.Domain.{IsInDomain}
 use Rattle.ev_relation.specs.Nmi.{LatchIs, inner_edges}
+use Rattle.ev_calls.specs.Lists.{QueueIs}
+use Rattle.ev_call_law.proofs.Records.{put_same, same_calls, same_kept}
 use Rattle.ev_relation.specs.Relation.{AreVectorWords, ApicIs, InboxIs, Stands, StandsOn}
 use Rattle.ev_relation.proofs.Maps.{at_same, at_other}
 use Rattle.ev_relation.proofs.NoVectors.{zero_words, no_vector}
@@ -79,6 +79,9 @@ module _ (mode : Mode) (image : Image) where
         (λ i. (sym same i, sym same_nmi i)) on.latch;
     apic = a;
     slots = on.slots;
+    fills = on.fills;
+    free = on.free;
+    records = on.records;
     runs = on.runs;
   }
 
@@ -142,16 +145,13 @@ module _ (mode : Mode) (image : Image) where
         cells = h.shares.cells;
         mail = by_processor (λ q x. InboxIs mode image (inboxes q) x.mail x.mail_nmi) c.inbox
             (λ q lq e. subst (λ i. InboxIs mode image i (processor m q).mail (processor m q).mail_nmi) (sym (c.other_inboxes q e)) (h.shares.mail q lq));
-        numbers = λ q k lq lk. h.shares.numbers q k lq lk
-            ∙ ap (λ (rs : NatMap CallRecord). (rs k).number) (component (λ (y : abstract.Processor). y.records) refl q);
-        records = λ q k lq lk. subst (λ (rs : NatMap CallRecord). RecordIs s.memory.words (record_address q k) (rs k) (rs k).state)
-            (component (λ (y : abstract.Processor). y.records) refl q) (h.shares.records q k lq lk);
-        queues = λ q lq. subst (λ ks. Linked s.memory.words (s.memory.words (pcpu q + 0x30)) (reverse ks))
-            (component (λ (y : abstract.Processor). y.queue) refl q) (h.shares.queues q lq);
+        queues = λ q lq. subst (QueueIs s.memory.words q) (component (λ (y : abstract.Processor). y.queue) refl q) (h.shares.queues q lq);
       };
       legal = c.legal;
       bases = λ q i. sym (ap (λ (ts : NatMap Task). (ts i).gs) (component (λ (y : abstract.Processor). y.tasks) refl q)) ∙ h.bases q i;
       numbers = record { each = words_kept; cells = h.numbers.cells };
+      told = h.told ++ [];
+      calls = (same_kept image m behind h.told [] h.calls (same_calls image m behind (put_same m p now refl refl refl)) tt tt (omega arith)).kept;
       domain = by_processor (λ q x. IsInDomain x) c.inside (λ q lq e. h.domain q lq);
       each = by_processor (λ q x. StandsOn mode image q (left q) concrete x)
           (comes_to p (left p) s apics latches inboxes (processor m p) set mail nmi mail_nmi (c.latch p) c.nmi_is (h.each p lt) c.apic)

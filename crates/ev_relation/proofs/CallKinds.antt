@@ -21,6 +21,7 @@ use Rattle.ev_blocks.specs.Shapes.{Origin, UserCode, KernelCode}
 use Rattle.ev_blocks.specs.Blocks.{Spot}
 use Rattle.ev_user.specs.Tasks.{RunsTask}
 use Rattle.ev_relation.specs.Nmi.{Frame, Knows, Leads}
+use Rattle.ev_relation.specs.Filling.{Filling}
 use Rattle.ev_relation.specs.Active.{OverTask, OverBody, Saved, SavedBody, SavedOf, Leaving, Means, Active, level_in}
 use Rattle.ev_relation.specs.Relation.{Beneath, keeps_cr2, body_edges, chained, switches_at, Chain}
 use Rattle.ev_relation.proofs.Domains.{with_cr2}
@@ -183,21 +184,21 @@ plain_seat mode image r b (d ∷ ds) h = on_body (plain_seat mode image r d ds h
 
 -- ---- what depends on the kind alone
 
-pub means_by : (mode : Mode) (image : Image) (κ : Kind) → is_over_task κ ≡ true → (spot : Spot) (e : Env) (w : Processor) (b : BodyContext) (m : NatMap ℕ)
-    → OverTask mode image mode spot e w b → Means mode image κ spot e w b m
-means_by mode image SystemCall a spot e w b m h = h
-means_by mode image FromTask a spot e w b m h = h
-means_by mode image FromBody a spot e w b m h = let clash : false ≡ true = a in absurd (cc)
-means_by mode image NmiFromTask a spot e w b m h = let clash : false ≡ true = a in absurd (cc)
-means_by mode image NmiFromBody a spot e w b m h = let clash : false ≡ true = a in absurd (cc)
+pub means_by : (mode : Mode) (image : Image) (κ : Kind) → is_over_task κ ≡ true → (spot : Spot) (e : Env) (w : Processor) (b : BodyContext) (g : Option Filling) (m : NatMap ℕ)
+    → OverTask mode image mode spot e w b g m → Means mode image κ spot e w b g m
+means_by mode image SystemCall a spot e w b g m h = h
+means_by mode image FromTask a spot e w b g m h = h
+means_by mode image FromBody a spot e w b g m h = let clash : false ≡ true = a in absurd (cc)
+means_by mode image NmiFromTask a spot e w b g m h = let clash : false ≡ true = a in absurd (cc)
+means_by mode image NmiFromBody a spot e w b g m h = let clash : false ≡ true = a in absurd (cc)
 
-pub means_of : (mode : Mode) (image : Image) (κ : Kind) → is_over_task κ ≡ true → (spot : Spot) (e : Env) (w : Processor) (b : BodyContext) (m : NatMap ℕ)
-    → Means mode image κ spot e w b m → OverTask mode image mode spot e w b
-means_of mode image SystemCall a spot e w b m h = h
-means_of mode image FromTask a spot e w b m h = h
-means_of mode image FromBody a spot e w b m h = let clash : false ≡ true = a in absurd (cc)
-means_of mode image NmiFromTask a spot e w b m h = absurd h
-means_of mode image NmiFromBody a spot e w b m h = absurd h
+pub means_of : (mode : Mode) (image : Image) (κ : Kind) → is_over_task κ ≡ true → (spot : Spot) (e : Env) (w : Processor) (b : BodyContext) (g : Option Filling) (m : NatMap ℕ)
+    → Means mode image κ spot e w b g m → OverTask mode image mode spot e w b g m
+means_of mode image SystemCall a spot e w b g m h = h
+means_of mode image FromTask a spot e w b g m h = h
+means_of mode image FromBody a spot e w b g m h = let clash : false ≡ true = a in absurd (cc)
+means_of mode image NmiFromTask a spot e w b g m h = absurd h
+means_of mode image NmiFromBody a spot e w b g m h = absurd h
 
 -- only an NMI's knows of a frame
 pub plain_knows : (mode : Mode) (κ : Kind) (f : Frame) → is_plain_kind κ ≡ true → (known : Bool) → Knows mode κ known f
@@ -211,13 +212,13 @@ pub knows_nothing : (mode : Mode) (κ : Kind) (f : Frame) → is_over_task κ �
 knows_nothing mode κ f a known = plain_knows mode κ f (plain_over κ a) known
 
 -- no variable of an NMI's activation means anything yet
-pub means_plain : (mode : Mode) (image : Image) (κ : Kind) (spot : Spot) (e : Env) (w : Processor) (b : BodyContext) (m : NatMap ℕ)
-    → Means mode image κ spot e w b m → is_plain_kind κ ≡ true
-means_plain mode image SystemCall spot e w b m h = refl
-means_plain mode image FromTask spot e w b m h = refl
-means_plain mode image FromBody spot e w b m h = refl
-means_plain mode image NmiFromTask spot e w b m h = absurd h
-means_plain mode image NmiFromBody spot e w b m h = absurd h
+pub means_plain : (mode : Mode) (image : Image) (κ : Kind) (spot : Spot) (e : Env) (w : Processor) (b : BodyContext) (g : Option Filling) (m : NatMap ℕ)
+    → Means mode image κ spot e w b g m → is_plain_kind κ ≡ true
+means_plain mode image SystemCall spot e w b g m h = refl
+means_plain mode image FromTask spot e w b g m h = refl
+means_plain mode image FromBody spot e w b g m h = refl
+means_plain mode image NmiFromTask spot e w b g m h = absurd h
+means_plain mode image NmiFromBody spot e w b g m h = absurd h
 
 pub level_of : (mode : Mode) (κ : Kind) (w : Processor) → is_over_task κ ≡ true → level_in mode κ w ≡ w.level
 level_of mode SystemCall w a = refl
@@ -227,19 +228,19 @@ level_of mode NmiFromTask w a = refl
 level_of mode NmiFromBody w a = let clash : false ≡ true = a in absurd (cc)
 
 -- the chain of one activation
-pub over_kind : (mode : Mode) (image : Image) (p left r to : ℕ) (t : Task) (f : Frame) (sw : Bool) (w : Processor) (b : BodyContext) (c : Processor)
+pub over_kind : (mode : Mode) (image : Image) (p left r to : ℕ) (t : Task) (f : Frame) (sw : Bool) (g : Option Filling) (w : Processor) (b : BodyContext) (c : Processor)
     (m : Memory)
     (κ : Kind) → is_over_task κ ≡ true → RunsTask mode image p to t w
-    → Active mode image p left κ (record { stack = r; used = 0 }) f sw w b c m
+    → Active mode image p left κ (record { stack = r; used = 0 }) f sw g w b c m
     → Beneath mode image (keeps_cr2 mode image κ)
-    (λ v. Chain mode image p (body_edges mode image) r to t f (chained mode image sw []) [] [] v m) w
+    (λ v. Chain mode image p (body_edges mode image) r to t f (chained mode image sw []) [] [] [] v m) w
     × Leads mode p κ f w m.words
-    × Active mode image p left κ (seat_by mode κ r (seat_of mode image r []) (room_of mode image [])) f (switches_at mode image sw []) w b c m
-over_kind mode image p left r to t f sw w b c m SystemCall a task act = (λ n. (with_cr2 mode image p to t w n task, refl, refl), tt, act)
-over_kind mode image p left r to t f sw w b c m FromTask a task act = (λ n. (with_cr2 mode image p to t w n task, refl, refl), tt, act)
-over_kind mode image p left r to t f sw w b c m FromBody a task act = let clash : false ≡ true = a in absurd (cc)
-over_kind mode image p left r to t f sw w b c m NmiFromTask a task act = let clash : false ≡ true = a in absurd (cc)
-over_kind mode image p left r to t f sw w b c m NmiFromBody a task act = let clash : false ≡ true = a in absurd (cc)
+    × Active mode image p left κ (seat_by mode κ r (seat_of mode image r []) (room_of mode image [])) f (switches_at mode image sw []) g w b c m
+over_kind mode image p left r to t f sw g w b c m SystemCall a task act = (λ n. (with_cr2 mode image p to t w n task, refl, refl, refl), tt, act)
+over_kind mode image p left r to t f sw g w b c m FromTask a task act = (λ n. (with_cr2 mode image p to t w n task, refl, refl, refl), tt, act)
+over_kind mode image p left r to t f sw g w b c m FromBody a task act = let clash : false ≡ true = a in absurd (cc)
+over_kind mode image p left r to t f sw g w b c m NmiFromTask a task act = let clash : false ≡ true = a in absurd (cc)
+over_kind mode image p left r to t f sw g w b c m NmiFromBody a task act = let clash : false ≡ true = a in absurd (cc)
 
 -- ---- what gives back the processor to which it returns, and what the exit means
 
@@ -259,42 +260,42 @@ saved_body mode image FromTask a e w s = let clash : false ≡ true = a in absur
 saved_body mode image NmiFromTask a e w s = let clash : false ≡ true = a in absurd (cc)
 saved_body mode image NmiFromBody a e w s = let clash : false ≡ true = a in absurd (cc)
 
-pub leaves_task : (mode : Mode) (image : Image) (κ : Kind) → is_over_task κ ≡ true → (spot : Spot) (e : Env) (w : Processor) (b : BodyContext) (m : NatMap ℕ)
-    → (Leaving mode image UserCode e w b → OverTask mode image mode spot e w b) → Leaving mode image (origin_of κ) e w b → Means mode image κ spot e w b m
-leaves_task mode image SystemCall a spot e w b m k l = k l
-leaves_task mode image FromTask a spot e w b m k l = k l
-leaves_task mode image FromBody a spot e w b m k l = let clash : false ≡ true = a in absurd (cc)
-leaves_task mode image NmiFromTask a spot e w b m k l = let clash : false ≡ true = a in absurd (cc)
-leaves_task mode image NmiFromBody a spot e w b m k l = let clash : false ≡ true = a in absurd (cc)
+pub leaves_task : (mode : Mode) (image : Image) (κ : Kind) → is_over_task κ ≡ true → (spot : Spot) (e : Env) (w : Processor) (b : BodyContext) (g : Option Filling) (m : NatMap ℕ)
+    → (Leaving mode image UserCode e w b → OverTask mode image mode spot e w b g m) → Leaving mode image (origin_of κ) e w b → Means mode image κ spot e w b g m
+leaves_task mode image SystemCall a spot e w b g m k l = k l
+leaves_task mode image FromTask a spot e w b g m k l = k l
+leaves_task mode image FromBody a spot e w b g m k l = let clash : false ≡ true = a in absurd (cc)
+leaves_task mode image NmiFromTask a spot e w b g m k l = let clash : false ≡ true = a in absurd (cc)
+leaves_task mode image NmiFromBody a spot e w b g m k l = let clash : false ≡ true = a in absurd (cc)
 
-pub leaves_body : (mode : Mode) (image : Image) (κ : Kind) → is_over_body κ ≡ true → (spot : Spot) (e : Env) (w : Processor) (b : BodyContext) (m : NatMap ℕ)
-    → (Leaving mode image KernelCode e w b → OverBody mode image mode spot e w b) → Leaving mode image (origin_of κ) e w b → Means mode image κ spot e w b m
-leaves_body mode image FromBody a spot e w b m k l = k l
-leaves_body mode image SystemCall a spot e w b m k l = let clash : false ≡ true = a in absurd (cc)
-leaves_body mode image FromTask a spot e w b m k l = let clash : false ≡ true = a in absurd (cc)
-leaves_body mode image NmiFromTask a spot e w b m k l = let clash : false ≡ true = a in absurd (cc)
-leaves_body mode image NmiFromBody a spot e w b m k l = let clash : false ≡ true = a in absurd (cc)
+pub leaves_body : (mode : Mode) (image : Image) (κ : Kind) → is_over_body κ ≡ true → (spot : Spot) (e : Env) (w : Processor) (b : BodyContext) (g : Option Filling) (m : NatMap ℕ)
+    → (Leaving mode image KernelCode e w b → OverBody mode image mode spot e w b g m) → Leaving mode image (origin_of κ) e w b → Means mode image κ spot e w b g m
+leaves_body mode image FromBody a spot e w b g m k l = k l
+leaves_body mode image SystemCall a spot e w b g m k l = let clash : false ≡ true = a in absurd (cc)
+leaves_body mode image FromTask a spot e w b g m k l = let clash : false ≡ true = a in absurd (cc)
+leaves_body mode image NmiFromTask a spot e w b g m k l = let clash : false ≡ true = a in absurd (cc)
+leaves_body mode image NmiFromBody a spot e w b g m k l = let clash : false ≡ true = a in absurd (cc)
 
 -- what an activation over a task and one over a body mean, by what its event interrupted
-abbrev pub OverOf : Mode → Image → Origin → Mode → Spot → Env → Processor → BodyContext → Type 0
-OverOf mode image UserCode m spot e w b = OverTask mode image m spot e w b
-OverOf mode image KernelCode m spot e w b = OverBody mode image m spot e w b
+abbrev pub OverOf : Mode → Image → Origin → Mode → Spot → Env → Processor → BodyContext → Option Filling → NatMap ℕ → Type 0
+OverOf mode image UserCode m spot e w b g words = OverTask mode image m spot e w b g words
+OverOf mode image KernelCode m spot e w b g words = OverBody mode image m spot e w b g words
 
-pub means_as : (mode : Mode) (image : Image) (κ : Kind) → is_plain_kind κ ≡ true → (spot : Spot) (e : Env) (w : Processor) (b : BodyContext) (m : NatMap ℕ)
-    → OverOf mode image (origin_of κ) mode spot e w b → Means mode image κ spot e w b m
-means_as mode image SystemCall a spot e w b m h = h
-means_as mode image FromTask a spot e w b m h = h
-means_as mode image FromBody a spot e w b m h = h
-means_as mode image NmiFromTask a spot e w b m h = let clash : false ≡ true = a in absurd (cc)
-means_as mode image NmiFromBody a spot e w b m h = let clash : false ≡ true = a in absurd (cc)
+pub means_as : (mode : Mode) (image : Image) (κ : Kind) → is_plain_kind κ ≡ true → (spot : Spot) (e : Env) (w : Processor) (b : BodyContext) (g : Option Filling) (m : NatMap ℕ)
+    → OverOf mode image (origin_of κ) mode spot e w b g m → Means mode image κ spot e w b g m
+means_as mode image SystemCall a spot e w b g m h = h
+means_as mode image FromTask a spot e w b g m h = h
+means_as mode image FromBody a spot e w b g m h = h
+means_as mode image NmiFromTask a spot e w b g m h = let clash : false ≡ true = a in absurd (cc)
+means_as mode image NmiFromBody a spot e w b g m h = let clash : false ≡ true = a in absurd (cc)
 
-pub over_as : (mode : Mode) (image : Image) (κ : Kind) (spot : Spot) (e : Env) (w : Processor) (b : BodyContext) (m : NatMap ℕ)
-    → Means mode image κ spot e w b m → OverOf mode image (origin_of κ) mode spot e w b
-over_as mode image SystemCall spot e w b m h = h
-over_as mode image FromTask spot e w b m h = h
-over_as mode image FromBody spot e w b m h = h
-over_as mode image NmiFromTask spot e w b m h = absurd h
-over_as mode image NmiFromBody spot e w b m h = absurd h
+pub over_as : (mode : Mode) (image : Image) (κ : Kind) (spot : Spot) (e : Env) (w : Processor) (b : BodyContext) (g : Option Filling) (m : NatMap ℕ)
+    → Means mode image κ spot e w b g m → OverOf mode image (origin_of κ) mode spot e w b g m
+over_as mode image SystemCall spot e w b g m h = h
+over_as mode image FromTask spot e w b g m h = h
+over_as mode image FromBody spot e w b g m h = h
+over_as mode image NmiFromTask spot e w b g m h = absurd h
+over_as mode image NmiFromBody spot e w b g m h = absurd h
 
 -- those of one origin
 pub of_task : (κ : Kind) → is_plain_kind κ ≡ true → origin_of κ ≡ UserCode → is_over_task κ ≡ true

@@ -1,5 +1,5 @@
 -- What a chain of contexts says: of the processor to which its last one returns, of how many they are, and of their kinds.
-use Rattle.std.proofs.Common.{◌≡◌, ℕ, ◌+◌, Bool, true, false, List, [], ◌∷◌, drop, length, refl, ap, ◌∙◌}
+use Rattle.std.proofs.Common.{◌≡◌, ℕ, ◌+◌, Bool, true, false, List, [], ◌∷◌, drop, length, Option, refl, ap, ◌∙◌}
 use Rattle.ev_isa.specs.declared.mode.Mode.{Mode}
 use Rattle.ev_isa.specs.declared.mode.Mode.TheVariants.{Idt, Fred}
 use Rattle.ev_body.specs.declared.image.Image.{Image}
@@ -20,6 +20,7 @@ use Rattle.ev_blocks.specs.Blocks.{block}
 use Rattle.ev_table.specs.Table.{code_table}
 use Rattle.ev_activation.specs.Seat.{Kind, Seat, kind_of}
 use Rattle.ev_relation.specs.Nmi.{Frame}
+use Rattle.ev_relation.specs.Filling.{Filling, first_fill, rest_fills}
 use Rattle.ev_relation.specs.Active.{rest_in, Active}
 use Rattle.ev_relation.specs.Relation.{body_edges, keeps_cr2, chained, Chain}
 use Rattle.ev_user.specs.Tasks.{RunsTask}
@@ -67,15 +68,15 @@ module _ (mode : Mode) (image : Image) where
     stacks = ap (λ (c : Processor). length (drop 1 c.msrs.rsp)) h.is;
   }
 
-  pub chain_kept : (p left r to : ℕ) (t : Task) (f : Frame) (sw : Bool) (bs : List BodyContext) (as' : List Activation) (c : Processor) (m : Memory)
-      → Chain mode image p left r to t f sw bs as' c m → Kept p c
-  chain_kept p left r to t f sw [] as' c m h = task_kept p to t c h.0
-  chain_kept p left r to t f sw (b ∷ below) [] c m h = absurd h
-  chain_kept p left r to t f sw (b ∷ below) (a ∷ as') c m h =
-      let k : Kept p h.0 = chain_kept p (body_edges mode image) r to t f (chained mode image sw below) below as' h.0 m
-      (over_any mode image (λ v. Chain mode image p (body_edges mode image) r to t f (chained mode image sw below) below as' v m)
+  pub chain_kept : (p left r to : ℕ) (t : Task) (f : Frame) (sw : Bool) (fs : List (Option Filling)) (bs : List BodyContext) (as' : List Activation) (c : Processor) (m : Memory)
+      → Chain mode image p left r to t f sw fs bs as' c m → Kept p c
+  chain_kept p left r to t f sw fs [] as' c m h = task_kept p to t c h.0
+  chain_kept p left r to t f sw fs (b ∷ below) [] c m h = absurd h
+  chain_kept p left r to t f sw fs (b ∷ below) (a ∷ as') c m h =
+      let k : Kept p h.0 = chain_kept p (body_edges mode image) r to t f (chained mode image sw below) (rest_fills fs) below as' h.0 m
+      (over_any mode image (λ v. Chain mode image p (body_edges mode image) r to t f (chained mode image sw below) (rest_fills fs) below as' v m)
       (keeps_cr2 mode image (kind_of image b below)) h.0 h.4) in
-      kept_by p (kind_of image b below) (means_plain mode image (kind_of image b below) h.6.stands.spot _ h.0 b m.words h.6.means) h.6.stands.ss h.0 c
+      kept_by p (kind_of image b below) (means_plain mode image (kind_of image b below) h.6.stands.spot _ h.0 b (first_fill fs) m.words h.6.means) h.6.stands.ss h.0 c
       h.6.stands.at.agrees.rest k
     where
       kept_by : (p : ℕ) (κ : Kind) → is_plain_kind κ ≡ true → (ss : ℕ) (w c : Processor) → untracked c ≡ rest_in mode κ ss w → Kept p w → Kept p c
@@ -90,27 +91,27 @@ module _ (mode : Mode) (image : Image) where
       }
 
   -- none is an NMI's
-  pub chain_plain : (p left r to : ℕ) (t : Task) (f : Frame) (sw : Bool) (bs : List BodyContext) (as' : List Activation) (c : Processor) (m : Memory)
-      → Chain mode image p left r to t f sw bs as' c m → ArePlain image bs
-  chain_plain p left r to t f sw [] as' c m h = tt
-  chain_plain p left r to t f sw (b ∷ below) [] c m h = absurd h
-  chain_plain p left r to t f sw (b ∷ below) (a ∷ as') c m h = (
-    means_plain mode image (kind_of image b below) h.6.stands.spot _ h.0 b m.words h.6.means,
-    chain_plain p (body_edges mode image) r to t f (chained mode image sw below) below as' h.0 m
-        (over_any mode image (λ v. Chain mode image p (body_edges mode image) r to t f (chained mode image sw below) below as' v m)
+  pub chain_plain : (p left r to : ℕ) (t : Task) (f : Frame) (sw : Bool) (fs : List (Option Filling)) (bs : List BodyContext) (as' : List Activation) (c : Processor) (m : Memory)
+      → Chain mode image p left r to t f sw fs bs as' c m → ArePlain image bs
+  chain_plain p left r to t f sw fs [] as' c m h = tt
+  chain_plain p left r to t f sw fs (b ∷ below) [] c m h = absurd h
+  chain_plain p left r to t f sw fs (b ∷ below) (a ∷ as') c m h = (
+    means_plain mode image (kind_of image b below) h.6.stands.spot _ h.0 b (first_fill fs) m.words h.6.means,
+    chain_plain p (body_edges mode image) r to t f (chained mode image sw below) (rest_fills fs) below as' h.0 m
+        (over_any mode image (λ v. Chain mode image p (body_edges mode image) r to t f (chained mode image sw below) (rest_fills fs) below as' v m)
         (keeps_cr2 mode image (kind_of image b below)) h.0 h.4),
   )
 
   -- ---- an activation runs with IF as its context has it
 
-  pub active_masked : (p left : ℕ) (κ : Kind) (σ : Seat) (f : Frame) (sw : Bool) (w : Processor) (b : BodyContext) (c : Processor) (m : Memory)
-      → Active mode image p left κ σ f sw w b c m → interrupts_on c ≡ b.interrupts
-  active_masked p left κ σ f sw w b c m a = at_interrupts (code_table mode image) (block mode a.stands.spot) a.stands.k _ c m a.stands.at ∙ a.stands.masked
+  pub active_masked : (p left : ℕ) (κ : Kind) (σ : Seat) (f : Frame) (sw : Bool) (g : Option Filling) (w : Processor) (b : BodyContext) (c : Processor) (m : Memory)
+      → Active mode image p left κ σ f sw g w b c m → interrupts_on c ≡ b.interrupts
+  active_masked p left κ σ f sw g w b c m a = at_interrupts (code_table mode image) (block mode a.stands.spot) a.stands.k _ c m a.stands.at ∙ a.stands.masked
 
-  pub chain_masked : (p left r to : ℕ) (t : Task) (f : Frame) (sw : Bool) (b : BodyContext) (below : List BodyContext) (as' : List Activation) (c : Processor)
-      (m : Memory) → Chain mode image p left r to t f sw (b ∷ below) as' c m → interrupts_on c ≡ b.interrupts
-  chain_masked p left r to t f sw b below [] c m h = absurd h
-  chain_masked p left r to t f sw b below (a ∷ as') c m h = active_masked p left _ _ f _ h.0 b c m h.6
+  pub chain_masked : (p left r to : ℕ) (t : Task) (f : Frame) (sw : Bool) (fs : List (Option Filling)) (b : BodyContext) (below : List BodyContext) (as' : List Activation) (c : Processor)
+      (m : Memory) → Chain mode image p left r to t f sw fs (b ∷ below) as' c m → interrupts_on c ≡ b.interrupts
+  chain_masked p left r to t f sw fs b below [] c m h = absurd h
+  chain_masked p left r to t f sw fs b below (a ∷ as') c m h = active_masked p left _ _ f _ (first_fill fs) h.0 b c m h.6
 
   -- ---- a chain says nothing of the blocking of NMIs, which the relation does
 
@@ -137,12 +138,12 @@ module _ (mode : Mode) (image : Image) where
     };
   }
 
-  pub chain_open : (p left r to : ℕ) (t : Task) (f : Frame) (sw : Bool) (bs : List BodyContext) (as' : List Activation) (c : Processor) (m : Memory)
-      → Chain mode image p left r to t f sw bs as' c m → Chain mode image p left r to t f sw bs as' (record c { nmi_blocked = false }) m
-  chain_open p left r to t f sw [] as' c m h =
-      (record { is = ap (λ (y : Processor). record y { nmi_blocked = false }) h.0.is; task = h.0.task }, h.1, h.2)
-  chain_open p left r to t f sw (b ∷ below) [] c m h = h
-  chain_open p left r to t f sw (b ∷ below) (a ∷ as') c m h = (
+  pub chain_open : (p left r to : ℕ) (t : Task) (f : Frame) (sw : Bool) (fs : List (Option Filling)) (bs : List BodyContext) (as' : List Activation) (c : Processor) (m : Memory)
+      → Chain mode image p left r to t f sw fs bs as' c m → Chain mode image p left r to t f sw fs bs as' (record c { nmi_blocked = false }) m
+  chain_open p left r to t f sw fs [] as' c m h =
+      (record { is = ap (λ (y : Processor). record y { nmi_blocked = false }) h.0.is; task = h.0.task }, h.1, h.2, h.3)
+  chain_open p left r to t f sw fs (b ∷ below) [] c m h = h
+  chain_open p left r to t f sw fs (b ∷ below) (a ∷ as') c m h = (
     h.0,
     h.1,
     h.2,
@@ -165,6 +166,7 @@ module _ (mode : Mode) (image : Image) where
         long = h.6.stands.long;
       };
       switches = h.6.switches;
+      fills = h.6.fills;
       knows = h.6.knows;
       means = h.6.means;
     },

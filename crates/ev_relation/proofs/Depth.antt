@@ -1,5 +1,5 @@
 -- How many bodies stand: as many as contexts, and as a step tells it.
-use Rattle.std.proofs.Common.{◌≡◌, ℕ, suc, ◌+◌, ◌-◌, ◌%◌, ◌<◌, ◌≤◌, Bool, true, false, not, ◌&&◌, List, [], ◌∷◌, length, Option, Some, None, refl, sym, ap, ◌∙◌, arith}
+use Rattle.std.proofs.Common.{◌≡◌, ℕ, suc, ◌+◌, ◌-◌, ◌%◌, ◌<◌, ◌≤◌, Bool, true, false, not, ◌&&◌, List, [], ◌∷◌, length, Option, Some, None, refl, sym, ap, ◌∙◌, arith, subst}
 use Rattle.std.proofs.Math.Bool.{and-false}
 use Rattle.std.specs.Prelude.{if◌then◌else◌, ◌==◌, nat_lt, nat_le, filter, slice_get}
 use Rattle.std.proofs.lemmas.Bool.{eqb-true, ltb-true, lt-leb}
@@ -27,26 +27,28 @@ use Rattle.ev_symbolic.specs.Value.{M}
 use Rattle.ev_symbolic.specs.State.{SS, Block}
 use Rattle.ev_symbolic.specs.Run.{brun, every}
 use Rattle.ev_symbolic.specs.Agrees.{Env, addr, At}
-use Rattle.ev_symbolic.specs.Openings.{at_base}
 use Rattle.ev_symbolic.specs.Names.{item_tag, stub_tag}
 use Rattle.ev_symbolic.proofs.Values.{and_left, and_right}
-use Rattle.ev_symbolic.proofs.Blocks.{unsome, every_ok}
+use Rattle.ev_symbolic.proofs.Blocks.{every_ok}
 use Rattle.ev_activation.specs.Seat.{Kind, SystemCall, FromTask, FromBody, NmiFromTask, NmiFromBody, Seat}
-use Rattle.ev_blocks.specs.Shapes.{Origin, UserCode, KernelCode, FredFrame, IdtFrame}
+use Rattle.ev_blocks.specs.Shapes.{Layout, Origin, UserCode, KernelCode, FredFrame, IdtFrame}
 use Rattle.ev_blocks.specs.Fred.{FromUser, FromKernel, FredToKernel, FredToTask, FredToNext, fred_block}
 use Rattle.ev_blocks.specs.Fred as fred
 use Rattle.ev_blocks.specs.Idt.{Stub, Sys, Common, IdtToKernel, IdtToTask, IdtToNext, idt_block}
 use Rattle.ev_blocks.specs.Idt as idt
-use Rattle.ev_blocks.specs.Items.{AtTable, AtJump, AtItem, AtNumber, AtNumbers, AtUserWord, AtPageWord, BehindSti, body_block}
+use Rattle.ev_blocks.specs.Calls.{CallSpot, AtRecord, BehindWait, BehindBusy, AtFill, AtHead, AtLink, BehindFailure, BehindCall, AtTake, BehindTake, AtTurn, BehindTurn, AtTaken, AtFinish, BehindNext, AtOffset}
+use Rattle.ev_blocks.specs.Items.{BodySpot, AtTable, AtJump, AtItem, AtNumber, AtNumbers, AtKick, AtUserWord, AtPageWord, BehindSti, BehindKick, InCall, fills, body_block}
 use Rattle.ev_blocks.specs.Blocks.{Spot, InFred, InIdt, InBody, block}
 use Rattle.ev_table.specs.Table.{code_table}
 use Rattle.ev_relation.specs.Nmi.{Frame}
-use Rattle.ev_relation.specs.Active.{address_of_item, item_place, HasNextPlace, OverTask, OverBody, Active}
+use Rattle.ev_relation.specs.Filling.{Filling, first_fill, rest_fills}
+use Rattle.ev_relation.specs.Active.{address_of_item, HasPlace, HasRange, IsByHand, BehindExchange, BehindOldLink, AtFunction, BehindArgument, BehindCaller, BehindAddress, BehindFinish, InCallSpot, InSpot, OverTask, OverBody, Active}
 use Rattle.ev_relation.specs.Relation.{IsContext, body_edges, chained, Interrupted, Chain, StandsOn}
 use Rattle.ev_relation.proofs.Facts.{Facts}
-use Rattle.ev_relation.proofs.Spots.{is_elsewhere, entry_elsewhere, kernel_entry_elsewhere, kernel_exit_elsewhere, fred_exit_elsewhere, sys_elsewhere, common_elsewhere, idt_exit_elsewhere, idt_kernel_exit_elsewhere, is_in_stub, stub_inside, is_in_item, number_inside, numbers_inside, address_inside, page_inside, sti_inside, fred_switch_elsewhere, idt_switch_elsewhere}
+use Rattle.ev_relation.proofs.Spots.{is_elsewhere, entry_elsewhere, kernel_entry_elsewhere, kernel_exit_elsewhere, fred_exit_elsewhere, sys_elsewhere, common_elsewhere, idt_exit_elsewhere, idt_kernel_exit_elsewhere, is_in_stub, stub_inside, is_in_item, is_in_code, body_spot_is, body_inside, fred_switch_elsewhere, idt_switch_elsewhere}
 use Rattle.ev_relation.proofs.Standing.{sends, after_went, Went, went_step}
 use Rattle.ev_relation.proofs.CallKinds.{over_any}
+use Rattle.ev_relation.proofs.Fills.{spot_fills, fill_inside}
 use Rattle.ev_relation.proofs.After.{as_chain}
 
 -- the body of a context
@@ -82,51 +84,68 @@ module _ (mode : Mode) (image : Image) (facts : Facts mode image) where
       → every is_elsewhere b ≡ true → is_in_repeat c.rip ≡ false
   at_elsewhere b k e c m at z l h = ap is_in_repeat at.agrees.rip ∙ elsewhere e z at.state (every_ok is_elsewhere b h k l at.state at.is)
 
-  -- an item, where nothing of the block comes before it
-  at_item_outside : (B : Block) (k : ℕ) (e : Env) (c : Processor) (m : Memory) (b : BodyContext) → IsContext mode image b
-      → At (code_table mode image) B k e c m → k ≤ 0 → B.opening.rip ≡ at_base 20 0 → e.base 20 ≡ item_place mode image b.body b.place
-      → is_in_repeat c.rip ≡ false
-  at_item_outside B k e c m b ctx at l opens place =
-      let found = body_at (slice_get image.bodies b.body) b.place ctx.item ctx.is in
-      let start : k ≡ 0 = omega arith in
-      let there : at.state ≡ B.opening = unsome _ _ (sym at.is ∙ ap (brun B) start) in
-      let rip : at.state.rip ≡ at_base 20 0 = ap (λ (s : SS). s.rip) there ∙ opens in
-      let is : c.rip ≡ (item_address mode b.body found.0 b.place + 0) % M = at.agrees.rip ∙ ap (addr e) rip
-      ∙ ap (λ y. (y + 0) % M) (place ∙ ap (address_of_item mode b.body b.place) found.1) in
-      let range = facts.item_range b.body b.place found.0 found.1 in
-      let low = range.0 in let high = range.1 in
-      behind_repeat c.rip (omega arith)
-
-  -- inside one
-  in_item_outside : (B : Block) (k : ℕ) (e : Env) (c : Processor) (m : Memory) (b : BodyContext) → IsContext mode image b
-      → At (code_table mode image) B k e c m → k ≤ B.steps → every is_in_item B ≡ true → e.base item_tag ≡ item_place mode image b.body b.place
-      → is_in_repeat c.rip ≡ false
-  in_item_outside B k e c m b ctx at l every place =
-      let found = body_at (slice_get image.bodies b.body) b.place ctx.item ctx.is in
+  -- an instruction of an item
+  in_item_outside : (B : Block) (k : ℕ) (e : Env) (c : Processor) (m : Memory) → At (code_table mode image) B k e c m → k ≤ B.steps
+      → every is_in_item B ≡ true → HasRange mode image e → is_in_repeat c.rip ≡ false
+  in_item_outside B k e c m at l every range =
       let inside = every_ok is_in_item B every k l at.state at.is in
       let n : ℕ = at.state.rip.off in
       let tag : at.state.rip.tag ≡ item_tag = eqb-true at.state.rip.tag item_tag (and_left _ _ inside) in
-      let near : n < 0x40 = ltb-true n 0x40 (and_right (at.state.rip.tag == item_tag) _ inside) in
-      let is : c.rip ≡ (item_address mode b.body found.0 b.place + n) % M = at.agrees.rip ∙ ap (λ t. (e.base t + n) % M) tag
-      ∙ ap (λ y. (y + n) % M) (place ∙ ap (address_of_item mode b.body b.place) found.1) in
-      let range = facts.item_range b.body b.place found.0 found.1 in
-      let low = range.0 in let high = range.1 in
-      behind_repeat c.rip (omega arith)
-
-  -- and behind `sti`
-  behind_sti_outside : (B : Block) (k : ℕ) (e : Env) (c : Processor) (m : Memory) (b : BodyContext) → IsContext mode image b
-      → At (code_table mode image) B k e c m → k ≤ B.steps → every is_in_item B ≡ true → HasNextPlace mode image e b → is_in_repeat c.rip ≡ false
-  behind_sti_outside B k e c m b ctx at l every place =
-      let found = body_at (slice_get image.bodies b.body) b.place ctx.item ctx.is in
-      let inside = every_ok is_in_item B every k l at.state at.is in
-      let n : ℕ = at.state.rip.off in
-      let tag : at.state.rip.tag ≡ item_tag = eqb-true at.state.rip.tag item_tag (and_left _ _ inside) in
-      let near : n < 0x40 = ltb-true n 0x40 (and_right (at.state.rip.tag == item_tag) _ inside) in
+      let near : n < 0x100 = ltb-true n 0x100 (and_right (at.state.rip.tag == item_tag) _ inside) in
       let is : c.rip ≡ (e.base item_tag + n) % M = at.agrees.rip ∙ ap (λ t. (e.base t + n) % M) tag in
-      let next : e.base item_tag + 2 ≡ item_address mode b.body found.0 b.place = place ∙ ap (address_of_item mode b.body b.place) found.1 in
-      let range = facts.item_range b.body b.place found.0 found.1 in
       let low = range.0 in let high = range.1 in
       behind_repeat c.rip (omega arith)
+
+  -- where an activation is in the code of an item, its base is one
+  at_place : (e : Env) (b : BodyContext) → IsContext mode image b → HasPlace mode image e b → HasRange mode image e
+  at_place e b ctx place =
+      let found = body_at (slice_get image.bodies b.body) b.place ctx.item ctx.is in
+      let is : e.base item_tag ≡ item_address mode b.body found.0 b.place = place ∙ ap (address_of_item mode b.body b.place) found.1 in
+      subst (λ y. (0xffffffff82000000 ≤ y) × (y + 0x100 ≤ M)) (sym is) (facts.item_range b.body b.place found.0 found.1)
+
+  by_hand_range : (o : Origin) (e : Env) (w : Processor) (b : BodyContext) (words : NatMap ℕ) (offset edges : ℕ)
+      → IsByHand mode image o e w b words offset edges → HasRange mode image e
+  by_hand_range o e w b words offset edges (BehindExchange q x s is_first y z t) = y.range
+  by_hand_range o e w b words offset edges (BehindOldLink n q x y z t u) = y.range
+  by_hand_range o e w b words offset edges (AtFunction q x y z t) = y.range
+  by_hand_range o e w b words offset edges (BehindArgument q x y z t) = y.range
+  by_hand_range o e w b words offset edges (BehindCaller q x y z t) = y.range
+  by_hand_range o e w b words offset edges (BehindAddress q x y z t u) = y.range
+  by_hand_range o e w b words offset edges (BehindFinish q x y z t) = y.range
+
+  call_range : (o : Origin) (s : CallSpot) (e : Env) (w : Processor) (b : BodyContext) (g : Option Filling) (words : NatMap ℕ)
+      → InCallSpot mode image o s e w b g words → HasRange mode image e
+  call_range o (AtRecord site) e w b g words h = h.0.range
+  call_range o (BehindWait true) e w b g words h = h.0.range
+  call_range o (BehindWait false) e w b g words h = h.0.range
+  call_range o (BehindBusy s) e w b g words h = h.range
+  call_range o (AtFill address func to s) e w b g words h = h.0.range
+  call_range o (AtHead address func to) e w b g words h = h.0.range
+  call_range o (AtLink address func to is_stale) e w b g words h = h.0.range
+  call_range o (BehindFailure address func to) e w b g words h = h.0.range
+  call_range o (BehindCall s is_first) e w b g words h = h.0.range
+  call_range o AtTake e w b g words h = h.0.range
+  call_range o (BehindTake left) e w b g words h = h.0.range
+  call_range o (AtTurn left) e w b g words h = h.0.range
+  call_range o (BehindTurn left) e w b g words h = h.0.range
+  call_range o (AtTaken is_some) e w b g words h = h.0.range
+  call_range o AtFinish e w b g words h = h.0.range
+  call_range o BehindNext e w b g words h = h.range
+  call_range o (AtOffset offset edges) e w b g words h = by_hand_range o e w b words offset edges h
+
+  pub spot_range : (o : Origin) (s : BodySpot) (e : Env) (w : Processor) (b : BodyContext) (g : Option Filling) (words : NatMap ℕ) → IsContext mode image b
+      → InSpot mode image o s e w b g words → is_in_code s ≡ true → HasRange mode image e
+  spot_range o AtItem e w b g words ctx h i = at_place e b ctx h.1
+  spot_range o (AtNumber n) e w b g words ctx h i = at_place e b ctx h.1
+  spot_range o (AtNumbers rcx rax rdx) e w b g words ctx h i = at_place e b ctx h.1
+  spot_range o AtUserWord e w b g words ctx h i = at_place e b ctx h.1
+  spot_range o (AtPageWord is_page) e w b g words ctx h i = at_place e b ctx h.1
+  spot_range o BehindSti e w b g words ctx h i = h.2
+  spot_range o (InCall s) e w b g words ctx h i = call_range o s e w b g words h
+  spot_range o AtTable e w b g words ctx h i = let clash : false ≡ true = i in absurd (cc)
+  spot_range o AtJump e w b g words ctx h i = let clash : false ≡ true = i in absurd (cc)
+  spot_range o (AtKick to) e w b g words ctx h i = absurd h
+  spot_range o BehindKick e w b g words ctx h i = absurd h
 
   -- the entries of vectors stand before it
   at_stub_outside : (o : Origin) (has : Bool) (v k : ℕ) (e : Env) (c : Processor) (m : Memory) → At (code_table mode image) (idt_block (Stub o has v)) k e c m
@@ -139,122 +158,108 @@ module _ (mode : Mode) (image : Image) (facts : Facts mode image) where
       let is : c.rip ≡ (vector_stub v + n) % M = at.agrees.rip ∙ ap (λ t. (e.base t + n) % M) tag ∙ ap (λ y. (y + n) % M) base in
       ap (λ b. b && nat_lt c.rip nbody_entry) (lt-leb repeat_entry c.rip (let below : c.rip < repeat_entry = omega arith in below))
 
-  over_task_outside : (m : Mode) (spot : Spot) (k : ℕ) (e : Env) (w c : Processor) (mem : Memory) (b : BodyContext) → IsContext mode image b
-      → e.base 1000 ≡ 0 → k ≤ (block m spot).steps → At (code_table mode image) (block m spot) k e c mem → OverTask mode image m spot e w b
+  in_code : (fred : Bool) (layout : Layout) (o : Origin) (s : BodySpot) (k : ℕ) (e : Env) (w c : Processor) (mem : Memory) (b : BodyContext)
+      (g : Option Filling) (words : NatMap ℕ) → IsContext mode image b → k ≤ (body_block fred layout s).steps
+      → At (code_table mode image) (body_block fred layout s) k e c mem → InSpot mode image o s e w b g words → is_in_code s ≡ true
       → is_in_repeat c.rip ≡ false
-  over_task_outside Fred (InFred (FromUser way)) k e w c mem b ctx z l at h = at_elsewhere (fred_block (FromUser way)) k e c mem at z l (entry_elsewhere way)
-  over_task_outside Fred (InFred (fred.Leaves FredToTask)) k e w c mem b ctx z l at h =
+  in_code fred layout o s k e w c mem b g words ctx l at h i = by_fill (fills s) refl
+    where
+      by_fill : (t : Bool) → fills s ≡ t → is_in_repeat c.rip ≡ false
+      by_fill true on = in_item_outside (body_block fred layout s) k e c mem at l (fill_inside fred layout s (spot_fills mode image o s e w b g words h on).0)
+          (spot_range o s e w b g words ctx h i)
+      by_fill false off = in_item_outside (body_block fred layout s) k e c mem at l
+          (body_inside fred layout s (body_spot_is mode image o s e w b g words h off) i) (spot_range o s e w b g words ctx h i)
+
+  -- in a body
+  body_outside : (fred : Bool) (layout : Layout) (o : Origin) (s : BodySpot) (k : ℕ) (e : Env) (w c : Processor) (mem : Memory) (b : BodyContext)
+      (g : Option Filling) (words : NatMap ℕ) → IsContext mode image b → e.base 1000 ≡ 0 → k ≤ (body_block fred layout s).steps
+      → At (code_table mode image) (body_block fred layout s) k e c mem → InSpot mode image o s e w b g words
+      → every is_elsewhere (body_block fred layout AtTable) ≡ true → every is_elsewhere (body_block fred layout AtJump) ≡ true
+      → is_in_repeat c.rip ≡ false
+  body_outside fred layout o AtTable k e w c mem b g words ctx z l at h t j = at_elsewhere (body_block fred layout AtTable) k e c mem at z l t
+  body_outside fred layout o AtJump k e w c mem b g words ctx z l at h t j = at_elsewhere (body_block fred layout AtJump) k e c mem at z l j
+  body_outside fred layout o (AtKick to) k e w c mem b g words ctx z l at h t j = absurd h
+  body_outside fred layout o BehindKick k e w c mem b g words ctx z l at h t j = absurd h
+  body_outside fred layout o AtItem k e w c mem b g words ctx z l at h t j = in_code fred layout o AtItem k e w c mem b g words ctx l at h refl
+  body_outside fred layout o (AtNumber n) k e w c mem b g words ctx z l at h t j = in_code fred layout o (AtNumber n) k e w c mem b g words ctx l at h refl
+  body_outside fred layout o (AtNumbers rcx rax rdx) k e w c mem b g words ctx z l at h t j =
+      in_code fred layout o (AtNumbers rcx rax rdx) k e w c mem b g words ctx l at h refl
+  body_outside fred layout o AtUserWord k e w c mem b g words ctx z l at h t j = in_code fred layout o AtUserWord k e w c mem b g words ctx l at h refl
+  body_outside fred layout o (AtPageWord is_page) k e w c mem b g words ctx z l at h t j =
+      in_code fred layout o (AtPageWord is_page) k e w c mem b g words ctx l at h refl
+  body_outside fred layout o BehindSti k e w c mem b g words ctx z l at h t j = in_code fred layout o BehindSti k e w c mem b g words ctx l at h refl
+  body_outside fred layout o (InCall s) k e w c mem b g words ctx z l at h t j = in_code fred layout o (InCall s) k e w c mem b g words ctx l at h refl
+
+  over_task_outside : (m : Mode) (spot : Spot) (k : ℕ) (e : Env) (w c : Processor) (mem : Memory) (b : BodyContext) (g : Option Filling) (words : NatMap ℕ)
+      → IsContext mode image b → e.base 1000 ≡ 0 → k ≤ (block m spot).steps → At (code_table mode image) (block m spot) k e c mem
+      → OverTask mode image m spot e w b g words → is_in_repeat c.rip ≡ false
+  over_task_outside Fred (InFred (FromUser way)) k e w c mem b g words ctx z l at h =
+      at_elsewhere (fred_block (FromUser way)) k e c mem at z l (entry_elsewhere way)
+  over_task_outside Fred (InFred (fred.Leaves FredToTask)) k e w c mem b g words ctx z l at h =
       at_elsewhere (fred_block (fred.Leaves FredToTask)) k e c mem at z l fred_exit_elsewhere
-  over_task_outside Fred (InFred (fred.Leaves FredToNext)) k e w c mem b ctx z l at h =
+  over_task_outside Fred (InFred (fred.Leaves FredToNext)) k e w c mem b g words ctx z l at h =
       at_elsewhere (fred_block (fred.Leaves FredToNext)) k e c mem at z l fred_switch_elsewhere
-  over_task_outside Fred (InBody FredFrame AtTable) k e w c mem b ctx z l at h = at_elsewhere (body_block true FredFrame AtTable) k e c mem at z l refl
-  over_task_outside Fred (InBody FredFrame AtJump) k e w c mem b ctx z l at h = at_elsewhere (body_block true FredFrame AtJump) k e c mem at z l refl
-  over_task_outside Fred (InBody FredFrame AtItem) k e w c mem b ctx z l at h =
-      at_item_outside (body_block true FredFrame AtItem) k e c mem b ctx at l refl h.1
-  over_task_outside Fred (InBody FredFrame (AtNumber n)) k e w c mem b ctx z l at h =
-      in_item_outside (body_block true FredFrame (AtNumber n)) k e c mem b ctx at l (number_inside true FredFrame n) h.1
-  over_task_outside Fred (InBody FredFrame (AtNumbers rcx rax rdx)) k e w c mem b ctx z l at h =
-      in_item_outside (body_block true FredFrame (AtNumbers rcx rax rdx)) k e c mem b ctx at l (numbers_inside true FredFrame rcx rax rdx) h.1
-  over_task_outside Fred (InBody FredFrame AtUserWord) k e w c mem b ctx z l at h =
-      in_item_outside (body_block true FredFrame AtUserWord) k e c mem b ctx at l (address_inside true FredFrame) h.1
-  over_task_outside Fred (InBody FredFrame (AtPageWord is_page)) k e w c mem b ctx z l at h =
-      in_item_outside (body_block true FredFrame (AtPageWord is_page)) k e c mem b ctx at l (page_inside true FredFrame is_page) h.1
-  over_task_outside Fred (InBody FredFrame BehindSti) k e w c mem b ctx z l at h =
-      behind_sti_outside (body_block true FredFrame BehindSti) k e c mem b ctx at l (sti_inside true FredFrame) h.1
-  over_task_outside Idt (InIdt Sys) k e w c mem b ctx z l at h = at_elsewhere (idt_block Sys) k e c mem at z l sys_elsewhere
-  over_task_outside Idt (InIdt (Stub UserCode has v)) k e w c mem b ctx z l at h = at_stub_outside UserCode has v k e c mem at h.0.0 h.0.2 l
-  over_task_outside Idt (InIdt (Common UserCode pf)) k e w c mem b ctx z l at h =
+  over_task_outside Fred (InBody FredFrame s) k e w c mem b g words ctx z l at h =
+      body_outside true FredFrame UserCode s k e w c mem b g words ctx z l at h refl refl
+  over_task_outside Idt (InIdt Sys) k e w c mem b g words ctx z l at h = at_elsewhere (idt_block Sys) k e c mem at z l sys_elsewhere
+  over_task_outside Idt (InIdt (Stub UserCode has v)) k e w c mem b g words ctx z l at h = at_stub_outside UserCode has v k e c mem at h.0.0 h.0.2 l
+  over_task_outside Idt (InIdt (Common UserCode pf)) k e w c mem b g words ctx z l at h =
       at_elsewhere (idt_block (Common UserCode pf)) k e c mem at z l (common_elsewhere UserCode pf)
-  over_task_outside Idt (InIdt (idt.Leaves (IdtToTask by))) k e w c mem b ctx z l at h =
+  over_task_outside Idt (InIdt (idt.Leaves (IdtToTask by))) k e w c mem b g words ctx z l at h =
       at_elsewhere (idt_block (idt.Leaves (IdtToTask by))) k e c mem at z l (idt_exit_elsewhere by)
-  over_task_outside Idt (InIdt (idt.Leaves (IdtToNext by))) k e w c mem b ctx z l at h =
+  over_task_outside Idt (InIdt (idt.Leaves (IdtToNext by))) k e w c mem b g words ctx z l at h =
       at_elsewhere (idt_block (idt.Leaves (IdtToNext by))) k e c mem at z l (idt_switch_elsewhere by)
-  over_task_outside Idt (InBody IdtFrame AtTable) k e w c mem b ctx z l at h = at_elsewhere (body_block false IdtFrame AtTable) k e c mem at z l refl
-  over_task_outside Idt (InBody IdtFrame AtJump) k e w c mem b ctx z l at h = at_elsewhere (body_block false IdtFrame AtJump) k e c mem at z l refl
-  over_task_outside Idt (InBody IdtFrame AtItem) k e w c mem b ctx z l at h =
-      at_item_outside (body_block false IdtFrame AtItem) k e c mem b ctx at l refl h.1
-  over_task_outside Idt (InBody IdtFrame (AtNumber n)) k e w c mem b ctx z l at h =
-      in_item_outside (body_block false IdtFrame (AtNumber n)) k e c mem b ctx at l (number_inside false IdtFrame n) h.1
-  over_task_outside Idt (InBody IdtFrame (AtNumbers rcx rax rdx)) k e w c mem b ctx z l at h =
-      in_item_outside (body_block false IdtFrame (AtNumbers rcx rax rdx)) k e c mem b ctx at l (numbers_inside false IdtFrame rcx rax rdx) h.1
-  over_task_outside Idt (InBody IdtFrame AtUserWord) k e w c mem b ctx z l at h =
-      in_item_outside (body_block false IdtFrame AtUserWord) k e c mem b ctx at l (address_inside false IdtFrame) h.1
-  over_task_outside Idt (InBody IdtFrame (AtPageWord is_page)) k e w c mem b ctx z l at h =
-      in_item_outside (body_block false IdtFrame (AtPageWord is_page)) k e c mem b ctx at l (page_inside false IdtFrame is_page) h.1
-  over_task_outside Idt (InBody IdtFrame BehindSti) k e w c mem b ctx z l at h =
-      behind_sti_outside (body_block false IdtFrame BehindSti) k e c mem b ctx at l (sti_inside false IdtFrame) h.1
-  over_task_outside m _ k e w c mem b ctx z l at h = absurd h
+  over_task_outside Idt (InBody IdtFrame s) k e w c mem b g words ctx z l at h =
+      body_outside false IdtFrame UserCode s k e w c mem b g words ctx z l at h refl refl
+  over_task_outside m _ k e w c mem b g words ctx z l at h = absurd h
 
-  over_body_outside : (m : Mode) (spot : Spot) (k : ℕ) (e : Env) (w c : Processor) (mem : Memory) (b : BodyContext) → IsContext mode image b
-      → e.base 1000 ≡ 0 → k ≤ (block m spot).steps → At (code_table mode image) (block m spot) k e c mem → OverBody mode image m spot e w b
-      → is_in_repeat c.rip ≡ false
-  over_body_outside Fred (InFred FromKernel) k e w c mem b ctx z l at h = at_elsewhere (fred_block FromKernel) k e c mem at z l kernel_entry_elsewhere
-  over_body_outside Fred (InFred (fred.Leaves FredToKernel)) k e w c mem b ctx z l at h =
+  over_body_outside : (m : Mode) (spot : Spot) (k : ℕ) (e : Env) (w c : Processor) (mem : Memory) (b : BodyContext) (g : Option Filling) (words : NatMap ℕ)
+      → IsContext mode image b → e.base 1000 ≡ 0 → k ≤ (block m spot).steps → At (code_table mode image) (block m spot) k e c mem
+      → OverBody mode image m spot e w b g words → is_in_repeat c.rip ≡ false
+  over_body_outside Fred (InFred FromKernel) k e w c mem b g words ctx z l at h =
+      at_elsewhere (fred_block FromKernel) k e c mem at z l kernel_entry_elsewhere
+  over_body_outside Fred (InFred (fred.Leaves FredToKernel)) k e w c mem b g words ctx z l at h =
       at_elsewhere (fred_block (fred.Leaves FredToKernel)) k e c mem at z l kernel_exit_elsewhere
-  over_body_outside Fred (InBody FredFrame AtTable) k e w c mem b ctx z l at h = at_elsewhere (body_block true FredFrame AtTable) k e c mem at z l refl
-  over_body_outside Fred (InBody FredFrame AtJump) k e w c mem b ctx z l at h = at_elsewhere (body_block true FredFrame AtJump) k e c mem at z l refl
-  over_body_outside Fred (InBody FredFrame AtItem) k e w c mem b ctx z l at h =
-      at_item_outside (body_block true FredFrame AtItem) k e c mem b ctx at l refl h.1
-  over_body_outside Fred (InBody FredFrame (AtNumber n)) k e w c mem b ctx z l at h =
-      in_item_outside (body_block true FredFrame (AtNumber n)) k e c mem b ctx at l (number_inside true FredFrame n) h.1
-  over_body_outside Fred (InBody FredFrame (AtNumbers rcx rax rdx)) k e w c mem b ctx z l at h =
-      in_item_outside (body_block true FredFrame (AtNumbers rcx rax rdx)) k e c mem b ctx at l (numbers_inside true FredFrame rcx rax rdx) h.1
-  over_body_outside Fred (InBody FredFrame AtUserWord) k e w c mem b ctx z l at h =
-      in_item_outside (body_block true FredFrame AtUserWord) k e c mem b ctx at l (address_inside true FredFrame) h.1
-  over_body_outside Fred (InBody FredFrame (AtPageWord is_page)) k e w c mem b ctx z l at h =
-      in_item_outside (body_block true FredFrame (AtPageWord is_page)) k e c mem b ctx at l (page_inside true FredFrame is_page) h.1
-  over_body_outside Fred (InBody FredFrame BehindSti) k e w c mem b ctx z l at h =
-      behind_sti_outside (body_block true FredFrame BehindSti) k e c mem b ctx at l (sti_inside true FredFrame) h.1
-  over_body_outside Idt (InIdt (Stub KernelCode has v)) k e w c mem b ctx z l at h = at_stub_outside KernelCode has v k e c mem at h.0.0 h.0.2 l
-  over_body_outside Idt (InIdt (Common KernelCode pf)) k e w c mem b ctx z l at h =
+  over_body_outside Fred (InBody FredFrame s) k e w c mem b g words ctx z l at h =
+      body_outside true FredFrame KernelCode s k e w c mem b g words ctx z l at h refl refl
+  over_body_outside Idt (InIdt (Stub KernelCode has v)) k e w c mem b g words ctx z l at h = at_stub_outside KernelCode has v k e c mem at h.0.0 h.0.2 l
+  over_body_outside Idt (InIdt (Common KernelCode pf)) k e w c mem b g words ctx z l at h =
       at_elsewhere (idt_block (Common KernelCode pf)) k e c mem at z l (common_elsewhere KernelCode pf)
-  over_body_outside Idt (InIdt (idt.Leaves IdtToKernel)) k e w c mem b ctx z l at h =
+  over_body_outside Idt (InIdt (idt.Leaves IdtToKernel)) k e w c mem b g words ctx z l at h =
       at_elsewhere (idt_block (idt.Leaves IdtToKernel)) k e c mem at z l idt_kernel_exit_elsewhere
-  over_body_outside Idt (InBody IdtFrame AtTable) k e w c mem b ctx z l at h = at_elsewhere (body_block false IdtFrame AtTable) k e c mem at z l refl
-  over_body_outside Idt (InBody IdtFrame AtJump) k e w c mem b ctx z l at h = at_elsewhere (body_block false IdtFrame AtJump) k e c mem at z l refl
-  over_body_outside Idt (InBody IdtFrame AtItem) k e w c mem b ctx z l at h =
-      at_item_outside (body_block false IdtFrame AtItem) k e c mem b ctx at l refl h.1
-  over_body_outside Idt (InBody IdtFrame (AtNumber n)) k e w c mem b ctx z l at h =
-      in_item_outside (body_block false IdtFrame (AtNumber n)) k e c mem b ctx at l (number_inside false IdtFrame n) h.1
-  over_body_outside Idt (InBody IdtFrame (AtNumbers rcx rax rdx)) k e w c mem b ctx z l at h =
-      in_item_outside (body_block false IdtFrame (AtNumbers rcx rax rdx)) k e c mem b ctx at l (numbers_inside false IdtFrame rcx rax rdx) h.1
-  over_body_outside Idt (InBody IdtFrame AtUserWord) k e w c mem b ctx z l at h =
-      in_item_outside (body_block false IdtFrame AtUserWord) k e c mem b ctx at l (address_inside false IdtFrame) h.1
-  over_body_outside Idt (InBody IdtFrame (AtPageWord is_page)) k e w c mem b ctx z l at h =
-      in_item_outside (body_block false IdtFrame (AtPageWord is_page)) k e c mem b ctx at l (page_inside false IdtFrame is_page) h.1
-  over_body_outside Idt (InBody IdtFrame BehindSti) k e w c mem b ctx z l at h =
-      behind_sti_outside (body_block false IdtFrame BehindSti) k e c mem b ctx at l (sti_inside false IdtFrame) h.1
-  over_body_outside m _ k e w c mem b ctx z l at h = absurd h
+  over_body_outside Idt (InBody IdtFrame s) k e w c mem b g words ctx z l at h =
+      body_outside false IdtFrame KernelCode s k e w c mem b g words ctx z l at h refl refl
+  over_body_outside m _ k e w c mem b g words ctx z l at h = absurd h
 
-  pub active_outside : (p left : ℕ) (κ : Kind) (σ : Seat) (f : Frame) (sw : Bool) (w : Processor) (b : BodyContext) (c : Processor) (m : Memory)
-      → IsContext mode image b → Active mode image p left κ σ f sw w b c m → is_in_repeat c.rip ≡ false
-  active_outside p left SystemCall σ f sw w b c m ctx a = over_task_outside mode a.stands.spot a.stands.k _ w c m b ctx refl a.stands.within a.stands.at
+  pub active_outside : (p left : ℕ) (κ : Kind) (σ : Seat) (f : Frame) (sw : Bool) (g : Option Filling) (w : Processor) (b : BodyContext) (c : Processor) (m : Memory)
+      → IsContext mode image b → Active mode image p left κ σ f sw g w b c m → is_in_repeat c.rip ≡ false
+  active_outside p left SystemCall σ f sw g w b c m ctx a = over_task_outside mode a.stands.spot a.stands.k _ w c m b g m.words ctx refl a.stands.within a.stands.at
       a.means
-  active_outside p left FromTask σ f sw w b c m ctx a = over_task_outside mode a.stands.spot a.stands.k _ w c m b ctx refl a.stands.within a.stands.at
+  active_outside p left FromTask σ f sw g w b c m ctx a = over_task_outside mode a.stands.spot a.stands.k _ w c m b g m.words ctx refl a.stands.within a.stands.at
       a.means
-  active_outside p left FromBody σ f sw w b c m ctx a = over_body_outside mode a.stands.spot a.stands.k _ w c m b ctx refl a.stands.within a.stands.at
+  active_outside p left FromBody σ f sw g w b c m ctx a = over_body_outside mode a.stands.spot a.stands.k _ w c m b g m.words ctx refl a.stands.within a.stands.at
       a.means
-  active_outside p left NmiFromTask σ f sw w b c m ctx a = absurd a.means
-  active_outside p left NmiFromBody σ f sw w b c m ctx a = absurd a.means
+  active_outside p left NmiFromTask σ f sw g w b c m ctx a = absurd a.means
+  active_outside p left NmiFromBody σ f sw g w b c m ctx a = absurd a.means
 
   -- as many bodies as contexts
-  counted : (p left r to : ℕ) (t : Task) (f : Frame) (sw : Bool) (bs : List BodyContext) (as' : List Activation) (c : Processor) (m : Memory)
-      → Chain mode image p left r to t f sw bs as' c m → length (filter has_body (interrupted c as')) ≡ length bs
-  counted p left r to t f sw [] as' c m h = ap (λ xs. length (filter has_body (interrupted c xs))) h.2
-  counted p left r to t f sw (b ∷ below) [] c m h = absurd h
-  counted p left r to t f sw (b ∷ below) (a ∷ as') c m h =
-      let outside : is_in_repeat c.rip ≡ false = active_outside p left _ _ f _ h.0 b c m h.1 h.6 in
+  counted : (p left r to : ℕ) (t : Task) (f : Frame) (sw : Bool) (fs : List (Option Filling)) (bs : List BodyContext) (as' : List Activation) (c : Processor) (m : Memory)
+      → Chain mode image p left r to t f sw fs bs as' c m → length (filter has_body (interrupted c as')) ≡ length bs
+  counted p left r to t f sw fs [] as' c m h = ap (λ xs. length (filter has_body (interrupted c xs))) h.2
+  counted p left r to t f sw fs (b ∷ below) [] c m h = absurd h
+  counted p left r to t f sw fs (b ∷ below) (a ∷ as') c m h =
+      let outside : is_in_repeat c.rip ≡ false = active_outside p left _ _ f _ (first_fill fs) h.0 b c m h.1 h.6 in
       let seen : (not a.inner && not (is_in_repeat c.rip)) ≡ true = ap (λ i. not i && not (is_in_repeat c.rip)) h.2 ∙ ap not outside in
       let top : Activation = record a { rsp = rsp c; rip = c.rip } in
-      let under : Chain mode image p (body_edges mode image) r to t f (chained mode image sw below) below as' h.0 m
-      = over_any mode image (λ v. Chain mode image p (body_edges mode image) r to t f (chained mode image sw below) below as' v m) _ h.0 h.4 in
+      let under : Chain mode image p (body_edges mode image) r to t f (chained mode image sw below) (rest_fills fs) below as' h.0 m
+      = over_any mode image (λ v. Chain mode image p (body_edges mode image) r to t f (chained mode image sw below) (rest_fills fs) below as' v m) _ h.0 h.4 in
       ap (λ x. length (if x then top ∷ filter has_body as' else filter has_body as')) seen
       ∙ ap suc (below_same below h.0 as' h.3 under
-      ∙ counted p (body_edges mode image) r to t f (chained mode image sw below) below as' h.0 m under)
+      ∙ counted p (body_edges mode image) r to t f (chained mode image sw below) (rest_fills fs) below as' h.0 m under)
     where
       -- what was interrupted stands where the processor below it does
       below_same : (ds : List BodyContext) (w : Processor) (as' : List Activation) → Interrupted mode image ds w as'
-          → Chain mode image p (body_edges mode image) r to t f (chained mode image sw ds) ds as' w m
+          → Chain mode image p (body_edges mode image) r to t f (chained mode image sw ds) (rest_fills fs) ds as' w m
           → length (filter has_body as') ≡ length (filter has_body (interrupted w as'))
       below_same [] w as' i k = ap (λ xs. length (filter has_body xs)) k.2 ∙ sym (ap (λ xs. length (filter has_body (interrupted w xs))) k.2)
       below_same (d ∷ ds) w [] i k = absurd i
@@ -268,8 +273,8 @@ module _ (mode : Mode) (image : Image) (facts : Facts mode image) where
           either false = refl
 
   pub stands_depth : (p left : ℕ) (s : System) (x : abstract.Processor) → StandsOn mode image p left s x → bodies_on s p ≡ length x.bodies
-  stands_depth p left s x o = counted p o.own x.running o.returning (x.tasks o.returning) o.frame o.switching x.bodies (s.activations p) (s.cpus p) s.memory
-      (as_chain mode image o.layer p o.own o.more x.running o.returning (x.tasks o.returning) o.frame o.switching x.bodies (s.activations p)
+  stands_depth p left s x o = counted p o.own x.running o.returning (x.tasks o.returning) o.frame o.switching o.fills x.bodies (s.activations p) (s.cpus p) s.memory
+      (as_chain mode image o.layer p o.own o.more x.running o.returning (x.tasks o.returning) o.frame o.switching o.fills x.bodies (s.activations p)
       (s.cpus p) s.memory o.runs)
 
 -- ---- as steps tell it

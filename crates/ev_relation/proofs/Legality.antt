@@ -1,6 +1,6 @@
 -- The abstract machine stays legal, and tasks keep their GS bases: its turns are lines of scripts. And no more bodies stand than an image may nest.
 use Rattle.std.proofs.Common.{◌≡◌, ℕ, suc, ◌<◌, ◌≤◌, true, false, List, [], ◌∷◌, length, Some, None, refl, sym, ap, ◌∙◌, subst, arith}
-use Rattle.std.specs.Prelude.{slice_get, if◌then◌else◌}
+use Rattle.std.specs.Prelude.{slice_get, if◌then◌else◌, ◌++◌}
 use Rattle.std.proofs.lemmas.Bool.{lt-ltb, or_parts}
 use Rattle.ev_body.specs.declared.image.Image.{Image}
 use Rattle.ev_body.specs.WellFormed.{IsImage}
@@ -24,6 +24,8 @@ use Rattle.ev_law.proofs.Runs.{are_chain, short}
 use Rattle.ev_law.specs.Bases.{HasBases}
 use Rattle.ev_law.proofs.Lines.{lines_keep_legal}
 use Rattle.ev_law.proofs.Bases.{lines_keep_bases}
+use Rattle.ev_call_law.specs.Calls.{KeepsCallRecords}
+use Rattle.ev_call_law.proofs.Runs.{lines_keep_calls}
 
 -- behind a turn, whose outcome is told
 pub turn_legal : (image : Image) → IsImage image → IsAccepted image → (m : Machine) (p : ℕ) → p < image.processors → Legal image m
@@ -31,6 +33,13 @@ pub turn_legal : (image : Image) → IsImage image → IsAccepted image → (m :
 unfolding line_step is_line
 turn_legal image given accepted m p lt h z is =
     subst (λ (y : Machine × List Entry). Legal image y.0) is (lines_keep_legal image m (Turn p) given accepted (lt-ltb p image.processors lt) h)
+
+-- and its calls are where its entries say
+pub turn_calls : (image : Image) → IsImage image → IsAccepted image → (m : Machine) (p : ℕ) → p < image.processors → Legal image m → (told : List Entry)
+    → KeepsCallRecords image m told → (z : Machine × List Entry) → turn image m p ≡ z → KeepsCallRecords image z.0 (told ++ z.1)
+unfolding line_step is_line
+turn_calls image given accepted m p lt legal told h z is = subst (λ (y : Machine × List Entry). KeepsCallRecords image y.0 (told ++ y.1)) is
+    (lines_keep_calls image m told (Turn p) given accepted (lt-ltb p image.processors lt) legal h)
 
 -- and its tasks have the GS bases of the image
 pub turn_bases : (image : Image) (m : Machine) (p : ℕ) → HasBases image m → (z : Machine × List Entry) → turn image m p ≡ z → HasBases image z.0

@@ -9,6 +9,8 @@ pub mod Spots
 pub mod Fits
 pub mod Switch
 pub mod Words
+pub mod Records
+pub mod Fills
 pub mod CallKinds
 pub mod Domains
 pub mod Chains

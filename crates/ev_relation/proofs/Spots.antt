@@ -1,7 +1,7 @@
 -- The spots at which activations stand that are no NMI's: their windows, where their blocks end, and that none lies in REPEAT.
-use Rattle.std.proofs.Common.{◌≡◌, ℕ, ◌+◌, ◌%◌, ◌<◌, ◌≤◌, arith, Bool, true, false, not, ◌&&◌, List, [], ◌∷◌, Some, refl, ap, ◌∙◌}
-use Rattle.std.proofs.lemmas.Bool.{eqb-true, ltb-true}
-use Rattle.std.specs.Prelude.{◌==◌, nat_lt, nat_le, if◌then◌else◌}
+use Rattle.std.proofs.Common.{◌≡◌, ℕ, ◌+◌, ◌%◌, ◌<◌, ◌≤◌, arith, Bool, true, false, not, ◌&&◌, List, [], ◌∷◌, Option, Some, refl, ap, ◌∙◌}
+use Rattle.std.proofs.lemmas.Bool.{eqb-true, ltb-true, leb-true, le-leb, lt-ltb}
+use Rattle.std.specs.Prelude.{◌==◌, nat_lt, nat_le, if◌then◌else◌, ◌-◌, zero, suc}
 use Rattle.ev_isa.specs.Spelling.{spelling, four_bytes}
 use Rattle.ev_isa.specs.Word.{NatMap}
 use Rattle.ev_isa.specs.declared.mode.Mode.{Mode}
@@ -22,25 +22,83 @@ use Rattle.ev_symbolic.specs.Agrees.{Env, Code, addr, Stands, At}
 use Rattle.ev_symbolic.proofs.Blocks.{every_ok}
 use Rattle.ev_symbolic.proofs.Values.{and_left, and_right}
 use Rattle.ev_distances.specs.Form.{Form, OnStack, Stretch, InArea}
-use Rattle.ev_blocks.specs.Shapes.{Layout, Origin, UserCode, KernelCode, FredFrame, IdtFrame}
+use Rattle.ev_blocks.specs.Shapes.{Layout, Origin, UserCode, KernelCode, FredFrame, IdtFrame, NmiFrame, Forms}
 use Rattle.ev_blocks.specs.Fred.{FredWay, ByCall, ByInt3, ByIntN, ByOther, FromUser, FromKernel, FredToKernel, FredToTask, FredToNext, fred_block, fred_lines}
 use Rattle.ev_blocks.specs.Fred as fred
 use Rattle.ev_blocks.specs.Idt.{IdtReturn, BySysret, ByOtherRip, ByOtherFlags, Stub, Sys, Common, IdtToKernel, IdtToTask, IdtToNext, idt_block, idt_places, sys_lines, common_lines, exit_lines}
 use Rattle.ev_blocks.specs.Idt as idt
-use Rattle.ev_blocks.specs.Items.{AtTable, AtJump, AtItem, AtNumber, AtNumbers, AtUserWord, AtPageWord, BehindSti, body_block}
-use Rattle.ev_blocks.specs.Blocks.{Spot, InFred, InIdt, InBody, block, forms, edges}
+use Rattle.ev_blocks.specs.Calls.{CallSpot, AtRecord, BehindWait, BehindBusy, AtFill, AtHead, AtLink, BehindFailure, BehindCall, AtTake, BehindTake, AtTurn, BehindTurn, AtTaken, AtFinish, BehindNext, AtOffset, record_forms, block_of_call}
+use Rattle.ev_blocks.specs.Calls as calls
+use Rattle.ev_blocks.specs.Items.{BodySpot, AtTable, AtJump, AtItem, AtNumber, AtNumbers, AtKick, AtUserWord, AtPageWord, BehindSti, BehindKick, InCall, fills, forms_of, body_spot_forms, body_block}
+use Rattle.ev_blocks.specs.Blocks.{Spot, InFred, InIdt, InBody, block, forms, edges, behind_body}
 use Rattle.ev_blocks.specs.Blocks as blocks
 use Rattle.ev_paths.specs.Lines.{HasKernel, IsAtStub}
 use Rattle.ev_paths.proofs.Lines.{fred_stand, idt_stand}
 use Rattle.ev_paths.proofs.BodyEnds.{body_ends}
+use Rattle.ev_paths.proofs.CallEnds.{call_ends}
+use Rattle.ev_paths.proofs.Locals.{from_zero}
 use Rattle.ev_paths.proofs.FredEnds.{fred_enters, fred_returns}
 use Rattle.ev_paths.proofs.IdtEnds.{idt_enters, idt_returns}
 use Rattle.ev_concrete.specs.LiveWords.{area_bytes}
 use Rattle.ev_relation.specs.Named.{Named, UserRsp}
 use Rattle.ev_relation.specs.Relation.{body_edges}
 use Rattle.ev_activation.specs.Seat.{plain_room, Kind, SystemCall, FromTask, FromBody, NmiFromTask, NmiFromBody}
-use Rattle.ev_relation.specs.Active.{OverTask, OverBody, Means}
+use Rattle.ev_relation.specs.Filling.{Filling}
+use Rattle.ev_relation.specs.Active.{IsByHand, BehindExchange, BehindOldLink, AtFunction, BehindArgument, BehindCaller, BehindAddress, BehindFinish, InSpot, fills_record, OverTask, OverBody, Means}
 use Rattle.ev_relation.proofs.ModeFacts.{is_fred}
+
+-- ---- spots of bodies
+
+-- whether a body of the mode stands in this layout, but for those of NMIs
+abbrev pub is_layout : Mode → Layout → Bool
+is_layout Fred FredFrame = true
+is_layout Idt IdtFrame = true
+is_layout mode layout = false
+
+-- that layout
+abbrev pub layout_of : Mode → Layout
+layout_of Fred = FredFrame
+layout_of Idt = IdtFrame
+
+-- a spot of a body in it
+abbrev pub body : Mode → BodySpot → Spot
+body mode s = InBody (layout_of mode) s
+
+-- the spots of bodies where activations stand that fill no call record
+abbrev pub is_body_spot : BodySpot → Bool
+is_body_spot (AtKick to) = false
+is_body_spot BehindKick = false
+is_body_spot (InCall (BehindCall s is_first)) = nat_le 6 s && nat_lt s 14
+is_body_spot (InCall (AtOffset offset edges)) = nat_lt offset 0x100
+is_body_spot (InCall s) = not (calls.fills_record s)
+is_body_spot s = true
+
+-- those that are in the code of an item, and no more
+abbrev pub is_in_code : BodySpot → Bool
+is_in_code AtTable = false
+is_in_code AtJump = false
+is_in_code s = true
+
+pub fills_none : (s : BodySpot) → is_body_spot s ≡ true → fills s ≡ false
+fills_none (AtKick to) h = refl
+fills_none BehindKick h = refl
+fills_none (InCall (AtFill address func to s)) h = let clash : false ≡ true = h in absurd (cc)
+fills_none (InCall (AtHead address func to)) h = let clash : false ≡ true = h in absurd (cc)
+fills_none (InCall (AtLink address func to is_stale)) h = let clash : false ≡ true = h in absurd (cc)
+fills_none (InCall (BehindFailure address func to)) h = let clash : false ≡ true = h in absurd (cc)
+fills_none (InCall s) h = refl
+fills_none AtTable h = refl
+fills_none AtJump h = refl
+fills_none AtItem h = refl
+fills_none (AtNumber n) h = refl
+fills_none (AtNumbers rcx rax rdx) h = refl
+fills_none AtUserWord h = refl
+fills_none (AtPageWord is_page) h = refl
+fills_none BehindSti h = refl
+
+-- their windows are those of a body
+pub body_forms_are : (layout : Layout) (s : BodySpot) → is_body_spot s ≡ true → body_spot_forms layout s ≡ forms_of layout
+body_forms_are layout s h = ap (λ t. if t then record_forms layout else forms_of layout) (fills_none s h)
 
 -- ---- which they are
 
@@ -49,14 +107,7 @@ is_spot Fred (InFred (FromUser way)) = true
 is_spot Fred (InFred (fred.Leaves FredToTask)) = true
 is_spot Fred (InFred FromKernel) = true
 is_spot Fred (InFred (fred.Leaves FredToKernel)) = true
-is_spot Fred (InBody FredFrame AtTable) = true
-is_spot Fred (InBody FredFrame AtJump) = true
-is_spot Fred (InBody FredFrame AtItem) = true
-is_spot Fred (InBody FredFrame (AtNumber n)) = true
-is_spot Fred (InBody FredFrame (AtNumbers rcx rax rdx)) = true
-is_spot Fred (InBody FredFrame AtUserWord) = true
-is_spot Fred (InBody FredFrame (AtPageWord is_page)) = true
-is_spot Fred (InBody FredFrame BehindSti) = true
+is_spot Fred (InBody FredFrame s) = is_body_spot s
 is_spot Idt (InIdt Sys) = true
 is_spot Idt (InIdt (Stub UserCode has v)) = true
 is_spot Idt (InIdt (Common UserCode pf)) = true
@@ -64,14 +115,7 @@ is_spot Idt (InIdt (idt.Leaves (IdtToTask by))) = true
 is_spot Idt (InIdt (Stub KernelCode has v)) = true
 is_spot Idt (InIdt (Common KernelCode pf)) = true
 is_spot Idt (InIdt (idt.Leaves IdtToKernel)) = true
-is_spot Idt (InBody IdtFrame AtTable) = true
-is_spot Idt (InBody IdtFrame AtJump) = true
-is_spot Idt (InBody IdtFrame AtItem) = true
-is_spot Idt (InBody IdtFrame (AtNumber n)) = true
-is_spot Idt (InBody IdtFrame (AtNumbers rcx rax rdx)) = true
-is_spot Idt (InBody IdtFrame AtUserWord) = true
-is_spot Idt (InBody IdtFrame (AtPageWord is_page)) = true
-is_spot Idt (InBody IdtFrame BehindSti) = true
+is_spot Idt (InBody IdtFrame s) = is_body_spot s
 is_spot mode spot = false
 
 -- SYSCALL's entry alone writes the word for RSP
@@ -79,72 +123,85 @@ abbrev pub keeps_rsp : Spot → Bool
 keeps_rsp (InIdt Sys) = true
 keeps_rsp spot = false
 
+-- what an activation means says where it is: in a body at a spot of bodies, unless it fills a record
+pub body_spot_is : (mode : Mode) (image : Image) (o : Origin) (s : BodySpot) (e : Env) (w : Processor) (b : BodyContext) (f : Option Filling) (m : NatMap ℕ)
+    → InSpot mode image o s e w b f m → fills s ≡ false → is_body_spot s ≡ true
+body_spot_is mode image o (AtKick to) e w b f m h off = absurd h
+body_spot_is mode image o BehindKick e w b f m h off = absurd h
+body_spot_is mode image o (InCall (BehindCall s is_first)) e w b f m h off =
+    ap (λ t. t && nat_lt s 14) (le-leb 6 s h.0.is_local.0) ∙ lt-ltb s 14 h.0.is_local.1
+body_spot_is mode image o (InCall (AtFill address func to s)) e w b f m h off = let clash : true ≡ false = off in absurd (cc)
+body_spot_is mode image o (InCall (AtHead address func to)) e w b f m h off = let clash : true ≡ false = off in absurd (cc)
+body_spot_is mode image o (InCall (AtLink address func to is_stale)) e w b f m h off = let clash : true ≡ false = off in absurd (cc)
+body_spot_is mode image o (InCall (BehindFailure address func to)) e w b f m h off = let clash : true ≡ false = off in absurd (cc)
+body_spot_is mode image o (InCall (AtOffset offset edges)) e w b f m h off = by_offset h
+  where
+    near : (n : ℕ) → n < 0x100 → offset ≡ n → nat_lt offset 0x100 ≡ true
+    near n l q = ap (λ k. nat_lt k 0x100) q ∙ lt-ltb n 0x100 l
+
+    by_offset : IsByHand mode image o e w b m offset edges → nat_lt offset 0x100 ≡ true
+    by_offset (BehindExchange q x s is_first y z t) = near _ (omega arith) q
+    by_offset (BehindOldLink n q x y z t u) = near _ (omega arith) q
+    by_offset (AtFunction q x y z t) = near _ (omega arith) q
+    by_offset (BehindArgument q x y z t) = near _ (omega arith) q
+    by_offset (BehindCaller q x y z t) = near _ (omega arith) q
+    by_offset (BehindAddress q x y z t u) = near _ (omega arith) q
+    by_offset (BehindFinish q x y z t) = near _ (omega arith) q
+body_spot_is mode image o _ e w b f m h off = refl
+
 -- where the exit switches to no other task
-over_task : (mode : Mode) (image : Image) (m : Mode) (spot : Spot) (e : Env) (w : Processor) (b : BodyContext) → OverTask mode image m spot e w b
-    → blocks.switches spot ≡ false → is_spot m spot ≡ true
-over_task mode image Fred (InFred (FromUser way)) e w b h off = refl
-over_task mode image Fred (InFred (fred.Leaves FredToTask)) e w b h off = refl
-over_task mode image Fred (InBody FredFrame AtTable) e w b h off = refl
-over_task mode image Fred (InBody FredFrame AtJump) e w b h off = refl
-over_task mode image Fred (InBody FredFrame AtItem) e w b h off = refl
-over_task mode image Fred (InBody FredFrame (AtNumber n)) e w b h off = refl
-over_task mode image Fred (InBody FredFrame (AtNumbers rcx rax rdx)) e w b h off = refl
-over_task mode image Fred (InBody FredFrame AtUserWord) e w b h off = refl
-over_task mode image Fred (InBody FredFrame (AtPageWord is_page)) e w b h off = refl
-over_task mode image Fred (InBody FredFrame BehindSti) e w b h off = refl
-over_task mode image Idt (InIdt Sys) e w b h off = refl
-over_task mode image Idt (InIdt (Stub UserCode has v)) e w b h off = refl
-over_task mode image Idt (InIdt (Common UserCode pf)) e w b h off = refl
-over_task mode image Idt (InIdt (idt.Leaves (IdtToTask by))) e w b h off = refl
-over_task mode image Idt (InBody IdtFrame AtTable) e w b h off = refl
-over_task mode image Idt (InBody IdtFrame AtJump) e w b h off = refl
-over_task mode image Idt (InBody IdtFrame AtItem) e w b h off = refl
-over_task mode image Idt (InBody IdtFrame (AtNumber n)) e w b h off = refl
-over_task mode image Idt (InBody IdtFrame (AtNumbers rcx rax rdx)) e w b h off = refl
-over_task mode image Idt (InBody IdtFrame AtUserWord) e w b h off = refl
-over_task mode image Idt (InBody IdtFrame (AtPageWord is_page)) e w b h off = refl
-over_task mode image Idt (InBody IdtFrame BehindSti) e w b h off = refl
-over_task mode image Fred (InFred (fred.Leaves FredToNext)) e w b h off = absurd (cc)
-over_task mode image Idt (InIdt (idt.Leaves (IdtToNext by))) e w b h off = absurd (cc)
-over_task mode image m _ e w b h off = absurd h
+over_task : (mode : Mode) (image : Image) (m : Mode) (spot : Spot) (e : Env) (w : Processor) (b : BodyContext) (f : Option Filling) (words : NatMap ℕ)
+    → OverTask mode image m spot e w b f words → blocks.switches spot ≡ false → fills_record spot ≡ false → is_spot m spot ≡ true
+over_task mode image Fred (InFred (FromUser way)) e w b f words h off none = refl
+over_task mode image Fred (InFred (fred.Leaves FredToTask)) e w b f words h off none = refl
+over_task mode image Fred (InBody FredFrame s) e w b f words h off none = body_spot_is mode image UserCode s e w b f words h none
+over_task mode image Idt (InIdt Sys) e w b f words h off none = refl
+over_task mode image Idt (InIdt (Stub UserCode has v)) e w b f words h off none = refl
+over_task mode image Idt (InIdt (Common UserCode pf)) e w b f words h off none = refl
+over_task mode image Idt (InIdt (idt.Leaves (IdtToTask by))) e w b f words h off none = refl
+over_task mode image Idt (InBody IdtFrame s) e w b f words h off none = body_spot_is mode image UserCode s e w b f words h none
+over_task mode image Fred (InFred (fred.Leaves FredToNext)) e w b f words h off none = absurd (cc)
+over_task mode image Idt (InIdt (idt.Leaves (IdtToNext by))) e w b f words h off none = absurd (cc)
+over_task mode image m _ e w b f words h off none = absurd h
 
 -- none of those over a body is SYSCALL's entry
-over_body : (mode : Mode) (image : Image) (m : Mode) (spot : Spot) (e : Env) (w : Processor) (b : BodyContext) → OverBody mode image m spot e w b
-    → (is_spot m spot ≡ true) × (keeps_rsp spot ≡ false)
-over_body mode image Fred (InFred FromKernel) e w b h = (refl, refl)
-over_body mode image Fred (InFred (fred.Leaves FredToKernel)) e w b h = (refl, refl)
-over_body mode image Fred (InBody FredFrame AtTable) e w b h = (refl, refl)
-over_body mode image Fred (InBody FredFrame AtJump) e w b h = (refl, refl)
-over_body mode image Fred (InBody FredFrame AtItem) e w b h = (refl, refl)
-over_body mode image Fred (InBody FredFrame (AtNumber n)) e w b h = (refl, refl)
-over_body mode image Fred (InBody FredFrame (AtNumbers rcx rax rdx)) e w b h = (refl, refl)
-over_body mode image Fred (InBody FredFrame AtUserWord) e w b h = (refl, refl)
-over_body mode image Fred (InBody FredFrame (AtPageWord is_page)) e w b h = (refl, refl)
-over_body mode image Fred (InBody FredFrame BehindSti) e w b h = (refl, refl)
-over_body mode image Idt (InIdt (Stub KernelCode has v)) e w b h = (refl, refl)
-over_body mode image Idt (InIdt (Common KernelCode pf)) e w b h = (refl, refl)
-over_body mode image Idt (InIdt (idt.Leaves IdtToKernel)) e w b h = (refl, refl)
-over_body mode image Idt (InBody IdtFrame AtTable) e w b h = (refl, refl)
-over_body mode image Idt (InBody IdtFrame AtJump) e w b h = (refl, refl)
-over_body mode image Idt (InBody IdtFrame AtItem) e w b h = (refl, refl)
-over_body mode image Idt (InBody IdtFrame (AtNumber n)) e w b h = (refl, refl)
-over_body mode image Idt (InBody IdtFrame (AtNumbers rcx rax rdx)) e w b h = (refl, refl)
-over_body mode image Idt (InBody IdtFrame AtUserWord) e w b h = (refl, refl)
-over_body mode image Idt (InBody IdtFrame (AtPageWord is_page)) e w b h = (refl, refl)
-over_body mode image Idt (InBody IdtFrame BehindSti) e w b h = (refl, refl)
-over_body mode image m _ e w b h = absurd h
+over_body : (mode : Mode) (image : Image) (m : Mode) (spot : Spot) (e : Env) (w : Processor) (b : BodyContext) (f : Option Filling) (words : NatMap ℕ)
+    → OverBody mode image m spot e w b f words → fills_record spot ≡ false → is_spot m spot ≡ true
+over_body mode image Fred (InFred FromKernel) e w b f words h none = refl
+over_body mode image Fred (InFred (fred.Leaves FredToKernel)) e w b f words h none = refl
+over_body mode image Fred (InBody FredFrame s) e w b f words h none = body_spot_is mode image KernelCode s e w b f words h none
+over_body mode image Idt (InIdt (Stub KernelCode has v)) e w b f words h none = refl
+over_body mode image Idt (InIdt (Common KernelCode pf)) e w b f words h none = refl
+over_body mode image Idt (InIdt (idt.Leaves IdtToKernel)) e w b f words h none = refl
+over_body mode image Idt (InBody IdtFrame s) e w b f words h none = body_spot_is mode image KernelCode s e w b f words h none
+over_body mode image m _ e w b f words h none = absurd h
 
-pub means_over : (mode : Mode) (image : Image) (κ : Kind) (spot : Spot) (e : Env) (w : Processor) (b : BodyContext) (m : NatMap ℕ)
-    → Means mode image κ spot e w b m → blocks.switches spot ≡ false → is_spot mode spot ≡ true
-means_over mode image SystemCall spot e w b m h off = over_task mode image mode spot e w b h off
-means_over mode image FromTask spot e w b m h off = over_task mode image mode spot e w b h off
-means_over mode image FromBody spot e w b m h off = (over_body mode image mode spot e w b h).0
-means_over mode image NmiFromTask spot e w b m h off = absurd h
-means_over mode image NmiFromBody spot e w b m h off = absurd h
+pub means_over : (mode : Mode) (image : Image) (κ : Kind) (spot : Spot) (e : Env) (w : Processor) (b : BodyContext) (f : Option Filling) (m : NatMap ℕ)
+    → Means mode image κ spot e w b f m → blocks.switches spot ≡ false → fills_record spot ≡ false → is_spot mode spot ≡ true
+means_over mode image SystemCall spot e w b f m h off none = over_task mode image mode spot e w b f m h off none
+means_over mode image FromTask spot e w b f m h off none = over_task mode image mode spot e w b f m h off none
+means_over mode image FromBody spot e w b f m h off none = over_body mode image mode spot e w b f m h none
+means_over mode image NmiFromTask spot e w b f m h off none = absurd h
+means_over mode image NmiFromBody spot e w b f m h off none = absurd h
 
-pub body_writes : (mode : Mode) (image : Image) (spot : Spot) (e : Env) (w : Processor) (b : BodyContext) → OverBody mode image mode spot e w b
-    → keeps_rsp spot ≡ false
-body_writes mode image spot e w b h = (over_body mode image mode spot e w b h).1
+-- none of them fills a record
+pub spot_unfilled : (mode : Mode) (spot : Spot) → is_spot mode spot ≡ true → fills_record spot ≡ false
+spot_unfilled Fred (InBody FredFrame s) h = fills_none s h
+spot_unfilled Idt (InBody IdtFrame s) h = fills_none s h
+spot_unfilled Fred (InBody IdtFrame s) h = let clash : false ≡ true = h in absurd (cc)
+spot_unfilled Fred (InBody NmiFrame s) h = let clash : false ≡ true = h in absurd (cc)
+spot_unfilled Idt (InBody FredFrame s) h = let clash : false ≡ true = h in absurd (cc)
+spot_unfilled Idt (InBody NmiFrame s) h = let clash : false ≡ true = h in absurd (cc)
+spot_unfilled mode _ h = refl
+
+pub body_writes : (mode : Mode) (image : Image) (spot : Spot) (e : Env) (w : Processor) (b : BodyContext) (f : Option Filling) (m : NatMap ℕ)
+    → OverBody mode image mode spot e w b f m → keeps_rsp spot ≡ false
+body_writes mode image (InIdt Sys) e w b f m h = absurd (no_call mode h)
+  where
+    no_call : (mode : Mode) → OverBody mode image mode (InIdt Sys) e w b f m → ⊥
+    no_call Fred h = h
+    no_call Idt h = h
+body_writes mode image _ e w b f m h = refl
 
 -- ---- their windows: on the activation's stack or in the processor's area; it writes its stack, and the word for RSP
 
@@ -185,19 +242,27 @@ pub record HasWindows (mode : Mode) (spot : Spot) : Type 0 where
   pub own : are_plain mode (forms spot).own ≡ true
   pub written : are_written (keeps_rsp spot) (forms spot).own ≡ true
 
+body_windows : (mode : Mode) (layout : Layout) → is_layout mode layout ≡ true → (s : BodySpot) → is_body_spot s ≡ true → HasWindows mode (InBody layout s)
+body_windows Fred FredFrame l s h = let same = body_forms_are FredFrame s h in record {
+  known = ap (λ (f : Forms). are_plain Fred f.known) same;
+  own = ap (λ (f : Forms). are_plain Fred f.own) same;
+  written = ap (λ (f : Forms). are_written false f.own) same;
+}
+body_windows Idt IdtFrame l s h = let same = body_forms_are IdtFrame s h in record {
+  known = ap (λ (f : Forms). are_plain Idt f.known) same;
+  own = ap (λ (f : Forms). are_plain Idt f.own) same;
+  written = ap (λ (f : Forms). are_written false f.own) same;
+}
+body_windows Fred IdtFrame l s h = let clash : false ≡ true = l in absurd (cc)
+body_windows Fred NmiFrame l s h = let clash : false ≡ true = l in absurd (cc)
+body_windows Idt FredFrame l s h = let clash : false ≡ true = l in absurd (cc)
+body_windows Idt NmiFrame l s h = let clash : false ≡ true = l in absurd (cc)
+
 pub has_windows : (mode : Mode) (spot : Spot) → is_spot mode spot ≡ true → HasWindows mode spot
 has_windows Fred (InFred (FromUser way)) h = record { known = refl; own = refl; written = refl }
 has_windows Fred (InFred (fred.Leaves FredToTask)) h = record { known = refl; own = refl; written = refl }
 has_windows Fred (InFred FromKernel) h = record { known = refl; own = refl; written = refl }
 has_windows Fred (InFred (fred.Leaves FredToKernel)) h = record { known = refl; own = refl; written = refl }
-has_windows Fred (InBody FredFrame AtTable) h = record { known = refl; own = refl; written = refl }
-has_windows Fred (InBody FredFrame AtJump) h = record { known = refl; own = refl; written = refl }
-has_windows Fred (InBody FredFrame AtItem) h = record { known = refl; own = refl; written = refl }
-has_windows Fred (InBody FredFrame (AtNumber n)) h = record { known = refl; own = refl; written = refl }
-has_windows Fred (InBody FredFrame (AtNumbers rcx rax rdx)) h = record { known = refl; own = refl; written = refl }
-has_windows Fred (InBody FredFrame AtUserWord) h = record { known = refl; own = refl; written = refl }
-has_windows Fred (InBody FredFrame (AtPageWord is_page)) h = record { known = refl; own = refl; written = refl }
-has_windows Fred (InBody FredFrame BehindSti) h = record { known = refl; own = refl; written = refl }
 has_windows Idt (InIdt Sys) h = record { known = refl; own = refl; written = refl }
 has_windows Idt (InIdt (Stub UserCode has v)) h = record { known = refl; own = refl; written = refl }
 has_windows Idt (InIdt (Common UserCode pf)) h = record { known = refl; own = refl; written = refl }
@@ -205,14 +270,8 @@ has_windows Idt (InIdt (idt.Leaves (IdtToTask by))) h = record { known = refl; o
 has_windows Idt (InIdt (Stub KernelCode has v)) h = record { known = refl; own = refl; written = refl }
 has_windows Idt (InIdt (Common KernelCode pf)) h = record { known = refl; own = refl; written = refl }
 has_windows Idt (InIdt (idt.Leaves IdtToKernel)) h = record { known = refl; own = refl; written = refl }
-has_windows Idt (InBody IdtFrame AtTable) h = record { known = refl; own = refl; written = refl }
-has_windows Idt (InBody IdtFrame AtJump) h = record { known = refl; own = refl; written = refl }
-has_windows Idt (InBody IdtFrame AtItem) h = record { known = refl; own = refl; written = refl }
-has_windows Idt (InBody IdtFrame (AtNumber n)) h = record { known = refl; own = refl; written = refl }
-has_windows Idt (InBody IdtFrame (AtNumbers rcx rax rdx)) h = record { known = refl; own = refl; written = refl }
-has_windows Idt (InBody IdtFrame AtUserWord) h = record { known = refl; own = refl; written = refl }
-has_windows Idt (InBody IdtFrame (AtPageWord is_page)) h = record { known = refl; own = refl; written = refl }
-has_windows Idt (InBody IdtFrame BehindSti) h = record { known = refl; own = refl; written = refl }
+has_windows Fred (InBody FredFrame s) h = body_windows Fred FredFrame refl s h
+has_windows Idt (InBody IdtFrame s) h = body_windows Idt IdtFrame refl s h
 has_windows mode _ h = let clash : false ≡ true = h in absurd (cc)
 
 -- the exits to a task know the mark
@@ -235,70 +294,60 @@ low_windows Fred (InFred (FromUser way)) h = refl
 low_windows Fred (InFred FromKernel) h = refl
 low_windows Fred (InFred (fred.Leaves FredToTask)) h = refl
 low_windows Fred (InFred (fred.Leaves FredToKernel)) h = refl
-low_windows Fred (InBody FredFrame AtTable) h = refl
-low_windows Fred (InBody FredFrame AtJump) h = refl
-low_windows Fred (InBody FredFrame AtItem) h = refl
-low_windows Fred (InBody FredFrame (AtNumber n)) h = refl
-low_windows Fred (InBody FredFrame (AtNumbers rcx rax rdx)) h = refl
-low_windows Fred (InBody FredFrame AtUserWord) h = refl
-low_windows Fred (InBody FredFrame (AtPageWord is_page)) h = refl
-low_windows Fred (InBody FredFrame BehindSti) h = refl
 low_windows Idt (InIdt Sys) h = refl
 low_windows Idt (InIdt (Stub o has v)) h = refl
 low_windows Idt (InIdt (Common o pf)) h = refl
 low_windows Idt (InIdt (idt.Leaves (IdtToTask by))) h = refl
 low_windows Idt (InIdt (idt.Leaves IdtToKernel)) h = refl
-low_windows Idt (InBody IdtFrame AtTable) h = refl
-low_windows Idt (InBody IdtFrame AtJump) h = refl
-low_windows Idt (InBody IdtFrame AtItem) h = refl
-low_windows Idt (InBody IdtFrame (AtNumber n)) h = refl
-low_windows Idt (InBody IdtFrame (AtNumbers rcx rax rdx)) h = refl
-low_windows Idt (InBody IdtFrame AtUserWord) h = refl
-low_windows Idt (InBody IdtFrame (AtPageWord is_page)) h = refl
-low_windows Idt (InBody IdtFrame BehindSti) h = refl
+low_windows Fred (InBody FredFrame s) h = ap (λ (f : Forms). are_low false f.known) (body_forms_are FredFrame s h)
+low_windows Idt (InBody IdtFrame s) h = ap (λ (f : Forms). are_low false f.known) (body_forms_are IdtFrame s h)
 low_windows mode _ h = let clash : false ≡ true = h in absurd (cc)
 
--- few edges are left at each
-pub few_edges : (mode : Mode) (image : Image) (spot : Spot) → is_spot mode spot ≡ true → (k : ℕ) → edges mode spot k ≤ body_edges mode image
-few_edges Fred image (InFred (FromUser ByCall)) h k = omega arith
-few_edges Fred image (InFred (FromUser ByInt3)) h k = omega arith
-few_edges Fred image (InFred (FromUser ByIntN)) h k = omega arith
-few_edges Fred image (InFred (FromUser ByOther)) h k = omega arith
-few_edges Fred image (InFred (fred.Leaves FredToTask)) h k = omega arith
-few_edges Fred image (InFred FromKernel) h k = omega arith
-few_edges Fred image (InFred (fred.Leaves FredToKernel)) h k = omega arith
-few_edges Fred image (InBody FredFrame AtTable) h k = omega arith
-few_edges Fred image (InBody FredFrame AtJump) h k = omega arith
-few_edges Fred image (InBody FredFrame AtItem) h k = omega arith
-few_edges Fred image (InBody FredFrame (AtNumber n)) h k = omega arith
-few_edges Fred image (InBody FredFrame (AtNumbers rcx rax rdx)) h k = omega arith
-few_edges Fred image (InBody FredFrame AtUserWord) h k = omega arith
-few_edges Fred image (InBody FredFrame (AtPageWord true)) h k = omega arith
-few_edges Fred image (InBody FredFrame (AtPageWord false)) h k = omega arith
-few_edges Fred image (InBody FredFrame BehindSti) h k = omega arith
-few_edges Idt image (InIdt Sys) h k = omega arith
-few_edges Idt image (InIdt (Stub UserCode true v)) h k = omega arith
-few_edges Idt image (InIdt (Stub UserCode false v)) h k = omega arith
-few_edges Idt image (InIdt (Common UserCode true)) h k = omega arith
-few_edges Idt image (InIdt (Common UserCode false)) h k = omega arith
-few_edges Idt image (InIdt (idt.Leaves (IdtToTask BySysret))) h k = omega arith
-few_edges Idt image (InIdt (idt.Leaves (IdtToTask ByOtherRip))) h k = omega arith
-few_edges Idt image (InIdt (idt.Leaves (IdtToTask ByOtherFlags))) h k = omega arith
-few_edges Idt image (InIdt (Stub KernelCode true v)) h k = omega arith
-few_edges Idt image (InIdt (Stub KernelCode false v)) h k = omega arith
-few_edges Idt image (InIdt (Common KernelCode true)) h k = omega arith
-few_edges Idt image (InIdt (Common KernelCode false)) h k = omega arith
-few_edges Idt image (InIdt (idt.Leaves IdtToKernel)) h k = omega arith
-few_edges Idt image (InBody IdtFrame AtTable) h k = omega arith
-few_edges Idt image (InBody IdtFrame AtJump) h k = omega arith
-few_edges Idt image (InBody IdtFrame AtItem) h k = omega arith
-few_edges Idt image (InBody IdtFrame (AtNumber n)) h k = omega arith
-few_edges Idt image (InBody IdtFrame (AtNumbers rcx rax rdx)) h k = omega arith
-few_edges Idt image (InBody IdtFrame AtUserWord) h k = omega arith
-few_edges Idt image (InBody IdtFrame (AtPageWord true)) h k = omega arith
-few_edges Idt image (InBody IdtFrame (AtPageWord false)) h k = omega arith
-few_edges Idt image (InBody IdtFrame BehindSti) h k = omega arith
-few_edges mode image _ h k = let clash : false ≡ true = h in absurd (cc)
+-- few edges are left at each, but for those of calls, where a list may be turned round
+abbrev pub is_few : Spot → Bool
+is_few (InBody layout (InCall s)) = false
+is_few spot = true
+
+body_few : (fred : Bool) (layout : Layout) (s : BodySpot) → is_few (InBody layout s) ≡ true → (k : ℕ)
+    → ((body_block fred layout s).steps - k) + behind_body s ≤ 560
+body_few fred layout AtTable h k = omega arith
+body_few fred layout AtJump h k = omega arith
+body_few fred layout AtItem h k = omega arith
+body_few fred layout (AtNumber n) h k = omega arith
+body_few fred layout (AtNumbers rcx rax rdx) h k = omega arith
+body_few fred layout (AtKick to) h k = omega arith
+body_few fred layout AtUserWord h k = omega arith
+body_few fred layout (AtPageWord true) h k = omega arith
+body_few fred layout (AtPageWord false) h k = omega arith
+body_few fred layout BehindSti h k = omega arith
+body_few fred layout BehindKick h k = omega arith
+body_few fred layout (InCall s) h k = let clash : false ≡ true = h in absurd (cc)
+
+pub few_edges : (mode : Mode) (image : Image) (spot : Spot) → is_spot mode spot ≡ true → is_few spot ≡ true → (k : ℕ)
+    → edges mode spot k ≤ body_edges mode image
+few_edges Fred image (InFred (FromUser ByCall)) h few k = omega arith
+few_edges Fred image (InFred (FromUser ByInt3)) h few k = omega arith
+few_edges Fred image (InFred (FromUser ByIntN)) h few k = omega arith
+few_edges Fred image (InFred (FromUser ByOther)) h few k = omega arith
+few_edges Fred image (InFred (fred.Leaves FredToTask)) h few k = omega arith
+few_edges Fred image (InFred FromKernel) h few k = omega arith
+few_edges Fred image (InFred (fred.Leaves FredToKernel)) h few k = omega arith
+few_edges Idt image (InIdt Sys) h few k = omega arith
+few_edges Idt image (InIdt (Stub UserCode true v)) h few k = omega arith
+few_edges Idt image (InIdt (Stub UserCode false v)) h few k = omega arith
+few_edges Idt image (InIdt (Common UserCode true)) h few k = omega arith
+few_edges Idt image (InIdt (Common UserCode false)) h few k = omega arith
+few_edges Idt image (InIdt (idt.Leaves (IdtToTask BySysret))) h few k = omega arith
+few_edges Idt image (InIdt (idt.Leaves (IdtToTask ByOtherRip))) h few k = omega arith
+few_edges Idt image (InIdt (idt.Leaves (IdtToTask ByOtherFlags))) h few k = omega arith
+few_edges Idt image (InIdt (Stub KernelCode true v)) h few k = omega arith
+few_edges Idt image (InIdt (Stub KernelCode false v)) h few k = omega arith
+few_edges Idt image (InIdt (Common KernelCode true)) h few k = omega arith
+few_edges Idt image (InIdt (Common KernelCode false)) h few k = omega arith
+few_edges Idt image (InIdt (idt.Leaves IdtToKernel)) h few k = omega arith
+few_edges Fred image (InBody FredFrame s) h few k = body_few true FredFrame s few k
+few_edges Idt image (InBody IdtFrame s) h few k = body_few false IdtFrame s few k
+few_edges mode image _ h few k = let clash : false ≡ true = h in absurd (cc)
 
 -- ---- their grounds and lines
 
@@ -307,19 +356,48 @@ pub record HasGround (mode : Mode) (spot : Spot) : Type 0 where
   pub descriptors : (block mode spot).ground.descriptors ≡ []
   pub tops : (block mode spot).ground.tops ≡ []
 
+-- the ground of a body's block is over its mode, and has neither descriptors nor tops
+pub record BodyGround (fred : Bool) (layout : Layout) (s : BodySpot) : Type 0 where
+  pub setting : (body_block fred layout s).ground.fred ≡ fred
+  pub descriptors : (body_block fred layout s).ground.descriptors ≡ []
+  pub tops : (body_block fred layout s).ground.tops ≡ []
+
+call_ground : (fred : Bool) (layout : Layout) (s : CallSpot) → BodyGround fred layout (InCall s)
+call_ground fred layout (AtRecord site) = record { setting = refl; descriptors = refl; tops = refl }
+call_ground fred layout (BehindWait is_done) = record { setting = refl; descriptors = refl; tops = refl }
+call_ground fred layout (BehindBusy r) = record { setting = refl; descriptors = refl; tops = refl }
+call_ground fred layout (AtFill address func to r) = record { setting = refl; descriptors = refl; tops = refl }
+call_ground fred layout (AtHead address func to) = record { setting = refl; descriptors = refl; tops = refl }
+call_ground fred layout (AtLink address func to stale) = record { setting = refl; descriptors = refl; tops = refl }
+call_ground fred layout (BehindFailure address func to) = record { setting = refl; descriptors = refl; tops = refl }
+call_ground fred layout (BehindCall r is_first) = record { setting = refl; descriptors = refl; tops = refl }
+call_ground fred layout AtTake = record { setting = refl; descriptors = refl; tops = refl }
+call_ground fred layout (BehindTake n) = record { setting = refl; descriptors = refl; tops = refl }
+call_ground fred layout (AtTurn n) = record { setting = refl; descriptors = refl; tops = refl }
+call_ground fred layout (BehindTurn n) = record { setting = refl; descriptors = refl; tops = refl }
+call_ground fred layout (AtTaken is_some) = record { setting = refl; descriptors = refl; tops = refl }
+call_ground fred layout AtFinish = record { setting = refl; descriptors = refl; tops = refl }
+call_ground fred layout BehindNext = record { setting = refl; descriptors = refl; tops = refl }
+call_ground fred layout (AtOffset o e) = record { setting = refl; descriptors = refl; tops = refl }
+
+pub body_ground : (fred : Bool) (layout : Layout) (s : BodySpot) → BodyGround fred layout s
+body_ground fred layout AtTable = record { setting = refl; descriptors = refl; tops = refl }
+body_ground fred layout AtJump = record { setting = refl; descriptors = refl; tops = refl }
+body_ground fred layout AtItem = record { setting = refl; descriptors = refl; tops = refl }
+body_ground fred layout (AtNumber n) = record { setting = refl; descriptors = refl; tops = refl }
+body_ground fred layout (AtNumbers rcx rax rdx) = record { setting = refl; descriptors = refl; tops = refl }
+body_ground fred layout (AtKick to) = record { setting = refl; descriptors = refl; tops = refl }
+body_ground fred layout AtUserWord = record { setting = refl; descriptors = refl; tops = refl }
+body_ground fred layout (AtPageWord is_page) = record { setting = refl; descriptors = refl; tops = refl }
+body_ground fred layout BehindSti = record { setting = refl; descriptors = refl; tops = refl }
+body_ground fred layout BehindKick = record { setting = refl; descriptors = refl; tops = refl }
+body_ground fred layout (InCall s) = call_ground fred layout s
+
 pub has_ground : (mode : Mode) (spot : Spot) → is_spot mode spot ≡ true → HasGround mode spot
 has_ground Fred (InFred (FromUser way)) h = record { fred = refl; descriptors = refl; tops = refl }
 has_ground Fred (InFred (fred.Leaves FredToTask)) h = record { fred = refl; descriptors = refl; tops = refl }
 has_ground Fred (InFred FromKernel) h = record { fred = refl; descriptors = refl; tops = refl }
 has_ground Fred (InFred (fred.Leaves FredToKernel)) h = record { fred = refl; descriptors = refl; tops = refl }
-has_ground Fred (InBody FredFrame AtTable) h = record { fred = refl; descriptors = refl; tops = refl }
-has_ground Fred (InBody FredFrame AtJump) h = record { fred = refl; descriptors = refl; tops = refl }
-has_ground Fred (InBody FredFrame AtItem) h = record { fred = refl; descriptors = refl; tops = refl }
-has_ground Fred (InBody FredFrame (AtNumber n)) h = record { fred = refl; descriptors = refl; tops = refl }
-has_ground Fred (InBody FredFrame (AtNumbers rcx rax rdx)) h = record { fred = refl; descriptors = refl; tops = refl }
-has_ground Fred (InBody FredFrame AtUserWord) h = record { fred = refl; descriptors = refl; tops = refl }
-has_ground Fred (InBody FredFrame (AtPageWord is_page)) h = record { fred = refl; descriptors = refl; tops = refl }
-has_ground Fred (InBody FredFrame BehindSti) h = record { fred = refl; descriptors = refl; tops = refl }
 has_ground Idt (InIdt Sys) h = record { fred = refl; descriptors = refl; tops = refl }
 has_ground Idt (InIdt (Stub UserCode has v)) h = record { fred = refl; descriptors = refl; tops = refl }
 has_ground Idt (InIdt (Common UserCode pf)) h = record { fred = refl; descriptors = refl; tops = refl }
@@ -327,46 +405,32 @@ has_ground Idt (InIdt (idt.Leaves (IdtToTask by))) h = record { fred = refl; des
 has_ground Idt (InIdt (Stub KernelCode has v)) h = record { fred = refl; descriptors = refl; tops = refl }
 has_ground Idt (InIdt (Common KernelCode pf)) h = record { fred = refl; descriptors = refl; tops = refl }
 has_ground Idt (InIdt (idt.Leaves IdtToKernel)) h = record { fred = refl; descriptors = refl; tops = refl }
-has_ground Idt (InBody IdtFrame AtTable) h = record { fred = refl; descriptors = refl; tops = refl }
-has_ground Idt (InBody IdtFrame AtJump) h = record { fred = refl; descriptors = refl; tops = refl }
-has_ground Idt (InBody IdtFrame AtItem) h = record { fred = refl; descriptors = refl; tops = refl }
-has_ground Idt (InBody IdtFrame (AtNumber n)) h = record { fred = refl; descriptors = refl; tops = refl }
-has_ground Idt (InBody IdtFrame (AtNumbers rcx rax rdx)) h = record { fred = refl; descriptors = refl; tops = refl }
-has_ground Idt (InBody IdtFrame AtUserWord) h = record { fred = refl; descriptors = refl; tops = refl }
-has_ground Idt (InBody IdtFrame (AtPageWord is_page)) h = record { fred = refl; descriptors = refl; tops = refl }
-has_ground Idt (InBody IdtFrame BehindSti) h = record { fred = refl; descriptors = refl; tops = refl }
+has_ground Fred (InBody FredFrame s) h = let g = body_ground true FredFrame s in record { fred = g.setting; descriptors = g.descriptors; tops = g.tops }
+has_ground Idt (InBody IdtFrame s) h = let g = body_ground false IdtFrame s in record { fred = g.setting; descriptors = g.descriptors; tops = g.tops }
 has_ground mode _ h = let clash : false ≡ true = h in absurd (cc)
 
 -- at the entry of a vector its base is that entry's address; inside an item, whose lines the image says, nothing begins
 abbrev pub IsAtEntry : Spot → Env → Type 0
 IsAtEntry (InIdt s) e = IsAtStub e s
-IsAtEntry (InBody layout (AtNumber n)) e = ⊥
-IsAtEntry (InBody layout (AtNumbers rcx rax rdx)) e = ⊥
-IsAtEntry (InBody layout AtUserWord) e = ⊥
-IsAtEntry (InBody layout (AtPageWord is_page)) e = ⊥
-IsAtEntry (InBody layout BehindSti) e = ⊥
+IsAtEntry (InBody layout AtTable) e = Unit {0}
+IsAtEntry (InBody layout AtJump) e = Unit {0}
+IsAtEntry (InBody layout AtItem) e = Unit {0}
+IsAtEntry (InBody layout s) e = ⊥
 IsAtEntry s e = Unit {0}
+
+body_lines : (code : Code) (e : Env) (fred : Bool) (layout : Layout) (s : BodySpot) → IsAtEntry (InBody layout s) e
+    → Stands code e (body_block fred layout s).lines
+body_lines code e fred layout AtTable at = tt
+body_lines code e fred layout AtJump at = tt
+body_lines code e fred layout AtItem at = tt
+body_lines code e fred layout _ at = absurd at
 
 pub lines_stand : (mode : Mode) (code : Code) (e : Env) → e.base 1000 ≡ 0 → HasKernel mode code → (spot : Spot) → is_spot mode spot ≡ true
     → IsAtEntry spot e → Stands code e (block mode spot).lines
 lines_stand Fred code e z k (InFred s) h at = fred_stand code e z k s
-lines_stand Fred code e z k (InBody FredFrame AtTable) h at = tt
-lines_stand Fred code e z k (InBody FredFrame AtJump) h at = tt
-lines_stand Fred code e z k (InBody FredFrame AtItem) h at = tt
-lines_stand Fred code e z k (InBody FredFrame (AtNumber n)) h at = absurd at
-lines_stand Fred code e z k (InBody FredFrame (AtNumbers rcx rax rdx)) h at = absurd at
-lines_stand Fred code e z k (InBody FredFrame AtUserWord) h at = absurd at
-lines_stand Fred code e z k (InBody FredFrame (AtPageWord is_page)) h at = absurd at
-lines_stand Fred code e z k (InBody FredFrame BehindSti) h at = absurd at
 lines_stand Idt code e z k (InIdt s) h at = idt_stand code e z k s at
-lines_stand Idt code e z k (InBody IdtFrame AtTable) h at = tt
-lines_stand Idt code e z k (InBody IdtFrame AtJump) h at = tt
-lines_stand Idt code e z k (InBody IdtFrame AtItem) h at = tt
-lines_stand Idt code e z k (InBody IdtFrame (AtNumber n)) h at = absurd at
-lines_stand Idt code e z k (InBody IdtFrame (AtNumbers rcx rax rdx)) h at = absurd at
-lines_stand Idt code e z k (InBody IdtFrame AtUserWord) h at = absurd at
-lines_stand Idt code e z k (InBody IdtFrame (AtPageWord is_page)) h at = absurd at
-lines_stand Idt code e z k (InBody IdtFrame BehindSti) h at = absurd at
+lines_stand Fred code e z k (InBody FredFrame s) h at = body_lines code e true FredFrame s at
+lines_stand Idt code e z k (InBody IdtFrame s) h at = body_lines code e false IdtFrame s at
 lines_stand mode code e z k _ h at = let clash : false ≡ true = h in absurd (cc)
 
 -- ---- where their blocks end
@@ -376,19 +440,42 @@ exit_end BySysret = (_, idt_returns.to_task.runs)
 exit_end ByOtherRip = (_, idt_returns.to_task_by_rip.runs)
 exit_end ByOtherFlags = (_, idt_returns.to_task_by_flags.runs)
 
+-- a local is a register from 6 to 13
+call_end_of : (fred : Bool) (layout : Layout) (s : CallSpot) → is_body_spot (InCall s) ≡ true
+    → (z : SS) × (brun (block_of_call fred layout s) (block_of_call fred layout s).steps ≡ Some z)
+call_end_of fred layout (AtRecord site) h = (_, ((call_ends fred layout).site site).runs)
+call_end_of fred layout (BehindWait is_done) h = (_, ((call_ends fred layout).wait is_done).runs)
+call_end_of fred layout (BehindBusy r) h = (_, ((call_ends fred layout).busy r).runs)
+call_end_of fred layout (BehindCall r is_first) h =
+    (_, ((call_ends fred layout).answers r is_first (leb-true 6 r (and_left (nat_le 6 r) _ h)) (ltb-true r 14 (and_right (nat_le 6 r) _ h))).runs)
+call_end_of fred layout AtTake h = (_, (call_ends fred layout).take.runs)
+call_end_of fred layout (BehindTake n) h = (_, ((call_ends fred layout).behind_take n).runs)
+call_end_of fred layout (AtTurn n) h = (_, ((call_ends fred layout).turn n).runs)
+call_end_of fred layout (BehindTurn n) h = (_, ((call_ends fred layout).behind_turn n).runs)
+call_end_of fred layout (AtTaken is_some) h = (_, ((call_ends fred layout).taken is_some).runs)
+call_end_of fred layout AtFinish h = (_, (call_ends fred layout).finish.runs)
+call_end_of fred layout BehindNext h = (_, (call_ends fred layout).behind_next.runs)
+call_end_of fred layout (AtOffset o e) h = (_, refl)
+call_end_of fred layout _ h = let clash : false ≡ true = h in absurd (cc)
+
+body_end : (fred : Bool) (layout : Layout) (s : BodySpot) → is_body_spot s ≡ true
+    → (z : SS) × (brun (body_block fred layout s) (body_block fred layout s).steps ≡ Some z)
+body_end fred layout AtTable h = (_, refl)
+body_end fred layout AtJump h = (_, refl)
+body_end fred layout AtItem h = (_, refl)
+body_end fred layout (AtNumber n) h = (_, ((body_ends fred layout).number n).runs)
+body_end fred layout (AtNumbers rcx rax rdx) h = (_, ((body_ends fred layout).numbers rcx rax rdx).runs)
+body_end fred layout AtUserWord h = (_, (body_ends fred layout).user_word.runs)
+body_end fred layout (AtPageWord is_page) h = (_, ((body_ends fred layout).page_word is_page).runs)
+body_end fred layout BehindSti h = (_, (body_ends fred layout).behind_sti.runs)
+body_end fred layout (InCall s) h = call_end_of fred layout s h
+body_end fred layout _ h = let clash : false ≡ true = h in absurd (cc)
+
 pub runs_to_end : (mode : Mode) (spot : Spot) → is_spot mode spot ≡ true → (z : SS) × (brun (block mode spot) (block mode spot).steps ≡ Some z)
 runs_to_end Fred (InFred (FromUser way)) h = (_, (fred_enters.0 way).runs)
 runs_to_end Fred (InFred (fred.Leaves FredToTask)) h = (_, fred_returns.to_task.runs)
 runs_to_end Fred (InFred FromKernel) h = (_, fred_enters.1.runs)
 runs_to_end Fred (InFred (fred.Leaves FredToKernel)) h = (_, fred_returns.to_kernel.runs)
-runs_to_end Fred (InBody FredFrame AtTable) h = (_, refl)
-runs_to_end Fred (InBody FredFrame AtJump) h = (_, refl)
-runs_to_end Fred (InBody FredFrame AtItem) h = (_, refl)
-runs_to_end Fred (InBody FredFrame (AtNumber n)) h = (_, refl)
-runs_to_end Fred (InBody FredFrame (AtNumbers rcx rax rdx)) h = (_, ((body_ends true FredFrame).numbers rcx rax rdx).runs)
-runs_to_end Fred (InBody FredFrame AtUserWord) h = (_, (body_ends true FredFrame).user_word.runs)
-runs_to_end Fred (InBody FredFrame (AtPageWord is_page)) h = (_, ((body_ends true FredFrame).page_word is_page).runs)
-runs_to_end Fred (InBody FredFrame BehindSti) h = (_, (body_ends true FredFrame).behind_sti.runs)
 runs_to_end Idt (InIdt Sys) h = (_, idt_enters.call.runs)
 runs_to_end Idt (InIdt (Stub UserCode has v)) h = (_, (idt_enters.stub UserCode has v (v == 14) refl).runs)
 runs_to_end Idt (InIdt (Common UserCode pf)) h = (_, (idt_enters.common UserCode pf).runs)
@@ -396,14 +483,8 @@ runs_to_end Idt (InIdt (idt.Leaves (IdtToTask by))) h = exit_end by
 runs_to_end Idt (InIdt (Stub KernelCode has v)) h = (_, (idt_enters.stub KernelCode has v (v == 14) refl).runs)
 runs_to_end Idt (InIdt (Common KernelCode pf)) h = (_, (idt_enters.common KernelCode pf).runs)
 runs_to_end Idt (InIdt (idt.Leaves IdtToKernel)) h = (_, idt_returns.to_kernel.runs)
-runs_to_end Idt (InBody IdtFrame AtTable) h = (_, refl)
-runs_to_end Idt (InBody IdtFrame AtJump) h = (_, refl)
-runs_to_end Idt (InBody IdtFrame AtItem) h = (_, refl)
-runs_to_end Idt (InBody IdtFrame (AtNumber n)) h = (_, refl)
-runs_to_end Idt (InBody IdtFrame (AtNumbers rcx rax rdx)) h = (_, ((body_ends false IdtFrame).numbers rcx rax rdx).runs)
-runs_to_end Idt (InBody IdtFrame AtUserWord) h = (_, (body_ends false IdtFrame).user_word.runs)
-runs_to_end Idt (InBody IdtFrame (AtPageWord is_page)) h = (_, ((body_ends false IdtFrame).page_word is_page).runs)
-runs_to_end Idt (InBody IdtFrame BehindSti) h = (_, (body_ends false IdtFrame).behind_sti.runs)
+runs_to_end Fred (InBody FredFrame s) h = body_end true FredFrame s h
+runs_to_end Idt (InBody IdtFrame s) h = body_end false IdtFrame s h
 runs_to_end mode _ h = let clash : false ≡ true = h in absurd (cc)
 
 -- ---- no instruction of theirs lies in REPEAT, nor in the bodies' code
@@ -496,27 +577,47 @@ stub_inside UserCode false v = refl
 stub_inside KernelCode true v = refl
 stub_inside KernelCode false v = refl
 
--- those inside an item lie in its first bytes
+-- those inside an item lie in its bytes
 abbrev pub is_in_item : SS → Bool
-is_in_item s = (s.rip.tag == item_tag) && nat_lt s.rip.off 0x40
+is_in_item s = (s.rip.tag == item_tag) && nat_lt s.rip.off 0x100
 
-pub number_inside : (fred : Bool) (layout : Layout) (n : ℕ) → every is_in_item (body_block fred layout (AtNumber n)) ≡ true
+answer_inside : (fred : Bool) (layout : Layout) (is_first : Bool) (s : ℕ) → every is_in_item (block_of_call fred layout (BehindCall s is_first)) ≡ true
 unfolding spelling four_bytes
-number_inside fred layout n = refl
+answer_inside fred layout true = from_zero (λ s. every is_in_item (block_of_call fred layout (BehindCall s true)) ≡ true)
+    refl refl refl refl refl refl refl refl refl refl refl refl refl refl refl refl (λ n. refl)
+answer_inside fred layout false = from_zero (λ s. every is_in_item (block_of_call fred layout (BehindCall s false)) ≡ true)
+    refl refl refl refl refl refl refl refl refl refl refl refl refl refl refl refl (λ n. refl)
 
-pub numbers_inside : (fred : Bool) (layout : Layout) (rcx rax rdx : ℕ) → every is_in_item (body_block fred layout (AtNumbers rcx rax rdx)) ≡ true
+call_inside : (fred : Bool) (layout : Layout) (s : CallSpot) → is_body_spot (InCall s) ≡ true → every is_in_item (block_of_call fred layout s) ≡ true
 unfolding spelling four_bytes
-numbers_inside fred layout rcx rax rdx = refl
+call_inside fred layout (AtRecord site) h = refl
+call_inside fred layout (BehindWait true) h = refl
+call_inside fred layout (BehindWait false) h = refl
+call_inside fred layout (BehindBusy r) h = refl
+call_inside fred layout (BehindCall r is_first) h = answer_inside fred layout is_first r
+call_inside fred layout AtTake h = refl
+call_inside fred layout (BehindTake n) h = refl
+call_inside fred layout (AtTurn zero) h = refl
+call_inside fred layout (AtTurn (suc n)) h = refl
+call_inside fred layout (BehindTurn n) h = refl
+call_inside fred layout (AtTaken true) h = refl
+call_inside fred layout (AtTaken false) h = refl
+call_inside fred layout AtFinish h = refl
+call_inside fred layout BehindNext h = refl
+call_inside fred layout (AtOffset o e) h = h
+call_inside fred layout _ h = let clash : false ≡ true = h in absurd (cc)
 
-pub address_inside : (fred : Bool) (layout : Layout) → every is_in_item (body_block fred layout AtUserWord) ≡ true
+pub body_inside : (fred : Bool) (layout : Layout) (s : BodySpot) → is_body_spot s ≡ true → is_in_code s ≡ true → every is_in_item (body_block fred layout s) ≡ true
 unfolding spelling four_bytes
-address_inside fred layout = refl
-
-pub page_inside : (fred : Bool) (layout : Layout) (is_page : Bool) → every is_in_item (body_block fred layout (AtPageWord is_page)) ≡ true
-unfolding spelling four_bytes
-page_inside fred layout true = refl
-page_inside fred layout false = refl
-
-pub sti_inside : (fred : Bool) (layout : Layout) → every is_in_item (body_block fred layout BehindSti) ≡ true
-unfolding spelling four_bytes
-sti_inside fred layout = refl
+body_inside fred layout AtItem h i = refl
+body_inside fred layout (AtNumber n) h i = refl
+body_inside fred layout (AtNumbers rcx rax rdx) h i = refl
+body_inside fred layout AtUserWord h i = refl
+body_inside fred layout (AtPageWord true) h i = refl
+body_inside fred layout (AtPageWord false) h i = refl
+body_inside fred layout BehindSti h i = refl
+body_inside fred layout (InCall s) h i = call_inside fred layout s h
+body_inside fred layout AtTable h i = let clash : false ≡ true = i in absurd (cc)
+body_inside fred layout AtJump h i = let clash : false ≡ true = i in absurd (cc)
+body_inside fred layout (AtKick to) h i = let clash : false ≡ true = h in absurd (cc)
+body_inside fred layout BehindKick h i = let clash : false ≡ true = h in absurd (cc)

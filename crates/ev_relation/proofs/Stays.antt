@@ -1,6 +1,6 @@
 -- The law of others for whole chains: who leaves the windows of a processor's activations and its words alone leaves its contexts standing. So do other
 -- processors, and the activation that stands on them.
-use Rattle.std.proofs.Common.{◌≡◌, ◌⊎◌, inl, inr, ⊎_elim, ℕ, suc, ◌+◌, ◌*◌, ◌<◌, ◌≤◌, Bool, true, false, not, List, [], ◌∷◌, length, refl, sym, subst, arith}
+use Rattle.std.proofs.Common.{◌≡◌, ◌⊎◌, inl, inr, ⊎_elim, ℕ, suc, ◌+◌, ◌*◌, ◌<◌, ◌≤◌, Bool, true, false, not, List, [], ◌∷◌, length, Option, Some, None, refl, sym, ap, ◌∙◌, subst, arith}
 use Rattle.std.proofs.lemmas.Bool.{leb-true}
 use Rattle.std.proofs.lemmas.Bool.Decides.{leb_tells}
 use Rattle.std.specs.Prelude.{◌-◌, nat_le, if◌then◌else◌}
@@ -14,25 +14,37 @@ use Rattle.ev_state.specs.Processor.{Processor}
 use Rattle.ev_mem.specs.Memory.{Memory}
 use Rattle.ev_listing.specs.AddressMap.{pcpu, record_address, task_words, stack_top, code_end}
 use Rattle.ev_abstract.specs.Context.{BodyContext}
+use Rattle.ev_abstract.specs.Machine.{CallRecord}
 use Rattle.ev_concrete.specs.ConcreteRun.{Activation}
 use Rattle.ev_concrete.specs.LiveWords.{area_bytes}
+use Rattle.ev_symbolic.specs.State.{Block}
 use Rattle.ev_symbolic.specs.Run.{every}
 use Rattle.ev_symbolic.specs.Agrees.{Env, addr, with_words, At}
 use Rattle.ev_symbolic.proofs.Blocks.{stays}
 use Rattle.ev_symbolic.proofs.Values.{and_left, and_right}
 use Rattle.ev_distances.specs.Span.{IsSpan, InSpan}
 use Rattle.ev_distances.specs.Form.{Form, OnStack, Stretch, InArea, OnTask, OnNextTask, OnNextStack, Where, span_of}
-use Rattle.ev_blocks.specs.Blocks.{Spot, block, forms}
+use Rattle.ev_blocks.specs.Shapes.{UserCode, KernelCode, FredFrame, IdtFrame, body_bytes}
+use Rattle.ev_blocks.specs.Fred.{FromUser, FromKernel, FredToKernel, FredToTask, FredToNext}
+use Rattle.ev_blocks.specs.Fred as fred
+use Rattle.ev_blocks.specs.Idt.{Stub, Sys, Common, IdtToKernel, IdtToTask, IdtToNext}
+use Rattle.ev_blocks.specs.Idt as idt
+use Rattle.ev_blocks.specs.Calls.{AtLink}
+use Rattle.ev_blocks.specs.Items.{BodySpot, InCall, fills}
+use Rattle.ev_blocks.specs.Blocks.{Spot, InFred, InIdt, InNmi, InBody, block, forms, edges}
 use Rattle.ev_blocks.specs.Blocks as blocks
 use Rattle.ev_activation.specs.Seat.{Kind, SystemCall, FromTask, FromBody, NmiFromTask, NmiFromBody, Seat, kind_of, seat_of, top_at}
 use Rattle.ev_table.specs.Table.{code_table}
-use Rattle.ev_relation.specs.Nmi.{Frame, Held, IfIdt, FrameIs, Leads}
+use Rattle.ev_relation.specs.Nmi.{Frame, Held, IfIdt, FrameIs, Knows, Leads}
 use Rattle.ev_relation.specs.Named.{Named, UserRsp, Top, Current, Mark, Port, Head, TssTop, Slot, RecordWord, CellAt, PageBit, UserWord, address_of, is_private, have_none, IsWritten, AreWritten, NoneOf, Outside, NotNamed, UnknownTo, Changes}
-use Rattle.ev_relation.specs.Active.{here, Means, Active}
+use Rattle.ev_relation.specs.Filling.{Filling, first_fill, rest_fills, AreFree}
+use Rattle.ev_relation.specs.Active.{here, fills_record, OverTask, OverBody, Means, Active}
 use Rattle.ev_relation.specs.Relation.{InTasks, body_edges, keeps_cr2, chained, switches_at, Interrupted, Chain}
-use Rattle.ev_relation.proofs.Spots.{is_spot, means_over, is_plain, are_plain, knows_mark, is_low, are_low, low_windows, area_small, has_windows, is_elsewhere, not_in_bodies, mark_elsewhere}
+use Rattle.ev_relation.proofs.Spots.{layout_of, is_spot, means_over, is_plain, are_plain, knows_mark, is_low, are_low, low_windows, area_small, has_windows, is_elsewhere, not_in_bodies, mark_elsewhere}
 use Rattle.ev_relation.proofs.Fits.{IsSeat, where_at, InSome, known_in}
 use Rattle.ev_relation.proofs.Switch.{is_switch, each_switch, means_switch, switch_elsewhere, NamesTasks, names_tasks, where_next, switch_known}
+use Rattle.ev_relation.proofs.Records.{RecordStays, RecordsStay, weaker_body, weaken, spot_again}
+use Rattle.ev_relation.proofs.Fills.{is_fill, means_fills, where_fill, InOne, fill_known}
 use Rattle.ev_relation.proofs.Words.{area_word, on_its_stack, fixed_stays, beside_stays, area_stays, stacks_stay, stack_unnamed}
 use Rattle.ev_relation.proofs.CallKinds.{beneath_as, ArePlain, seat_under, area_under, plain_seat}
 
@@ -130,20 +142,95 @@ module _ (q : ℕ) (σ : Seat) (hs : IsSeat σ) (hq : q < 32) (m n : NatMap ℕ)
       (λ i. ⊎_elim (λ (t : IsThere (OnNextStack 0xb0)). let from = t.1.from in let to = t.1.to in k.tops next few.1 a (omega arith) (omega arith))
       (λ i. absurd i) i) i) i) i) i) i)
 
+-- the record that an activation of q fills is as it was
+abbrev pub FillStays : ℕ → Option Filling → (m n : NatMap ℕ) → Type 0
+FillStays q None m n = Unit {0}
+FillStays q (Some f) m n = RecordStays (record { from = q; site = f.site }) m n
+
+-- So are the records of each context's calls, and that which it fills.
+abbrev pub AreKept : ℕ → List (Option Filling) → List BodyContext → (m n : NatMap ℕ) → Type 0
+AreKept q fs [] m n = Unit {0}
+AreKept q fs (b ∷ below) m n = (RecordsStay b.calls m n × FillStays q (first_fill fs) m n) × AreKept q (rest_fills fs) below m n
+
+-- the sites of records that are filled are those of a processor
+abbrev pub IsSmall : Option Filling → Type 0
+IsSmall None = Unit {0}
+IsSmall (Some f) = f.site < 8
+
+-- of each
+abbrev pub AreSmall : List (Option Filling) → Type 0
+AreSmall [] = Unit {0}
+AreSmall (f ∷ fs) = IsSmall f × AreSmall fs
+
+pub free_small : (records : NatMap CallRecord) (fs : List (Option Filling)) → AreFree records fs → AreSmall fs
+free_small records [] h = tt
+free_small records (None ∷ fs) h = (tt, free_small records fs h.1)
+free_small records (Some f ∷ fs) h = (h.0.small, free_small records fs h.1)
+
+pub first_is_small : (fs : List (Option Filling)) → AreSmall fs → IsSmall (first_fill fs)
+first_is_small [] s = tt
+first_is_small (f ∷ fs) s = s.0
+
+first_small : (fs : List (Option Filling)) → AreSmall fs → (h : Filling) → first_fill fs ≡ Some h → h.site < 8
+first_small [] s h q = absurd (cc)
+first_small (f ∷ fs) s h q = subst IsSmall q s.0
+
+pub rest_small : (fs : List (Option Filling)) → AreSmall fs → AreSmall (rest_fills fs)
+rest_small [] s = tt
+rest_small (f ∷ fs) s = s.1
+
 module _ (mode : Mode) (image : Image) where
   -- so are those of each of these contexts
   abbrev pub AreSpared : (q r : ℕ) → List BodyContext → (m n : NatMap ℕ) → Type 0
   AreSpared q r [] m n = Unit {0}
   AreSpared q r (b ∷ below) m n = (IsSeat (seat_of mode image r (b ∷ below)) × Spares mode q (seat_of mode image r (b ∷ below)) m n) × AreSpared q r below m n
 
-  -- no variable of a block speaks of words that others write
-  pub means_again : (κ : Kind) (spot : Spot) (e : Env) (w : Processor) (b : BodyContext) (m n : NatMap ℕ) → Means mode image κ spot e w b m
-      → Means mode image κ spot e w b n
-  means_again SystemCall spot e w b m n h = h
-  means_again FromTask spot e w b m n h = h
-  means_again FromBody spot e w b m n h = h
-  means_again NmiFromTask spot e w b m n h = h
-  means_again NmiFromBody spot e w b m n h = h
+  -- Of what a block's variables say only the lists of calls, and whether a head is one still, speak of words that others write.
+  task_again : (mode' : Mode) (spot : Spot) (e : Env) (w : Processor) (b : BodyContext) (f : Option Filling) (m n : NatMap ℕ) → RecordsStay b.calls m n
+      → OverTask mode image mode' spot e w b f m → OverTask mode image mode' (weaken spot) e w b f n
+  task_again Fred (InFred (FromUser way)) e w b f m n k h = h
+  task_again Fred (InFred (fred.Leaves FredToTask)) e w b f m n k h = h
+  task_again Fred (InFred (fred.Leaves FredToNext)) e w b f m n k h = h
+  task_again Fred (InBody FredFrame s) e w b f m n k h = spot_again mode image m n UserCode e w b k s f h
+  task_again Idt (InIdt Sys) e w b f m n k h = h
+  task_again Idt (InIdt (Stub UserCode has v)) e w b f m n k h = h
+  task_again Idt (InIdt (Common UserCode pf)) e w b f m n k h = h
+  task_again Idt (InIdt (idt.Leaves (IdtToTask by))) e w b f m n k h = h
+  task_again Idt (InIdt (idt.Leaves (IdtToNext by))) e w b f m n k h = h
+  task_again Idt (InBody IdtFrame s) e w b f m n k h = spot_again mode image m n UserCode e w b k s f h
+  task_again m' _ e w b f m n k h = absurd h
+
+  body_again : (mode' : Mode) (spot : Spot) (e : Env) (w : Processor) (b : BodyContext) (f : Option Filling) (m n : NatMap ℕ) → RecordsStay b.calls m n
+      → OverBody mode image mode' spot e w b f m → OverBody mode image mode' (weaken spot) e w b f n
+  body_again Fred (InFred FromKernel) e w b f m n k h = h
+  body_again Fred (InFred (fred.Leaves FredToKernel)) e w b f m n k h = h
+  body_again Fred (InBody FredFrame s) e w b f m n k h = spot_again mode image m n KernelCode e w b k s f h
+  body_again Idt (InIdt (Stub KernelCode has v)) e w b f m n k h = h
+  body_again Idt (InIdt (Common KernelCode pf)) e w b f m n k h = h
+  body_again Idt (InIdt (idt.Leaves IdtToKernel)) e w b f m n k h = h
+  body_again Idt (InBody IdtFrame s) e w b f m n k h = spot_again mode image m n KernelCode e w b k s f h
+  body_again m' _ e w b f m n k h = absurd h
+
+  pub means_again : (κ : Kind) (spot : Spot) (e : Env) (w : Processor) (b : BodyContext) (f : Option Filling) (m n : NatMap ℕ) → RecordsStay b.calls m n
+      → Means mode image κ spot e w b f m → Means mode image κ (weaken spot) e w b f n
+  means_again SystemCall spot e w b f m n k h = task_again mode spot e w b f m n k h
+  means_again FromTask spot e w b f m n k h = task_again mode spot e w b f m n k h
+  means_again FromBody spot e w b f m n k h = body_again mode spot e w b f m n k h
+  means_again NmiFromTask spot e w b f m n k h = absurd h
+  means_again NmiFromBody spot e w b f m n k h = absurd h
+
+  -- one that fills no record is at the same spot
+  weaken_body : (s : BodySpot) → fills s ≡ false → weaker_body s ≡ s
+  weaken_body (InCall (AtLink address func to is_stale)) off = let clash : true ≡ false = off in absurd (cc)
+  weaken_body _ off = refl
+
+  weaken_spot : (spot : Spot) → fills_record spot ≡ false → weaken spot ≡ spot
+  weaken_spot (InBody layout s) off = ap (InBody layout) (weaken_body s off)
+  weaken_spot _ off = refl
+
+  pub means_stay : (κ : Kind) (spot : Spot) (e : Env) (w : Processor) (b : BodyContext) (f : Option Filling) (m n : NatMap ℕ) → fills_record spot ≡ false
+      → RecordsStay b.calls m n → Means mode image κ spot e w b f m → Means mode image κ spot e w b f n
+  means_stay κ spot e w b f m n off k h = subst (λ y. Means mode image κ y e w b f n) (weaken_spot spot off) (means_again κ spot e w b f m n k h)
 
   frame_again : (p : ℕ) (f : Frame) (w : Processor) (m n : NatMap ℕ) → FrameIs p f w m → FrameIs p f w n
   frame_again p Held w m n h = h
@@ -183,13 +270,68 @@ module _ (mode : Mode) (image : Image) where
       (λ l i. switch_spared q σ hs (omega arith) m.words words mark (addr e l) task next names.few mode spot over spares
       (switch_known mode image q σ hs hq few κ ss w extra v f task next names spot over l i))
 
-  pub active_stays : (κ : Kind) (q left : ℕ) (σ : Seat) (f : Frame) (sw : Bool) (w : Processor) (b : BodyContext) (c : Processor) (m : Memory)
-      (words : NatMap ℕ) → q < image.processors → image.processors ≤ 8 → IsSeat σ → Spares mode q σ m.words words
-      → (code_end ≤ c.rip) ⊎ MarkStays q m.words words
-      → Active mode image q left κ σ f sw w b c m → Active mode image q left κ σ f sw w b c (with_words m words)
-  active_stays κ q left σ f sw w b c m words hq few hs spares mark a = record {
+  -- and one that fills a record
+  fill_stays : (q : ℕ) (κ : Kind) (σ : Seat) (ss : ℕ) (w : Processor) (extra v : ℕ → ℕ) (f : Flags) (spot : Spot) (k : ℕ) (c : Processor) (m : Memory)
+      (words : NatMap ℕ) → q < image.processors → image.processors ≤ 8 → IsSeat σ → is_fill mode spot ≡ true → (site : ℕ) → site < 8
+      → extra 22 ≡ record_address q site → Spares mode q σ m.words words → RecordStays (record { from = q; site = site }) m.words words
+      → At (code_table mode image) (block mode spot) k (here mode q κ σ ss w extra v f) c m
+      → At (code_table mode image) (block mode spot) k (here mode q κ σ ss w extra v f) c (with_words m words)
+  fill_stays q κ σ ss w extra v f spot k c m words hq few hs over site small base spares record_stays a =
+      let e : Env = here mode q κ σ ss w extra v f in
+      stays (code_table mode image) (block mode spot) k e c m (with_words m words) a refl
+      (λ l i. in_one mode (addr e l) spares record_stays (fill_known mode image q σ hs hq few κ ss w extra v f site small base spot over l i))
+    where
+      in_one : (m' : Mode) (a : ℕ) → Spares mode q σ m.words words → RecordStays (record { from = q; site = site }) m.words words
+          → InOne mode image q σ hs hq few κ ss w extra v f site small base mode a → words a ≡ m.words a
+      in_one m' a sp rs (inl t) =
+          let from = t.1.from in let to = t.1.to in
+          let e : record_address q site + (a - record_address q site) ≡ a = omega arith in
+          sym (ap words e) ∙ rs (a - record_address q site) (omega arith) ∙ ap m.words e
+      in_one m' a sp rs (inr t) = on_stack mode sp t
+        where
+          on_stack : (m' : Mode) → Spares m' q σ m.words words
+              → IsSpan (span_of (where_fill q σ site) (OnStack (body_bytes (layout_of m'))))
+              × InSpan (span_of (where_fill q σ site) (OnStack (body_bytes (layout_of m')))) a → words a ≡ m.words a
+          on_stack Fred sp t = let from = t.1.from in let to = t.1.to in let r = hs.room in sp.stretch a (omega arith) (omega arith)
+          on_stack Idt sp t = let from = t.1.from in let to = t.1.to in let r = hs.room in sp.stretch a (omega arith) (omega arith)
+
+  -- The blocks of a spot and of the weaker one are one, and it is the same that they write and know; of edges there are few more.
+  weaken_block : (mode' : Mode) (spot : Spot) → block mode' (weaken spot) ≡ block mode' spot
+  weaken_block Fred (InBody layout (InCall (AtLink address func to is_stale))) = refl
+  weaken_block Idt (InBody layout (InCall (AtLink address func to is_stale))) = refl
+  weaken_block mode' _ = refl
+
+  weaken_switches : (spot : Spot) → blocks.switches (weaken spot) ≡ blocks.switches spot
+  weaken_switches (InFred s) = refl
+  weaken_switches (InIdt s) = refl
+  weaken_switches (InNmi s) = refl
+  weaken_switches (InBody layout s) = refl
+
+  weaken_holds : (spot : Spot) → blocks.holds (weaken spot) ≡ blocks.holds spot
+  weaken_holds (InFred s) = refl
+  weaken_holds (InIdt s) = refl
+  weaken_holds (InNmi s) = refl
+  weaken_holds (InBody layout s) = refl
+
+  weaken_fills : (spot : Spot) → fills_record (weaken spot) ≡ fills_record spot
+  weaken_fills (InBody layout (InCall (AtLink address func to is_stale))) = refl
+  weaken_fills _ = refl
+
+  weaken_edges : (mode' : Mode) (spot : Spot) (k left left' : ℕ) → left ≤ left' → 8 ≤ left' → edges mode' spot k ≤ left → edges mode' (weaken spot) k ≤ left'
+  weaken_edges Fred (InBody layout (InCall (AtLink address func to true))) k left left' l few h = omega arith
+  weaken_edges Fred (InBody layout (InCall (AtLink address func to false))) k left left' l few h = omega arith
+  weaken_edges Idt (InBody layout (InCall (AtLink address func to true))) k left left' l few h = omega arith
+  weaken_edges Idt (InBody layout (InCall (AtLink address func to false))) k left left' l few h = omega arith
+  weaken_edges mode' _ k left left' l few h = omega (arith, l, h)
+
+  pub active_stays : (κ : Kind) (q left left' : ℕ) (σ : Seat) (f : Frame) (sw : Bool) (g : Option Filling) (w : Processor) (b : BodyContext) (c : Processor)
+      (m : Memory) (words : NatMap ℕ) → q < image.processors → image.processors ≤ 8 → IsSeat σ → Spares mode q σ m.words words
+      → RecordsStay b.calls m.words words → FillStays q g m.words words → ((h : Filling) → g ≡ Some h → h.site < 8)
+      → (code_end ≤ c.rip) ⊎ MarkStays q m.words words → left ≤ left' → 8 ≤ left'
+      → Active mode image q left κ σ f sw g w b c m → Active mode image q left' κ σ f sw g w b c (with_words m words)
+  active_stays κ q left left' σ f sw g w b c m words hq few hs spares calls filled small mark l more a = record {
     stands = record {
-      spot = a.stands.spot;
+      spot = weaken a.stands.spot;
       k = a.stands.k;
       extra = a.stands.extra;
       var = a.stands.var;
@@ -197,14 +339,16 @@ module _ (mode : Mode) (image : Image) where
       ss = a.stands.ss;
       ss_is = a.stands.ss_is;
       masked = a.stands.masked;
-      within = a.stands.within;
-      enough = a.stands.enough;
-      at = by_switch (blocks.switches a.stands.spot) refl;
+      within = subst (λ (B : Block). a.stands.k ≤ B.steps) (sym (weaken_block mode a.stands.spot)) a.stands.within;
+      enough = weaken_edges mode a.stands.spot a.stands.k left left' l more a.stands.enough;
+      at = subst (λ B. At (code_table mode image) B a.stands.k (here mode q κ σ a.stands.ss w a.stands.extra a.stands.var a.stands.flags) c (with_words m words))
+          (sym (weaken_block mode a.stands.spot)) (by_switch (blocks.switches a.stands.spot) refl (fills_record a.stands.spot) refl);
       long = a.stands.long;
     };
-    switches = a.switches;
-    knows = a.knows;
-    means = means_again κ a.stands.spot _ w b m.words words a.means;
+    switches = weaken_switches a.stands.spot ∙ a.switches;
+    fills = weaken_fills a.stands.spot ∙ a.fills;
+    knows = subst (λ t. Knows mode κ t f) (sym (weaken_holds a.stands.spot)) a.knows;
+    means = means_again κ a.stands.spot _ w b g m.words words calls a.means;
   }
     where
       -- no exit is in the bodies' code
@@ -212,17 +356,23 @@ module _ (mode : Mode) (image : Image) where
       exits_stay h = ⊎_elim
           (λ l. absurd (not_in_bodies (code_table mode image) (block mode a.stands.spot) a.stands.k _ c m a.stands.at refl a.stands.within h l)) (λ k. k) mark
 
-      by_switch : (t : Bool) → blocks.switches a.stands.spot ≡ t
+      by_switch : (t : Bool) → blocks.switches a.stands.spot ≡ t → (u : Bool) → fills_record a.stands.spot ≡ u
           → At (code_table mode image) (block mode a.stands.spot) a.stands.k (here mode q κ σ a.stands.ss w a.stands.extra a.stands.var a.stands.flags) c
           (with_words m words)
-      by_switch true on =
-          let t = means_switch mode image κ a.stands.spot _ w b m.words a.means on in
+      by_switch true on u r =
+          let t = means_switch mode image κ a.stands.spot _ w b g m.words a.means on in
           let names = names_tasks mode image q κ σ a.stands.ss w a.stands.extra a.stands.var a.stands.flags _ w b t.1 in
           switch_stays q κ σ a.stands.ss w a.stands.extra a.stands.var a.stands.flags a.stands.spot a.stands.k c m words hq few hs t.0
           t.1.task t.1.next names.1 spares
           (exits_stay (switch_elsewhere mode a.stands.spot t.0)) a.stands.at
-      by_switch false off =
-          let over = means_over mode image κ a.stands.spot _ w b m.words a.means off in
+      by_switch false off true on =
+          let t = means_fills mode image κ a.stands.spot _ w b g m.words a.means on in
+          let z = t.1.fills in
+          let site : ℕ = z.site in
+          fill_stays q κ σ a.stands.ss w a.stands.extra a.stands.var a.stands.flags a.stands.spot a.stands.k c m words hq few hs t.0 site
+          (small (record { site = site; number = z.number }) z.is) z.at spares (subst (λ y. FillStays q y m.words words) z.is filled) a.stands.at
+      by_switch false off false none =
+          let over = means_over mode image κ a.stands.spot _ w b g m.words a.means off none in
           at_stays q κ σ a.stands.ss w a.stands.extra a.stands.var a.stands.flags a.stands.spot a.stands.k c m words hq few hs over spares
           (λ k. exits_stay (mark_elsewhere mode a.stands.spot over k)) a.stands.at
 
@@ -234,22 +384,23 @@ module _ (mode : Mode) (image : Image) where
   marks_under q (b ∷ below) w v (a ∷ as') m n h e = inl (subst (λ y. code_end ≤ y) (sym e) h.2)
 
   -- and every context below it
-  pub chain_stays : (q left r to : ℕ) (t : Task) (f : Frame) (sw : Bool) (bs : List BodyContext) (as' : List Activation) (c : Processor) (m : Memory)
-      (words : NatMap ℕ) → q < image.processors → image.processors ≤ 8 → AreSpared q r bs m.words words → MarkSpared q bs c m.words words
-      → Chain mode image q left r to t f sw bs as' c m → Chain mode image q left r to t f sw bs as' c (with_words m words)
-  chain_stays q left r to t f sw [] as' c m words hq few spares mark h = h
-  chain_stays q left r to t f sw (b ∷ below) [] c m words hq few spares mark h = h
-  chain_stays q left r to t f sw (b ∷ below) (a ∷ as') c m words hq few spares mark h = (
+  pub chain_stays : (q left left' r to : ℕ) (t : Task) (f : Frame) (sw : Bool) (fs : List (Option Filling)) (bs : List BodyContext) (as' : List Activation)
+      (c : Processor) (m : Memory) (words : NatMap ℕ) → q < image.processors → image.processors ≤ 8 → AreSpared q r bs m.words words
+      → AreKept q fs bs m.words words → AreSmall fs → MarkSpared q bs c m.words words → left ≤ left' → 8 ≤ left'
+      → Chain mode image q left r to t f sw fs bs as' c m → Chain mode image q left' r to t f sw fs bs as' c (with_words m words)
+  chain_stays q left left' r to t f sw fs [] as' c m words hq few spares kept small mark l more h = h
+  chain_stays q left left' r to t f sw fs (b ∷ below) [] c m words hq few spares kept small mark l more h = h
+  chain_stays q left left' r to t f sw fs (b ∷ below) (a ∷ as') c m words hq few spares kept small mark l more h = (
     h.0,
     h.1,
     h.2,
     h.3,
     beneath_as mode image (keeps_cr2 mode image (kind_of image b below)) _ _ h.0
-        (λ v e k. chain_stays q (body_edges mode image) r to t f (chained mode image sw below) below as' v m words hq few spares.1
-        (marks_under q below h.0 v as' m.words words h.3 e) k) h.4,
+        (λ v e k. chain_stays q (body_edges mode image) (body_edges mode image) r to t f (chained mode image sw below) (rest_fills fs) below as' v m words hq few
+        spares.1 kept.1 (rest_small fs small) (marks_under q below h.0 v as' m.words words h.3 e) (omega arith) (omega arith) k) h.4,
     leads_again q (kind_of image b below) f h.0 m.words words h.5,
-    active_stays (kind_of image b below) q left (seat_of mode image r (b ∷ below)) f (switches_at mode image sw below) h.0 b c m words hq few spares.0.0
-        spares.0.1 mark h.6,
+    active_stays (kind_of image b below) q left left' (seat_of mode image r (b ∷ below)) f (switches_at mode image sw below) (first_fill fs) h.0 b c m words
+        hq few spares.0.0 spares.0.1 kept.0.0 kept.0.1 (first_small fs small) mark l more h.6,
   )
 
 -- ---- who spares them
@@ -282,8 +433,8 @@ pub others_spared : (mode : Mode) (image : Image) (p q r : ℕ) (σ : Seat) (nam
 others_spared mode image p q r σ names m n bs hp hs hq d written none changes plain hr few =
     each_spared mode image q r m n bs 32 plain hr (omega arith) few (λ i l. record {
       stretch = stretches i l;
-      area = λ a h k. area_stays p σ names m n hp hs written changes q hq none a h (omega arith);
-      tss = λ a h k. area_stays p σ names m n hp hs written changes q hq none a (omega arith) (omega arith);
+      area = λ a h k. area_stays p σ names m n hp hs written changes q hq none a h (omega arith) (inl (omega arith));
+      tss = λ a h k. area_stays p σ names m n hp hs written changes q hq none a (omega arith) (omega arith) (inr (omega arith, omega arith));
       tasks = λ a h k. fixed_stays p σ names m n hp hs written changes a (InTasks h k);
       tops = λ j l a h k. let b = on_its_stack mode q j a h in stacks_stay p σ names m n hp hs written changes q d a (omega arith) (omega arith);
     })

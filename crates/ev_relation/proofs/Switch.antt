@@ -1,5 +1,5 @@
 -- Exits that switch to another task: their windows, what their steps write, and where their blocks end.
-use Rattle.std.proofs.Common.{◌≡◌, ◌⊎◌, inl, inr, ⊎_elim, ℕ, ◌+◌, ◌<◌, ◌≤◌, Bool, true, false, List, [], ◌∷◌, Some, refl, sym, ap, ◌∙◌, subst, arith}
+use Rattle.std.proofs.Common.{◌≡◌, ◌⊎◌, inl, inr, ⊎_elim, ℕ, ◌+◌, ◌<◌, ◌≤◌, Bool, true, false, List, [], ◌∷◌, Option, Some, refl, sym, ap, ◌∙◌, subst, arith}
 use Rattle.ev_isa.specs.Word.{NatMap}
 use Rattle.ev_isa.specs.Flags.{Flags}
 use Rattle.ev_isa.specs.declared.mode.Mode.{Mode}
@@ -33,6 +33,7 @@ use Rattle.ev_paths.specs.Lines.{HasKernel}
 use Rattle.ev_activation.specs.Seat.{Kind, SystemCall, FromTask, FromBody, NmiFromTask, NmiFromBody, Seat, top_at}
 use Rattle.ev_table.specs.Table.{code_table}
 use Rattle.ev_relation.specs.Named.{Named, Top, Current, Mark, TssTop, Outside, NotNamed, Changes}
+use Rattle.ev_relation.specs.Filling.{Filling}
 use Rattle.ev_relation.specs.Active.{here, ToNext, OverTask, OverBody, Means}
 use Rattle.ev_relation.proofs.Facts.{Facts}
 use Rattle.ev_relation.proofs.ModeFacts.{is_fred}
@@ -51,30 +52,32 @@ abbrev pub next_level : Mode → Env → ℕ
 next_level Fred e = e.base next_top_tag
 next_level Idt e = e.var 63
 
-over_switch : (mode : Mode) (image : Image) (m : Mode) (spot : Spot) (e : Env) (w : Processor) (b : BodyContext) → OverTask mode image m spot e w b
+over_switch : (mode : Mode) (image : Image) (m : Mode) (spot : Spot) (e : Env) (w : Processor) (b : BodyContext) (g : Option Filling) (words : NatMap ℕ)
+    → OverTask mode image m spot e w b g words
     → blocks.switches spot ≡ true → (is_switch m spot ≡ true) × ToNext mode image (next_level m e) e w b
-over_switch mode image Fred (InFred (fred.Leaves FredToNext)) e w b h on = (refl, h)
-over_switch mode image Idt (InIdt (idt.Leaves (IdtToNext by))) e w b h on = (refl, h.0)
-over_switch mode image Idt (InFred (fred.Leaves FredToNext)) e w b h on = absurd h
-over_switch mode image Fred (InIdt (idt.Leaves (IdtToNext by))) e w b h on = absurd h
-over_switch mode image m _ e w b h on = absurd (cc)
+over_switch mode image Fred (InFred (fred.Leaves FredToNext)) e w b g words h on = (refl, h)
+over_switch mode image Idt (InIdt (idt.Leaves (IdtToNext by))) e w b g words h on = (refl, h.0)
+over_switch mode image Idt (InFred (fred.Leaves FredToNext)) e w b g words h on = absurd h
+over_switch mode image Fred (InIdt (idt.Leaves (IdtToNext by))) e w b g words h on = absurd h
+over_switch mode image m _ e w b g words h on = absurd (cc)
 
 -- none stands over a body
-body_stays : (mode : Mode) (image : Image) (m : Mode) (spot : Spot) (e : Env) (w : Processor) (b : BodyContext) → OverBody mode image m spot e w b
+body_stays : (mode : Mode) (image : Image) (m : Mode) (spot : Spot) (e : Env) (w : Processor) (b : BodyContext) (g : Option Filling) (words : NatMap ℕ)
+    → OverBody mode image m spot e w b g words
     → blocks.switches spot ≡ true → ⊥
-body_stays mode image Idt (InFred (fred.Leaves FredToNext)) e w b h on = h
-body_stays mode image Fred (InFred (fred.Leaves FredToNext)) e w b h on = h
-body_stays mode image Idt (InIdt (idt.Leaves (IdtToNext by))) e w b h on = h
-body_stays mode image Fred (InIdt (idt.Leaves (IdtToNext by))) e w b h on = h
-body_stays mode image m _ e w b h on = (cc)
+body_stays mode image Idt (InFred (fred.Leaves FredToNext)) e w b g words h on = h
+body_stays mode image Fred (InFred (fred.Leaves FredToNext)) e w b g words h on = h
+body_stays mode image Idt (InIdt (idt.Leaves (IdtToNext by))) e w b g words h on = h
+body_stays mode image Fred (InIdt (idt.Leaves (IdtToNext by))) e w b g words h on = h
+body_stays mode image m _ e w b g words h on = (cc)
 
-pub means_switch : (mode : Mode) (image : Image) (κ : Kind) (spot : Spot) (e : Env) (w : Processor) (b : BodyContext) (m : NatMap ℕ)
-    → Means mode image κ spot e w b m → blocks.switches spot ≡ true → (is_switch mode spot ≡ true) × ToNext mode image (next_level mode e) e w b
-means_switch mode image SystemCall spot e w b m h on = over_switch mode image mode spot e w b h on
-means_switch mode image FromTask spot e w b m h on = over_switch mode image mode spot e w b h on
-means_switch mode image FromBody spot e w b m h on = absurd (body_stays mode image mode spot e w b h on)
-means_switch mode image NmiFromTask spot e w b m h on = absurd h
-means_switch mode image NmiFromBody spot e w b m h on = absurd h
+pub means_switch : (mode : Mode) (image : Image) (κ : Kind) (spot : Spot) (e : Env) (w : Processor) (b : BodyContext) (g : Option Filling) (m : NatMap ℕ)
+    → Means mode image κ spot e w b g m → blocks.switches spot ≡ true → (is_switch mode spot ≡ true) × ToNext mode image (next_level mode e) e w b
+means_switch mode image SystemCall spot e w b g m h on = over_switch mode image mode spot e w b g m h on
+means_switch mode image FromTask spot e w b g m h on = over_switch mode image mode spot e w b g m h on
+means_switch mode image FromBody spot e w b g m h on = absurd (body_stays mode image mode spot e w b g m h on)
+means_switch mode image NmiFromTask spot e w b g m h on = absurd h
+means_switch mode image NmiFromBody spot e w b g m h on = absurd h
 
 -- what holds of the two of them holds of each
 pub each_switch : (P : Mode → Spot → Type 0) → P Fred (InFred (fred.Leaves FredToNext))

@@ -39,12 +39,13 @@ module _ (mode : Mode) (image : Image) where
     pub none : s.activations p ≡ []
     pub still : on.switching ≡ false
     pub returning : on.returning ≡ x.running
+    pub fills : on.fills ≡ []
 
   pub at_rest : (p left : ℕ) (s : System) (x : abstract.Processor) (on : StandsOn mode image p left s x) → x.bodies ≡ [] → AtRest p left s x on
   at_rest p left s x on e =
-      let h : Chain mode image p on.own x.running on.returning (x.tasks on.returning) on.frame on.switching [] (s.activations p) (s.cpus p) s.memory
-      = subst (λ bs. Chain mode image p on.own x.running on.returning (x.tasks on.returning) on.frame on.switching bs (s.activations p) (s.cpus p) s.memory) e
-      (as_chain mode image on.layer p on.own on.more x.running on.returning (x.tasks on.returning) on.frame on.switching x.bodies (s.activations p)
+      let h : Chain mode image p on.own x.running on.returning (x.tasks on.returning) on.frame on.switching on.fills [] (s.activations p) (s.cpus p) s.memory
+      = subst (λ bs. Chain mode image p on.own x.running on.returning (x.tasks on.returning) on.frame on.switching on.fills bs (s.activations p) (s.cpus p) s.memory) e
+      (as_chain mode image on.layer p on.own on.more x.running on.returning (x.tasks on.returning) on.frame on.switching on.fills x.bodies (s.activations p)
       (s.cpus p) s.memory
       on.runs) in
       let same : on.returning ≡ x.running = on.is_returning ∙ ap (λ b. if b then get_or x.waiting 0 x.running else x.running) h.1 in record {
@@ -52,15 +53,16 @@ module _ (mode : Mode) (image : Image) where
         none = h.2;
         still = h.1;
         returning = same;
+        fills = h.3;
       }
 
   pub stands_tells : IsImage image → IsAccepted image → Facts mode image → (left : NatMap ℕ) (s : System) (m : Machine) → Stands mode image left s m → (p : ℕ)
       → p < image.processors → Tells mode image s m p
   stands_tells given accepted facts left s m r p lt =
       let on = r.each p lt in
-      let chain = as_chain mode image on.layer p on.own on.more (processor m p).running on.returning ((processor m p).tasks on.returning) on.frame on.switching
+      let chain = as_chain mode image on.layer p on.own on.more (processor m p).running on.returning ((processor m p).tasks on.returning) on.frame on.switching on.fills
       (processor m p).bodies (s.activations p) (s.cpus p) s.memory on.runs in
-      let kept : Kept mode image p (s.cpus p) = chain_kept mode image p on.own _ _ _ _ _ (processor m p).bodies _ (s.cpus p) s.memory chain in
+      let kept : Kept mode image p (s.cpus p) = chain_kept mode image p on.own _ _ _ _ _ _ (processor m p).bodies _ (s.cpus p) s.memory chain in
       let rest = at_rest p (left p) s (processor m p) on in
       record {
         entries = record { tables = tables mode refl given p lt (s.cpus p) s.memory kept r.regions_are r.fixed };

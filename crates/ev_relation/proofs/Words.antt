@@ -162,27 +162,40 @@ in_order p q d = ⊎_elim (λ x. let y = x.1 in inr (strict (λ e. d (sym e)) y)
 area_outside : (p q o a : ℕ) → (p ≡ q → ⊥) → o + 8 ≤ 0x10000 → pcpu q ≤ a → a < pcpu q + 0x10000 → Outside (pcpu p + o) (pcpu p + o + 8) a
 area_outside p q o a d ho h k = ⊎_elim (λ (l : p < q). inr (omega arith)) (λ (l : q < p). inl (omega arith)) (in_order p q d)
 
-other_area : (x : Named) → IsWritten x → (q a : ℕ) → q < 32 → owner x ≢ Some q → pcpu q ≤ a → a < pcpu q + 0x10000
-    → Outside (address_of x) (address_of x + 8) a
-other_area (UserRsp p) w q a hq d h k = area_outside p q 8 a (λ e. d (ap Some e)) (omega arith) h k
-other_area (Top p) w q a hq d h k = area_outside p q 0x10 a (λ e. d (ap Some e)) (omega arith) h k
-other_area (Current p) w q a hq d h k = area_outside p q 0x18 a (λ e. d (ap Some e)) (omega arith) h k
-other_area (Mark p) w q a hq d h k = area_outside p q 0x20 a (λ e. d (ap Some e)) (omega arith) h k
-other_area (Port p) w q a hq d h k = area_outside p q 0x28 a (λ e. d (ap Some e)) (omega arith) h k
-other_area (Head p) w q a hq d h k = area_outside p q 0x30 a (λ e. d (ap Some e)) (omega arith) h k
-other_area (TssTop p) w q a hq d h k = area_outside p q 0x408 a (λ e. d (ap Some e)) (omega arith) h k
-other_area (Slot p i) w q a hq d h k = let b = w.1 in area_outside p q (0x200 + 8 * i) a (λ e. d (ap Some e)) (omega arith) h k
-other_area (RecordWord p i o) w q a hq d h k =
-    let b = w.1 in let c = w.2 in let z = w.3 in
-    ⊎_elim (λ (l : p < q). inr (omega arith)) (λ (l : q < p). inl (omega arith)) (in_order p q (λ e. d (ap Some e)))
-other_area (CellAt i) w q a hq d h k = inl (omega arith)
-other_area (PageBit i) w q a hq d h k = inl (omega arith)
-other_area (UserWord b) w q a hq d h k = let c = w.1 in inr (omega arith)
+-- an offset of an area that is no word's of calls
+abbrev pub IsOffCalls : ℕ → Type 0
+IsOffCalls o = (o < 0x30) ⊎ ((0x40 ≤ o) × (o < 0x800))
 
-pub other_unnamed : (names : List Named) → AreWritten names → (q : ℕ) → q < 32 → NoneOf q names → (a : ℕ) → pcpu q ≤ a → a < pcpu q + 0x10000
-    → NotNamed names a
-other_unnamed [] w q hq n a h k = tt
-other_unnamed (x ∷ xs) w q hq n a h k = (other_area x w.0 q a hq n.0 h k, other_unnamed xs w.1 q hq n.1 a h k)
+-- the head of a queue, or a word of a record, lies elsewhere, whoever it belongs to
+off_calls : (p q o lo : ℕ) → o < 0x10000 → IsOffCalls o → (lo ≡ 0x30) ⊎ ((0x800 ≤ lo) × (lo + 8 ≤ 0x10000)) → Outside (pcpu p + lo) (pcpu p + lo + 8) (pcpu q + o)
+off_calls p q o lo h (inl l) (inl e) = area_word p q lo o (omega arith) h (inl (omega arith))
+off_calls p q o lo h (inr l) (inl e) = let k = l.0 in area_word p q lo o (omega arith) h (inr (omega arith))
+off_calls p q o lo h (inl l) (inr r) = let k = r.0 in let k' = r.1 in area_word p q lo o (omega arith) h (inl (omega arith))
+off_calls p q o lo h (inr l) (inr r) = let k = r.0 in let k' = r.1 in let l' = l.1 in area_word p q lo o (omega arith) h (inl (omega arith))
+
+other_area : (x : Named) → IsWritten x → (q o : ℕ) → q < 32 → owner x ≢ Some q → o < 0x10000 → IsOffCalls o
+    → Outside (address_of x) (address_of x + 8) (pcpu q + o)
+other_area (UserRsp p) w q o hq d h k = area_outside p q 8 (pcpu q + o) (λ e. d (ap Some e)) (omega arith) (omega arith) (omega arith)
+other_area (Top p) w q o hq d h k = area_outside p q 0x10 (pcpu q + o) (λ e. d (ap Some e)) (omega arith) (omega arith) (omega arith)
+other_area (Current p) w q o hq d h k = area_outside p q 0x18 (pcpu q + o) (λ e. d (ap Some e)) (omega arith) (omega arith) (omega arith)
+other_area (Mark p) w q o hq d h k = area_outside p q 0x20 (pcpu q + o) (λ e. d (ap Some e)) (omega arith) (omega arith) (omega arith)
+other_area (Port p) w q o hq d h k = area_outside p q 0x28 (pcpu q + o) (λ e. d (ap Some e)) (omega arith) (omega arith) (omega arith)
+other_area (Head p) w q o hq d h k = off_calls p q o 0x30 h k (inl refl)
+other_area (TssTop p) w q o hq d h k = area_outside p q 0x408 (pcpu q + o) (λ e. d (ap Some e)) (omega arith) (omega arith) (omega arith)
+other_area (Slot p i) w q o hq d h k =
+    let b = w.1 in area_outside p q (0x200 + 8 * i) (pcpu q + o) (λ e. d (ap Some e)) (omega arith) (omega arith) (omega arith)
+other_area (RecordWord p i n) w q o hq d h k =
+    let b = w.1 in let c = w.2 in let z = w.3 in
+    subst (λ y. Outside y (y + 8) (pcpu q + o)) (let e : pcpu p + (0x800 + 0x40 * i + n) ≡ pcpu p + 0x800 + 0x40 * i + n = omega arith in e)
+    (off_calls p q o (0x800 + 0x40 * i + n) h k (inr (omega arith, omega arith)))
+other_area (CellAt i) w q o hq d h k = inl (omega arith)
+other_area (PageBit i) w q o hq d h k = inl (omega arith)
+other_area (UserWord b) w q o hq d h k = let c = w.1 in inr (omega arith)
+
+pub other_unnamed : (names : List Named) → AreWritten names → (q : ℕ) → q < 32 → NoneOf q names → (o : ℕ) → o < 0x10000 → IsOffCalls o
+    → NotNamed names (pcpu q + o)
+other_unnamed [] w q hq n o h k = tt
+other_unnamed (x ∷ xs) w q hq n o h k = (other_area x w.0 q o hq n.0 h k, other_unnamed xs w.1 q hq n.1 o h k)
 
 -- a saved area lies on its stack
 pub on_its_stack : (mode : Mode) (p i a : ℕ) → stack_top p i - area_bytes mode ≤ a → stack_top p i - stack_bytes ≤ a
@@ -222,9 +235,15 @@ module _ (p : ℕ) (σ : Seat) (names : List Named) (m n : NatMap ℕ) (hp : p <
           (stack_unnamed names written a (let b = on_its_stack mode p i a h in omega arith)))
           (λ e. stack_stays i e.1 a (on_its_stack mode p i a h) k) (eqb_tells i σ.stack)
 
-  -- what belongs to another processor: its area and its stacks
-  pub area_stays : (q : ℕ) → q < 32 → NoneOf q names → (a : ℕ) → pcpu q ≤ a → a < pcpu q + 0x10000 → n a ≡ m a
-  area_stays q hq d a h k = changes a (low_off_stack p σ hp hs a (omega arith)) (other_unnamed names written q hq d a h k)
+  -- what belongs to another processor: its stacks and, but for the words of calls, its area
+  pub offset_stays : (q : ℕ) → q < 32 → NoneOf q names → (o : ℕ) → o < 0x10000 → IsOffCalls o → n (pcpu q + o) ≡ m (pcpu q + o)
+  offset_stays q hq d o h k = changes (pcpu q + o) (low_off_stack p σ hp hs (pcpu q + o) (omega arith)) (other_unnamed names written q hq d o h k)
+
+  -- so do these of its words, by their addresses
+  pub area_stays : (q : ℕ) → q < 32 → NoneOf q names → (a : ℕ) → pcpu q ≤ a → a < pcpu q + 0x800 → IsOffCalls (a - pcpu q) → n a ≡ m a
+  area_stays q hq d a h k off =
+      let e : pcpu q + (a - pcpu q) ≡ a = omega arith in
+      sym (ap n e) ∙ offset_stays q hq d (a - pcpu q) (omega arith) off ∙ ap m e
 
   pub stacks_stay : (q : ℕ) → (q ≡ p → ⊥) → (a : ℕ) → 0xffffc90000000000 + 0x100000 * q ≤ a → a < 0xffffc90000000000 + 0x100000 * suc q → n a ≡ m a
   stacks_stay q d a h k = changes a (apart (in_order q p d)) (stack_unnamed names written a (omega arith))

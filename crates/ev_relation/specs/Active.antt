@@ -1,26 +1,31 @@
 -- Activations: at an instruction of a block, over the processor to which they will return; and what the variables of blocks are. Own.
-use Rattle.std.specs.Prelude.{◌≡◌, ◌⊎◌, ℕ, ◌+◌, ◌*◌, ◌/◌, ◌%◌, ◌^◌, ◌<◌, ◌≤◌, Bool, true, false, ◌==◌, if◌then◌else◌, [], ◌∷◌, length, get_or, slice_get, Option, Some, None}
+use Rattle.std.specs.Prelude.{◌≡◌, ◌⊎◌, ℕ, ◌+◌, ◌*◌, ◌/◌, ◌%◌, ◌^◌, ◌<◌, ◌≤◌, ◌-◌, suc, Bool, true, false, not, ◌||◌, ◌==◌, if◌then◌else◌, List, [], ◌∷◌, length, get_or, set, slice_get, is_some, Option, Some, None}
 use Rattle.ev_isa.specs.Word.{NatMap, bit, is_canonical}
 use Rattle.ev_isa.specs.Flags.{Status, Flags, modelled}
 use Rattle.ev_isa.specs.declared.mode.Mode.{Mode}
 use Rattle.ev_isa.specs.declared.mode.Mode.TheVariants.{Idt, Fred}
 use Rattle.ev_body.specs.declared.item.Item.{Item}
-use Rattle.ev_body.specs.declared.item.Item.TheVariants.{SetCell, AddCell, SwapCell, Uget, Uput, SetRip, Eoi, Send, Map, Unmap, Ret, Resched}
+use Rattle.ev_body.specs.declared.item.Item.TheVariants.{SetCell, AddCell, SwapCell, Uget, Uput, SetRip, Eoi, Send, Map, Unmap, Ret, Resched, Call, Wait, Take, Finish}
 use Rattle.ev_body.specs.declared.key.Side.{Side}
 use Rattle.ev_body.specs.declared.key.Side.TheVariants.{User, Kernel}
 use Rattle.ev_body.specs.declared.body.Body.{Body}
 use Rattle.ev_body.specs.declared.image.Image.{Image}
 use Rattle.ev_body.specs.Bodies.{first_body}
 use Rattle.ev_state.specs.Processor.{Processor, rsp, selector}
+use Rattle.ev_law.specs.Legal.{runs_calls}
+use Rattle.ev_calls.specs.Records.{Linked}
+use Rattle.ev_calls.specs.Lists.{IsTurning}
+use Rattle.ev_symbolic.specs.Value.{M}
 use Rattle.ev_symbolic.specs.State.{top_tag}
 use Rattle.ev_mem.specs.Memory.{Memory}
-use Rattle.ev_listing.specs.AddressMap.{pcpu, cells_base, body_code, task_words, task_selector, stack_top}
-use Rattle.ev_listing.specs.Expansion.{command, item_address}
-use Rattle.ev_abstract.specs.Context.{BodyContext, local}
+use Rattle.ev_listing.specs.AddressMap.{pcpu, cells_base, body_code, task_words, task_selector, stack_top, head_offset, record_address}
+use Rattle.ev_listing.specs.Expansion.{command, item_address, function_address}
+use Rattle.ev_abstract.specs.Context.{CallId, BodyContext, local}
+use Rattle.ev_abstract.specs.CrossCall.{after_take}
 use Rattle.ev_abstract.specs.Run.{item_at}
 use Rattle.ev_symbolic.specs.Agrees.{Env, untracked, At}
 use Rattle.ev_symbolic.specs.Join.{env_after}
-use Rattle.ev_symbolic.specs.Names.{task_tag, next_task_tag, item_tag, next_top_tag}
+use Rattle.ev_symbolic.specs.Names.{task_tag, next_task_tag, item_tag, next_top_tag, record_tag}
 use Rattle.ev_symbolic.specs.Openings.{gs_tag}
 use Rattle.ev_table.specs.Table.{code_table}
 use Rattle.ev_blocks.specs.Shapes.{Origin, UserCode, KernelCode, FredFrame, IdtFrame}
@@ -28,12 +33,15 @@ use Rattle.ev_blocks.specs.Fred.{FromUser, FromKernel, FredToKernel, FredToTask,
 use Rattle.ev_blocks.specs.Fred as fred
 use Rattle.ev_blocks.specs.Idt.{IdtReturn, BySysret, Stub, Sys, Common, IdtToKernel, IdtToTask, IdtToNext, table_of, stub_values, common_values, sys_values}
 use Rattle.ev_blocks.specs.Idt as idt
-use Rattle.ev_blocks.specs.Items.{BodySpot, AtTable, AtJump, AtItem, AtNumber, AtNumbers, AtUserWord, AtPageWord, BehindSti}
-use Rattle.ev_blocks.specs.Blocks.{Spot, InFred, InIdt, InBody, block, edges}
+use Rattle.ev_blocks.specs.Calls.{CallSpot, AtRecord, BehindWait, BehindBusy, AtFill, AtHead, AtLink, BehindFailure, BehindCall, AtTake, BehindTake, AtTurn, BehindTurn, AtTaken, AtFinish, BehindNext, AtOffset, behind_exchange, call_end, at_old_link, at_function, turn_edges, taken_edges}
+use Rattle.ev_blocks.specs.Items.{BodySpot, AtTable, AtJump, AtItem, AtNumber, AtNumbers, AtUserWord, AtPageWord, BehindSti, InCall}
+use Rattle.ev_blocks.specs.Items as items
+use Rattle.ev_blocks.specs.Blocks.{Spot, InFred, InIdt, InBody, block, edges, item_edges}
 use Rattle.ev_blocks.specs.Blocks as blocks
 use Rattle.ev_paths.specs.Lines.{IsAtStub}
 use Rattle.ev_activation.specs.Seat.{Kind, SystemCall, FromTask, FromBody, NmiFromBody, Seat, top_at}
 use Rattle.ev_relation.specs.Nmi.{Frame, Knows}
+use Rattle.ev_relation.specs.Filling.{Filling}
 
 -- ---- bases, and what no block tells
 
@@ -101,6 +109,11 @@ unfoldable pub page_local : Option Item → Option ℕ
 page_local (Some (Map s)) = Some s
 page_local (Some (Unmap s)) = Some s
 page_local _ = None
+
+-- whether a spot's block fills a call record
+abbrev pub fills_record : Spot → Bool
+fills_record (InBody layout s) = items.fills s
+fills_record s = false
 
 module _ (mode : Mode) (image : Image) where
   -- ---- at an instruction of a block
@@ -186,6 +199,7 @@ module _ (mode : Mode) (image : Image) where
     pub begins : b.place ≡ 0
     pub unknown : b.flags ≡ None
     pub off : b.interrupts ≡ false
+    pub quiet : b.calls ≡ []
     pub saved : SavedOf o e w
     pub locals : Locals e.var b
 
@@ -195,8 +209,14 @@ module _ (mode : Mode) (image : Image) where
     pub begins : b.place ≡ 0
     pub unknown : b.flags ≡ None
     pub off : b.interrupts ≡ false
+    pub quiet : b.calls ≡ []
     pub saved : SavedOf o e w
     pub locals : Locals e.var b
+
+  -- The calls that a context still has to run are linked from R14 on; where there is none, R14 is anything.
+  abbrev pub HoldsCalls : NatMap ℕ → ℕ → List CallId → Type 0
+  HoldsCalls words a [] = Unit {0}
+  HoldsCalls words a (k ∷ ks) = Linked words a (k ∷ ks)
 
   -- the status flags are those of the context, where these are known
   abbrev pub FlagsAre : Option Status → Flags → Type 0
@@ -204,10 +224,11 @@ module _ (mode : Mode) (image : Image) where
   FlagsAre (Some s) f = f.status ≡ s
 
   -- at an item: the registers are its locals, and the flags its flags
-  pub record InItem (o : Origin) (e : Env) (w : Processor) (b : BodyContext) : Type 0 where
+  pub record InItem (o : Origin) (e : Env) (w : Processor) (b : BodyContext) (words : NatMap ℕ) : Type 0 where
     pub saved : SavedOf o e w
     pub locals : Locals e.var b
     pub flags : FlagsAre b.flags e.flags
+    pub calls : HoldsCalls words (e.var 14) b.calls
 
   -- in the exit, behind `ret`
   pub record Leaving (o : Origin) (e : Env) (w : Processor) (b : BodyContext) : Type 0 where
@@ -246,63 +267,219 @@ module _ (mode : Mode) (image : Image) where
   abbrev pub HasPlace : Env → BodyContext → Type 0
   HasPlace e b = e.base item_tag ≡ item_place mode image b.body b.place
 
-  -- behind `sti` the context is at the next item already, which begins two bytes behind that of `sti`
-  abbrev pub HasNextPlace : Env → BodyContext → Type 0
-  HasNextPlace e b = e.base item_tag + 2 ≡ item_place mode image b.body b.place
+  -- the base of an item is an address of the bodies' code
+  abbrev pub HasRange : Env → Type 0
+  HasRange e = (0xffffffff82000000 ≤ e.base item_tag) × (e.base item_tag + 0x100 ≤ M)
+
+  -- behind an item's visible instruction the context is at the next item already, which begins so many bytes behind the item
+  abbrev pub HasNextPlace : ℕ → Env → BodyContext → Type 0
+  HasNextPlace n e b = e.base item_tag + n ≡ item_place mode image b.body b.place
+
+  -- ---- in the items of cross calls
+
+  -- the context's item
+  abbrev pub item_of : BodyContext → Option Item
+  item_of b = item_at (slice_get image.bodies b.body) b.place
+
+  -- In an item of calls, whose flags no context tells, the registers are the locals.
+  pub record InCode (o : Origin) (e : Env) (w : Processor) (b : BodyContext) (words : NatMap ℕ) : Type 0 where
+    pub range : HasRange e
+    pub saved : SavedOf o e w
+    pub locals : Locals e.var b
+    pub calls : HoldsCalls words (e.var 14) b.calls
+
+  -- Behind the visible instruction of `call` the context has the answer n in its local s, which the register gets last.
+  pub record Answering (o : Origin) (e : Env) (w : Processor) (b : BodyContext) (s n : ℕ) (words : NatMap ℕ) : Type 0 where
+    pub range : HasRange e
+    pub saved : SavedOf o e w
+    pub is_local : (6 ≤ s) × (s < 14)
+    pub locals : b.locals ≡ set (e.var 6 ∷ e.var 7 ∷ e.var 8 ∷ e.var 9 ∷ e.var 10 ∷ e.var 11 ∷ e.var 12 ∷ e.var 13 ∷ []) (s - 6) n
+    pub flags : b.flags ≡ None
+    pub calls : HoldsCalls words (e.var 14) b.calls
+    pub next : HasNextPlace call_end e b
+
+  -- the site of an item that uses a record
+  unfoldable pub site_of : Option Item → Option ℕ
+  site_of (Some (Call site to func s)) = Some site
+  site_of (Some (Wait site)) = Some site
+  site_of _ = None
+
+  -- The activation fills the record of its item's site: 22 is the record, 27 the processor and 28 the site; and these are the item's numbers.
+  pub record Fills (e : Env) (b : BodyContext) (f : Option Filling) (address func to s : ℕ) : Type 0 where
+    pub site : ℕ
+    pub number : ℕ
+    pub is : f ≡ Some (record { site = site; number = number })
+    pub item : item_of b ≡ Some (Call site to func s)
+    pub is_local : (6 ≤ s) × (s < 14)
+    pub at : e.base record_tag ≡ e.base gs_tag + 0x800 + 0x40 * site
+    pub address_is : address ≡ function_address mode image func
+    pub from : e.base gs_tag ≡ pcpu (e.var 27)
+    pub from_site : e.var 28 ≡ site
+
+  -- once it is filled, 25 is the number of the call and 26 the argument
+  pub record Filled (e : Env) (b : BodyContext) (f : Option Filling) (address func to : ℕ) : Type 0 where
+    pub s : ℕ
+    pub fills : Fills e b f address func to s
+    pub number : e.var 25 ≡ suc fills.number % M
+    pub argument : e.var 26 ≡ local b s
+
+  -- whether RAX is the head of the target's queue still
+  abbrev pub IsHead : Bool → ℕ → ℕ → NatMap ℕ → Type 0
+  IsHead true to a words = Unit {0}
+  IsHead false to a words = words (pcpu to + head_offset) ≡ a
+
+  -- The record of the first call of a context that has just begun its function: the function's address, the argument and the caller.
+  abbrev pub BeginsCall : NatMap ℕ → BodyContext → List CallId → Type 0
+  BeginsCall words b [] = Unit {0}
+  BeginsCall words b (k ∷ ks) =
+      (words (record_address k.from k.site + 8) ≡ item_place mode image b.body b.place)
+      × (words (record_address k.from k.site + 0x10) ≡ local b 9) × (words (record_address k.from k.site + 0x20) ≡ local b 10)
+
+  -- which registers have their locals already: R9 and R10 get theirs from the record
+  abbrev pub LocalsBut : (nine ten : Bool) → (ℕ → ℕ) → BodyContext → Type 0
+  LocalsBut nine ten v b = b.locals ≡ v 6 ∷ v 7 ∷ v 8 ∷ (if nine then v 9 else local b 9) ∷ (if ten then v 10 else local b 10) ∷ v 11 ∷ v 12 ∷ v 13 ∷ []
+
+  -- Behind the visible instruction of `take` and of `finish` the context is at the function of its first call, or behind `take` where there is none. `n` is the
+  -- item in whose code the activation is.
+  pub record Taking (o : Origin) (e : Env) (w : Processor) (b : BodyContext) (nine ten : Bool) (words : NatMap ℕ) : Type 0 where
+    pub range : HasRange e
+    pub saved : SavedOf o e w
+    pub locals : LocalsBut (not (runs_calls b.calls) || nine) (not (runs_calls b.calls) || ten) e.var b
+    pub flags : b.flags ≡ None
+    pub begins : BeginsCall words b b.calls
+
+  -- in the code of the body's `take`
+  pub record InTake (e : Env) (b : BodyContext) : Type 0 where
+    pub n : ℕ
+    pub behind : after_take (slice_get image.bodies b.body) ≡ suc n
+    pub is : item_at (slice_get image.bodies b.body) n ≡ Some Take
+    pub at : e.base item_tag ≡ item_place mode image b.body n
+    pub none : b.calls ≡ [] → b.place ≡ suc n
+
+  -- in that of a `finish`
+  pub record InFinish (e : Env) (b : BodyContext) : Type 0 where
+    pub n : ℕ
+    pub is : item_at (slice_get image.bodies b.body) n ≡ Some Finish
+    pub at : e.base item_tag ≡ item_place mode image b.body n
+    pub none : b.calls ≡ [] → b.place ≡ after_take (slice_get image.bodies b.body)
+
+  -- Behind the load of the next record in `finish` RBX is the record of the first call, and R14 that of the next.
+  pub record Finishing (o : Origin) (e : Env) (w : Processor) (b : BodyContext) (words : NatMap ℕ) : Type 0 where
+    pub range : HasRange e
+    pub saved : SavedOf o e w
+    pub locals : Locals e.var b
+    pub place : HasPlace e b
+    pub item : item_of b ≡ Some Finish
+    pub some : runs_calls b.calls ≡ true
+    pub list : Linked words (e.var 3) b.calls
+    pub next : e.var 14 ≡ words (e.var 3 + 0x18)
+
+  -- a list that is turned round, of which so many are left
+  pub record Turns (words : NatMap ℕ) (left turned : ℕ) (calls : List CallId) (n : ℕ) : Type 0 where
+    pub list : IsTurning words left turned calls
+    pub many : length list.ahead ≡ n
+
+  -- what is made by hand: one instruction at a time
+  pub data IsByHand (o : Origin) (e : Env) (w : Processor) (b : BodyContext) (words : NatMap ℕ) (offset edges : ℕ) : Type 0 where
+    -- the branch behind the exchange of `call` that put the record into the queue, in whose place the old head is in RAX
+    BehindExchange : offset ≡ behind_exchange → edges ≡ item_edges + 5 → (s : ℕ) (is_first : Bool) → Answering o e w b s (if is_first then 2 else 1) words
+        → (e.var 0 == 0) ≡ is_first → e.flags.status.zero ≡ true → IsByHand o e w b words offset edges
+    -- the store of a record's new link: RAX is the record, and RCX its old link
+    BehindOldLink : (n : ℕ) → offset ≡ at_old_link + 7 → edges ≡ turn_edges item_edges n + 4 → Taking o e w b false false words → InTake e b
+        → Turns words (e.var 0) (e.var 14) b.calls (suc n) → e.var 1 ≡ words (e.var 0 + 0x18) → IsByHand o e w b words offset edges
+    -- the loads of the first call's words, and the jump to its function
+    AtFunction : offset ≡ at_function → edges ≡ item_edges + 4 → Taking o e w b false false words → runs_calls b.calls ≡ true
+        → Linked words (e.var 14) b.calls → IsByHand o e w b words offset edges
+    BehindArgument : offset ≡ at_function + 7 → edges ≡ item_edges + 3 → Taking o e w b true false words → runs_calls b.calls ≡ true
+        → Linked words (e.var 14) b.calls → IsByHand o e w b words offset edges
+    BehindCaller : offset ≡ at_function + 14 → edges ≡ item_edges + 2 → Taking o e w b true true words → runs_calls b.calls ≡ true
+        → Linked words (e.var 14) b.calls → IsByHand o e w b words offset edges
+    BehindAddress : offset ≡ at_function + 21 → edges ≡ item_edges + 1 → Taking o e w b true true words → runs_calls b.calls ≡ true
+        → Linked words (e.var 14) b.calls → e.var 0 ≡ item_place mode image b.body b.place → IsByHand o e w b words offset edges
+    -- the jump behind the visible store of `finish`
+    BehindFinish : offset ≡ 27 → edges ≡ taken_edges item_edges + 1 → Taking o e w b false false words → InFinish e b
+        → Linked words (e.var 14) b.calls → IsByHand o e w b words offset edges
+
+  -- at the spots of call items; `f` is the record that the activation fills
+  abbrev pub InCallSpot : Origin → CallSpot → Env → Processor → BodyContext → Option Filling → NatMap ℕ → Type 0
+  InCallSpot o (AtRecord site) e w b f words =
+      InCode o e w b words × HasPlace e b × (site_of (item_of b) ≡ Some site) × (e.var 3 ≡ e.base gs_tag + 0x800)
+  InCallSpot o (BehindWait true) e w b f words = InCode o e w b words × HasNextPlace 36 e b × (b.flags ≡ None)
+  InCallSpot o (BehindWait false) e w b f words = InCode o e w b words × HasPlace e b × (b.flags ≡ None)
+  InCallSpot o (BehindBusy s) e w b f words = Answering o e w b s 0 words
+  InCallSpot o (AtFill address func to s) e w b f words =
+      InCode o e w b words × HasPlace e b × (z : Fills e b f address func to s) × (e.var 25 ≡ z.number % M)
+  InCallSpot o (AtHead address func to) e w b f words = InCode o e w b words × HasPlace e b × Filled e b f address func to
+  InCallSpot o (AtLink address func to is_stale) e w b f words =
+      InCode o e w b words × HasPlace e b × Filled e b f address func to × IsHead is_stale to (e.var 0) words
+  InCallSpot o (BehindFailure address func to) e w b f words =
+      InCode o e w b words × HasPlace e b × Filled e b f address func to × (e.flags.status.zero ≡ false)
+  InCallSpot o (BehindCall s is_first) e w b f words = Answering o e w b s (if is_first then 2 else 1) words × ((e.var 0 == 0) ≡ is_first)
+  InCallSpot o AtTake e w b f words = InCode o e w b words × HasPlace e b × (item_of b ≡ Some Take) × (e.var 2 ≡ e.base gs_tag + 0x800)
+  InCallSpot o (BehindTake left) e w b f words = Taking o e w b false false words × InTake e b × Turns words (e.var 0) 0 b.calls left
+  InCallSpot o (AtTurn left) e w b f words = Taking o e w b false false words × InTake e b × Turns words (e.var 0) (e.var 14) b.calls left
+  InCallSpot o (BehindTurn left) e w b f words = Taking o e w b false false words × InTake e b × Turns words (e.var 1) (e.var 0) b.calls left
+  InCallSpot o (AtTaken is_some) e w b f words =
+      Taking o e w b false false words × InTake e b × Linked words (e.var 14) b.calls × (runs_calls b.calls ≡ is_some)
+  InCallSpot o AtFinish e w b f words = InCode o e w b words × HasPlace e b × (item_of b ≡ Some Finish)
+  InCallSpot o BehindNext e w b f words = Finishing o e w b words
+  InCallSpot o (AtOffset offset edges) e w b f words = IsByHand o e w b words offset edges
 
   -- at the spots of bodies
-  abbrev pub InSpot : Origin → BodySpot → Env → Processor → BodyContext → Type 0
-  InSpot o AtTable e w b = AtLoad o e w b × HasPlace e b
-  InSpot o AtJump e w b = AtStart o e w b × HasPlace e b
-  InSpot o AtItem e w b = InItem o e w b × HasPlace e b
-  InSpot o (AtNumber n) e w b = InItem o e w b × HasPlace e b × (number_of (item_at (slice_get image.bodies b.body) b.place) ≡ Some n)
-  InSpot o (AtNumbers rcx rax rdx) e w b =
-      InItem o e w b × HasPlace e b × (numbers_of (item_at (slice_get image.bodies b.body) b.place) ≡ Some (rcx, rax, rdx))
-  InSpot o AtUserWord e w b = InItem o e w b × HasPlace e b × LocalInRax address_local e b
-  InSpot o (AtPageWord is_page) e w b = InItem o e w b × HasPlace e b × LocalInRax page_local e b
-  InSpot o BehindSti e w b = InItem o e w b × HasNextPlace e b
-  InSpot o s e w b = ⊥
+  abbrev pub InSpot : Origin → BodySpot → Env → Processor → BodyContext → Option Filling → NatMap ℕ → Type 0
+  InSpot o AtTable e w b f words = AtLoad o e w b × HasPlace e b
+  InSpot o AtJump e w b f words = AtStart o e w b × HasPlace e b
+  InSpot o AtItem e w b f words = InItem o e w b words × HasPlace e b
+  InSpot o (AtNumber n) e w b f words = InItem o e w b words × HasPlace e b × (number_of (item_of b) ≡ Some n)
+  InSpot o (AtNumbers rcx rax rdx) e w b f words = InItem o e w b words × HasPlace e b × (numbers_of (item_of b) ≡ Some (rcx, rax, rdx))
+  InSpot o AtUserWord e w b f words = InItem o e w b words × HasPlace e b × LocalInRax address_local e b
+  InSpot o (AtPageWord is_page) e w b f words = InItem o e w b words × HasPlace e b × LocalInRax page_local e b
+  InSpot o BehindSti e w b f words = InItem o e w b words × HasNextPlace 2 e b × HasRange e
+  InSpot o (InCall s) e w b f words = InCallSpot o s e w b f words
+  InSpot o s e w b f words = ⊥
 
   -- of an activation over a task, by its spot; in an entry the variables are told by those of the block behind it
-  abbrev pub OverTask : Mode → Spot → Env → Processor → BodyContext → Type 0
-  OverTask Fred (InFred (FromUser way)) e w b = AtLoad UserCode (env_after e (way_values way) e.flags) w b × HasPlace e b
-  OverTask Fred (InFred (fred.Leaves FredToTask)) e w b = Leaving UserCode e w b
-  OverTask Fred (InFred (fred.Leaves FredToNext)) e w b = ToNext (e.base next_top_tag) e w b
-  OverTask Fred (InBody FredFrame s) e w b = InSpot UserCode s e w b
-  OverTask Idt (InIdt Sys) e w b = AtLoad UserCode (env_after e sys_values e.flags) w b × HasPlace e b
-  OverTask Idt (InIdt (Stub UserCode has v)) e w b = IsAtStub e (Stub UserCode has v)
+  abbrev pub OverTask : Mode → Spot → Env → Processor → BodyContext → Option Filling → NatMap ℕ → Type 0
+  OverTask Fred (InFred (FromUser way)) e w b g words = AtLoad UserCode (env_after e (way_values way) e.flags) w b × HasPlace e b
+  OverTask Fred (InFred (fred.Leaves FredToTask)) e w b g words = Leaving UserCode e w b
+  OverTask Fred (InFred (fred.Leaves FredToNext)) e w b g words = ToNext (e.base next_top_tag) e w b
+  OverTask Fred (InBody FredFrame s) e w b g words = InSpot UserCode s e w b g words
+  OverTask Idt (InIdt Sys) e w b g words = AtLoad UserCode (env_after e sys_values e.flags) w b × HasPlace e b
+  OverTask Idt (InIdt (Stub UserCode has v)) e w b g words = IsAtStub e (Stub UserCode has v)
       × AtLoad UserCode (env_after (env_after e (stub_values has v) e.flags) (common_values UserCode (v == 14)) e.flags) w b × HasPlace e b
-  OverTask Idt (InIdt (Common UserCode pf)) e w b = AtLoad UserCode (env_after e (common_values UserCode pf) e.flags) w b × HasPlace e b
-  OverTask Idt (InIdt (idt.Leaves (IdtToTask by))) e w b = Leaving UserCode e w b × Matches by (e.var 31) (e.var 17) (e.var 41) (e.var 19)
-  OverTask Idt (InIdt (idt.Leaves (IdtToNext by))) e w b = ToNext (e.var 63) e w b × Matches by (e.var 71) (e.var 54) (e.var 81) (e.var 56)
-  OverTask Idt (InBody IdtFrame s) e w b = InSpot UserCode s e w b
-  OverTask m spot e w b = ⊥
+  OverTask Idt (InIdt (Common UserCode pf)) e w b g words = AtLoad UserCode (env_after e (common_values UserCode pf) e.flags) w b × HasPlace e b
+  OverTask Idt (InIdt (idt.Leaves (IdtToTask by))) e w b g words = Leaving UserCode e w b × Matches by (e.var 31) (e.var 17) (e.var 41) (e.var 19)
+  OverTask Idt (InIdt (idt.Leaves (IdtToNext by))) e w b g words = ToNext (e.var 63) e w b × Matches by (e.var 71) (e.var 54) (e.var 81) (e.var 56)
+  OverTask Idt (InBody IdtFrame s) e w b g words = InSpot UserCode s e w b g words
+  OverTask m spot e w b g words = ⊥
 
   -- and of one over a body
-  abbrev pub OverBody : Mode → Spot → Env → Processor → BodyContext → Type 0
-  OverBody Fred (InFred FromKernel) e w b = AtLoad KernelCode (env_after e kernel_values e.flags) w b × HasPlace e b
-  OverBody Fred (InFred (fred.Leaves FredToKernel)) e w b = Leaving KernelCode e w b
-  OverBody Fred (InBody FredFrame s) e w b = InSpot KernelCode s e w b
-  OverBody Idt (InIdt (Stub KernelCode has v)) e w b = IsAtStub e (Stub KernelCode has v)
+  abbrev pub OverBody : Mode → Spot → Env → Processor → BodyContext → Option Filling → NatMap ℕ → Type 0
+  OverBody Fred (InFred FromKernel) e w b g words = AtLoad KernelCode (env_after e kernel_values e.flags) w b × HasPlace e b
+  OverBody Fred (InFred (fred.Leaves FredToKernel)) e w b g words = Leaving KernelCode e w b
+  OverBody Fred (InBody FredFrame s) e w b g words = InSpot KernelCode s e w b g words
+  OverBody Idt (InIdt (Stub KernelCode has v)) e w b g words = IsAtStub e (Stub KernelCode has v)
       × AtLoad KernelCode (env_after (env_after e (stub_values has v) e.flags) (common_values KernelCode (v == 14)) e.flags) w b × HasPlace e b
-  OverBody Idt (InIdt (Common KernelCode pf)) e w b = AtLoad KernelCode (env_after e (common_values KernelCode pf) e.flags) w b × HasPlace e b
-  OverBody Idt (InIdt (idt.Leaves IdtToKernel)) e w b = Leaving KernelCode e w b
-  OverBody Idt (InBody IdtFrame s) e w b = InSpot KernelCode s e w b
-  OverBody m spot e w b = ⊥
+  OverBody Idt (InIdt (Common KernelCode pf)) e w b g words = AtLoad KernelCode (env_after e (common_values KernelCode pf) e.flags) w b × HasPlace e b
+  OverBody Idt (InIdt (idt.Leaves IdtToKernel)) e w b g words = Leaving KernelCode e w b
+  OverBody Idt (InBody IdtFrame s) e w b g words = InSpot KernelCode s e w b g words
+  OverBody m spot e w b g words = ⊥
 
   -- those of NMIs stand at no spot yet
-  abbrev pub Means : Kind → Spot → Env → Processor → BodyContext → NatMap ℕ → Type 0
-  Means SystemCall spot e w b words = OverTask mode spot e w b
-  Means FromTask spot e w b words = OverTask mode spot e w b
-  Means FromBody spot e w b words = OverBody mode spot e w b
-  Means κ spot e w b words = ⊥
+  abbrev pub Means : Kind → Spot → Env → Processor → BodyContext → Option Filling → NatMap ℕ → Type 0
+  Means SystemCall spot e w b g words = OverTask mode spot e w b g words
+  Means FromTask spot e w b g words = OverTask mode spot e w b g words
+  Means FromBody spot e w b g words = OverBody mode spot e w b g words
+  Means κ spot e w b g words = ⊥
 
   -- ---- the activation of a context
 
-  -- The activation of b, of this kind and in this seat, which runs on c and will return to w; `switching` says whether it changes the running task.
-  pub record Active (p left : ℕ) (κ : Kind) (σ : Seat) (f : Frame) (switching : Bool) (w : Processor) (b : BodyContext) (c : Processor)
-      (m : Memory) : Type 0 where
+  -- The activation of b, of this kind and in this seat, which runs on c and will return to w; `switching` says whether it changes the running task, and
+  -- `filling` which call record it fills.
+  pub record Active (p left : ℕ) (κ : Kind) (σ : Seat) (f : Frame) (switching : Bool) (filling : Option Filling) (w : Processor) (b : BodyContext)
+      (c : Processor) (m : Memory) : Type 0 where
     pub stands : IsAtSpot p left κ σ w b c m
     pub switches : blocks.switches stands.spot ≡ switching
+    pub fills : fills_record stands.spot ≡ is_some filling
     pub knows : Knows mode κ (blocks.holds stands.spot) f
-    pub means : Means κ stands.spot (here mode p κ σ stands.ss w stands.extra stands.var stands.flags) w b m.words
+    pub means : Means κ stands.spot (here mode p κ σ stands.ss w stands.extra stands.var stands.flags) w b filling m.words

@@ -2,6 +2,7 @@ pub mod Tasks
 pub mod Nmi
 pub mod Named
 pub mod Domain
+pub mod Filling
 pub mod Active
 pub mod Relation
 pub mod Step

@@ -3,7 +3,7 @@ use Rattle.std.specs.Prelude.{◌≡◌, ◌≢◌, ◌⊎◌, Bool, true, false
 use Rattle.ev_isa.specs.Word.{NatMap}
 use Rattle.ev_mem.specs.Memory.{page_map}
 use Rattle.ev_listing.specs.AddressMap.{pcpu, slot_offset, record_address, cells_base, stack_top, stack_bytes}
-use Rattle.ev_abstract.specs.Context.{BodyContext}
+use Rattle.ev_abstract.specs.Context.{BodyContext, CallId}
 use Rattle.ev_activation.specs.Seat.{Seat, top_at}
 use Rattle.ev_user.specs.Sees.{IsPageWord, IsUserWord}
 
@@ -33,17 +33,15 @@ address_of (CellAt k) = cells_base + 8 * k
 address_of (PageBit i) = page_map + 8 * i
 address_of (UserWord a) = a
 
--- the processor that a word belongs to
+-- the processor that a word belongs to, where no other one writes it: those of calls belong to all
 abbrev pub owner : Named → Option ℕ
 owner (UserRsp p) = Some p
 owner (Top p) = Some p
 owner (Current p) = Some p
 owner (Mark p) = Some p
 owner (Port p) = Some p
-owner (Head p) = Some p
 owner (TssTop p) = Some p
 owner (Slot p k) = Some p
-owner (RecordWord p k o) = Some p
 owner _ = None
 
 -- names within their bounds
@@ -133,6 +131,18 @@ AreWritten (x ∷ xs) = IsWritten x × AreWritten xs
 abbrev pub NoneOf : ℕ → List Named → Type 0
 NoneOf q [] = Unit {0}
 NoneOf q (x ∷ xs) = (owner x ≢ Some q) × NoneOf q xs
+
+-- the words of a call record
+abbrev pub record_names : (p k : ℕ) → List Named
+record_names p k =
+    RecordWord p k 0 ∷ RecordWord p k 8 ∷ RecordWord p k 0x10 ∷ RecordWord p k 0x18 ∷ RecordWord p k 0x20 ∷ RecordWord p k 0x28 ∷ RecordWord p k 0x30
+    ∷ RecordWord p k 0x38 ∷ []
+
+-- those of records among the names are of these calls
+abbrev pub AreOf : (CallId → Bool) → List Named → Type 0
+AreOf mine [] = Unit {0}
+AreOf mine (RecordWord p k o ∷ xs) = (mine (record { from = p; site = k }) ≡ true) × AreOf mine xs
+AreOf mine (x ∷ xs) = AreOf mine xs
 
 -- A task knows none of the words, and an activation no other than its own private ones: whether what stands on these contexts may write words of the names.
 abbrev pub UnknownTo : List BodyContext → List Named → Type 0

@@ -16,13 +16,18 @@ use Rattle.ev_mem.specs.Memory.{Memory, page_map}
 use Rattle.ev_apic.specs.declared.apic.Apic.{Apic}
 use Rattle.ev_apic.specs.declared.inbox.Inbox.{Inbox}
 use Rattle.ev_apic.specs.Vectors.{vectors_of}
+use Rattle.ev_symbolic.specs.Value.{M}
+use Rattle.ev_listing.specs.Expansion.{function_address}
 use Rattle.ev_listing.specs.AddressMap.{pcpu, slot_offset, record_address, user_table, idt_base, cells_base, task_words, fred_page, code_end}
 use Rattle.ev_abstract.specs.Boundary.{is_nmi_body}
 use Rattle.ev_abstract.specs.Context.{BodyContext}
 use Rattle.ev_abstract.specs.Machine.{Machine, processor}
 use Rattle.ev_abstract.specs.Machine as abstract
 use Rattle.ev_abstract.specs.Run.{item_at}
-use Rattle.ev_calls.specs.Records.{RecordIs, Linked}
+use Rattle.ev_abstract.specs.declared.entry.Entry.{Entry}
+use Rattle.ev_abstract.specs.Machine.{CallState, Free, CallRecord}
+use Rattle.ev_calls.specs.Lists.{QueueIs}
+use Rattle.ev_call_law.specs.Calls.{KeepsCallRecords}
 use Rattle.ev_law.specs.Bases.{HasBases}
 use Rattle.ev_law.specs.Legal.{Legal}
 use Rattle.ev_concrete.specs.Opening.{listings, code_of, opening_word, tasks_of, regions}
@@ -35,6 +40,7 @@ use Rattle.ev_relation.specs.Nmi.{Frame, Leads, Layer, Plain, LatchIs, inner_edg
 use Rattle.ev_user.specs.Sees.{IsUserWord}
 use Rattle.ev_user.specs.Words.{HoldsWords}
 use Rattle.ev_user.specs.Numbers.{HoldsNumbers}
+use Rattle.ev_relation.specs.Filling.{Filling, first_fill, rest_fills, is_filled, AreFree}
 use Rattle.ev_relation.specs.Active.{Active}
 use Rattle.ev_relation.specs.Domain.{IsInDomain}
 
@@ -64,11 +70,12 @@ module _ (mode : Mode) (image : Image) where
 
   -- so many edges come at most before a visible step
   abbrev pub most_edges : ℕ
-  most_edges = 600
+  most_edges = 660
 
-  -- so many before one of an activation on which others stand: the edges of an inner NMI may come on top
+  -- So many before one of an activation on which others stand, of which 503 are those of a list of 64 calls that is turned round: the edges of an inner NMI may
+  -- come on top.
   abbrev pub body_edges : ℕ
-  body_edges = 500
+  body_edges = 560
 
   -- A return restores w, CR2 aside: under IDT the NMI code alone keeps CR2. What stands beneath an activation that doesn't stands with any.
   abbrev pub is_idt : Mode → Bool
@@ -104,19 +111,21 @@ module _ (mode : Mode) (image : Image) where
   Interrupted (b ∷ below) w (a ∷ as') = (a.rsp ≡ rsp w) × (is_in_repeat a.rip ≡ is_in_repeat w.rip) × (code_end ≤ w.rip)
 
   -- Each context stands on the one before it, and the first on a task: all on the stack of task r, which runs, and the first returns to task `to`, which is t:
-  -- to the same, or where its exit switches, to the next one. Each has an activation of its own, which isn't an inner NMI's.
-  abbrev pub Chain : (p left r to : ℕ) → Task → Frame → (switching : Bool) → List BodyContext → List Activation → Processor → Memory → Type 0
-  Chain p left r to t f sw [] as' c m = RunsTask mode image p to t c × (sw ≡ false) × (as' ≡ [])
-  Chain p left r to t f sw (b ∷ below) [] c m = ⊥
-  Chain p left r to t f sw (b ∷ below) (a ∷ as') c m =
+  -- to the same, or where its exit switches, to the next one. Each has an activation of its own, which isn't an inner NMI's, and may fill a call record.
+  abbrev pub Chain : (p left r to : ℕ) → Task → Frame → (switching : Bool) → (fills : List (Option Filling)) → List BodyContext → List Activation → Processor
+      → Memory → Type 0
+  Chain p left r to t f sw fs [] as' c m = RunsTask mode image p to t c × (sw ≡ false) × (as' ≡ []) × (fs ≡ [])
+  Chain p left r to t f sw fs (b ∷ below) [] c m = ⊥
+  Chain p left r to t f sw fs (b ∷ below) (a ∷ as') c m =
       (w : Processor) × IsContext b × (a.inner ≡ false) × Interrupted below w as'
-      × Beneath (keeps_cr2 (kind_of image b below)) (λ v. Chain p body_edges r to t f (chained sw below) below as' v m) w
+      × Beneath (keeps_cr2 (kind_of image b below)) (λ v. Chain p body_edges r to t f (chained sw below) (rest_fills fs) below as' v m) w
       × Leads mode p (kind_of image b below) f w m.words
-      × Active mode image p left (kind_of image b below) (seat_of mode image r (b ∷ below)) f (switches_at sw below) w b c m
+      × Active mode image p left (kind_of image b below) (seat_of mode image r (b ∷ below)) f (switches_at sw below) (first_fill fs) w b c m
 
   -- and what stands on them; `more` edges come behind its own
-  abbrev pub Runs : (p left more r to : ℕ) → Task → Layer → Frame → Bool → List BodyContext → List Activation → Processor → Memory → Type 0
-  Runs p left more r to t Plain f sw bs as' c m = Chain p left r to t f sw bs as' c m
+  abbrev pub Runs : (p left more r to : ℕ) → Task → Layer → Frame → Bool → List (Option Filling) → List BodyContext → List Activation → Processor → Memory
+      → Type 0
+  Runs p left more r to t Plain f sw fs bs as' c m = Chain p left r to t f sw fs bs as' c m
 
   -- ---- what belongs to one processor
 
@@ -141,6 +150,18 @@ module _ (mode : Mode) (image : Image) where
     -- one vector of a class, so that the end of an interrupt ends its class
     pub single : (u v : ℕ) → u < 256 → v < 256 → vectors_of a.isr u ≡ true → vectors_of a.isr v ≡ true → u / 16 ≡ v / 16 → u ≡ v
 
+  -- A call record that nobody fills: by how many calls the site has queued, modulo 2^64, and the last one, if that is under way, with its function's address.
+  abbrev pub CallIs : NatMap ℕ → ℕ → CallRecord → CallState → Type 0
+  CallIs words a r Free = words a ≡ 0
+  CallIs words a r st = (words a ≡ 1) × (words (a + 8) ≡ function_address mode image r.func) × (words (a + 0x10) ≡ r.arg) × (words (a + 0x38) ≡ r.func)
+
+  -- with whose it is
+  pub record HoldsCall (words : NatMap ℕ) (p k : ℕ) (r : CallRecord) : Type 0 where
+    pub from : words (record_address p k + 0x20) ≡ p
+    pub site : words (record_address p k + 0x30) ≡ k
+    pub number : words (record_address p k + 0x28) ≡ r.number % M
+    pub call : CallIs words (record_address p k) r r.state
+
   -- Processor p of the one stands for processor p of the other; at most `left` edges come before a visible step.
   pub record StandsOn (p left : ℕ) (s : System) (x : abstract.Processor) : Type 0 where
     pub few : left ≤ most_edges
@@ -162,7 +183,10 @@ module _ (mode : Mode) (image : Image) where
     pub latch : LatchIs layer frame (list_any (is_nmi_body image) x.bodies) (s.latches p) (s.cpus p).nmi_blocked x.nmi
     pub apic : ApicIs (s.apics p) x.pending x.bodies
     pub slots : (k : ℕ) → k < 64 → s.memory.words (pcpu p + slot_offset k) ≡ x.slots k
-    pub runs : Runs p own more x.running returning (x.tasks returning) layer frame switching x.bodies (s.activations p) (s.cpus p) s.memory
+    pub fills : List (Option Filling)
+    pub free : AreFree x.records fills
+    pub records : (k : ℕ) → k < 8 → is_filled k fills ≡ false → HoldsCall s.memory.words p k (x.records k)
+    pub runs : Runs p own more x.running returning (x.tasks returning) layer frame switching fills x.bodies (s.activations p) (s.cpus p) s.memory
 
   -- ---- what all processors share
 
@@ -179,10 +203,7 @@ module _ (mode : Mode) (image : Image) where
     pub pages : (i : ℕ) → i < 256 → s.memory.words (page_map + 8 * i) ≡ (if m.present i then 1 else 0)
     pub cells : (k : ℕ) → k < 256 → s.memory.words (cells_base + 8 * k) ≡ m.cells k
     pub mail : (p : ℕ) → p < image.processors → InboxIs (s.inboxes p) (processor m p).mail (processor m p).mail_nmi
-    pub numbers : (p k : ℕ) → p < image.processors → k < 8 → s.memory.words (record_address p k + 0x28) ≡ ((processor m p).records k).number
-    pub records : (p k : ℕ) → p < image.processors → k < 8
-        → RecordIs s.memory.words (record_address p k) ((processor m p).records k) ((processor m p).records k).state
-    pub queues : (p : ℕ) → p < image.processors → Linked s.memory.words (s.memory.words (pcpu p + 0x30)) (reverse (processor m p).queue)
+    pub queues : (p : ℕ) → p < image.processors → QueueIs s.memory.words p (processor m p).queue
 
   -- ---- the machines
 
@@ -194,5 +215,7 @@ module _ (mode : Mode) (image : Image) where
     pub legal : Legal image m
     pub bases : HasBases image m  -- which a switch loads from the descriptors
     pub numbers : HoldsNumbers m
+    pub told : List Entry  -- which the abstract machine has made so far
+    pub calls : KeepsCallRecords image m told
     pub domain : (p : ℕ) → p < image.processors → IsInDomain (processor m p)
     pub each : (p : ℕ) → p < image.processors → StandsOn p (left p) s (processor m p)

@@ -290,17 +290,17 @@ module _ (mode : Mode) (image : Image) (formed : IsImage image) (built : IsBuilt
       (step_moves s p r (sym u.latch)) in
       let mem : Memory = with_words s.memory words' in
       let under : RunsTask mode image p n back w = record { is = refl; task = st.task } in
-      let stood : Active mode image p entry_edges κ (record { stack = n; used = 0 }) u.on.frame u.on.switching w b d mem
+      let stood : Active mode image p entry_edges κ (record { stack = n; used = 0 }) u.on.frame u.on.switching u.on.fills w b d mem
       = subst (λ g. Active mode image p entry_edges κ (record { stack = n; used = 0 }) u.on.frame g w b d mem) (sym u.rest.still)
       (begun.active u.on.frame) in
       let tail = subst (λ k. Beneath mode image (keeps_cr2 mode image k)
-      (λ v. Chain mode image p (body_edges mode image) n n back u.on.frame (chained mode image u.on.switching []) [] [] v mem) w
+      (λ v. Chain mode image p (body_edges mode image) n n back u.on.frame (chained mode image u.on.switching []) (rest_fills u.on.fills) [] [] v mem) w
       × Leads mode p k u.on.frame w mem.words
       × Active mode image p entry_edges k (seat_by mode k n (seat_of mode image n []) (room_of mode image [])) u.on.frame
-      (switches_at mode image u.on.switching []) w b d mem) (sym kind)
-      (over_kind mode image p entry_edges n n back u.on.frame u.on.switching w b d mem κ (over_one cause is_cause) under stood) in
+      (switches_at mode image u.on.switching []) (first_fill u.on.fills) w b d mem) (sym kind)
+      (over_kind mode image p entry_edges n n back u.on.frame u.on.switching u.on.fills w b d mem κ (over_one cause is_cause) under stood) in
       let is_context : IsContext mode image b = record { item = holder.item; is = holder.first } in
-      let chain : Chain mode image p entry_edges n n back u.on.frame u.on.switching (b ∷ []) (last ∷ []) d mem =
+      let chain : Chain mode image p entry_edges n n back u.on.frame u.on.switching u.on.fills (b ∷ []) (last ∷ []) d mem =
       (w, is_context, refl, tt, tail.0, tail.1, tail.2) in
       let after = user_after mode image formed built facts left s s' m p lt h u d as' words' back (b ∷ []) set entry_edges hb mv (kernel_names p)
       (kernel_spares p small) begun.changes m.words
@@ -313,8 +313,8 @@ module _ (mode : Mode) (image : Image) (formed : IsImage image) (built : IsBuilt
       (subst (λ y. ApicIs mode image y set (b ∷ []))
       (sym (delivery_apic image.processors p p (after_step s p r) begun.event begun.frame ∙ at_same s.apics p p a refl)) apic)
       (omega arith)
-      (λ q e. subst (λ ys. Chain mode image p entry_edges n q back u.on.frame u.on.switching (b ∷ []) ys d (with_words s.memory words')) (sym begins_last)
-      (subst (λ z. Chain mode image p entry_edges n z back u.on.frame u.on.switching (b ∷ []) (last ∷ []) d (with_words s.memory words')) (sym e) chain)) in
+      (λ q e. subst (λ ys. Chain mode image p entry_edges n q back u.on.frame u.on.switching u.on.fills (b ∷ []) ys d (with_words s.memory words')) (sym begins_last)
+      (subst (λ z. Chain mode image p entry_edges n z back u.on.frame u.on.switching u.on.fills (b ∷ []) (last ∷ []) d (with_words s.memory words')) (sym e) chain)) in
       let shallow : bodies_on s p ≡ 0 = stands_depth mode image facts p (left p) s x u.on ∙ ap length hb in
       let only : OnlyTask s p n = record { none = u.rest.none; user = u.at_cpl3; task_is = current.current } in
       record {

@@ -142,7 +142,7 @@ module _ (mode : Mode) (image : Image) (formed : IsImage image) (built : IsBuilt
       → HasBases image (with_processor (record m { words = memory }) p (record (with_task (processor m p) t) { bodies = bs; pending = set }))
       → AreOfWords bs → IsTask t → cpu.nmi_blocked ≡ list_any (is_nmi_body image) bs → AreQuiet bs
       → ApicIs mode image (s'.apics p) set bs → own ≤ 500
-      → ((r : ℕ) → r ≡ (processor m p).running → Chain mode image p own (processor m p).running r t u.on.frame u.on.switching bs as' cpu
+      → ((r : ℕ) → r ≡ (processor m p).running → Chain mode image p own (processor m p).running r t u.on.frame u.on.switching u.on.fills bs as' cpu
       (with_words s.memory words))
       → (StandsOn mode image p (own + inner_edges (s.latches p)) s' (record (with_task (processor m p) t) { bodies = bs; pending = set }))
       × Stands mode image (put_at left p (own + inner_edges (s.latches p))) s'
@@ -159,7 +159,7 @@ module _ (mode : Mode) (image : Image) (formed : IsImage image) (built : IsBuilt
       (λ i d. inl (λ e. d (e ∙ sym u.rest.returning))) narrow names sparing changes (λ i d. others i (λ e. d (e ∙ sym u.rest.returning))) tasks blocked
       set apic
       (let f = few_inner mode image (s.latches p) in omega arith)
-      (subst (λ k. Chain mode image p own x.running u.on.returning k u.on.frame u.on.switching bs as' cpu (with_words s.memory words))
+      (subst (λ k. Chain mode image p own x.running u.on.returning k u.on.frame u.on.switching u.on.fills bs as' cpu (with_words s.memory words))
       (sym (at_same x.tasks x.running u.on.returning t u.rest.returning)) (chain u.on.returning u.rest.returning)) in
       let inside : IsInDomain y = record {
         nmi = u.domain.nmi;
