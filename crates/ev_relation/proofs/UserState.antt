@@ -14,6 +14,7 @@ use Rattle.ev_concrete.specs.ConcreteRun.{System, marks_of, mark_at, is_visible,
 use Rattle.ev_concrete.specs.Depth.{bodies_on, ends_body, begins_body, bodies_after, told_bodies}
 use Rattle.ev_concrete.specs.LiveWords.{overwrites, IsSafeStep}
 use Rattle.ev_relation.specs.Relation.{Stands}
+use Rattle.ev_relation.proofs.After.{left_behind}
 use Rattle.ev_concrete.specs.Shown.{shown, shown_by, told_at}
 use Rattle.ev_relation.specs.Step.{MakesTurn}
 
@@ -31,7 +32,7 @@ module _ (mode : Mode) (image : Image) where
     pub turns : turn image m p ≡ (machine, entries)
     pub seen : is_visible (marks_of mode image) s p ≡ true
     pub now_left : ℕ
-    pub stands : Stands mode image (put_at left p now_left) (acted image.processors (after_step s p after) p after.step).0 machine
+    pub stands : Stands mode image (left_behind mode image p now_left) (acted image.processors (after_step s p after) p after.step).0 machine
     pub shows : (told : List Entry)
         → shown_by p (bodies_on s p) (is_user (s.cpus p)) (has_fred (s.cpus p)) told after.cpu after.words after.step ≡ entries
     pub counts : bodies_on (acted image.processors (after_step s p after) p after.step).0 p
@@ -49,9 +50,9 @@ module _ (mode : Mode) (image : Image) where
   unfolding shown
   makes_turn left s m p t = record {
     seen = t.seen;
-    now = put_at left p t.now_left;
-    stands = subst (λ z. Stands mode image (put_at left p t.now_left) z.0 (turn image m p).0) (sym (concrete_is left s m p t))
-        (subst (λ z. Stands mode image (put_at left p t.now_left) (acted image.processors (after_step s p t.after) p t.after.step).0 z.0)
+    now = left_behind mode image p t.now_left;
+    stands = subst (λ z. Stands mode image (left_behind mode image p t.now_left) z.0 (turn image m p).0) (sym (concrete_is left s m p t))
+        (subst (λ z. Stands mode image (left_behind mode image p t.now_left) (acted image.processors (after_step s p t.after) p t.after.step).0 z.0)
         (sym t.turns) t.stands);
     entries = let told : List Entry = told_at (mark_at (marks_of mode image) (s.cpus p).rip) s p in
         ap (λ r. shown_by p (bodies_on s p) (is_user (s.cpus p)) (has_fred (s.cpus p)) told r.cpu r.words r.step) t.steps

@@ -1,5 +1,5 @@
 -- The delivery of what a task raises: what it owes for the activation that it begins, in either mode.
-use Rattle.std.proofs.Common.{◌≡◌, ℕ, ◌+◌, ◌*◌, ◌^◌, ◌<◌, ◌≤◌, Bool, true, false, [], ◌∷◌, length, Option, Some, refl, sym, ap, subst, arith}
+use Rattle.std.proofs.Common.{◌≡◌, ℕ, ◌+◌, ◌*◌, ◌^◌, ◌<◌, ◌≤◌, Bool, true, false, [], ◌∷◌, length, Option, Some, None, refl, sym, ap, subst, arith}
 use Rattle.std.specs.Prelude.{slice_get}
 use Rattle.std.proofs.lemmas.Bool.{ne_eqb}
 use Rattle.std.specs.List.{list_any}
@@ -164,7 +164,7 @@ module _ (mode : Mode) (image : Image) (p n : ℕ) (t : Task) (cr2 : ℕ) (cause
     pub event : Event
     pub runs : (a : Apic) (nmi : Bool) → raising raiser a m nmi cause ≡ arrival cpu words event frame a nmi
     pub blocking : cpu.nmi_blocked ≡ false
-    pub active : (f : Frame) → Active mode image p entry_edges (kind_at cause) seat f false over context cpu (with_words m words)
+    pub active : (f : Frame) → Active mode image p entry_edges (kind_at cause) seat f false None over context cpu (with_words m words)
     pub changes : Changes p seat (kernel_names p) m.words words
     pub told : told_event (is_refused (has_fred raiser) event) event ≡ raised_event cause
     pub saved : told_rip (is_refused (has_fred raiser) event) (saved_rip (has_fred raiser) cpu words event frame) ≡ saved_at t cause

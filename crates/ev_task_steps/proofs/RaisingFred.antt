@@ -1,5 +1,5 @@
 -- The delivery of what a task raises under FRED: the frame that it writes, and the activation that it begins.
-use Rattle.std.proofs.Common.{◌≡◌, ℕ, ◌+◌, ◌-◌, ◌%◌, ◌*◌, ◌^◌, ◌<◌, ◌≤◌, Bool, true, false, not, ◌&&◌, List, [], ◌∷◌, get_or, set, length, map, Some, refl, sym, ap, ◌∙◌, subst, arith, inl, inr}
+use Rattle.std.proofs.Common.{◌≡◌, ℕ, ◌+◌, ◌-◌, ◌%◌, ◌*◌, ◌^◌, ◌<◌, ◌≤◌, Bool, true, false, not, ◌&&◌, List, [], ◌∷◌, get_or, set, length, map, Some, None, refl, sym, ap, ◌∙◌, subst, arith, inl, inr}
 use Rattle.std.specs.Prelude.{◌==◌, if◌then◌else◌}
 use Rattle.std.proofs.lemmas.Bool.{ne_eqb}
 use Rattle.std.proofs.lemmas.List.{length-set}
@@ -395,6 +395,7 @@ module _ (image : Image) (built : IsBuilt image) (p n : ℕ) (t : Task) (cr2 : �
       level = found.level;
     };
     locals = found.locals;
+    quiet = refl;
   }
 
   pub begins_fred : Begins Fred image p n t cr2 cause body m
@@ -422,9 +423,10 @@ module _ (image : Image) (built : IsBuilt image) (p n : ℕ) (t : Task) (cr2 : �
         long = length-set t.regs 4 (frame_at at) ∙ ready.long;
       };
       switches = refl;
+      fills = refl;
       knows = knows_nothing Fred (kind_at cause) f (over_one cause ready.is_cause) false;
       means = means_by Fred image (kind_at cause) (over_one cause ready.is_cause) (InFred (FromUser (way_of e))) at (over image p n t cr2 cause body)
-          (raise.context Fred image p n t cr2 cause body) (fred_words at m.words) (loads, refl);
+          (raise.context Fred image p n t cr2 cause body) None (fred_words at m.words) (loads, refl);
     };
     changes = on_stack p n ready.running small (map (eval at) fred_frame) refl m.words;
     told = does.told;

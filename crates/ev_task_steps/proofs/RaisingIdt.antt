@@ -1,5 +1,5 @@
 -- The delivery through the IDT of what a task raises but for system calls: the frame that it writes, and the activation that it begins.
-use Rattle.std.proofs.Common.{◌≡◌, ◌≢◌, ℕ, ◌+◌, ◌-◌, ◌*◌, ◌%◌, ◌^◌, ◌<◌, ◌≤◌, Bool, true, false, ◌&&◌, List, length, map, Some, refl, sym, ap, ◌∙◌, arith, inl, inr, subst}
+use Rattle.std.proofs.Common.{◌≡◌, ◌≢◌, ℕ, ◌+◌, ◌-◌, ◌*◌, ◌%◌, ◌^◌, ◌<◌, ◌≤◌, Bool, true, false, ◌&&◌, List, length, map, Some, None, refl, sym, ap, ◌∙◌, arith, inl, inr, subst}
 use Rattle.std.proofs.lemmas.Bool.{ne_eqb}
 use Rattle.std.proofs.Math.Bool.{and-false}
 use Rattle.std.specs.Prelude.{◌==◌, if◌then◌else◌}
@@ -482,6 +482,7 @@ module _ (image : Image) (built : IsBuilt image) (p n : ℕ) (t : Task) (cr2 : �
       level = found.level;
     };
     locals = found.locals;
+    quiet = refl;
   }
 
   frame_changes : (b : Bool) → Changes p (seat image p n t cr2 cause body) (kernel_names p) m.words (idt_words at b m.words)
@@ -517,9 +518,10 @@ module _ (image : Image) (built : IsBuilt image) (p n : ℕ) (t : Task) (cr2 : �
         long = length-set t.regs 4 frame ∙ ready.long;
       };
       switches = refl;
+      fills = refl;
       knows = knows_nothing Idt (kind_at cause) f (over_one cause ready.is_cause) false;
       means = means_by Idt image (kind_at cause) (over_one cause ready.is_cause) (InIdt (Stub UserCode with_error v)) at (over image p n t cr2 cause body)
-          (raise.context Idt image p n t cr2 cause body) words ((vector_small, refl, refl), loads, refl);
+          (raise.context Idt image p n t cr2 cause body) None words ((vector_small, refl, refl), loads, refl);
     };
     changes = frame_changes with_error;
     told = does.told;

@@ -160,6 +160,7 @@ module _ (image : Image) (p n : ℕ) (t : Task) (cr2 body : ℕ) where
         level = refl;
       };
       locals = refl;
+      quiet = refl;
     }
 
     pub begins_call : Begins Idt image p n t cr2 Call body m
@@ -187,6 +188,7 @@ module _ (image : Image) (p n : ℕ) (t : Task) (cr2 body : ℕ) where
           long = long;
         };
         switches = refl;
+        fills = refl;
         knows = tt;
         means = (loads, refl);
       };

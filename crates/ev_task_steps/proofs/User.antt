@@ -1,6 +1,6 @@
 -- The turns of the task: its user code goes on, or raises an event, which begins an activation.
 use Rattle.std.proofs.Common.{◌≡◌, ℕ, suc, ◌+◌, ◌^◌, ◌<◌, Bool, true, false, List, [], ◌∷◌, set, length, Option, Some, None, refl, sym, ap, ◌∙◌, subst, arith, inr, ⊎_elim}
-use Rattle.std.specs.Prelude.{◌||◌, if◌then◌else◌, slice_get, is_some}
+use Rattle.std.specs.Prelude.{◌||◌, ◌++◌, if◌then◌else◌, slice_get, is_some}
 use Rattle.std.proofs.lemmas.List.{length-set}
 use Rattle.std.specs.List.{list_any}
 use Rattle.std.proofs.lemmas.Bool.Decides.{eqb_tells}
@@ -59,7 +59,7 @@ use Rattle.ev_relation.proofs.CallKinds.{is_over_task, plain_no_nmi, over_kind}
 use Rattle.ev_relation.proofs.Domains.{four_tasks}
 use Rattle.ev_relation.proofs.Maps.{at_same, at_other}
 use Rattle.ev_user.proofs.KeepsNumbers.{starts_with_words, causes_small}
-use Rattle.ev_relation.proofs.Legality.{turn_legal, turn_bases}
+use Rattle.ev_relation.proofs.Legality.{turn_legal, turn_bases, turn_calls}
 use Rattle.ev_relation.proofs.Standing.{Moves, step_moves, delivery_moves, delivery_apic}
 use Rattle.ev_relation.proofs.After.{apic_again, kernel_names, kernel_spares, kernel_user}
 use Rattle.ev_relation.proofs.Depth.{stands_depth}
@@ -290,31 +290,34 @@ module _ (mode : Mode) (image : Image) (formed : IsImage image) (built : IsBuilt
       (step_moves s p r (sym u.latch)) in
       let mem : Memory = with_words s.memory words' in
       let under : RunsTask mode image p n back w = record { is = refl; task = st.task } in
-      let stood : Active mode image p entry_edges κ (record { stack = n; used = 0 }) u.on.frame u.on.switching u.on.fills w b d mem
-      = subst (λ g. Active mode image p entry_edges κ (record { stack = n; used = 0 }) u.on.frame g w b d mem) (sym u.rest.still)
+      let stood : Active mode image p entry_edges κ (record { stack = n; used = 0 }) u.on.frame u.on.switching None w b d mem
+      = subst (λ g. Active mode image p entry_edges κ (record { stack = n; used = 0 }) u.on.frame g None w b d mem) (sym u.rest.still)
       (begun.active u.on.frame) in
       let tail = subst (λ k. Beneath mode image (keeps_cr2 mode image k)
-      (λ v. Chain mode image p (body_edges mode image) n n back u.on.frame (chained mode image u.on.switching []) (rest_fills u.on.fills) [] [] v mem) w
+      (λ v. Chain mode image p (body_edges mode image) n n back u.on.frame (chained mode image u.on.switching []) [] [] [] v mem) w
       × Leads mode p k u.on.frame w mem.words
       × Active mode image p entry_edges k (seat_by mode k n (seat_of mode image n []) (room_of mode image [])) u.on.frame
-      (switches_at mode image u.on.switching []) (first_fill u.on.fills) w b d mem) (sym kind)
-      (over_kind mode image p entry_edges n n back u.on.frame u.on.switching u.on.fills w b d mem κ (over_one cause is_cause) under stood) in
+      (switches_at mode image u.on.switching []) None w b d mem) (sym kind)
+      (over_kind mode image p entry_edges n n back u.on.frame u.on.switching None w b d mem κ (over_one cause is_cause) under stood) in
       let is_context : IsContext mode image b = record { item = holder.item; is = holder.first } in
-      let chain : Chain mode image p entry_edges n n back u.on.frame u.on.switching u.on.fills (b ∷ []) (last ∷ []) d mem =
+      let chain : Chain mode image p entry_edges n n back u.on.frame u.on.switching (None ∷ []) (b ∷ []) (last ∷ []) d mem =
       (w, is_context, refl, tt, tail.0, tail.1, tail.2) in
-      let after = user_after mode image formed built facts left s s' m p lt h u d as' words' back (b ∷ []) set entry_edges hb mv (kernel_names p)
+      let after = user_after mode image formed built facts left s s' m p lt h u d as' words' back (None ∷ []) (b ∷ []) set entry_edges hb mv
+      (kernel_names p)
       (kernel_spares p small) begun.changes m.words
       (kernel_user p (record { stack = n; used = 0 }) small (omega arith) words words' m.words begun.changes h.shares.user) h.shares.held
       (turn_legal image formed built.accepted m p lt h.legal (with_processor m p (raised_in x cause body set), entry_of p (raised_event cause) next ∷ []) turns)
       (turn_bases image m p h.bases (with_processor m p (raised_in x cause body set), entry_of p (raised_event cause) next ∷ []) turns)
+      (h.told ++ entry_of p (raised_event cause) next ∷ []) (turn_calls image formed built.accepted m p lt h.legal h.told h.calls
+      (with_processor m p (raised_in x cause body set), entry_of p (raised_event cause) next ∷ []) turns)
       (starts_with_words body User (raised_event cause) (causes_small cause is_cause), tt) st.task
       (begun.blocking ∙ sym (plain_no_nmi image b (ap is_over_task kind ∙ over_one cause is_cause)))
       (record { calls = refl }, tt)
       (subst (λ y. ApicIs mode image y set (b ∷ []))
       (sym (delivery_apic image.processors p p (after_step s p r) begun.event begun.frame ∙ at_same s.apics p p a refl)) apic)
-      (omega arith)
-      (λ q e. subst (λ ys. Chain mode image p entry_edges n q back u.on.frame u.on.switching u.on.fills (b ∷ []) ys d (with_words s.memory words')) (sym begins_last)
-      (subst (λ z. Chain mode image p entry_edges n z back u.on.frame u.on.switching u.on.fills (b ∷ []) (last ∷ []) d (with_words s.memory words')) (sym e) chain)) in
+      (omega arith) (tt, tt) (λ k. refl)
+      (λ q e. subst (λ ys. Chain mode image p entry_edges n q back u.on.frame u.on.switching (None ∷ []) (b ∷ []) ys d (with_words s.memory words')) (sym begins_last)
+      (subst (λ z. Chain mode image p entry_edges n z back u.on.frame u.on.switching (None ∷ []) (b ∷ []) (last ∷ []) d (with_words s.memory words')) (sym e) chain)) in
       let shallow : bodies_on s p ≡ 0 = stands_depth mode image facts p (left p) s x u.on ∙ ap length hb in
       let only : OnlyTask s p n = record { none = u.rest.none; user = u.at_cpl3; task_is = current.current } in
       record {

@@ -2,7 +2,7 @@
 use Rattle.std.proofs.Common.{◌≡◌, ℕ, suc, ◌+◌, ◌-◌, ◌<◌, ◌≤◌, Bool, true, false, ◌&&◌, not, List, [], length, Option, Some, None, refl, inl, inr, ⊎_elim, sym, ap, ◌∙◌, subst, arith}
 use Rattle.std.specs.List.{list_any}
 use Rattle.std.proofs.lemmas.Bool.Decides.{eqb_tells}
-use Rattle.std.specs.Prelude.{◌||◌, if◌then◌else◌, nat_le, nat_lt}
+use Rattle.std.specs.Prelude.{◌||◌, ◌++◌, if◌then◌else◌, nat_le, nat_lt}
 use Rattle.ev_event.specs.Boundary.{interrupt_or_instruction}
 use Rattle.ev_apic.specs.Apic.{next_vector}
 use Rattle.ev_relation.proofs.Chains.{word_interrupts}
@@ -41,12 +41,15 @@ use Rattle.ev_user.proofs.Follows.{user_goes_on}
 use Rattle.ev_symbolic.proofs.Words.{put_other}
 use Rattle.ev_activation.specs.Seat.{Seat}
 use Rattle.ev_relation.specs.Domain.{AreQuiet, IsInDomain}
+use Rattle.ev_abstract.specs.declared.entry.Entry.{Entry}
+use Rattle.ev_call_law.specs.Calls.{KeepsCallRecords}
+use Rattle.ev_relation.specs.Filling.{Filling, is_filled, AreFree}
 use Rattle.ev_relation.specs.Relation.{ApicIs, Chain, serves, StandsOn, Stands}
 use Rattle.ev_relation.proofs.Maps.{at_same, at_other}
 use Rattle.ev_relation.proofs.Standing.{vector_first, Moves, step_moves}
-use Rattle.ev_relation.proofs.After.{AreSparing, word_names, word_spares, latch_parts, apic_again, own_after, stands_after, few_inner}
+use Rattle.ev_relation.proofs.After.{AreSparing, word_names, word_spares, latch_parts, apic_again, own_after, left_behind, stands_after, few_inner}
 use Rattle.ev_relation.proofs.Domains.{four_tasks}
-use Rattle.ev_relation.proofs.Legality.{turn_legal, turn_bases}
+use Rattle.ev_relation.proofs.Legality.{turn_legal, turn_bases, turn_calls}
 use Rattle.ev_relation.proofs.Depth.{stands_depth}
 use Rattle.ev_relation.proofs.Tells.{AtRest, at_rest}
 use Rattle.ev_relation.proofs.Facts.{Facts}
@@ -133,33 +136,36 @@ module _ (mode : Mode) (image : Image) (formed : IsImage image) (built : IsBuilt
 
   -- The task is another, and these bodies stand on it, of which the last one's activation was begun; all else is as it was.
   pub user_after : (left : NatMap ℕ) (s s' : System) (m : Machine) (p : ℕ) (lt : p < image.processors) (h : Stands mode image left s m)
-      (u : AtUser left s m p) (cpu : Processor) (as' : List Activation) (words : NatMap ℕ) (t : Task) (bs : List BodyContext) (set : NatSet) (own : ℕ)
-      → (processor m p).bodies ≡ []
+      (u : AtUser left s m p) (cpu : Processor) (as' : List Activation) (words : NatMap ℕ) (t : Task) (fs : List (Option Filling)) (bs : List BodyContext) (set : NatSet)
+      (own : ℕ) → (processor m p).bodies ≡ []
       → Moves p s s' cpu as' words → (names : List Named) → AreSparing p names
       → Changes p (record { stack = (processor m p).running; used = 0 }) names s.memory.words words
       → (memory : NatMap ℕ) → ((a : ℕ) → IsUserWord a → words a ≡ memory a) → HoldsWords memory
       → Legal image (with_processor (record m { words = memory }) p (record (with_task (processor m p) t) { bodies = bs; pending = set }))
       → HasBases image (with_processor (record m { words = memory }) p (record (with_task (processor m p) t) { bodies = bs; pending = set }))
+      → (told : List Entry) → KeepsCallRecords image (with_processor (record m { words = memory }) p
+      (record (with_task (processor m p) t) { bodies = bs; pending = set })) told
       → AreOfWords bs → IsTask t → cpu.nmi_blocked ≡ list_any (is_nmi_body image) bs → AreQuiet bs
-      → ApicIs mode image (s'.apics p) set bs → own ≤ 500
-      → ((r : ℕ) → r ≡ (processor m p).running → Chain mode image p own (processor m p).running r t u.on.frame u.on.switching u.on.fills bs as' cpu
+      → ApicIs mode image (s'.apics p) set bs → own ≤ 500 → AreFree (processor m p).records fs → ((k : ℕ) → is_filled k fs ≡ is_filled k [])
+      → ((r : ℕ) → r ≡ (processor m p).running → Chain mode image p own (processor m p).running r t u.on.frame u.on.switching fs bs as' cpu
       (with_words s.memory words))
       → (StandsOn mode image p (own + inner_edges (s.latches p)) s' (record (with_task (processor m p) t) { bodies = bs; pending = set }))
-      × Stands mode image (put_at left p (own + inner_edges (s.latches p))) s'
+      × Stands mode image (left_behind mode image p (own + inner_edges (s.latches p))) s'
       (with_processor (record m { words = memory }) p (record (with_task (processor m p) t) { bodies = bs; pending = set }))
-  user_after left s s' m p lt h u cpu as' words t bs set own hb mv names sparing changes memory user held legal bases of_words good blocked quiet apic few
-      chain =
+  user_after left s s' m p lt h u cpu as' words t fs bs set own hb mv names sparing changes memory user held legal bases told calls of_words good blocked quiet
+      apic few free filled chain =
       let x : abstract.Processor = processor m p in
       let y : abstract.Processor = record (with_task x t) { bodies = bs; pending = set } in
       let small : p < 32 = let eight = formed.count.1 in omega arith in
       let four = four_tasks image formed p lt in
       let narrow : x.running < 7 = let l = u.on.running in omega arith in
       let there : StandsOn mode image p (own + inner_edges (s.latches p)) s' y
-      = own_after mode image p (left p) s s' x (record { stack = x.running; used = 0 }) cpu as' words (put_at x.tasks x.running t) bs own u.on small four mv
+      = own_after mode image p (left p) s s' x (record { stack = x.running; used = 0 }) cpu as' words (put_at x.tasks x.running t) fs bs own u.on small four
+      mv
       (λ i d. inl (λ e. d (e ∙ sym u.rest.returning))) narrow names sparing changes (λ i d. others i (λ e. d (e ∙ sym u.rest.returning))) tasks blocked
-      set apic
+      set apic free (λ k. filled k ∙ ap (is_filled k) (sym u.rest.fills))
       (let f = few_inner mode image (s.latches p) in omega arith)
-      (subst (λ k. Chain mode image p own x.running u.on.returning k u.on.frame u.on.switching u.on.fills bs as' cpu (with_words s.memory words))
+      (subst (λ k. Chain mode image p own x.running u.on.returning k u.on.frame u.on.switching fs bs as' cpu (with_words s.memory words))
       (sym (at_same x.tasks x.running u.on.returning t u.rest.returning)) (chain u.on.returning u.rest.returning)) in
       let inside : IsInDomain y = record {
         nmi = u.domain.nmi;
@@ -184,7 +190,7 @@ module _ (mode : Mode) (image : Image) (formed : IsImage image) (built : IsBuilt
               mail_nmi = refl;
               records = refl;
               queue = refl;
-            }) legal bases numbers inside there,
+            }) legal bases numbers told calls inside there,
       )
     where
       others : (i : ℕ) → (i ≡ (processor m p).running → ⊥) → put_at (processor m p).tasks (processor m p).running t i ≡ (processor m p).tasks i
@@ -244,16 +250,18 @@ module _ (mode : Mode) (image : Image) (formed : IsImage image) (built : IsBuilt
       let same : record (with_task x t) { bodies = [] } ≡ with_task x t = ap (λ (bs : List BodyContext). record (with_task x t) { bodies = bs }) (sym hb) in
       let turned : turn image m p ≡ (with_processor (record m { words = memory }) p (record (with_task x t) { bodies = [] }), [])
       = i.turns ∙ ap (task_step image m p) goes ∙ ap (λ z. (with_processor (record m { words = memory }) p z, [])) (sym same) in
-      let after = user_after left s s' m p lt h u d as' words t [] x.pending 0 hb mv (word_names g.write) (word_spares p m.present g.write g.place)
+      let after = user_after left s s' m p lt h u d as' words t [] [] x.pending 0 hb mv (word_names g.write) (word_spares p m.present g.write g.place)
       (writes p (record { stack = x.running; used = 0 }) g.write s.memory.words) memory g.sees.words g.sees.held
       (turn_legal image formed built.accepted m p lt h.legal (with_processor (record m { words = memory }) p (record (with_task x t) { bodies = [] }), [])
       turned)
       (turn_bases image m p h.bases (with_processor (record m { words = memory }) p (record (with_task x t) { bodies = [] }), []) turned)
+      (h.told ++ []) (turn_calls image formed built.accepted m p lt h.legal h.told h.calls
+      (with_processor (record m { words = memory }) p (record (with_task x t) { bodies = [] }), []) turned)
       tt g.runs.task u.open_to tt
       (apic_again mode image (s.apics p) _ x.pending x.bodies [] (at_same s.apics p p (s.apics p) refl)
       (λ class. sym (ap (list_any (λ (b : BodyContext). serves mode image class b.service)) hb)) u.on.apic)
-      (omega arith)
-      (λ r e. (subst (λ z. RunsTask mode image p z t d) (sym e) g.runs, u.rest.still, none)) in
+      (omega arith) tt (λ k. refl)
+      (λ r e. (subst (λ z. RunsTask mode image p z t d) (sym e) g.runs, u.rest.still, none, refl)) in
       record {
         after = r;
         steps = g.step_is;
@@ -262,7 +270,7 @@ module _ (mode : Mode) (image : Image) (formed : IsImage image) (built : IsBuilt
         turns = i.turns ∙ ap (task_step image m p) goes;
         seen = u.seen;
         now_left = 0 + inner_edges (s.latches p);
-        stands = subst (λ z. Stands mode image (put_at left p (0 + inner_edges (s.latches p))) s' (with_processor (record m { words = memory }) p z)) same
+        stands = subst (λ z. Stands mode image (left_behind mode image p (0 + inner_edges (s.latches p))) s' (with_processor (record m { words = memory }) p z)) same
             after.1;
         shows = λ told. ap (λ b. if b then [] else told) u.at_cpl3;
         counts = stands_depth mode image facts p _ s' _ after.0 ∙ sym (stands_depth mode image facts p (left p) s x u.on ∙ ap length hb)
