@@ -1,5 +1,5 @@
 -- The way from the table of bodies to a body's first item, in either mode.
-use Rattle.std.proofs.Common.{◌≡◌, ◌≢◌, ℕ, ◌+◌, ◌-◌, ◌/◌, ◌%◌, ◌^◌, ◌<◌, ◌≤◌, Bool, true, false, ◌&&◌, List, [], ◌∷◌, ◌++◌, get_or, map, Some, refl, sym, ap, ◌∙◌, subst, arith}
+use Rattle.std.proofs.Common.{◌≡◌, ◌≢◌, ℕ, ◌+◌, ◌-◌, ◌/◌, ◌%◌, ◌^◌, ◌<◌, ◌≤◌, Bool, true, false, ◌&&◌, List, [], ◌∷◌, ◌++◌, get_or, map, Some, refl, sym, ap, ◌∙◌, subst, arith, Option}
 use Rattle.std.specs.Prelude.{pos, ◌==◌}
 use Rattle.std.proofs.lemmas.Bool.{eqb-true, eq-eqb}
 use Rattle.ev_isa.specs.Word.{NatMap, displaced, is_canonical, bit}
@@ -35,20 +35,15 @@ use Rattle.ev_grounds.proofs.Facts.{facts_tell}
 use Rattle.ev_activation.specs.Seat.{Kind, SystemCall, FromTask, FromBody, NmiFromTask, NmiFromBody, Seat}
 use Rattle.ev_user.specs.Words.{AreWords}
 use Rattle.ev_table.specs.Table.{other_exit}
+use Rattle.ev_relation.specs.Filling.{Filling}
 use Rattle.ev_relation.specs.Active.{here, Saved, SavedOf, Matches, AtLoad, InSpot, Leaving, Means}
 use Rattle.ev_relation.proofs.Spots.{is_spot, IsAtEntry}
+pub use Rattle.ev_relation.proofs.Spots.{layout_of, body}
 use Rattle.ev_relation.proofs.CallKinds.{is_over_task, is_over_body, is_plain_kind, origin_of, leaves_task, leaves_body}
 use Rattle.ev_paths.specs.Lines.{HasKernel}
 use Rattle.ev_paths.proofs.Cells.{fred_cells, idt_cells}
 use Rattle.ev_deliver.specs.GoesOn.{GoesOn, with_rax, with_item}
 use Rattle.ev_deliver.proofs.GoesOn.{table_loads, body_jumps}
-
-abbrev pub layout_of : Mode → Layout
-layout_of Fred = FredFrame
-layout_of Idt = IdtFrame
-
-abbrev pub body : Mode → BodySpot → Spot
-body mode s = InBody (layout_of mode) s
 
 -- an edge to the opening of a block, by an instruction that is no return
 pub record Goes (code : Code) (c : Processor) (m : Memory) (b : Block) (e : Env) : Type 0 where
@@ -195,21 +190,22 @@ load_again mode image o e g w b l = record {
   begins = l.begins;
   unknown = l.unknown;
   off = l.off;
+  quiet = l.quiet;
   saved = saved_again mode image o e (record e { flags = g }) w (λ i h. refl) refl refl refl l.saved;
   locals = l.locals;
 }
 
 -- at the spots of bodies an activation means the same over a task and over a body
-pub means_at : (mode : Mode) (image : Image) (κ : Kind) → is_plain_kind κ ≡ true → (s : BodySpot) (e : Env) (w : Processor) (b : BodyContext) (m : NatMap ℕ)
-    → InSpot mode image (origin_of κ) s e w b → Means mode image κ (body mode s) e w b m
-means_at Fred image SystemCall a s e w b m h = h
-means_at Fred image FromTask a s e w b m h = h
-means_at Fred image FromBody a s e w b m h = h
-means_at Idt image SystemCall a s e w b m h = h
-means_at Idt image FromTask a s e w b m h = h
-means_at Idt image FromBody a s e w b m h = h
-means_at mode image NmiFromTask a s e w b m h = let clash : false ≡ true = a in absurd (cc)
-means_at mode image NmiFromBody a s e w b m h = let clash : false ≡ true = a in absurd (cc)
+pub means_at : (mode : Mode) (image : Image) (κ : Kind) → is_plain_kind κ ≡ true → (s : BodySpot) (e : Env) (w : Processor) (b : BodyContext) (g : Option Filling)
+    (m : NatMap ℕ) → InSpot mode image (origin_of κ) s e w b g m → Means mode image κ (body mode s) e w b g m
+means_at Fred image SystemCall a s e w b g m h = h
+means_at Fred image FromTask a s e w b g m h = h
+means_at Fred image FromBody a s e w b g m h = h
+means_at Idt image SystemCall a s e w b g m h = h
+means_at Idt image FromTask a s e w b g m h = h
+means_at Idt image FromBody a s e w b g m h = h
+means_at mode image NmiFromTask a s e w b g m h = let clash : false ≡ true = a in absurd (cc)
+means_at mode image NmiFromBody a s e w b g m h = let clash : false ≡ true = a in absurd (cc)
 
 -- an item opens at its address, with registers of its own
 pub record OpensItem (o : SS) : Type 0 where
@@ -306,7 +302,8 @@ module _ (mode : Mode) (p : ℕ) (κ : Kind) (σ : Seat) (ss : ℕ) (w : Process
     pub told : FactsHold e (block mode spot).ground.facts
     pub fewer : edges mode spot 0 < edges mode (body mode AtItem) 0
     pub agrees : Open e (block mode spot).ground.known m.regions → Agrees e (block mode spot).ground (block mode spot).opening d m
-    pub means : (image : Image) (b : BodyContext) (m : NatMap ℕ) → Leaving mode image (origin_of κ) e w b → Means mode image κ spot e w b m
+    pub means : (image : Image) (b : BodyContext) (g : Option Filling) (m : NatMap ℕ) → Leaving mode image (origin_of κ) e w b
+        → Means mode image κ spot e w b g m
 
 -- the mark is off
 mark_at : (p : ℕ) → p < 32 → (words : NatMap ℕ) → words (pcpu p + 0x20) ≡ 0 → words ((pcpu p + 0x20) % M) ≡ 0
@@ -351,7 +348,7 @@ module _ (image : Image) (p : ℕ) (hp : p < 32) (κ : Kind) (of_task : is_over_
       known_open = o;
       shared_open = nothing_open (e Fred p κ σ ss w extra v f) m;
     };
-    means = λ image b m l. leaves_task Fred image κ of_task (InFred (fred.Leaves FredToTask)) (e Fred p κ σ ss w extra v f) w b m (λ k. k) l;
+    means = λ image b g m l. leaves_task Fred image κ of_task (InFred (fred.Leaves FredToTask)) (e Fred p κ σ ss w extra v f) w b g m (λ k. k) l;
   }
 
   -- by how RCX and R11 compare with RIP and RFLAGS
@@ -385,7 +382,7 @@ module _ (image : Image) (p : ℕ) (hp : p < 32) (κ : Kind) (of_task : is_over_
       known_open = o;
       shared_open = nothing_open (e Idt p κ σ ss w extra v f) m;
     };
-    means = λ image b m l. leaves_task Idt image κ of_task (InIdt (idt.Leaves (IdtToTask by))) (e Idt p κ σ ss w extra v f) w b m (λ k. (k, same)) l;
+    means = λ image b g m l. leaves_task Idt image κ of_task (InIdt (idt.Leaves (IdtToTask by))) (e Idt p κ σ ss w extra v f) w b g m (λ k. (k, same)) l;
   }
 
   by_registers : Saved Idt image v w → v 17 < 2 ^ 64 → v 19 < 2 ^ 64 → AreWords w.regs
@@ -467,7 +464,7 @@ module _ (p : ℕ) (κ : Kind) (of_body : is_over_body κ ≡ true) (σ : Seat) 
       known_open = o;
       shared_open = nothing_open (e Fred p κ σ ss w extra v f) m;
     };
-    means = λ image b m l. leaves_body Fred image κ of_body (InFred (fred.Leaves FredToKernel)) (e Fred p κ σ ss w extra v f) w b m (λ k. k) l;
+    means = λ image b g m l. leaves_body Fred image κ of_body (InFred (fred.Leaves FredToKernel)) (e Fred p κ σ ss w extra v f) w b g m (λ k. k) l;
   }
   kernel_exits Idt cs a = record {
     spot = InIdt (idt.Leaves IdtToKernel);
@@ -492,5 +489,5 @@ module _ (p : ℕ) (κ : Kind) (of_body : is_over_body κ ≡ true) (σ : Seat) 
       known_open = o;
       shared_open = nothing_open (e Idt p κ σ ss w extra v f) m;
     };
-    means = λ image b m l. leaves_body Idt image κ of_body (InIdt (idt.Leaves IdtToKernel)) (e Idt p κ σ ss w extra v f) w b m (λ k. k) l;
+    means = λ image b g m l. leaves_body Idt image κ of_body (InIdt (idt.Leaves IdtToKernel)) (e Idt p κ σ ss w extra v f) w b g m (λ k. k) l;
   }

@@ -41,6 +41,7 @@ use Rattle.ev_blocks.specs.Items as spots
 use Rattle.ev_blocks.specs.Blocks.{block}
 use Rattle.ev_blocks.specs.Blocks as blocks
 use Rattle.ev_table.specs.Table.{code_table}
+use Rattle.ev_relation.specs.Filling.{first_fill}
 use Rattle.ev_relation.specs.Active.{item_place, address_of_item, here, FlagsAre, Active, InItem}
 use Rattle.ev_relation.specs.Relation.{body_edges, switches_at, StandsOn, Stands}
 use Rattle.ev_relation.specs.Step.{Simulated}
@@ -52,7 +53,7 @@ use Rattle.ev_relation.proofs.Spots.{few_edges}
 use Rattle.ev_body_steps.proofs.Bodies.{body, at_the_item, means_at, saved_again}
 use Rattle.ev_relation.proofs.Depth.{behind_repeat}
 use Rattle.ev_body_steps.proofs.ItemState.{opening_of, unblocked, with_registers, ItemState, gone, lands, any_registers, any_known, beyond_registers}
-use Rattle.ev_body_steps.proofs.ItemLocals.{locals_behind}
+use Rattle.ev_body_steps.proofs.ItemLocals.{locals_behind, calls_behind}
 use Rattle.ev_body_steps.proofs.ItemVisible as visible
 use Rattle.ev_body_steps.proofs.BodyRaising.{break_event}
 use Rattle.ev_body_steps.proofs.BodyTurn as turns
@@ -128,11 +129,13 @@ module _ (mode : Mode) (image : Image) (built : IsBuilt image) (good : IsImage i
         = fits_at mode image p o.σ seat hp good.count.1 o.κ ss o.w further v' a.flags facts (body mode spots.AtItem) way.over
         (step.fred_is mode image built good facts left s m h p hp o) (subst (λ y. (0xffffffff82000000 ≤ y) × (y + 0x100 ≤ M)) (sym next_is) spread) tt
         (way.told u) in
-        let item : InItem mode image (origin_of o.κ) u o.w (context.onward o.b) = record {
+        let item : InItem mode image (origin_of o.κ) u o.w (context.onward o.b) s.memory.words = record {
           saved = saved_again mode image (origin_of o.κ) (here mode p o.κ o.σ ss o.w extra v f) u o.w (beyond_registers c.regs v) refl refl refl a.means.saved;
           locals = locals_behind mode image (here mode p o.κ o.σ ss o.w extra v f) d s.memory a.offset a.rax a.rcx a.rdx a.flags there o.b a.means.locals None
               tt;
           flags = subst (FlagsAre mode image o.b.flags) (sym same) a.means.flags;
+          calls = calls_behind mode image (here mode p o.κ o.σ ss o.w extra v f) d s.memory a.offset a.rax a.rcx a.rdx a.flags there o.b a.means.locals None tt
+              s.memory.words (λ k l j lj. refl) a.means.calls;
         } in record {
           stands = record {
             spot = body mode spots.AtItem;
@@ -144,14 +147,15 @@ module _ (mode : Mode) (image : Image) (built : IsBuilt image) (good : IsImage i
             ss_is = a.ss_is;
             masked = step.masks_flags mode image built good facts left s m h p hp o a.flags a.state.flags;
             within = omega arith;
-            enough = few_edges mode image (body mode spots.AtItem) way.over 0;
+            enough = few_edges mode image (body mode spots.AtItem) way.over refl 0;
             at = begins code (block mode (body mode spots.AtItem)) u (record c { rip = next; cr2 = n }) s.memory fit
                 (subst (λ y. Agrees u (block mode (body mode spots.AtItem)).ground (opening_of mode) y s.memory) whole agrees);
             long = a.long;
           };
           switches = way.off ∙ sym o.off;
+          fills = sym (ap is_some o.unfilled);
           knows = plain_knows mode o.κ on.frame plain (blocks.holds (body mode spots.AtItem));
-          means = means_at mode image o.κ plain spots.AtItem u o.w (context.onward o.b) s.memory.words (item, refl);
+          means = means_at mode image o.κ plain spots.AtItem u o.w (context.onward o.b) (first_fill on.fills) s.memory.words (item, refl);
         }
       where
         whole : gone (record c { cr2 = n }) c.regs a.flags next ≡ record c { rip = next; cr2 = n }
@@ -199,6 +203,7 @@ module _ (mode : Mode) (image : Image) (built : IsBuilt image) (good : IsImage i
           found = found.1;
           same_body = refl;
           same_service = refl;
+          same_calls = refl;
           quiet = record { calls = (step.quiet mode image built good facts left s m h p hp o).calls };
           canonical = (facts.item_small o.b.body (suc o.b.place) body' is).0;
           outside = step.outside mode image built good facts left s m h p hp o a.act ∙ sym (behind_repeat next (let low = spread.0 in omega arith));

@@ -28,6 +28,7 @@ use Rattle.ev_symbolic.specs.Agrees.{Cell}
 use Rattle.ev_blocks.specs.Blocks.{block}
 use Rattle.ev_paths.specs.Ends.{TellsNoCr2}
 use Rattle.ev_table.specs.Table.{code_table}
+use Rattle.ev_relation.specs.Filling.{first_fill}
 use Rattle.ev_relation.specs.Active.{here, IsKernelSs, Active}
 use Rattle.ev_relation.specs.Relation.{switches_at, StandsOn, Stands}
 use Rattle.ev_relation.specs.Step.{Simulated}
@@ -73,13 +74,13 @@ module _ (mode : Mode) (image : Image) (built : IsBuilt image) (good : IsImage i
         found = found.1;
         same_body = refl;
         same_service = refl;
+        same_calls = refl;
         quiet = step.quiet mode image built good facts left s m h p hp o;
         canonical = canonical;
         outside = refl;
         inside = inside;
         stood = λ n. turns.stands_any mode image p on.own o.κ o.σ on.frame (switches_at mode image on.switching o.below) (first_fill on.fills) o.w o.b c s.memory
-            act (act.switches ∙ o.off)
-            untold n;
+            act untold n on.short;
         machine = m;
         own = ap (λ bs. record x { bodies = bs }) o.bodies;
         others = λ q e. refl;

@@ -1,8 +1,8 @@
 -- The boundary at which a body runs: an instruction comes next, or where IF is on an interrupt, at any instruction of an item. Both machines choose the same.
 use Rattle.std.proofs.Common.{◌≡◌, ◌⊎◌, inl, inr, ⊎_elim, ℕ, suc, ◌+◌, ◌-◌, ◌%◌, ◌<◌, ◌≤◌, Bool, true, false, not, ◌&&◌, List, [], ◌∷◌, get_or, map, length, Option, Some, None, refl, sym, ap, ◌∙◌, subst, arith}
-use Rattle.std.specs.Prelude.{◌==◌, if◌then◌else◌, slice_get, is_some}
+use Rattle.std.specs.Prelude.{◌==◌, if◌then◌else◌, slice_get, is_some, nat_le, nat_lt, zero}
 use Rattle.std.specs.List.{list_any, list_all}
-use Rattle.std.proofs.lemmas.Bool.{eqb-true, ltb-true}
+use Rattle.std.proofs.lemmas.Bool.{eqb-true, ltb-true, leb-true}
 use Rattle.std.proofs.Math.ListN.{get_or-map}
 use Rattle.ev_isa.specs.Word.{NatMap, NatSet, put_at, is_canonical, greatest_below}
 use Rattle.ev_isa.specs.Flags.{Flags}
@@ -50,7 +50,8 @@ use Rattle.ev_blocks.specs.Fred.{FromUser, FromKernel, FredToKernel, FredToTask,
 use Rattle.ev_blocks.specs.Fred as fred
 use Rattle.ev_blocks.specs.Idt.{Stub, Sys, Common, IdtToKernel, IdtToTask, IdtToNext}
 use Rattle.ev_blocks.specs.Idt as idt
-use Rattle.ev_blocks.specs.Items.{BodySpot, AtTable, AtJump, AtNumber, AtNumbers, AtUserWord, AtPageWord, BehindSti}
+use Rattle.ev_blocks.specs.Calls.{CallSpot, AtRecord, BehindWait, BehindBusy, AtFill, AtHead, AtLink, BehindFailure, BehindCall, AtTake, BehindTake, AtTurn, BehindTurn, AtTaken, AtFinish, BehindNext, AtOffset}
+use Rattle.ev_blocks.specs.Items.{BodySpot, AtTable, AtJump, AtNumber, AtNumbers, AtUserWord, AtPageWord, BehindSti, InCall}
 use Rattle.ev_blocks.specs.Items as items
 use Rattle.ev_blocks.specs.Blocks.{Spot, InFred, InIdt, InBody, block}
 use Rattle.ev_blocks.specs.Blocks as blocks
@@ -60,17 +61,21 @@ use Rattle.ev_activation.specs.Seat.{Kind, SystemCall, FromTask, FromBody, NmiFr
 use Rattle.ev_user.specs.Causes.{Arrived}
 use Rattle.ev_user.specs.Numbers.{HoldsNumbers}
 use Rattle.ev_user.proofs.KeepsNumbers.{put_numbers, causes_small, delivered_words}
-use Rattle.ev_relation.specs.Active.{here, item_place, address_of_item, IsKernelSs, HasPlace, HasNextPlace, InSpot, OverTask, OverBody, Means, Active}
-use Rattle.ev_relation.specs.Relation.{Chain, StandsOn, Stands, ApicIs, chained, body_edges, switches_at}
+use Rattle.ev_relation.specs.Filling.{Filling, first_fill, rest_fills}
+use Rattle.ev_relation.specs.Active.{here, IsKernelSs, HasRange, InSpot, OverTask, OverBody, Means, Active}
+use Rattle.ev_relation.specs.Relation.{IsContext, Chain, StandsOn, Stands, ApicIs, chained, body_edges, switches_at}
 use Rattle.ev_relation.specs.Step.{Simulated}
 use Rattle.ev_relation.specs.Domain.{AreQuiet}
 use Rattle.ev_relation.proofs.Facts.{Facts}
 use Rattle.ev_relation.proofs.Maps.{at_same, at_other}
-use Rattle.ev_relation.proofs.Spots.{is_in_item}
+use Rattle.ev_paths.proofs.Locals.{from_six}
+use Rattle.ev_call_law.specs.Calls.{to_run}
+use Rattle.ev_relation.proofs.Spots.{is_in_item, is_in_code, is_body_spot, body_spot_is}
+use Rattle.ev_relation.proofs.Fills.{is_fill_spot, spot_fills}
 use Rattle.ev_relation.proofs.Chains.{Kept, chain_kept, chain_masked}
 use Rattle.ev_relation.proofs.CallKinds.{ArePlain, over_any, seat_under, plain_seat}
 use Rattle.ev_body_steps.proofs.Bodies.{body, layout_of}
-use Rattle.ev_relation.proofs.Depth.{body_at}
+use Rattle.ev_relation.proofs.Depth.{spot_range}
 use Rattle.ev_relation.proofs.Legality.{legal_few}
 use Rattle.ev_relation.proofs.Standing.{masked_first, open_first, vector_first}
 use Rattle.ev_relation.proofs.Vectors.{next_is, begun_is}
@@ -82,101 +87,160 @@ use Rattle.ev_body_steps.proofs.KernelStep as step
 
 -- ---- where IF may be on: in items
 
--- the spots in items
-abbrev is_item_spot : BodySpot → Bool
-is_item_spot items.AtItem = true
-is_item_spot (AtNumber n) = true
-is_item_spot (AtNumbers rcx rax rdx) = true
-is_item_spot AtUserWord = true
-is_item_spot (AtPageWord is_page) = true
-is_item_spot BehindSti = true
-is_item_spot s = false
-
 -- a state in an item, with RSP and the base of GS as the body has them
 abbrev is_open : Mode → SS → Bool
 is_open mode s = is_in_item s && (v_eq (sreg s 4) (top_less (body_bytes (layout_of mode))) && v_eq s.gs (P gs_tag 0))
 
--- so are all of theirs
-stays_open : (mode : Mode) (s : BodySpot) → is_item_spot s ≡ true → every (is_open mode) (block mode (body mode s)) ≡ true
+-- what holds of each local's register
+local_open : (Q : ℕ → Type 0) → Q 6 → Q 7 → Q 8 → Q 9 → Q 10 → Q 11 → Q 12 → Q 13 → (r : ℕ) → (nat_le 6 r && nat_lt r 14) ≡ true → Q r
+local_open Q a b c d e f g i r h = from_six Q a b c d e f g i r (leb-true 6 r (and_left (nat_le 6 r) _ h)) (ltb-true r 14 (and_right (nat_le 6 r) _ h))
+
+-- so are all states in the code of items
+call_open : (mode : Mode) (s : CallSpot) → is_body_spot (InCall s) ≡ true → every (is_open mode) (block mode (body mode (InCall s))) ≡ true
 unfolding spelling four_bytes
-stays_open Fred items.AtItem h = refl
-stays_open Fred (AtNumber n) h = refl
-stays_open Fred (AtNumbers rcx rax rdx) h = refl
-stays_open Fred AtUserWord h = refl
-stays_open Fred (AtPageWord true) h = refl
-stays_open Fred (AtPageWord false) h = refl
-stays_open Fred BehindSti h = refl
-stays_open Idt items.AtItem h = refl
-stays_open Idt (AtNumber n) h = refl
-stays_open Idt (AtNumbers rcx rax rdx) h = refl
-stays_open Idt AtUserWord h = refl
-stays_open Idt (AtPageWord true) h = refl
-stays_open Idt (AtPageWord false) h = refl
-stays_open Idt BehindSti h = refl
-stays_open mode _ h = let clash : false ≡ true = h in absurd (cc)
+call_open Fred (AtRecord site) h = refl
+call_open Fred (BehindWait true) h = refl
+call_open Fred (BehindWait false) h = refl
+call_open Fred (BehindBusy r) h = local_open (λ r. every (is_open Fred) (block Fred (body Fred (InCall (BehindBusy r)))) ≡ true)
+    refl refl refl refl refl refl refl refl r h
+call_open Fred (BehindCall r true) h = local_open (λ r. every (is_open Fred) (block Fred (body Fred (InCall (BehindCall r true)))) ≡ true)
+    refl refl refl refl refl refl refl refl r h
+call_open Fred (BehindCall r false) h = local_open (λ r. every (is_open Fred) (block Fred (body Fred (InCall (BehindCall r false)))) ≡ true)
+    refl refl refl refl refl refl refl refl r h
+call_open Fred AtTake h = refl
+call_open Fred (BehindTake n) h = refl
+call_open Fred (AtTurn zero) h = refl
+call_open Fred (AtTurn (suc n)) h = refl
+call_open Fred (BehindTurn n) h = refl
+call_open Fred (AtTaken true) h = refl
+call_open Fred (AtTaken false) h = refl
+call_open Fred AtFinish h = refl
+call_open Fred BehindNext h = refl
+call_open Fred (AtOffset o e) h = ap (λ t. t && true) h
+call_open Idt (AtRecord site) h = refl
+call_open Idt (BehindWait true) h = refl
+call_open Idt (BehindWait false) h = refl
+call_open Idt (BehindBusy r) h = local_open (λ r. every (is_open Idt) (block Idt (body Idt (InCall (BehindBusy r)))) ≡ true)
+    refl refl refl refl refl refl refl refl r h
+call_open Idt (BehindCall r true) h = local_open (λ r. every (is_open Idt) (block Idt (body Idt (InCall (BehindCall r true)))) ≡ true)
+    refl refl refl refl refl refl refl refl r h
+call_open Idt (BehindCall r false) h = local_open (λ r. every (is_open Idt) (block Idt (body Idt (InCall (BehindCall r false)))) ≡ true)
+    refl refl refl refl refl refl refl refl r h
+call_open Idt AtTake h = refl
+call_open Idt (BehindTake n) h = refl
+call_open Idt (AtTurn zero) h = refl
+call_open Idt (AtTurn (suc n)) h = refl
+call_open Idt (BehindTurn n) h = refl
+call_open Idt (AtTaken true) h = refl
+call_open Idt (AtTaken false) h = refl
+call_open Idt AtFinish h = refl
+call_open Idt BehindNext h = refl
+call_open Idt (AtOffset o e) h = ap (λ t. t && true) h
+call_open mode _ h = let clash : false ≡ true = h in absurd (cc)
 
--- its base is the context's item, or behind `sti` the one before
-record IsOpen (mode : Mode) (image : Image) (m : Mode) (spot : Spot) (e : Env) (b : BodyContext) : Type 0 where
+stays_open : (mode : Mode) (s : BodySpot) → is_body_spot s ≡ true → is_in_code s ≡ true → every (is_open mode) (block mode (body mode s)) ≡ true
+unfolding spelling four_bytes
+stays_open Fred items.AtItem h i = refl
+stays_open Fred (AtNumber n) h i = refl
+stays_open Fred (AtNumbers rcx rax rdx) h i = refl
+stays_open Fred AtUserWord h i = refl
+stays_open Fred (AtPageWord true) h i = refl
+stays_open Fred (AtPageWord false) h i = refl
+stays_open Fred BehindSti h i = refl
+stays_open Fred (InCall s) h i = call_open Fred s h
+stays_open Idt items.AtItem h i = refl
+stays_open Idt (AtNumber n) h i = refl
+stays_open Idt (AtNumbers rcx rax rdx) h i = refl
+stays_open Idt AtUserWord h i = refl
+stays_open Idt (AtPageWord true) h i = refl
+stays_open Idt (AtPageWord false) h i = refl
+stays_open Idt BehindSti h i = refl
+stays_open Idt (InCall s) h i = call_open Idt s h
+stays_open mode AtTable h i = let clash : false ≡ true = i in absurd (cc)
+stays_open mode AtJump h i = let clash : false ≡ true = i in absurd (cc)
+stays_open mode _ h i = let clash : false ≡ true = h in absurd (cc)
+
+-- those of a record that is filled too
+fill_open : (mode : Mode) (s : BodySpot) → is_fill_spot s ≡ true → every (is_open mode) (block mode (body mode s)) ≡ true
+unfolding spelling four_bytes
+fill_open Fred (InCall (AtFill address func to s)) h = refl
+fill_open Fred (InCall (AtHead address func to)) h = refl
+fill_open Fred (InCall (AtLink address func to is_stale)) h = refl
+fill_open Fred (InCall (BehindFailure address func to)) h = refl
+fill_open Idt (InCall (AtFill address func to s)) h = refl
+fill_open Idt (InCall (AtHead address func to)) h = refl
+fill_open Idt (InCall (AtLink address func to is_stale)) h = refl
+fill_open Idt (InCall (BehindFailure address func to)) h = refl
+fill_open mode _ h = let clash : false ≡ true = h in absurd (cc)
+
+-- where a body is open to interrupts it is in the code of an item, at an address of the bodies' code
+record IsOpen (mode : Mode) (image : Image) (m : Mode) (spot : Spot) (e : Env) : Type 0 where
   stays : every (is_open m) (block m spot) ≡ true
-  base : HasPlace mode image e b ⊎ HasNextPlace mode image e b
-  off : blocks.switches spot ≡ false
+  range : HasRange mode image e
   untold : TellsNoCr2 (block m spot)
-
-in_item : (mode : Mode) (image : Image) (o : Origin) (s : BodySpot) (e : Env) (w : Processor) (b : BodyContext) → InSpot mode image o s e w b
-    → b.interrupts ≡ true → (is_item_spot s ≡ true) × (HasPlace mode image e b ⊎ HasNextPlace mode image e b)
-in_item mode image o AtTable e w b h on = let clash : true ≡ false = sym on ∙ h.0.off in absurd (cc)
-in_item mode image o AtJump e w b h on = let clash : true ≡ false = sym on ∙ h.0.off in absurd (cc)
-in_item mode image o items.AtItem e w b h on = (refl, inl h.1)
-in_item mode image o (AtNumber n) e w b h on = (refl, inl h.1)
-in_item mode image o (AtNumbers rcx rax rdx) e w b h on = (refl, inl h.1)
-in_item mode image o AtUserWord e w b h on = (refl, inl h.1)
-in_item mode image o (AtPageWord is_page) e w b h on = (refl, inl h.1)
-in_item mode image o BehindSti e w b h on = (refl, inr h.1)
-in_item mode image o _ e w b h on = absurd h
-
-in_body : (mode : Mode) (image : Image) (o : Origin) (m : Mode) (s : BodySpot) (e : Env) (w : Processor) (b : BodyContext) → InSpot mode image o s e w b
-    → b.interrupts ≡ true → IsOpen mode image m (body m s) e b
-in_body mode image o Fred s e w b h on =
-    let z = in_item mode image o s e w b h on in record { stays = stays_open Fred s z.0; base = z.1; off = refl; untold = body_untold true FredFrame s }
-in_body mode image o Idt s e w b h on =
-    let z = in_item mode image o s e w b h on in record { stays = stays_open Idt s z.0; base = z.1; off = refl; untold = body_untold false IdtFrame s }
 
 -- IF is off in an entry and in an exit
 never_off : {X : Type 0} (b : BodyContext) → b.interrupts ≡ false → b.interrupts ≡ true → X
 never_off b off on = let clash : true ≡ false = sym on ∙ off in absurd (cc)
 
-task_open : (mode : Mode) (image : Image) (m : Mode) (spot : Spot) (e : Env) (w : Processor) (b : BodyContext) → OverTask mode image m spot e w b
-    → b.interrupts ≡ true → IsOpen mode image m spot e b
-task_open mode image Fred (InFred (FromUser way)) e w b h on = never_off b h.0.off on
-task_open mode image Fred (InFred (fred.Leaves FredToTask)) e w b h on = never_off b h.off on
-task_open mode image Fred (InFred (fred.Leaves FredToNext)) e w b h on = never_off b h.off on
-task_open mode image Fred (InBody FredFrame s) e w b h on = in_body mode image UserCode Fred s e w b h on
-task_open mode image Idt (InIdt Sys) e w b h on = never_off b h.0.off on
-task_open mode image Idt (InIdt (Stub UserCode has v)) e w b h on = never_off b h.1.off on
-task_open mode image Idt (InIdt (Common UserCode pf)) e w b h on = never_off b h.0.off on
-task_open mode image Idt (InIdt (idt.Leaves (IdtToTask by))) e w b h on = never_off b h.0.off on
-task_open mode image Idt (InIdt (idt.Leaves (IdtToNext by))) e w b h on = never_off b h.0.off on
-task_open mode image Idt (InBody IdtFrame s) e w b h on = in_body mode image UserCode Idt s e w b h on
-task_open mode image m _ e w b h on = absurd h
+module _ (mode : Mode) (image : Image) (facts : Facts mode image) where
+  -- on the way to its first item it is off
+  in_code : (o : Origin) (s : BodySpot) (e : Env) (w : Processor) (b : BodyContext) (g : Option Filling) (words : NatMap ℕ)
+      → InSpot mode image o s e w b g words → b.interrupts ≡ true → is_in_code s ≡ true
+  in_code o AtTable e w b g words h on = never_off b h.0.off on
+  in_code o AtJump e w b g words h on = never_off b h.0.off on
+  in_code o _ e w b g words h on = refl
 
-body_open : (mode : Mode) (image : Image) (m : Mode) (spot : Spot) (e : Env) (w : Processor) (b : BodyContext) → OverBody mode image m spot e w b
-    → b.interrupts ≡ true → IsOpen mode image m spot e b
-body_open mode image Fred (InFred FromKernel) e w b h on = never_off b h.0.off on
-body_open mode image Fred (InFred (fred.Leaves FredToKernel)) e w b h on = never_off b h.off on
-body_open mode image Fred (InBody FredFrame s) e w b h on = in_body mode image KernelCode Fred s e w b h on
-body_open mode image Idt (InIdt (Stub KernelCode has v)) e w b h on = never_off b h.1.off on
-body_open mode image Idt (InIdt (Common KernelCode pf)) e w b h on = never_off b h.0.off on
-body_open mode image Idt (InIdt (idt.Leaves IdtToKernel)) e w b h on = never_off b h.off on
-body_open mode image Idt (InBody IdtFrame s) e w b h on = in_body mode image KernelCode Idt s e w b h on
-body_open mode image m _ e w b h on = absurd h
+  code_stays : (m : Mode) (o : Origin) (s : BodySpot) (e : Env) (w : Processor) (b : BodyContext) (g : Option Filling) (words : NatMap ℕ)
+      → InSpot mode image o s e w b g words → is_in_code s ≡ true → (t : Bool) → items.fills s ≡ t → every (is_open m) (block m (body m s)) ≡ true
+  code_stays m o s e w b g words h i true q = fill_open m s (spot_fills mode image o s e w b g words h q).0
+  code_stays m o s e w b g words h i false q = stays_open m s (body_spot_is mode image o s e w b g words h q) i
 
-means_open : (mode : Mode) (image : Image) (κ : Kind) (spot : Spot) (e : Env) (w : Processor) (b : BodyContext) (words : NatMap ℕ)
-    → Means mode image κ spot e w b words → b.interrupts ≡ true → IsOpen mode image mode spot e b
-means_open mode image SystemCall spot e w b words h on = task_open mode image mode spot e w b h on
-means_open mode image FromTask spot e w b words h on = task_open mode image mode spot e w b h on
-means_open mode image FromBody spot e w b words h on = body_open mode image mode spot e w b h on
-means_open mode image NmiFromTask spot e w b words h on = absurd h
-means_open mode image NmiFromBody spot e w b words h on = absurd h
+  in_body : (o : Origin) (m : Mode) (s : BodySpot) (e : Env) (w : Processor) (b : BodyContext) (g : Option Filling) (words : NatMap ℕ)
+      → IsContext mode image b → InSpot mode image o s e w b g words → b.interrupts ≡ true → IsOpen mode image m (body m s) e
+  in_body o m s e w b g words ctx h on =
+      let i = in_code o s e w b g words h on in record {
+        stays = code_stays m o s e w b g words h i (items.fills s) refl;
+        range = spot_range mode image facts o s e w b g words ctx h i;
+        untold = untold m s;
+      }
+    where
+      untold : (m : Mode) (s : BodySpot) → TellsNoCr2 (block m (body m s))
+      untold Fred s = body_untold true FredFrame s
+      untold Idt s = body_untold false IdtFrame s
+
+  task_open : (m : Mode) (spot : Spot) (e : Env) (w : Processor) (b : BodyContext) (g : Option Filling) (words : NatMap ℕ) → IsContext mode image b
+      → OverTask mode image m spot e w b g words → b.interrupts ≡ true → IsOpen mode image m spot e
+  task_open Fred (InFred (FromUser way)) e w b g words ctx h on = never_off b h.0.off on
+  task_open Fred (InFred (fred.Leaves FredToTask)) e w b g words ctx h on = never_off b h.off on
+  task_open Fred (InFred (fred.Leaves FredToNext)) e w b g words ctx h on = never_off b h.off on
+  task_open Fred (InBody FredFrame s) e w b g words ctx h on = in_body UserCode Fred s e w b g words ctx h on
+  task_open Idt (InIdt Sys) e w b g words ctx h on = never_off b h.0.off on
+  task_open Idt (InIdt (Stub UserCode has v)) e w b g words ctx h on = never_off b h.1.off on
+  task_open Idt (InIdt (Common UserCode pf)) e w b g words ctx h on = never_off b h.0.off on
+  task_open Idt (InIdt (idt.Leaves (IdtToTask by))) e w b g words ctx h on = never_off b h.0.off on
+  task_open Idt (InIdt (idt.Leaves (IdtToNext by))) e w b g words ctx h on = never_off b h.0.off on
+  task_open Idt (InBody IdtFrame s) e w b g words ctx h on = in_body UserCode Idt s e w b g words ctx h on
+  task_open m _ e w b g words ctx h on = absurd h
+
+  body_open : (m : Mode) (spot : Spot) (e : Env) (w : Processor) (b : BodyContext) (g : Option Filling) (words : NatMap ℕ) → IsContext mode image b
+      → OverBody mode image m spot e w b g words → b.interrupts ≡ true → IsOpen mode image m spot e
+  body_open Fred (InFred FromKernel) e w b g words ctx h on = never_off b h.0.off on
+  body_open Fred (InFred (fred.Leaves FredToKernel)) e w b g words ctx h on = never_off b h.off on
+  body_open Fred (InBody FredFrame s) e w b g words ctx h on = in_body KernelCode Fred s e w b g words ctx h on
+  body_open Idt (InIdt (Stub KernelCode has v)) e w b g words ctx h on = never_off b h.1.off on
+  body_open Idt (InIdt (Common KernelCode pf)) e w b g words ctx h on = never_off b h.0.off on
+  body_open Idt (InIdt (idt.Leaves IdtToKernel)) e w b g words ctx h on = never_off b h.off on
+  body_open Idt (InBody IdtFrame s) e w b g words ctx h on = in_body KernelCode Idt s e w b g words ctx h on
+  body_open m _ e w b g words ctx h on = absurd h
+
+  means_open : (κ : Kind) (spot : Spot) (e : Env) (w : Processor) (b : BodyContext) (g : Option Filling) (words : NatMap ℕ) → IsContext mode image b
+      → Means mode image κ spot e w b g words → b.interrupts ≡ true → IsOpen mode image mode spot e
+  means_open SystemCall spot e w b g words ctx h on = task_open mode spot e w b g words ctx h on
+  means_open FromTask spot e w b g words ctx h on = task_open mode spot e w b g words ctx h on
+  means_open FromBody spot e w b g words ctx h on = body_open mode spot e w b g words ctx h on
+  means_open NmiFromTask spot e w b g words ctx h on = absurd h
+  means_open NmiFromBody spot e w b g words ctx h on = absurd h
 
 -- where RSP is there
 body_rsp : (mode : Mode) (e : Env) → eval e (top_less (body_bytes (layout_of mode))) ≡ (e.base 16 + (M - area_bytes mode)) % M
@@ -260,8 +324,8 @@ module _ (mode : Mode) (image : Image) (built : IsBuilt image) (good : IsImage i
       abbrev agrees : Agrees e (block mode act.stands.spot).ground state c s.memory
       agrees = act.stands.at.agrees
 
-      in_it : IsOpen mode image mode act.stands.spot e b
-      in_it = means_open mode image κ act.stands.spot e w b s.memory.words act.means opened
+      in_it : IsOpen mode image mode act.stands.spot e
+      in_it = means_open mode image facts κ act.stands.spot e w b (first_fill on.fills) s.memory.words k.1 act.means opened
 
       open_state : is_open mode state ≡ true
       open_state = every_ok (is_open mode) (block mode act.stands.spot) in_it.stays act.stands.k act.stands.within state act.stands.at.is
@@ -293,15 +357,9 @@ module _ (mode : Mode) (image : Image) (built : IsBuilt image) (good : IsImage i
       upper =
           let inside = and_left (is_in_item state) _ open_state in
           let tag : state.rip.tag ≡ item_tag = eqb-true state.rip.tag item_tag (and_left _ _ inside) in
-          let near : state.rip.off < 0x40 = ltb-true state.rip.off 0x40 (and_right (state.rip.tag == item_tag) _ inside) in
+          let near : state.rip.off < 0x100 = ltb-true state.rip.off 0x100 (and_right (state.rip.tag == item_tag) _ inside) in
           let rip : c.rip ≡ (e.base item_tag + state.rip.off) % M = agrees.rip ∙ ap (λ t. (e.base t + state.rip.off) % M) tag in
-          let found = body_at (slice_get image.bodies b.body) b.place k.1.item k.1.is in
-          let range = facts.item_range b.body b.place found.0 found.1 in
-          let low = range.0 in let high = range.1 in
-          let at : item_place mode image b.body b.place ≡ _ = ap (address_of_item mode b.body b.place) found.1 in
-          let base : (code_end ≤ e.base item_tag) × (e.base item_tag + 0x100 ≤ M)
-          = ⊎_elim (λ q. let z = q ∙ at in (omega arith, omega arith)) (λ q. let z = q ∙ at in (omega arith, omega arith)) in_it.base in
-          let from = base.0 in let to = base.1 in
+          let low = in_it.range.0 in let high = in_it.range.1 in
           (omega arith, omega arith)
 
       canonical : is_canonical c.rip ≡ true
@@ -342,6 +400,7 @@ module _ (mode : Mode) (image : Image) (built : IsBuilt image) (good : IsImage i
         others = others;
         acts = acts;
         plain = plain;
+        calls = ap to_run (sym hb);
         quiet = subst AreQuiet hb (step.domain mode image built good facts left s m h p hp).bodies;
         outside = refl;
         inside = upper.0;
@@ -352,7 +411,7 @@ module _ (mode : Mode) (image : Image) (built : IsBuilt image) (good : IsImage i
           k.3,
           k.4,
           k.5,
-          stands_any mode image p on.own κ σ on.frame (switches_at mode image on.switching below) (first_fill on.fills) w b c s.memory act in_it.off in_it.untold a,
+          stands_any mode image p on.own κ σ on.frame (switches_at mode image on.switching below) (first_fill on.fills) w b c s.memory act in_it.untold a on.short,
         );
       }
 

@@ -1,5 +1,5 @@
 -- The delivery of an event to a body that runs: what it owes for the activation that it begins, in either mode.
-use Rattle.std.proofs.Common.{◌≡◌, ◌≢◌, ℕ, suc, ◌+◌, ◌*◌, ◌/◌, ◌%◌, ◌^◌, ◌<◌, ◌≤◌, true, false, ◌&&◌, [], length, Some, refl, sym, ap, subst, arith}
+use Rattle.std.proofs.Common.{◌≡◌, ◌≢◌, ℕ, suc, ◌+◌, ◌*◌, ◌/◌, ◌%◌, ◌^◌, ◌<◌, ◌≤◌, true, false, ◌&&◌, [], length, Some, refl, sym, ap, subst, arith, None}
 use Rattle.std.specs.Prelude.{◌==◌, if◌then◌else◌, slice_get}
 use Rattle.ev_isa.specs.Word.{NatMap, is_canonical}
 use Rattle.ev_isa.specs.Flags.{modelled}
@@ -154,7 +154,7 @@ module _ (mode : Mode) (image : Image) (p r n : ℕ) (c : Processor) (e : Event)
     pub frame : ℕ
     pub went : try c m e false ≡ Went cpu words frame
     pub blocking : cpu.nmi_blocked ≡ false
-    pub active : (f : Frame) → Active mode image p (body_edges mode image) FromBody seat f false c context cpu (with_words m words)
+    pub active : (f : Frame) → Active mode image p (body_edges mode image) FromBody seat f false None c context cpu (with_words m words)
     pub changes : Changes p seat [] m.words words
     pub frame_is : frame + 8 * frame_size c e ≡ top_at p seat
 

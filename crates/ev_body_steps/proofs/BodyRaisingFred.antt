@@ -154,6 +154,7 @@ module _ (image : Image) (p r n : ℕ) (c : Processor) (e : Event) (body : ℕ) 
     begins = refl;
     unknown = refl;
     off = refl;
+    quiet = refl;
     saved = record {
       regs = listed_is c.regs at.long;
       rip = refl;
@@ -195,11 +196,12 @@ module _ (image : Image) (p r n : ℕ) (c : Processor) (e : Event) (body : ℕ) 
         ss_is = refl;
         masked = refl;
         within = omega arith;
-        enough = few_edges Fred image (InFred FromKernel) refl 0;
+        enough = few_edges Fred image (InFred FromKernel) refl refl 0;
         at = here_at;
         long = long_by (is_user c);
       };
       switches = refl;
+      fills = refl;
       knows = tt;
       means = (loads, refl);
     };

@@ -173,6 +173,7 @@ module _ (image : Image) (p r n : ℕ) (c : Processor) (e : Event) (body : ℕ) 
     begins = refl;
     unknown = refl;
     off = refl;
+    quiet = refl;
     saved = record {
       regs = listed_is c.regs at.long;
       rip = refl;
@@ -218,11 +219,12 @@ module _ (image : Image) (p r n : ℕ) (c : Processor) (e : Event) (body : ℕ) 
         ss_is = at.ss;
         masked = and-false (interrupts_on c);
         within = omega arith;
-        enough = few_edges Idt image (InIdt (Stub KernelCode has v)) refl 0;
+        enough = few_edges Idt image (InIdt (Stub KernelCode has v)) refl refl 0;
         at = here_at;
         long = length-set c.regs 4 frame ∙ at.long;
       };
       switches = refl;
+      fills = refl;
       knows = tt;
       means = ((ready.event.small, refl, refl), loads, refl);
     };

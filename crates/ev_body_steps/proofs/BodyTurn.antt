@@ -1,6 +1,6 @@
 -- A turn in which an item of a body raises an event: the activation that begins on it, what the abstract machine enters, and what is shown.
 use Rattle.std.proofs.Common.{◌≡◌, inl, inr, ℕ, suc, ◌+◌, ◌-◌, ◌*◌, ◌%◌, ◌<◌, ◌≤◌, Bool, true, false, not, ◌&&◌, List, [], ◌∷◌, get_or, length, Option, Some, None, refl, sym, ap, ◌∙◌, subst, arith, ◌||◌}
-use Rattle.std.specs.Prelude.{◌==◌, if◌then◌else◌, slice_get}
+use Rattle.std.specs.Prelude.{◌==◌, ◌++◌, if◌then◌else◌, slice_get}
 use Rattle.std.specs.List.{list_any}
 use Rattle.ev_isa.specs.Word.{NatMap, NatSet, put_at, is_canonical}
 use Rattle.ev_isa.specs.Flags.{Flags}
@@ -47,12 +47,12 @@ use Rattle.ev_blocks.specs.Blocks.{block}
 use Rattle.ev_blocks.specs.Blocks as blocks
 use Rattle.ev_paths.specs.Ends.{is_untold, TellsNoCr2}
 use Rattle.ev_table.specs.Table.{code_table}
-use Rattle.ev_relation.proofs.Spots.{few_edges, means_over}
 use Rattle.ev_activation.specs.Seat.{Kind, FromBody, NmiFromBody, Seat, kind_of, kind_from, key_by, seat_by, seat_of, room_of, top_at}
 use Rattle.ev_user.proofs.Deliver.{arrives}
 use Rattle.ev_relation.specs.Nmi.{Frame, Leads, inner_edges}
 use Rattle.ev_relation.specs.Named.{Changes}
 use Rattle.ev_relation.specs.Domain.{IsQuiet, AreQuiet}
+use Rattle.ev_relation.specs.Filling.{Filling, first_fill, rest_fills}
 use Rattle.ev_relation.specs.Active.{here, IsKernelSs, Active}
 use Rattle.ev_relation.specs.Relation.{IsContext, Beneath, keeps_cr2, chained, body_edges, switches_at, Chain, StandsOn, Stands, serves, ApicIs}
 use Rattle.ev_relation.specs.Step.{Simulated}
@@ -61,10 +61,11 @@ use Rattle.ev_relation.proofs.Maps.{at_same, at_other}
 use Rattle.ev_relation.proofs.CallKinds.{is_plain_kind, ArePlain, none_nmi, seat_under, plain_seat, area_under}
 use Rattle.ev_relation.proofs.Chains.{Kept, chain_kept}
 use Rattle.ev_relation.proofs.Domains.{four_tasks}
-use Rattle.ev_relation.proofs.Legality.{turn_legal, turn_bases, legal_few}
+use Rattle.ev_call_law.specs.Calls.{times, to_run}
+use Rattle.ev_relation.proofs.Legality.{turn_legal, turn_bases, turn_calls, legal_few}
 use Rattle.ev_relation.proofs.Standing.{seen, Moves, step_moves, delivery_moves}
-use Rattle.ev_relation.proofs.Stays.{AreSpared, chain_stays, below_spared}
-use Rattle.ev_relation.proofs.After.{none_spares, slot_same, cell_same, page_same, user_same, few_inner, apic_again, own_becomes, stands_become, AreSameWords, tasks_same, current_is, mark_is}
+use Rattle.ev_relation.proofs.Stays.{AreSpared, AreKept, free_small, chain_stays, below_spared}
+use Rattle.ev_relation.proofs.After.{none_spares, slot_same, cell_same, page_same, user_same, few_inner, apic_again, own_becomes, records_after, all_kept, calls_bounded, left_behind, stands_alike, AreSameWords, tasks_same, current_is, mark_is}
 use Rattle.ev_relation.proofs.Depth.{stands_depth}
 use Rattle.ev_relation.proofs.UserState.{TurnsTo, makes_turn, is_safe, tells_bodies}
 use Rattle.ev_relation.proofs.UserBody.{HasBody, has_body}
@@ -188,9 +189,9 @@ module _ (mode : Mode) (image : Image) where
 
   -- with the edges of a body
   pub stands_any : (p left : ℕ) (κ : Kind) (σ : Seat) (f : Frame) (sw : Bool) (g : Option Filling) (w : Processor) (b : BodyContext) (c : Processor) (m : Memory)
-      → (act : Active mode image p left κ σ f sw g w b c m) → blocks.switches act.stands.spot ≡ false → TellsNoCr2 (block mode act.stands.spot) → (a : ℕ)
-      → Active mode image p (body_edges mode image) κ σ f sw w b (record c { cr2 = a }) m
-  stands_any p left κ σ f sw g w b c m act off none a = record {
+      → (act : Active mode image p left κ σ f sw g w b c m) → TellsNoCr2 (block mode act.stands.spot) → (a : ℕ)
+      → left ≤ body_edges mode image → Active mode image p (body_edges mode image) κ σ f sw g w b (record c { cr2 = a }) m
+  stands_any p left κ σ f sw g w b c m act none a short = record {
     stands = record {
       spot = act.stands.spot;
       k = act.stands.k;
@@ -201,11 +202,12 @@ module _ (mode : Mode) (image : Image) where
       ss_is = act.stands.ss_is;
       masked = act.stands.masked;
       within = act.stands.within;
-      enough = few_edges mode image act.stands.spot (means_over mode image κ act.stands.spot _ w b m.words act.means off) act.stands.k;
+      enough = let e = act.stands.enough in omega (arith, e, short);
       at = at_any_cr2 (block mode act.stands.spot) act.stands.k _ c m a none act.stands.within act.stands.at;
       long = act.stands.long;
     };
     switches = act.switches;
+    fills = act.fills;
     knows = act.knows;
     means = act.means;
   }
@@ -244,6 +246,7 @@ module _ (mode : Mode) (image : Image) (built : IsBuilt image) (good : IsImage i
     pub others : List Activation
     pub acts : s.activations p ≡ last ∷ others
     pub plain : ArePlain image (b ∷ below)
+    pub calls : to_run (b ∷ below) ≡ to_run x.bodies
     pub quiet : AreQuiet (b ∷ below)
     pub outside : is_in_repeat c.rip ≡ is_in_repeat saved
     pub inside : code_end ≤ saved  -- it stands in the bodies' code
@@ -397,24 +400,33 @@ module _ (mode : Mode) (image : Image) (built : IsBuilt image) (good : IsImage i
     spared = below_spared mode image p r [] s.memory.words words' entered_context (u.b ∷ u.below) small narrow deep tt refl
         (subst (λ σ. Changes p σ [] s.memory.words words') (sym seat_now) changes) plain_now
 
+    records_kept : AreKept p on.fills (u.b ∷ u.below) s.memory.words words'
+    records_kept = all_kept p (seat_under mode r (suc n)) [] small narrow s.memory.words words' tt changes refl p small on.fills (free_small x.records on.fills on.free)
+        (u.b ∷ u.below) (λ k some. calls_bounded mode image m h.told h.calls good.count.1 p k (subst (λ ks. 0 < times k ks) u.calls some))
+
     under : (a : ℕ) → Chain mode image p (body_edges mode image) r to (x.tasks to) on.frame on.switching on.fills (u.b ∷ u.below) (under_now ∷ u.others)
         (record w { cr2 = a }) mem
     under a =
         let k = u.chain a in
-        chain_stays mode image p (body_edges mode image) r to (x.tasks to) on.frame on.switching on.fills (u.b ∷ u.below) (under_now ∷ u.others) (record w { cr2 = a })
-        s.memory words' hp good.count.1 spared (inl u.inside) (k.0, k.1, k.2, k.3, k.4, k.5, k.6)
+        chain_stays mode image p (body_edges mode image) (body_edges mode image) r to (x.tasks to) on.frame on.switching on.fills (u.b ∷ u.below)
+        (under_now ∷ u.others) (record w { cr2 = a }) s.memory words' hp good.count.1 spared records_kept (free_small x.records on.fills on.free) (inl u.inside)
+        (omega arith) (omega arith) (k.0, k.1, k.2, k.3, k.4, k.5, k.6)
 
-    chain : Chain mode image p (body_edges mode image) r to (x.tasks to) on.frame on.switching on.fills now_bodies (last_now ∷ under_now ∷ u.others) d mem
+    -- the new activation fills no record
+    abbrev fills_now : List (Option Filling)
+    fills_now = None ∷ on.fills
+
+    chain : Chain mode image p (body_edges mode image) r to (x.tasks to) on.frame on.switching fills_now now_bodies (last_now ∷ under_now ∷ u.others) d mem
     chain =
         let at_kind = subst (λ k. Beneath mode image (keeps_cr2 mode image k)
-        (λ v. Chain mode image p (body_edges mode image) r to (x.tasks to) on.frame (chained mode image on.switching (u.b ∷ u.below)) (rest_fills on.fills) (u.b ∷ u.below)
+        (λ v. Chain mode image p (body_edges mode image) r to (x.tasks to) on.frame (chained mode image on.switching (u.b ∷ u.below)) on.fills (u.b ∷ u.below)
         (under_now ∷ u.others) v mem) w
         × Leads mode p k on.frame w mem.words
         × Active mode image p (body_edges mode image) k (seat_by mode k r (seat_of mode image r (u.b ∷ u.below)) (room_of mode image (u.b ∷ u.below))) on.frame
-        (switches_at mode image on.switching (u.b ∷ u.below)) (first_fill on.fills) w entered_context d mem) (sym no_nmi) (
+        (switches_at mode image on.switching (u.b ∷ u.below)) None w entered_context d mem) (sym no_nmi) (
           under,
           tt,
-          subst (λ σ. Active mode image p (body_edges mode image) FromBody σ on.frame false w entered_context d mem)
+          subst (λ σ. Active mode image p (body_edges mode image) FromBody σ on.frame false None w entered_context d mem)
               (sym (ap (λ k. seat_by mode k r (seat_of mode image r (u.b ∷ u.below)) (room_of mode image (u.b ∷ u.below))) (sym no_nmi) ∙ seat_now))
               (begun.active on.frame),
         ) in
@@ -433,21 +445,23 @@ module _ (mode : Mode) (image : Image) (built : IsBuilt image) (good : IsImage i
 
     there : StandsOn mode image p now s' z
     there = own_becomes mode image p (left p) s s' x (seat_under mode r (suc n)) d as' words' x.tasks x.slots x.resched
-        now_bodies (body_edges mode image) on small
-        (four_tasks image good p hp) mv (λ i d. inr (area_under mode r n)) narrow [] (none_spares p).allowed changes on.marked
+        fills_now now_bodies (body_edges mode image) on small
+        (four_tasks image good p hp) mv (λ i d. inr (area_under mode r n)) narrow [] (none_spares p).free.allowed changes on.marked
         (λ f. current_is p (seat_under mode r (suc n)) [] small narrow s.memory.words words' tt changes p words_same mode x.running (on.current f))
         (λ f. mark_is p (seat_under mode r (suc n)) [] small narrow s.memory.words words' tt changes p words_same ∙ on.mark f)
         (λ k l. slot_same p (seat_under mode r (suc n)) [] small narrow s.memory.words words' tt changes refl p k small l ∙ on.slots k l)
         (λ i f. refl) on.tasks (begun.blocking ∙ sym (none_nmi image now_bodies plain_now))
         y.set (subst (λ q. ApicIs mode image q y.set now_bodies) (sym (at_same s.apics p p apic refl)) y.apic_is)
-        (let f = few_inner mode image (s.latches p) in omega arith)
-        (subst (λ ys. Chain mode image p (body_edges mode image) r to (x.tasks to) on.frame on.switching on.fills now_bodies ys d mem) (sym acts_are) chain)
+        (tt, on.free) (records_after mode image p (left p) s x (seat_under mode r (suc n)) words' on small narrow [] (none_spares p).free changes fills_now
+        (λ k. refl))
+        (omega arith)
+        (subst (λ ys. Chain mode image p (body_edges mode image) r to (x.tasks to) on.frame on.switching fills_now now_bodies ys d mem) (sym acts_are) chain)
 
-    all : Stands mode image (put_at left p now) s' m'
+    all : Stands mode image (left_behind mode image p now) s' m'
     all =
         let domain = step.domain mode image built good facts left s m h p hp in
-        stands_become mode image left s s' m m' p now z (seat_under mode r (suc n)) d as' words' good built.accepted (four_tasks image good) h hp mv narrow []
-        (none_spares p).allowed changes
+        stands_alike mode image left s s' m m' p now z (seat_under mode r (suc n)) d as' words' good built.accepted (four_tasks image good) h hp mv narrow []
+        (none_spares p).free changes
         (record {
           own = y.own;
           others = y.others;
@@ -464,13 +478,15 @@ module _ (mode : Mode) (image : Image) (built : IsBuilt image) (good : IsImage i
               ∙ sym (ap (λ q. q k) y.cells);
         })
         legal (turn_bases image m p h.bases (m', entry_of p e (suc (suc n)) ∷ []) y.turns) y.numbers
+        (h.told ++ entry_of p e (suc (suc n)) ∷ [])
+        (turn_calls image good built.accepted m p hp h.legal h.told h.calls (m', entry_of p e (suc (suc n)) ∷ []) y.turns)
         (record { nmi = domain.nmi; mail_nmi = domain.mail_nmi; bodies = quiet }) there
 
     -- the frame's words are as many as before
     frame_fits : begun.frame + 8 * frame_size (middle.cpus p) e ≤ top_at p (seat_under mode r (suc n))
     frame_fits =
         let fred : has_fred (middle.cpus p) ≡ has_fred w = ap has_fred (at_same s.cpus p p d refl)
-        ∙ (chain_kept mode image p (body_edges mode image) r to (x.tasks to) on.frame on.switching on.fills now_bodies
+        ∙ (chain_kept mode image p (body_edges mode image) r to (x.tasks to) on.frame on.switching fills_now now_bodies
         (last_now ∷ under_now ∷ u.others) d mem chain).fred
         ∙ sym y.at.fred in
         let same : frame_size (middle.cpus p) e ≡ frame_size w e
@@ -514,7 +530,8 @@ module _ (mode : Mode) (image : Image) (built : IsBuilt image) (good : IsImage i
     (o : step.Top mode image built good facts left s m h p hp) where
   abbrev Stood : ℕ → BodyContext → Processor → Memory → Type 0
   Stood now b cpu mem = Active mode image p now o.κ o.σ (step.on mode image built good facts left s m h p hp).frame
-      (switches_at mode image (step.on mode image built good facts left s m h p hp).switching o.below) o.w b cpu mem
+      (switches_at mode image (step.on mode image built good facts left s m h p hp).switching o.below)
+      (first_fill (step.on mode image built good facts left s m h p hp).fills) o.w b cpu mem
 
   -- the processor of an item, with another RIP
   pub at_item : (ss : ℕ) → IsKernelSs mode ss → (extra v : ℕ → ℕ) (f : Flags) (offset : ℕ) (rax rcx rdx : V) (g : Flags)
@@ -559,6 +576,7 @@ module _ (mode : Mode) (image : Image) (built : IsBuilt image) (good : IsImage i
     pub found : first_body 0 image.bodies (event_key e.kind e.vector) Kernel ≡ Some body
     pub same_body : b.body ≡ o.b.body
     pub same_service : b.service ≡ o.b.service
+    pub same_calls : b.calls ≡ o.b.calls
     pub quiet : IsQuiet b
     pub canonical : is_canonical saved ≡ true
     pub outside : is_in_repeat (s.cpus p).rip ≡ is_in_repeat saved
@@ -612,11 +630,12 @@ module _ (mode : Mode) (image : Image) (built : IsBuilt image) (good : IsImage i
         ap is_plain_kind kind ∙ step.plain_kind mode image built good facts left s m h p hp o,
         (step.all_plain mode image built good facts left s m h p hp o).1,
       );
+      calls = ap (λ ks. ks ++ to_run o.below) y.same_calls ∙ ap to_run (sym o.bodies);
       quiet = (y.quiet, (step.are_quiet mode image built good facts left s m h p hp o).1);
       outside = y.outside;
       inside = y.inside;
       chain = λ a. step.with_last mode image built good facts left s m h p hp o b kind is_context_below (body_edges mode image)
-          (record was { rip = saved; cr2 = a }) s.memory.words [] (none_spares p).allowed (step.unknown_none o.below) (λ i off off'. refl) (y.stood a);
+          (record was { rip = saved; cr2 = a }) s.memory.words [] (none_spares p).free (step.unknown_none o.below) (λ i off off'. refl) (y.stood a);
     }
 
     -- the local APIC stays

@@ -1,7 +1,7 @@
 -- The items that change IF. `cli` is an instruction that leads to the next item. Behind that of `sti` no interrupt comes for one more, with which its code
 -- ends.
 use Rattle.std.proofs.Common.{◌≡◌, ℕ, suc, ◌+◌, ◌<◌, ◌≤◌, Bool, true, false, not, [], ◌∷◌, length, Option, Some, None, refl, sym, ap, ◌∙◌, subst, arith}
-use Rattle.std.specs.Prelude.{slice_get, if◌then◌else◌, ◌&&◌, ◌%◌, ◌^◌, nat_le, nat_lt}
+use Rattle.std.specs.Prelude.{is_some, slice_get, if◌then◌else◌, ◌&&◌, ◌%◌, ◌^◌, nat_le, nat_lt}
 use Rattle.std.specs.List.{list_any}
 use Rattle.ev_isa.specs.Word.{NatMap}
 use Rattle.ev_isa.specs.Flags.{Status, Flags, flags_of, flags_word}
@@ -50,6 +50,7 @@ use Rattle.ev_blocks.specs.Blocks as blocks
 use Rattle.ev_blocks.proofs.Falls.{edges_fall}
 use Rattle.ev_table.specs.Table.{code_table}
 use Rattle.ev_activation.specs.Seat.{Kind, Seat}
+use Rattle.ev_relation.specs.Filling.{first_fill}
 use Rattle.ev_relation.specs.Active.{item_place, address_of_item, here, IsKernelSs, FlagsAre, HasNextPlace, InItem, Active}
 use Rattle.ev_relation.specs.Relation.{IsContext, ApicIs, switches_at, Chain, StandsOn, Stands, serves}
 use Rattle.ev_relation.specs.Step.{Simulated}
@@ -63,7 +64,7 @@ use Rattle.ev_relation.proofs.After.{none_spares, apic_again}
 use Rattle.ev_relation.proofs.Legality.{turn_legal, off_at_sti}
 use Rattle.ev_body_steps.proofs.ItemCells.{before, visible_of, edges_stand, ItemCells}
 use Rattle.ev_body_steps.proofs.ItemCode.{cells_of}
-use Rattle.ev_body_steps.proofs.ItemLocals.{locals_behind}
+use Rattle.ev_body_steps.proofs.ItemLocals.{locals_behind, calls_behind}
 use Rattle.ev_body_steps.proofs.ItemState.{with_registers, opening_of, unblocked, gone, lands, any_registers, any_known, beyond_registers}
 use Rattle.ev_body_steps.proofs.ItemVisible.{legal_context}
 use Rattle.ev_body_steps.proofs.ItemVisible as visible
@@ -245,7 +246,7 @@ module _ (mode : Mode) (image : Image) (built : IsBuilt image) (good : IsImage i
   pub record NextItem (ss : ℕ) (v : ℕ → ℕ) (f : Flags) : Type 0 where
     pub extra : ℕ → ℕ
     pub place : extra 20 ≡ item_place mode image b.body b.place
-    pub means : InItem mode image (origin_of o.κ) (here mode p o.κ o.σ ss o.w extra v f) o.w b
+    pub means : InItem mode image (origin_of o.κ) (here mode p o.κ o.σ ss o.w extra v f) o.w b s.memory.words
     pub at : At code (block mode (body mode AtItem)) 0 (here mode p o.κ o.σ ss o.w extra v f) c s.memory
     pub enough : edges mode (body mode AtItem) 0 ≤ on.own
     pub act : Stood on.own b c s.memory
@@ -253,7 +254,7 @@ module _ (mode : Mode) (image : Image) (built : IsBuilt image) (good : IsImage i
   -- so it is at the end of the block behind `sti`
   pub to_item : (ss : ℕ) → IsKernelSs mode ss → (extra v : ℕ → ℕ) (f : Flags)
       → At code (block mode (body mode BehindSti)) 1 (here mode p o.κ o.σ ss o.w extra v f) c s.memory
-      → InItem mode image (origin_of o.κ) (here mode p o.κ o.σ ss o.w extra v f) o.w b → HasNextPlace mode image (here mode p o.κ o.σ ss o.w extra v f) b
+      → InItem mode image (origin_of o.κ) (here mode p o.κ o.σ ss o.w extra v f) o.w b s.memory.words → HasNextPlace mode image 2 (here mode p o.κ o.σ ss o.w extra v f) b
       → length c.regs ≡ 16 → edges mode (body mode BehindSti) 1 ≤ on.own
       → NextItem ss v f
   to_item ss ss_is extra v f at means next long enough =
@@ -269,10 +270,11 @@ module _ (mode : Mode) (image : Image) (built : IsBuilt image) (good : IsImage i
       (step.windows mode image built good facts left s m h p hp o body' is (body mode AtItem) way.over ss extra' v f) in
       let at_next : At code (block mode (body mode AtItem)) 0 u c s.memory = begins code (block mode (body mode AtItem)) u c s.memory
       (step.fits mode image built good facts left s m h p hp o body' is (body mode AtItem) way.over ss extra' v f refl tt (way.told u)) agrees in
-      let item : InItem mode image (origin_of o.κ) u o.w b = record {
+      let item : InItem mode image (origin_of o.κ) u o.w b s.memory.words = record {
         saved = saved_again mode image (origin_of o.κ) e u o.w (λ i l. refl) refl refl refl means.saved;
         locals = means.locals;
         flags = means.flags;
+        calls = means.calls;
       } in
       let enough' : edges mode (body mode AtItem) 0 ≤ on.own = omega arith in record {
         extra = extra';
@@ -296,8 +298,9 @@ module _ (mode : Mode) (image : Image) (built : IsBuilt image) (good : IsImage i
             long = long;
           };
           switches = way.off ∙ sym o.off;
+          fills = sym (ap is_some o.unfilled);
           knows = plain_knows mode o.κ on.frame plain (blocks.holds (body mode AtItem));
-          means = means_at mode image o.κ plain AtItem u o.w b s.memory.words (item, refl);
+          means = means_at mode image o.κ plain AtItem u o.w b (first_fill on.fills) s.memory.words (item, refl);
         };
       }
 
@@ -345,7 +348,7 @@ module _ (mode : Mode) (image : Image) (built : IsBuilt image) (good : IsImage i
           service = b.service;
           apic_is = apic_stays false;
           names = [];
-          allowed = (none_spares p).allowed;
+          allowed = (none_spares p).free;
           unknown = step.unknown_none o.below;
           changes = λ y far near. refl;
           w = o.w;
@@ -411,12 +414,15 @@ module _ (mode : Mode) (image : Image) (built : IsBuilt image) (good : IsImage i
         let now : ℕ = edges mode (body mode BehindSti) 0 in
         let next_is : extra 20 + 2 ≡ item_place mode image b.body (suc b.place)
         = ap (λ n. n + 2) base ∙ at_sti.2 ∙ sym (ap (address_of_item mode b.body (suc b.place)) is) in
-        let item : InItem mode image (origin_of o.κ) u o.w b' = record {
+        let item : InItem mode image (origin_of o.κ) u o.w b' s.memory.words = record {
           saved = saved_again mode image (origin_of o.κ) (here mode p o.κ o.σ ss o.w extra v f) u o.w (beyond_registers c.regs v) refl refl refl a.means.saved;
           locals = locals_behind mode image (here mode p o.κ o.σ ss o.w extra v f) c s.memory a.offset a.rax a.rcx a.rdx a.flags a.state b a.means.locals None
               tt;
           flags = known true;
+          calls = calls_behind mode image (here mode p o.κ o.σ ss o.w extra v f) c s.memory a.offset a.rax a.rcx a.rdx a.flags a.state b a.means.locals None tt
+              s.memory.words (λ k l j lj. refl) a.means.calls;
         } in
+        let base_range = subst (λ y. (0xffffffff82000000 ≤ y) × (y + 0x100 ≤ M)) (sym base) (facts.item_range b.body b.place body' is) in
         let act : Stood now b' cpu mem = record {
           stands = record {
             spot = body mode BehindSti;
@@ -433,8 +439,9 @@ module _ (mode : Mode) (image : Image) (built : IsBuilt image) (good : IsImage i
             long = a.long;
           };
           switches = behind_plain mode ∙ sym o.off;
+          fills = sym (ap is_some o.unfilled);
           knows = plain_knows mode o.κ on.frame plain (blocks.holds (body mode BehindSti));
-          means = means_at mode image o.κ plain BehindSti u o.w b' s.memory.words (item, next_is);
+          means = means_at mode image o.κ plain BehindSti u o.w b' (first_fill on.fills) s.memory.words (item, next_is, base_range);
         } in
         let still_there = went_stays image.processors s p cpu None Sti
         (step.fetches mode image built good facts left s m h p hp c.rip cell at_sti.0).1 refl ∙ o.acts in
@@ -442,14 +449,14 @@ module _ (mode : Mode) (image : Image) (built : IsBuilt image) (good : IsImage i
         s.memory.words None (step.sends_nothing mode image built good facts left s m h p hp)
         (switches_on c s.memory (c.rip + 1) a.flags a.kernel refl a.state.flags
         (step.masked mode image built good facts left s m h p hp o ∙ was_off) (s.apics p) (s.latches p))
-        (step.blocked mode image built good facts left s m h p hp) [] (none_spares p).allowed (λ y far near. refl) (with_context m p b') [] turned x.tasks
-        x.slots (b' ∷ o.below) makes
+        (step.blocked mode image built good facts left s m h p hp) [] (none_spares p).free (λ y far near. refl) (with_context m p b') [] turned x.tasks
+        x.slots on.fills on.free (λ k. refl) (b' ∷ o.below) makes
         (record { calls = (step.quiet mode image built good facts left s m h p hp o).calls }, (step.are_quiet mode image built good facts left s m h p hp o).1)
         (apic_stays true)
         (goes_on_inside false (not (is_user c)) (not (nat_le nmi_entry c.rip && nat_lt c.rip repeat_entry)) (is_jump (Some Sti))
         (is_in_repeat c.rip) (length x.bodies) refl (step.outside mode image built good facts left s m h p hp o a.act) ∙ ap length o.bodies)
-        now (few_edges mode image (body mode BehindSti) (behind_is_spot mode) 0)
+        now (few_edges mode image (body mode BehindSti) (behind_is_spot mode) refl 0)
         (subst (λ as'. Chain mode image p now x.running on.returning (x.tasks on.returning) on.frame on.switching on.fills (b' ∷ o.below) as' cpu mem) (sym still_there)
-        (step.with_last mode image built good facts left s m h p hp o b' o.kind ctx now cpu s.memory.words [] (none_spares p).allowed
+        (step.with_last mode image built good facts left s m h p hp o b' o.kind ctx now cpu s.memory.words [] (none_spares p).free
         (step.unknown_none o.below) (λ y far near. refl) act))
         refl

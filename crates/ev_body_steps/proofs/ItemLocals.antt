@@ -1,5 +1,5 @@
 -- The registers 6 to 13 are the locals: what an item reads of them, and what it leaves in them.
-use Rattle.std.proofs.Common.{◌≡◌, ℕ, ◌-◌, ◌<◌, ◌≤◌, List, [], ◌∷◌, get_or, set, map, length, Option, Some, None, refl, sym, ap, ◌∙◌, arith}
+use Rattle.std.proofs.Common.{◌≡◌, ℕ, ◌-◌, ◌<◌, ◌≤◌, List, [], ◌∷◌, get_or, set, map, length, Option, Some, None, refl, sym, ap, ◌∙◌, subst, arith}
 use Rattle.std.proofs.lemmas.List.{get_or-set_other, length-set}
 use Rattle.ev_isa.specs.declared.mode.Mode.{Mode}
 use Rattle.ev_body.specs.declared.image.Image.{Image}
@@ -9,8 +9,11 @@ use Rattle.ev_isa.specs.Flags.{Flags}
 use Rattle.ev_abstract.specs.Context.{BodyContext, local}
 use Rattle.ev_symbolic.specs.Value.{V}
 use Rattle.ev_symbolic.specs.Agrees.{Env, eval}
-use Rattle.ev_relation.specs.Active.{Locals}
+use Rattle.ev_relation.specs.Active.{HoldsCalls, Locals}
 use Rattle.ev_paths.proofs.Locals.{from_six}
+use Rattle.ev_isa.specs.Word.{NatMap}
+use Rattle.ev_blocks.specs.Shapes.{UserCode}
+use Rattle.ev_relation.proofs.Records.{RecordsStay, holds_again}
 use Rattle.ev_body_steps.proofs.ItemState.{with_registers, with_three, ItemState}
 
 -- a register and its new number, or none
@@ -65,3 +68,15 @@ module _ (mode : Mode) (image : Image) (e : Env) (c : Processor) (m : Memory) (o
       ∙ from_six (λ n. set (eight (map (eval e) (with_three mode rax rcx rdx))) (n - 6) x.1 ≡ eight (set (map (eval e) (with_three mode rax rcx rdx)) n x.1))
       refl refl refl refl refl refl refl refl x.0 h.0 h.1
       ∙ ap (λ (xs : List ℕ). eight (set xs x.0 x.1)) (sym s.regs)
+
+  -- R14 is no local, so the list of calls behind it is the same
+  pub calls_behind : (x : Write) → IsLocal x → (n : NatMap ℕ) → RecordsStay b.calls m.words n → HoldsCalls mode image m.words (e.var 14) b.calls
+      → HoldsCalls mode image n (with_registers (regs_with c.regs x) e.var 14) b.calls
+  unfolding eval
+  calls_behind x h n stay holds =
+      subst (λ a. HoldsCalls mode image n a b.calls) (sym (same x h ∙ ap (λ (xs : List ℕ). get_or xs 14 0) s.regs))
+      (holds_again mode image m.words n UserCode e c b stay (e.var 14) holds)
+    where
+      same : (x : Write) → IsLocal x → get_or (regs_with c.regs x) 14 0 ≡ get_or c.regs 14 0
+      same None h = refl
+      same (Some x) h = get_or-set_other c.regs x.0 14 x.1 0 (λ e. let l = h.1 in omega arith)

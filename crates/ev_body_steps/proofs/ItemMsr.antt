@@ -1,7 +1,7 @@
 -- Items that write a model-specific register: they begin with numbers for RCX, RAX and RDX, and their visible instruction is WRMSR. `eoi` ends in the local
 -- APIC the interrupt of the greatest vector in service, which is that of its context; `send` puts an interrupt into the mail of a processor.
 use Rattle.std.proofs.Common.{◌≡◌, ℕ, suc, ◌+◌, ◌<◌, ◌≤◌, false, [], ◌∷◌, length, Some, refl, sym, ap, ◌∙◌, subst, arith}
-use Rattle.std.specs.Prelude.{slice_get, if◌then◌else◌, not, ◌&&◌, ◌*◌, ◌/◌, ◌%◌, ◌^◌, ◌==◌, nat_lt, nat_le, Bool, true, None}
+use Rattle.std.specs.Prelude.{is_some, slice_get, if◌then◌else◌, not, ◌&&◌, ◌*◌, ◌/◌, ◌%◌, ◌^◌, ◌==◌, nat_lt, nat_le, Bool, true, None}
 use Rattle.ev_isa.specs.Word.{NatMap, NatSet, put_at}
 use Rattle.ev_isa.specs.Flags.{Flags}
 use Rattle.ev_isa.specs.Spelling.{spelling, four_bytes}
@@ -41,6 +41,7 @@ use Rattle.ev_blocks.specs.Blocks.{Spot, block, edges}
 use Rattle.ev_blocks.specs.Blocks as blocks
 use Rattle.ev_blocks.proofs.Falls.{edges_fall}
 use Rattle.ev_table.specs.Table.{code_table}
+use Rattle.ev_relation.specs.Filling.{first_fill}
 use Rattle.ev_relation.specs.Active.{item_place, address_of_item, numbers_of, here, IsKernelSs, InItem, Active}
 use Rattle.ev_relation.specs.Relation.{ApicIs, switches_at, StandsOn, Stands}
 use Rattle.ev_relation.specs.Step.{Simulated}
@@ -201,7 +202,7 @@ module _ (mode : Mode) (image : Image) (built : IsBuilt image) (good : IsImage i
 
   -- At the item: the first load is an edge.
   pub to_numbers : (act : Stood on.own b c s.memory) (ss : ℕ) → IsKernelSs mode ss → (extra v : ℕ → ℕ) (f : Flags)
-      → At code (block mode (body mode AtItem)) 0 (env ss extra v f) c s.memory → InItem mode image (origin_of o.κ) (env ss extra v f) o.w b
+      → At code (block mode (body mode AtItem)) 0 (env ss extra v f) c s.memory → InItem mode image (origin_of o.κ) (env ss extra v f) o.w b s.memory.words
       → extra 20 ≡ item_place mode image b.body b.place → length c.regs ≡ 16 → edges mode (body mode AtItem) 0 ≤ on.own
       → (i : Item) (ins : Ins) → visible_of i ≡ Some ins → item_at (Some body') b.place ≡ Some i → (rcx rax rdx : ℕ)
       → numbers_of (Some i) ≡ Some (rcx, rax, rdx)
@@ -236,15 +237,16 @@ module _ (mode : Mode) (image : Image) (built : IsBuilt image) (good : IsImage i
           long = long;
         };
         switches = numbers_plain mode rcx rax rdx ∙ sym o.off;
+        fills = sym (ap is_some o.unfilled);
         knows = plain_knows mode o.κ on.frame (step.plain_kind mode image built good facts left s m h p hp o)
             (blocks.holds (body mode (AtNumbers rcx rax rdx)));
-        means = means_at mode image o.κ (step.plain_kind mode image built good facts left s m h p hp o) (AtNumbers rcx rax rdx) e o.w b s.memory.words
+        means = means_at mode image o.κ (step.plain_kind mode image built good facts left s m h p hp o) (AtNumbers rcx rax rdx) e o.w b (first_fill on.fills) s.memory.words
             (means, place, ap (λ o. numbers_of (item_at o b.place)) is ∙ ap numbers_of hi ∙ numbers);
       }) (omega arith)
 
   -- at the block's end the visible instruction comes, with the numbers in the registers
   unfoldable pub at_numbers : (act : Stood on.own b c s.memory) (ss : ℕ) → IsKernelSs mode ss → (extra v : ℕ → ℕ) (f : Flags) (rcx rax rdx : ℕ)
-      → At code (block mode (body mode (AtNumbers rcx rax rdx))) 3 (env ss extra v f) c s.memory → InItem mode image (origin_of o.κ) (env ss extra v f) o.w b
+      → At code (block mode (body mode (AtNumbers rcx rax rdx))) 3 (env ss extra v f) c s.memory → InItem mode image (origin_of o.κ) (env ss extra v f) o.w b s.memory.words
       → extra 20 ≡ item_place mode image b.body b.place → length c.regs ≡ 16
       → visible.AtVisible mode image built good facts left s m h p hp o body' is ss extra v f
   at_numbers act ss ss_is extra v f rcx rax rdx at means place long = record {
@@ -308,7 +310,7 @@ module _ (mode : Mode) (image : Image) (built : IsBuilt image) (good : IsImage i
           service = None;
           apic_is = apic_behind hi;
           names = [];
-          allowed = (none_spares p).allowed;
+          allowed = (none_spares p).free;
           unknown = step.unknown_none o.below;
           changes = λ y off d. refl;
           w = o.w;
@@ -429,7 +431,7 @@ module _ (mode : Mode) (image : Image) (built : IsBuilt image) (good : IsImage i
             service = b.service;
             apic_is = visible.same_apic mode image built good facts left s m h p hp o body' is None (suc b.place) b.flags;
             names = [];
-            allowed = (none_spares p).allowed;
+            allowed = (none_spares p).free;
             unknown = step.unknown_none o.below;
             changes = λ y off d. refl;
             w = o.w;

@@ -41,6 +41,7 @@ use Rattle.ev_activation.specs.Seat.{Kind, Seat}
 use Rattle.ev_symbolic.specs.Single.{onward, Leads}
 use Rattle.ev_symbolic.proofs.Single.{singles}
 use Rattle.ev_table.specs.Table.{code_table}
+use Rattle.ev_relation.specs.Filling.{first_fill}
 use Rattle.ev_relation.specs.Active.{item_place, address_of_item, page_local, here, IsKernelSs, InItem, Active}
 use Rattle.ev_relation.specs.Relation.{switches_at, StandsOn, Stands}
 use Rattle.ev_relation.specs.Step.{Simulated}
@@ -243,7 +244,7 @@ module _ (mode : Mode) (image : Image) (built : IsBuilt image) (good : IsImage i
 
   -- At the item: the move is an edge.
   pub to_page : (act : Stood on.own b c s.memory) (ss : ℕ) → IsKernelSs mode ss → (extra v : ℕ → ℕ) (f : Flags)
-      → At code (block mode (body mode AtItem)) 0 (env ss extra v f) c s.memory → InItem mode image (origin_of o.κ) (env ss extra v f) o.w b
+      → At code (block mode (body mode AtItem)) 0 (env ss extra v f) c s.memory → InItem mode image (origin_of o.κ) (env ss extra v f) o.w b s.memory.words
       → extra 20 ≡ item_place mode image b.body b.place → length c.regs ≡ 16 → edges mode (body mode AtItem) 0 ≤ on.own → is_user c ≡ false
       → (i : Item) (ins : Ins) → visible_of i ≡ Some ins → item_at (Some body') b.place ≡ Some i → (r : ℕ) → page_local (Some i) ≡ Some r
       → register c r ≡ local b r → c.flags ≡ modelled c.flags → c.rip ≡ item_address mode b.body body' b.place
@@ -285,12 +286,13 @@ module _ (mode : Mode) (image : Image) (built : IsBuilt image) (good : IsImage i
         };
         inner = move_stays r;
       })
-      (omega arith) long (page_plain mode is_page)
-      (means_at mode image o.κ plain (AtPageWord is_page) e o.w b s.memory.words (
+      (omega arith) long (page_plain mode is_page) refl
+      (means_at mode image o.κ plain (AtPageWord is_page) e o.w b (first_fill on.fills) s.memory.words (
         record {
           saved = saved_again mode image (origin_of o.κ) (env ss extra v f) e o.w (λ i low. beside_rax n v i low) refl refl refl means.saved;
           locals = means.locals;
           flags = means.flags;
+          calls = means.calls;
         },
         place,
         record { register = r; is = ap (λ o. page_local (item_at o b.place)) is ∙ ap page_local hi ∙ of_item; rax = refl },
@@ -308,7 +310,7 @@ module _ (mode : Mode) (image : Image) (built : IsBuilt image) (good : IsImage i
 
   pub at_page : (act : Stood on.own b c s.memory) (ss : ℕ) → IsKernelSs mode ss → (extra v : ℕ → ℕ) (f : Flags) (is_page : Bool)
       → At code (block mode (body mode (AtPageWord is_page))) (page_steps is_page) (env ss extra v f) c s.memory
-      → InItem mode image (origin_of o.κ) (env ss extra v f) o.w b → extra 20 ≡ item_place mode image b.body b.place → length c.regs ≡ 16
+      → InItem mode image (origin_of o.κ) (env ss extra v f) o.w b s.memory.words → extra 20 ≡ item_place mode image b.body b.place → length c.regs ≡ 16
       → AtThePage ss extra v f is_page
   at_page act ss ss_is extra v f is_page at means place long =
       let z = page_ends mode code (env ss extra v f) c s.memory is_page at in

@@ -45,7 +45,7 @@ use Rattle.ev_relation.specs.Relation.{InArea, Stands}
 use Rattle.ev_relation.proofs.Areas.{opening_area}
 use Rattle.ev_concrete.specs.Opening.{pcpu_word}
 use Rattle.ev_relation.proofs.Facts.{Facts}
-use Rattle.ev_relation.proofs.After.{AreNames, own_word, none_spares}
+use Rattle.ev_relation.proofs.After.{AreCallFree, own_word, none_spares}
 use Rattle.ev_body_steps.proofs.ItemCells.{bytes_of, before, visible_of, ItemCells}
 use Rattle.ev_body_steps.proofs.ItemCode.{JumpCell, cells_of, goto_cell, jcc_cell}
 use Rattle.ev_body_steps.proofs.ItemState.{opening_of, known_of, unblocked, gone, gs_of}
@@ -131,8 +131,8 @@ module _ (mode : Mode) (image : Image) (built : IsBuilt image) (good : IsImage i
 
   -- ---- the memory of a write
 
-  allowed_of : (z : WordWrite) → IsFreeWord p z → AreNames p (names_with z)
-  allowed_of None g = (none_spares p).allowed
+  allowed_of : (z : WordWrite) → IsFreeWord p z → AreCallFree p (names_with z)
+  allowed_of None g = (none_spares p).free
   allowed_of (Some z) g = are_names p z.0 g
 
   unknown_of : (z : WordWrite) → IsFreeWord p z → named.UnknownTo o.below (names_with z)
@@ -215,7 +215,7 @@ module _ (mode : Mode) (image : Image) (built : IsBuilt image) (good : IsImage i
       let n = bounds r q in local_at mode image env c s.memory a.offset a.rax a.rcx a.rdx a.flags a.state b a.means.locals r n.0 n.1
 
   pub nothing : Makes m s.memory.words x.slots
-  nothing = words.makes_nothing mode image built good facts left s m h p hp o [] (none_spares p).allowed s.memory.words
+  nothing = words.makes_nothing mode image built good facts left s m h p hp o [] (none_spares p).free s.memory.words
       (λ y off d. refl) refl refl refl refl refl
 
   -- the flags that the context knows
@@ -372,7 +372,7 @@ module _ (mode : Mode) (image : Image) (built : IsBuilt image) (good : IsImage i
           service = b.service;
           apic_is = visible.same_apic mode image built good facts left s m h p hp o body' is None t b.flags;
           names = [];
-          allowed = (none_spares p).allowed;
+          allowed = (none_spares p).free;
           unknown = step.unknown_none o.below;
           changes = λ y off d. refl;
           w = o.w;

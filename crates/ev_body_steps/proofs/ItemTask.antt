@@ -54,6 +54,7 @@ use Rattle.ev_user.specs.Tasks.{IsTask, RunsTask, task_processor}
 use Rattle.ev_user.proofs.Words.{set_words}
 use Rattle.ev_user.proofs.Follows.{low_canonical}
 use Rattle.ev_relation.specs.Named.{Changes}
+use Rattle.ev_relation.specs.Filling.{first_fill, rest_fills}
 use Rattle.ev_relation.specs.Active.{here, level_in, rest_in, Saved, SavedOf, Active}
 use Rattle.ev_relation.specs.Relation.{IsContext, Beneath, keeps_cr2, switches_at, chained, body_edges, Chain, StandsOn, Stands}
 use Rattle.ev_relation.specs.Nmi.{Leads as LeadsTo}
@@ -275,14 +276,17 @@ module _ (mode : Mode) (image : Image) (built : IsBuilt image) (good : IsImage i
             → Chain mode image p now x.running on.returning (tasks on.returning) on.frame on.switching on.fills (b' ∷ []) (o.last ∷ []) cpu mem
         alone k act q =
             let tail = subst (λ z. Beneath mode image (keeps_cr2 mode image z)
-            (λ v. Chain mode image p (body_edges mode image) x.running on.returning t on.frame (chained mode image on.switching []) (rest_fills on.fills) [] [] v mem) w
+            (λ v. Chain mode image p (body_edges mode image) x.running on.returning t on.frame (chained mode image on.switching []) [] [] [] v mem) w
             × LeadsTo mode p z on.frame w mem.words
             × Active mode image p now z (seat_by mode z x.running (seat_of mode image x.running []) (room_of mode image [])) on.frame
             (switches_at mode image on.switching []) (first_fill on.fills) w b' cpu mem) (sym k)
-            (over_kind mode image p now x.running on.returning t on.frame on.switching on.fills w b' cpu mem o.κ over runs
-            (subst (λ z. Active mode image p now o.κ z on.frame on.switching on.fills w b' cpu mem) q act)) in
+            (over_kind mode image p now x.running on.returning t on.frame on.switching (first_fill on.fills) w b' cpu mem o.κ over runs
+            (subst (λ z. Active mode image p now o.κ z on.frame on.switching (first_fill on.fills) w b' cpu mem) q act)) in
+            let lower = subst (λ gs. Beneath mode image (keeps_cr2 mode image (kind_of image b' []))
+            (λ v. Chain mode image p (body_edges mode image) x.running on.returning t on.frame (chained mode image on.switching []) gs [] [] v mem) w)
+            (sym alone_is.no_fills) tail.0 in
             subst (λ z. Chain mode image p now x.running on.returning z on.frame on.switching on.fills (b' ∷ []) (o.last ∷ []) cpu mem) (sym written)
-            (w, ctx, o.outer, tt, tail.0, tail.1, tail.2)
+            (w, ctx, o.outer, tt, lower, tail.1, tail.2)
 
         over_nothing : (ds : List BodyContext) → ds ≡ [] → (as' : List Activation) → as' ≡ [] → kind_of image b' ds ≡ o.κ
             → Active mode image p now o.κ o.σ on.frame (switches_at mode image on.switching ds) (first_fill on.fills) w b' cpu mem → o.σ ≡ record { stack = x.running; used = 0 }
@@ -314,13 +318,13 @@ module _ (mode : Mode) (image : Image) (built : IsBuilt image) (good : IsImage i
       same_tasks = λ i d. ⊎_elim (λ e. absurd (d (e.1 ∙ sym (runs_is over)))) (λ e. at_other x.tasks x.running i t e.0) (eqb_tells i x.running);
       good_tasks = λ i q. ⊎_elim (λ e. subst IsTask (sym (at_same x.tasks x.running i t e.1)) runs.task)
           (λ e. subst IsTask (sym (at_other x.tasks x.running i t e.0)) (on.tasks i q)) (eqb_tells i x.running);
-      current = step.same_current mode image built good facts left s m h p hp o [] (none_spares p).allowed ws changes refl;
-      mark = step.same_mark mode image built good facts left s m h p hp o [] (none_spares p).allowed ws changes refl;
-      slots_are = step.same_slots mode image built good facts left s m h p hp o [] (none_spares p).allowed ws changes refl;
-      user = step.same_user mode image built good facts left s m h p hp o [] (none_spares p).allowed ws changes refl;
+      current = step.same_current mode image built good facts left s m h p hp o [] (none_spares p).free ws changes refl;
+      mark = step.same_mark mode image built good facts left s m h p hp o [] (none_spares p).free ws changes refl;
+      slots_are = step.same_slots mode image built good facts left s m h p hp o [] (none_spares p).free ws changes refl;
+      user = step.same_user mode image built good facts left s m h p hp o [] (none_spares p).free ws changes refl;
       held = h.shares.held;
-      pages = step.same_pages mode image built good facts left s m h p hp o [] (none_spares p).allowed ws changes refl;
-      cells = step.same_cells mode image built good facts left s m h p hp o [] (none_spares p).allowed ws changes refl;
+      pages = step.same_pages mode image built good facts left s m h p hp o [] (none_spares p).free ws changes refl;
+      cells = step.same_cells mode image built good facts left s m h p hp o [] (none_spares p).free ws changes refl;
     }
 
     writes : (item : Item) → item_at (Some body') b.place ≡ Some item → (ins : Ins) → visible_of item ≡ Some ins → a.offset ≡ bytes_of (before item)
@@ -363,7 +367,7 @@ module _ (mode : Mode) (image : Image) (built : IsBuilt image) (good : IsImage i
           service = b.service;
           apic_is = visible.same_apic mode image built good facts left s m h p hp o body' is None (suc b.place) b.flags;
           names = [];
-          allowed = (none_spares p).allowed;
+          allowed = (none_spares p).free;
           unknown = step.unknown_none o.below;
           changes = changes;
           w = w;

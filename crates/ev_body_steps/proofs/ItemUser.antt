@@ -65,6 +65,7 @@ use Rattle.ev_tables.proofs.Gates.{upper_canonical}
 use Rattle.ev_abstract.specs.Machine.{user_memory}
 use Rattle.ev_abstract.specs.ItemMeaning.{user_address, kernel_access, kernel_fault, guarded, raised, item_step}
 use Rattle.ev_abstract.specs.Chain.{is_user_access}
+use Rattle.ev_relation.specs.Filling.{first_fill}
 use Rattle.ev_relation.specs.Active.{Active}
 use Rattle.ev_relation.specs.Relation.{switches_at, StandsOn}
 use Rattle.ev_relation.specs.Step.{Simulated}

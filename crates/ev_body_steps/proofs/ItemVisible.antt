@@ -1,7 +1,7 @@
 -- A visible item: the processor makes its instruction, the abstract machine the item, and the activation stands at the next item, over what it stood over.
 -- An item says which local, which word with a name and which flags it leaves, and where it leads.
 use Rattle.std.proofs.Common.{◌≡◌, ℕ, ◌+◌, ◌<◌, ◌≤◌, Bool, true, false, not, ◌&&◌, List, ◌∷◌, get_or, length, Option, Some, refl, sym, ap, ◌∙◌, subst, arith}
-use Rattle.std.specs.Prelude.{slice_get, nat_le, nat_lt}
+use Rattle.std.specs.Prelude.{is_some, slice_get, nat_le, nat_lt}
 use Rattle.std.proofs.lemmas.Option.{slice_get-get_or}
 use Rattle.std.specs.List.{list_any}
 use Rattle.ev_isa.specs.Word.{NatMap}
@@ -44,6 +44,7 @@ use Rattle.ev_blocks.specs.Blocks as blocks
 use Rattle.ev_activation.specs.Seat.{kind_of}
 use Rattle.ev_table.specs.Table.{code_table}
 use Rattle.ev_relation.specs.Named.{Named, UnknownTo, Changes}
+use Rattle.ev_relation.specs.Filling.{first_fill}
 use Rattle.ev_relation.specs.Active.{item_place, address_of_item, here, rest_in, IsKernelSs, SavedOf, FlagsAre, InItem, Active}
 use Rattle.ev_relation.specs.Relation.{ApicIs, IsContext, switches_at, Chain, StandsOn, Stands, serves}
 use Rattle.ev_relation.specs.Step.{Simulated}
@@ -54,10 +55,10 @@ use Rattle.ev_relation.proofs.ModeFacts.{is_fred}
 use Rattle.ev_relation.proofs.Fits.{IsSeat, fits_at, opens_at}
 use Rattle.ev_body_steps.proofs.Bodies.{body, at_the_item, item_edges_few, saved_again, means_at}
 use Rattle.ev_relation.proofs.Standing.{went, went_shows, went_activations, went_stays}
-use Rattle.ev_relation.proofs.After.{AreNames, apic_again}
+use Rattle.ev_relation.proofs.After.{AreCallFree, apic_again}
 use Rattle.ev_relation.proofs.CallKinds.{origin_of, plain_knows}
 use Rattle.ev_body_steps.proofs.ItemState.{with_registers, opening_of, known_of, unblocked, ItemState, any_registers, any_known, beyond_registers, gone, lands}
-use Rattle.ev_body_steps.proofs.ItemLocals.{Write, IsLocal, regs_with, locals_with, regs_long, keeps_rsp, locals_behind}
+use Rattle.ev_body_steps.proofs.ItemLocals.{Write, IsLocal, regs_with, locals_with, regs_long, keeps_rsp, locals_behind, calls_behind}
 use Rattle.ev_body_steps.proofs.KernelStep as step
 
 -- ---- the processor behind an instruction, by the flags that it had
@@ -121,7 +122,7 @@ module _ (mode : Mode) (image : Image) (built : IsBuilt image) (good : IsImage i
   pub record AtVisible (ss : ℕ) (extra v : ℕ → ℕ) (f : Flags) : Type 0 where
     pub act : Stood on.own o.b c s.memory
     pub ss_is : IsKernelSs mode ss
-    pub means : InItem mode image (origin_of o.κ) (env ss extra v f) o.w o.b
+    pub means : InItem mode image (origin_of o.κ) (env ss extra v f) o.w o.b s.memory.words
     pub place : extra 20 ≡ item_place mode image o.b.body o.b.place
     pub long : length c.regs ≡ 16
     pub kernel : is_user c ≡ false
@@ -149,7 +150,7 @@ module _ (mode : Mode) (image : Image) (built : IsBuilt image) (good : IsImage i
         (with_words s.memory words)
 
   -- where the block's words stay
-  pub stays_over : (ss : ℕ) (extra v : ℕ → ℕ) (f : Flags) (a : AtVisible ss extra v f) (words : NatMap ℕ) (names : List Named) → AreNames p names
+  pub stays_over : (ss : ℕ) (extra v : ℕ → ℕ) (f : Flags) (a : AtVisible ss extra v f) (words : NatMap ℕ) (names : List Named) → AreCallFree p names
       → UnknownTo o.below names → Changes p o.σ names s.memory.words words
       → Known (env ss extra v f) (known_of mode) words (opening_of mode).words → StandsOver ss v words o.w v x.tasks
   stays_over ss extra v f a words names allowed unknown changes known = record {
@@ -193,7 +194,7 @@ module _ (mode : Mode) (image : Image) (built : IsBuilt image) (good : IsImage i
     pub service : Option ℕ
     pub apic_is : ApicIs mode image apic x.pending (record (behind write place status) { service = service; interrupts = interrupts } ∷ o.below)
     pub names : List Named
-    pub allowed : AreNames p names
+    pub allowed : AreCallFree p names
     pub unknown : UnknownTo o.below names
     pub changes : Changes p o.σ names s.memory.words words
     pub w : Processor
@@ -236,10 +237,12 @@ module _ (mode : Mode) (image : Image) (built : IsBuilt image) (good : IsImage i
       fits_at mode image p o.σ seat hp good.count.1 o.κ ss w further v' d.flags facts (body mode AtItem) way.over d.over.fred
       (subst (λ y. (0xffffffff82000000 ≤ y) × (y + 0x100 ≤ M)) (sym next_is) spread) tt (way.told u) in
       let plain = step.plain_kind mode image built good facts left s m h p hp o in
-      let item : InItem mode image (origin_of o.κ) u w b' = record {
+      let item : InItem mode image (origin_of o.κ) u w b' d.words = record {
         saved = d.over.saved regs further d.flags;
         locals = locals_behind mode image (env ss extra v f) c s.memory a.offset a.rax a.rcx a.rdx a.flags a.state o.b a.means.locals d.write d.local;
         flags = d.flags_are;
+        calls = calls_behind mode image (env ss extra v f) c s.memory a.offset a.rax a.rcx a.rdx a.flags a.state o.b a.means.locals d.write d.local d.words
+            (step.calls_stay mode image built good facts left s m h p hp o d.names d.allowed d.words d.changes) a.means.calls;
       } in
       let act' : Active mode image p (edges mode (body mode AtItem) 0) o.κ o.σ on.frame (switches_at mode image on.switching o.below) (first_fill on.fills) w b' cpu mem = record {
         stands = record {
@@ -257,8 +260,9 @@ module _ (mode : Mode) (image : Image) (built : IsBuilt image) (good : IsImage i
           long = regs_long c.regs d.write a.long;
         };
         switches = way.off ∙ sym o.off;
+        fills = sym (ap is_some o.unfilled);
         knows = plain_knows mode o.κ on.frame plain (blocks.holds (body mode AtItem));
-        means = means_at mode image o.κ plain AtItem u w b' d.words (item, refl);
+        means = means_at mode image o.κ plain AtItem u w b' (first_fill on.fills) d.words (item, refl);
       } in
       let still_there : went_activations image.processors s p cpu d.sent ≡ o.last ∷ o.others
       = went_stays image.processors s p cpu d.sent d.cell.ins (step.fetches mode image built good facts left s m h p hp c.rip d.cell d.found).1 d.no_return
@@ -266,7 +270,8 @@ module _ (mode : Mode) (image : Image) (built : IsBuilt image) (good : IsImage i
       let quiet = step.are_quiet mode image built good facts left s m h p hp o in
       step.visible_with mode image built good facts left s m h p hp o (λ on. a.state.blocked ∙ unblocked mode) d.cell d.found d.marked a.kernel d.apic cpu
       d.words d.sent d.sends d.runs
-      (step.blocked mode image built good facts left s m h p hp) d.names d.allowed d.changes d.machine d.entries d.turns d.tasks d.slots (b' ∷ o.below)
+      (step.blocked mode image built good facts left s m h p hp) d.names d.allowed d.changes d.machine d.entries d.turns d.tasks d.slots
+      on.fills on.free (λ k. refl) (b' ∷ o.below)
       d.makes
       (record { calls = quiet.0.calls }, quiet.1)
       d.apic_is

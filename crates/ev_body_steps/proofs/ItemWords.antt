@@ -34,7 +34,7 @@ use Rattle.ev_relation.proofs.Facts.{Facts}
 use Rattle.ev_relation.proofs.Maps.{at_same, at_other}
 use Rattle.ev_relation.proofs.Fits.{IsSeat, where_at, InSome, IsThere, known_in}
 use Rattle.ev_body_steps.proofs.Bodies.{layout_of, body, at_the_item, on_stack_alone}
-use Rattle.ev_relation.proofs.After.{AreNames, own_word}
+use Rattle.ev_relation.proofs.After.{AreCallFree, own_word}
 use Rattle.ev_body_steps.proofs.ItemState.{opening_of, known_of}
 use Rattle.ev_body_steps.proofs.KernelStep as step
 
@@ -97,8 +97,9 @@ current_beside mode p r words v h = record {
   tss = tss_beside mode p r words v h.tss;
 }
 
-pub are_names : (p : ℕ) (z : Named) → IsFree p z → AreNames p (z ∷ [])
-are_names p z f = record { written = (f.written, tt); own = λ q d. (f.own q d, tt); calls = ap (λ b. not b && true) f.calls }
+pub are_names : (p : ℕ) (z : Named) → IsFree p z → AreCallFree p (z ∷ [])
+are_names p z f =
+    record { allowed = record { written = (f.written, tt); own = λ q d. (f.own q d, tt) }; calls = ap (λ b. not b && true) f.calls }
 
 pub is_unknown : (p : ℕ) (z : Named) → IsFree p z → (below : List BodyContext) → UnknownTo below (z ∷ [])
 is_unknown p z f [] = tt
@@ -148,7 +149,7 @@ module _ (mode : Mode) (image : Image) (built : IsBuilt image) (good : IsImage i
   -- ---- the abstract machine
 
   -- where no word that it tells of is written
-  pub makes_nothing : (names : List Named) → AreNames p names → (words : NatMap ℕ) → Changes p o.σ names s.memory.words words
+  pub makes_nothing : (names : List Named) → AreCallFree p names → (words : NatMap ℕ) → Changes p o.σ names s.memory.words words
       → have_none is_slot names ≡ true → have_none is_user_word names ≡ true → have_none is_page_bit names ≡ true → have_none is_cell names ≡ true
       → have_none is_task_word names ≡ true → Makes m words x.tasks x.slots x.bodies
   makes_nothing names allowed words changes slots user pages cells tasks = record {

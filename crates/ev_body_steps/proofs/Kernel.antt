@@ -1,6 +1,6 @@
 -- A step of a processor on which a body stands: an interrupt, an instruction of the kernel's code, an item, or the return.
-use Rattle.std.proofs.Common.{◌≡◌, ℕ, suc, ◌+◌, ◌-◌, ◌*◌, ◌<◌, ◌≤◌, Bool, true, false, not, ◌&&◌, List, [], ◌∷◌, length, Some, refl, sym, ap, ◌∙◌, subst, arith, ◌||◌}
-use Rattle.std.specs.Prelude.{ℤ, pos, ◌==◌, if◌then◌else◌, slice_get, nat_le}
+use Rattle.std.proofs.Common.{◌≡◌, ℕ, suc, ◌+◌, ◌-◌, ◌*◌, ◌<◌, ◌≤◌, Bool, true, false, not, ◌&&◌, List, [], ◌∷◌, length, Some, refl, sym, ap, ◌∙◌, subst, arith, ◌||◌, Option, None}
+use Rattle.std.specs.Prelude.{ℤ, pos, ◌==◌, if◌then◌else◌, slice_get, nat_le, is_some}
 use Rattle.std.proofs.lemmas.Bool.{eqb-true, ne_eqb, leb-true, leb-false}
 use Rattle.std.specs.List.{list_any}
 use Rattle.ev_isa.specs.Word.{NatMap, is_canonical, displaced}
@@ -41,7 +41,7 @@ use Rattle.ev_blocks.specs.Fred.{FromUser, FromKernel, FredToKernel, FredToTask,
 use Rattle.ev_blocks.specs.Fred as fred
 use Rattle.ev_blocks.specs.Idt.{Stub, Sys, Common, IdtToKernel, IdtToTask, IdtToNext, idt_block, is_page_fault, table_of, stub_values, common_values, sys_values}
 use Rattle.ev_blocks.specs.Idt as idt
-use Rattle.ev_blocks.specs.Items.{BodySpot, AtTable, AtJump, AtItem, AtNumber, AtNumbers, AtUserWord, AtPageWord, BehindSti}
+use Rattle.ev_blocks.specs.Items.{BodySpot, AtTable, AtJump, AtItem, AtNumber, AtNumbers, AtUserWord, AtPageWord, BehindSti, InCall, AtKick, BehindKick}
 use Rattle.ev_blocks.specs.Blocks.{Spot, InFred, InIdt, InBody, block, edges}
 use Rattle.ev_blocks.specs.Blocks as blocks
 use Rattle.ev_blocks.proofs.Falls.{edges_fall}
@@ -60,7 +60,8 @@ use Rattle.ev_paths.specs.FredEnds.{fred_end}
 use Rattle.ev_paths.specs.IdtEnds.{idt_end}
 use Rattle.ev_paths.specs.Ends.{Enters}
 use Rattle.ev_relation.specs.Domain.{IsInDomain}
-use Rattle.ev_relation.specs.Active.{item_place, number_of, numbers_of, here, IsKernelSs, Saved, SavedBody, AtLoad, AtStart, FlagsAre, HasPlace, InSpot, Matches, OverTask, OverBody, Active}
+use Rattle.ev_relation.specs.Filling.{Filling, first_fill, rest_fills}
+use Rattle.ev_relation.specs.Active.{fills_record, HoldsCalls, item_place, number_of, numbers_of, here, IsKernelSs, Saved, SavedBody, AtLoad, AtStart, FlagsAre, HasPlace, InSpot, Matches, OverTask, OverBody, Active}
 use Rattle.ev_relation.specs.Relation.{IsContext, switches_at, body_edges, Chain, StandsOn, Stands, serves}
 use Rattle.ev_relation.specs.Step.{Simulated}
 use Rattle.ev_relation.proofs.Facts.{Facts}
@@ -68,12 +69,14 @@ use Rattle.ev_relation.proofs.Spots.{is_spot}
 use Rattle.ev_relation.proofs.ModeFacts.{is_fred}
 use Rattle.ev_body_steps.proofs.Bodies.{body, Goes, goes_by, unlike, loads, jumps, at_the_table, at_the_jump, at_the_item, table_falls, jump_falls, saved_again, load_again, means_at, rax_at}
 use Rattle.ev_relation.proofs.Standing.{ran_returns}
-use Rattle.ev_relation.proofs.After.{none_spares}
+use Rattle.ev_relation.proofs.After.{none_spares, filled_below, free_below}
 use Rattle.ev_relation.proofs.CallKinds.{is_over_task, is_over_body, is_plain_kind, origin_of, cs_of, level_of, OverOf, means_as, over_as, of_task, of_body, stands_on_body, plain_level}
 use Rattle.ev_body_steps.proofs.Return.{Exits, fred_mark, idt_mark, fred_exits, idt_exits, fred_exits_to_body, idt_exits_to_body}
 use Rattle.ev_relation.proofs.BodyTables.{table_place, table_reads}
 use Rattle.ev_relation.proofs.Depth.{body_at, ends_a_body}
 use Rattle.ev_relation.proofs.Items.{which}
+use Rattle.ev_relation.proofs.NoCalls.{not_call, never_in_call}
+use Rattle.ev_relation.proofs.Fills.{means_fills}
 use Rattle.ev_body_steps.proofs.ItemWords.{word_of}
 use Rattle.ev_body_steps.proofs.ItemInside.{number_steps}
 use Rattle.ev_body_steps.proofs.ItemMsr.{numbers_steps}
@@ -228,13 +231,14 @@ module _ (mode : Mode) (image : Image) (built : IsBuilt image) (good : IsImage i
           (loads mode code e c s.memory a (body_code b.body) facts.kernel at at_a found.0 found.1
           (step.fits mode image built good facts left s m h p hp o body' is (body mode AtJump) way.over ss extra u f place tt (way.told (env ss extra u f)))
           (step.windows mode image built good facts left s m h p hp o body' is (body mode AtJump) way.over ss extra u f))
-          (omega arith) long way.off
-          (means_at mode image κ plain_kind AtJump (env ss extra u f) w b s.memory.words (
+          (omega arith) long way.off refl
+          (means_at mode image κ plain_kind AtJump (env ss extra u f) w b (first_fill on.fills) s.memory.words (
             record {
               code = refl;
               begins = l.begins;
               unknown = l.unknown;
               off = l.off;
+              quiet = l.quiet;
               saved = saved_again mode image (origin_of κ) e (env ss extra u f) w (λ i low. beside_rax i low) refl refl refl l.saved;
               locals = l.locals;
             },
@@ -279,9 +283,14 @@ module _ (mode : Mode) (image : Image) (built : IsBuilt image) (good : IsImage i
           (step.fits mode image built good facts left s m h p hp o body' is (body mode AtItem) way.over ss extra v f place tt (way.told e)))
           (subst (λ y. Open y (block mode (body mode AtItem)).ground.known s.memory.regions) (sym item)
           (step.windows mode image built good facts left s m h p hp o body' is (body mode AtItem) way.over ss extra v f))))
-          (omega arith) long way.off
-          (means_at mode image κ plain_kind AtItem e w b s.memory.words
-          (record { saved = l.saved; locals = l.locals; flags = subst (λ q. FlagsAre mode image q f) (sym l.unknown) tt }, place))
+          (omega arith) long way.off refl
+          (means_at mode image κ plain_kind AtItem e w b (first_fill on.fills) s.memory.words
+          (record {
+            saved = l.saved;
+            locals = l.locals;
+            flags = subst (λ q. FlagsAre mode image q f) (sym l.unknown) tt;
+            calls = subst (HoldsCalls mode image s.memory.words (v 14)) (sym l.quiet) tt;
+          }, place))
 
       -- ---- the exit's end: the return
 
@@ -297,10 +306,11 @@ module _ (mode : Mode) (image : Image) (built : IsBuilt image) (good : IsImage i
           ∙ ap (λ q. q && (back.rip == repeat_entry) && not (is_user back)) x.unlike) ∙ ap without_last o.acts in
           let unblocked : step.Unblocked mode image built good facts left s m h p hp b
           = (λ on. let clash : true ≡ false = sym on ∙ off in absurd (cc)) in
-          step.visible mode image built good facts left s m h p hp o unblocked cell hc refl hu back s.memory.words x.back refl [] (none_spares p).allowed
+          step.visible mode image built good facts left s m h p hp o unblocked cell hc refl hu back s.memory.words x.back refl [] (none_spares p).free
           (λ y far far'. refl) (with_processor m p (record (processor m p) { bodies = below })) []
-          (step.ret_turn mode image built good facts left s m h p hp o unblocked calm ret) (processor m p).tasks (processor m p).slots below
-          (step.bodies_alone mode image built good facts left s m h p hp o [] (none_spares p).allowed s.memory.words (λ y far far'. refl) (none_spares p) refl
+          (step.ret_turn mode image built good facts left s m h p hp o unblocked calm ret) (processor m p).tasks (processor m p).slots
+          (rest_fills on.fills) (free_below (processor m p).records on.fills on.free) (λ k. filled_below k on.fills o.unfilled) below
+          (step.bodies_alone mode image built good facts left s m h p hp o [] (none_spares p).free s.memory.words (λ y far far'. refl) (none_spares p) refl
           below)
           (step.are_quiet mode image built good facts left s m h p hp o).1
           (λ class. sym (ap (list_any (λ (a : BodyContext). serves mode image class a.service)) o.bodies
@@ -310,7 +320,7 @@ module _ (mode : Mode) (image : Image) (built : IsBuilt image) (good : IsImage i
           (if begins_body c (Some cell.ins) then suc (length (processor m p).bodies) else length (processor m p).bodies))
           (ends_a_body (Some cell.ins) c x.place x.rip x.outside hu x.is) ∙ ap (λ (bs : List BodyContext). length bs - 1) o.bodies
           ∙ one_less (length below)) (body_edges mode image) (omega arith)
-          (subst (λ as'. Chain mode image p (body_edges mode image) r to t on.frame on.switching on.fills below as' back s.memory) (sym gone)
+          (subst (λ as'. Chain mode image p (body_edges mode image) r to t on.frame on.switching (rest_fills on.fills) below as' back s.memory) (sym gone)
           (step.returns_to_below mode image built good facts left s m h p hp o c.cr2)) (x.silent p (bodies_on s p) c s.memory.words)
         where
           one_less : (n : ℕ) → suc n - 1 ≡ n
@@ -366,9 +376,9 @@ module _ (mode : Mode) (image : Image) (built : IsBuilt image) (good : IsImage i
           (subst (λ m. Goes code c s.memory (block m spot) (env ss extra u' g)) q
           (goes_by code c s.memory _ _ (Jmp j.distance) _ _ on_way
           (stub_rip code og has v e c s.memory small_vector stub_at.2 there) j.is (jump_stays j.distance)))
-          enough long refl
-          (means_as mode image κ plain_kind spot (env ss extra u' g) w b s.memory.words
-          (subst (λ y. OverOf mode image y mode spot (env ss extra u' g) w b) (sym oq)
+          enough long refl refl
+          (means_as mode image κ plain_kind spot (env ss extra u' g) w b (first_fill on.fills) s.memory.words
+          (subst (λ y. OverOf mode image y mode spot (env ss extra u' g) w b (first_fill on.fills) s.memory.words) (sym oq)
           (over_common og (env ss extra u' g) (loads_behind mode image og (env ss extra u f) g (stub_values has v) (common_values og pf) w b l) place)))
         where
           common_is : (og : Origin) (pf : Bool) → is_spot Idt (InIdt (Common og pf)) ≡ true
@@ -376,13 +386,15 @@ module _ (mode : Mode) (image : Image) (built : IsBuilt image) (good : IsImage i
           common_is KernelCode pf = refl
 
           over_common : (og : Origin) (e : Env) → AtLoad mode image og (env_after e (common_values og (v == 14)) e.flags) w b → HasPlace mode image e b
-              → OverOf mode image og mode (InIdt (Common og (v == 14))) e w b
-          over_common UserCode e k a = subst (λ y. OverTask mode image y (InIdt (Common UserCode (v == 14))) e w b) q (k, a)
-          over_common KernelCode e k a = subst (λ y. OverBody mode image y (InIdt (Common KernelCode (v == 14))) e w b) q (k, a)
+              → OverOf mode image og mode (InIdt (Common og (v == 14))) e w b (first_fill on.fills) s.memory.words
+          over_common UserCode e k a =
+              subst (λ y. OverTask mode image y (InIdt (Common UserCode (v == 14))) e w b (first_fill on.fills) s.memory.words) q (k, a)
+          over_common KernelCode e k a =
+              subst (λ y. OverBody mode image y (InIdt (Common KernelCode (v == 14))) e w b (first_fill on.fills) s.memory.words) q (k, a)
 
       at_body : (act : Stood on.own b c s.memory) (spot : BodySpot) (k ss : ℕ) → IsKernelSs mode ss → (extra v : ℕ → ℕ) (f : Flags)
           → k ≡ (block mode (body mode spot)).steps → At code (block mode (body mode spot)) k (env ss extra v f) c s.memory
-          → InSpot mode image (origin_of κ) spot (env ss extra v f) w b → length c.regs ≡ 16 → edges mode (body mode spot) k ≤ on.own
+          → InSpot mode image (origin_of κ) spot (env ss extra v f) w b (first_fill on.fills) s.memory.words → length c.regs ≡ 16 → edges mode (body mode spot) k ≤ on.own
           → item_at (Some body') b.place ≡ Some ctx.item → Result
       at_body act AtTable k ss ss_is extra v f n at means long enough hi =
           at_table act ss ss_is extra v f (subst (λ j. At code (block mode (body mode AtTable)) j (env ss extra v f) c s.memory)
@@ -423,7 +435,10 @@ module _ (mode : Mode) (image : Image) (built : IsBuilt image) (good : IsImage i
           (subst (λ j. edges mode (body mode BehindSti) j ≤ on.own) last enough) in
           items.by_item mode image built good facts left s m h p hp o body' is z.act ss ss_is z.extra v f z.at z.means z.place long z.enough
           ctx.item (which image built good b.body body' is b.place ctx.item hi) hi
-      at_body act _ k ss ss_is extra v f n at means long enough hi = absurd means
+      at_body act (InCall s') k ss ss_is extra v f n at means long enough hi = absurd (never_in_call image built good b.body body' is mode (origin_of κ)
+          (env ss extra v f) w b refl (first_fill on.fills) s.memory.words s' means)
+      at_body act (AtKick to) k ss ss_is extra v f n at means long enough hi = absurd means
+      at_body act BehindKick k ss ss_is extra v f n at means long enough hi = absurd means
 
       -- where the exit to the task found the mark off, nothing asks for another one
       calm : Alone → s.memory.words (pcpu p + 0x20) ≡ 0 → x.resched ≡ false
@@ -440,7 +455,7 @@ module _ (mode : Mode) (image : Image) (built : IsBuilt image) (good : IsImage i
       -- which of them, by what was interrupted and the mode
       at_the_end : (act : Stood on.own b c s.memory) (og : Origin) → origin_of κ ≡ og → (m : Mode) → m ≡ mode → (spot : Spot) (k ss : ℕ) → IsKernelSs mode ss
           → (extra v : ℕ → ℕ) (f : Flags) → k ≡ (block m spot).steps → At code (block m spot) k (env ss extra v f) c s.memory
-          → OverOf mode image og m spot (env ss extra v f) w b → length c.regs ≡ 16 → edges m spot k ≤ on.own
+          → OverOf mode image og m spot (env ss extra v f) w b (first_fill on.fills) s.memory.words → length c.regs ≡ 16 → edges m spot k ≤ on.own
           → blocks.switches spot ≡ false → item_at (Some body') b.place ≡ Some ctx.item
           → Result
       unfolding eval
@@ -477,12 +492,12 @@ module _ (mode : Mode) (image : Image) (built : IsBuilt image) (good : IsImage i
       at_the_end act UserCode oq Fred q (InBody FredFrame spot) k ss ss_is extra v f n at means long enough off hi =
           at_body act spot k ss ss_is extra v f (n ∙ ap (λ m. (block m (body m spot)).steps) q)
           (subst (λ m. At code (block m (body m spot)) k (env ss extra v f) c s.memory) q at)
-          (subst (λ y. InSpot mode image y spot (env ss extra v f) w b) (sym oq) means) long
+          (subst (λ y. InSpot mode image y spot (env ss extra v f) w b (first_fill on.fills) s.memory.words) (sym oq) means) long
           (subst (λ m. edges m (body m spot) k ≤ on.own) q enough) hi
       at_the_end act KernelCode oq Fred q (InBody FredFrame spot) k ss ss_is extra v f n at means long enough off hi =
           at_body act spot k ss ss_is extra v f (n ∙ ap (λ m. (block m (body m spot)).steps) q)
           (subst (λ m. At code (block m (body m spot)) k (env ss extra v f) c s.memory) q at)
-          (subst (λ y. InSpot mode image y spot (env ss extra v f) w b) (sym oq) means) long
+          (subst (λ y. InSpot mode image y spot (env ss extra v f) w b (first_fill on.fills) s.memory.words) (sym oq) means) long
           (subst (λ m. edges m (body m spot) k ≤ on.own) q enough) hi
       at_the_end act UserCode oq Idt q (InIdt Sys) k ss ss_is extra v f n at means long enough off hi =
           let falls = (edges_fall Idt).call in
@@ -540,12 +555,12 @@ module _ (mode : Mode) (image : Image) (built : IsBuilt image) (good : IsImage i
       at_the_end act UserCode oq Idt q (InBody IdtFrame spot) k ss ss_is extra v f n at means long enough off hi =
           at_body act spot k ss ss_is extra v f (n ∙ ap (λ m. (block m (body m spot)).steps) q)
           (subst (λ m. At code (block m (body m spot)) k (env ss extra v f) c s.memory) q at)
-          (subst (λ y. InSpot mode image y spot (env ss extra v f) w b) (sym oq) means) long
+          (subst (λ y. InSpot mode image y spot (env ss extra v f) w b (first_fill on.fills) s.memory.words) (sym oq) means) long
           (subst (λ m. edges m (body m spot) k ≤ on.own) q enough) hi
       at_the_end act KernelCode oq Idt q (InBody IdtFrame spot) k ss ss_is extra v f n at means long enough off hi =
           at_body act spot k ss ss_is extra v f (n ∙ ap (λ m. (block m (body m spot)).steps) q)
           (subst (λ m. At code (block m (body m spot)) k (env ss extra v f) c s.memory) q at)
-          (subst (λ y. InSpot mode image y spot (env ss extra v f) w b) (sym oq) means) long
+          (subst (λ y. InSpot mode image y spot (env ss extra v f) w b (first_fill on.fills) s.memory.words) (sym oq) means) long
           (subst (λ m. edges m (body m spot) k ≤ on.own) q enough) hi
       at_the_end act UserCode oq Fred q (InFred (fred.Leaves FredToNext)) k ss ss_is extra v f n at means long enough off hi = absurd (cc)
       at_the_end act UserCode oq Idt q (InIdt (idt.Leaves (IdtToNext by))) k ss ss_is extra v f n at means long enough off hi = absurd (cc)
@@ -563,7 +578,7 @@ module _ (mode : Mode) (image : Image) (built : IsBuilt image) (good : IsImage i
         pick false q body is hi =
             at_the_end body is act (origin_of κ) refl mode refl act.stands.spot act.stands.k act.stands.ss act.stands.ss_is act.stands.extra act.stands.var
             act.stands.flags (let up = leb-false _ _ q in let down = act.stands.within in omega arith) act.stands.at
-            (over_as mode image κ act.stands.spot _ w b s.memory.words act.means) act.stands.long act.stands.enough (act.switches ∙ o.off) hi
+            (over_as mode image κ act.stands.spot _ w b (first_fill on.fills) s.memory.words act.means) act.stands.long act.stands.enough (act.switches ∙ o.off) hi
 
   -- a step of a processor on which a body stands: an edge or a turn, and it writes no frame
   pub kernel_step : (b : BodyContext) (below : List BodyContext) → x.bodies ≡ b ∷ below → Result
@@ -575,6 +590,19 @@ module _ (mode : Mode) (image : Image) (built : IsBuilt image) (good : IsImage i
       by_acts [] e k = absurd k
       by_acts (a ∷ as') e k = by_switch (blocks.switches k.6.stands.spot) refl
         where
+          -- only a `call` fills a record
+          none_filled : IsContext mode image b → (t : Bool) → fills_record k.6.stands.spot ≡ t
+              → fills_record k.6.stands.spot ≡ is_some (first_fill on.fills) → first_fill on.fills ≡ None
+          none_filled ctx true q h =
+              let f = (means_fills mode image (kind_of image b below) k.6.stands.spot _ k.0 b (first_fill on.fills) s.memory.words k.6.means q).1 in
+              let found = body_at (slice_get image.bodies b.body) b.place ctx.item ctx.is in
+              absurd (not_call image built good b.body found.0 found.1 b.place f.fills.site f.to f.func f.s f.fills.item)
+          none_filled ctx false q h = none_of (first_fill on.fills) (sym h ∙ q)
+            where
+              none_of : (g : Option Filling) → is_some g ≡ false → g ≡ None
+              none_of None q = refl
+              none_of (Some f) q = let clash : true ≡ false = q in absurd (cc)
+
           at_boundary : blocks.switches k.6.stands.spot ≡ false → arrivals.Boundary mode image built good facts left s m h p hp b below hb a as' e k → Result
           at_boundary off (arrivals.Delivers z) = z
           at_boundary off (arrivals.Executes first chosen) = act_step (record {
@@ -595,6 +623,7 @@ module _ (mode : Mode) (image : Image) (built : IsBuilt image) (good : IsImage i
             under = k.4;
             leads = k.5;
             off = sym k.6.switches ∙ off;
+            unfilled = none_filled k.1 (fills_record k.6.stands.spot) refl k.6.fills;
             first = first;
             chosen = chosen;
           }) k.6

@@ -1,6 +1,6 @@
 -- A step of a processor at an item: `log`, which the abstract machine sees, and `ret`, which leads to the exit.
 use Rattle.std.proofs.Common.{◌≡◌, ℕ, ◌+◌, ◌%◌, ◌^◌, ◌<◌, ◌≤◌, Bool, true, false, not, List, [], get_or, length, Some, refl, sym, ap, ◌∙◌, subst, arith}
-use Rattle.std.specs.Prelude.{pos, nat_lt, if◌then◌else◌, slice_get}
+use Rattle.std.specs.Prelude.{is_some, pos, nat_lt, if◌then◌else◌, slice_get}
 use Rattle.std.proofs.lemmas.Bool.{ltb-true, not-false}
 use Rattle.ev_isa.specs.Word.{NatMap, is_canonical}
 use Rattle.ev_isa.specs.Flags.{Flags}
@@ -46,6 +46,7 @@ use Rattle.ev_user.specs.Words.{AreWords}
 use Rattle.ev_activation.specs.Seat.{Kind, SystemCall, FromTask, FromBody, NmiFromTask, NmiFromBody, Seat}
 use Rattle.ev_table.specs.Table.{code_table, other_exit, RetCell}
 use Rattle.ev_relation.specs.Domain.{IsInDomain}
+use Rattle.ev_relation.specs.Filling.{first_fill}
 use Rattle.ev_relation.specs.Active.{item_place, number_of, numbers_of, address_local, page_local, LocalInRax, here, IsKernelSs, Saved, SavedOf, InItem, Active}
 use Rattle.ev_relation.specs.Relation.{IsContext, switches_at, StandsOn, Stands}
 use Rattle.ev_relation.specs.Step.{Simulated}
@@ -167,7 +168,7 @@ module _ (mode : Mode) (image : Image) (built : IsBuilt image) (good : IsImage i
 
       -- the visible instruction comes first
       at_visible : (act : Stood on.own b c s.memory) (ss : ℕ) → IsKernelSs mode ss → (extra v : ℕ → ℕ) (f : Flags)
-          → At code (block mode (body mode AtItem)) 0 (env ss extra v f) c s.memory → InItem mode image (origin_of κ) (env ss extra v f) w b
+          → At code (block mode (body mode AtItem)) 0 (env ss extra v f) c s.memory → InItem mode image (origin_of κ) (env ss extra v f) w b s.memory.words
           → extra 20 ≡ item_place mode image b.body b.place → length c.regs ≡ 16
           → visible.AtVisible mode image built good facts left s m h p hp o body' is ss extra v f
       at_visible act ss ss_is extra v f at means place long =
@@ -217,7 +218,7 @@ module _ (mode : Mode) (image : Image) (built : IsBuilt image) (good : IsImage i
               neither NmiFromBody q r = refl
 
       at_ret : (act : Stood on.own b c s.memory) (ss : ℕ) → IsKernelSs mode ss → (extra v : ℕ → ℕ) (f : Flags)
-          → At code (block mode (body mode AtItem)) 0 (env ss extra v f) c s.memory → InItem mode image (origin_of κ) (env ss extra v f) w b
+          → At code (block mode (body mode AtItem)) 0 (env ss extra v f) c s.memory → InItem mode image (origin_of κ) (env ss extra v f) w b s.memory.words
           → extra 20 ≡ item_place mode image b.body b.place → length c.regs ≡ 16 → edges mode (body mode AtItem) 0 ≤ on.own
           → item_at (Some body') b.place ≡ Some Ret → Result
       unfolding is_return
@@ -261,8 +262,9 @@ module _ (mode : Mode) (image : Image) (built : IsBuilt image) (good : IsImage i
               long = long;
             };
             switches = y.off ∙ sym o.off;
+            fills = step.spot_fills_none mode image built good facts left s m h p hp o y.spot y.over;
             knows = plain_knows mode κ on.frame plain_kind (blocks.holds y.spot);
-            means = y.means image b s.memory.words (record {
+            means = y.means image b (first_fill on.fills) s.memory.words (record {
               saved = means.saved;
               off = off_at_ret image good built.accepted m p h.legal b below o.bodies (ap (λ o. item_at o b.place) is ∙ hi);
               ret = ap (λ o. item_at o b.place) is ∙ hi;
@@ -281,7 +283,7 @@ module _ (mode : Mode) (image : Image) (built : IsBuilt image) (good : IsImage i
           by_mark false q u r leaves switches = leaves (λ over. let clash : false ≡ true = sym q ∙ over in absurd (cc))
 
       pub by_item : (act : Stood on.own b c s.memory) (ss : ℕ) → IsKernelSs mode ss → (extra v : ℕ → ℕ) (f : Flags)
-          → At code (block mode (body mode AtItem)) 0 (env ss extra v f) c s.memory → InItem mode image (origin_of κ) (env ss extra v f) w b
+          → At code (block mode (body mode AtItem)) 0 (env ss extra v f) c s.memory → InItem mode image (origin_of κ) (env ss extra v f) w b s.memory.words
           → extra 20 ≡ item_place mode image b.body b.place → length c.regs ≡ 16 → edges mode (body mode AtItem) 0 ≤ on.own
           → (i : Item) → is_built_item i ≡ true → item_at (Some body') b.place ≡ Some i → Result
       unfolding is_built_item at_visible visible_of number_of numbers_of address_local page_local has_operands
@@ -362,7 +364,7 @@ module _ (mode : Mode) (image : Image) (built : IsBuilt image) (good : IsImage i
 
       -- behind the load of a number for RAX
       pub by_number : (act : Stood on.own b c s.memory) (ss : ℕ) → IsKernelSs mode ss → (extra v : ℕ → ℕ) (f : Flags) (n : ℕ)
-          → At code (block mode (body mode (AtNumber n))) 1 (env ss extra v f) c s.memory → InItem mode image (origin_of κ) (env ss extra v f) w b
+          → At code (block mode (body mode (AtNumber n))) 1 (env ss extra v f) c s.memory → InItem mode image (origin_of κ) (env ss extra v f) w b s.memory.words
           → extra 20 ≡ item_place mode image b.body b.place → length c.regs ≡ 16 → (i : Item) → number_of (Some i) ≡ Some n
           → item_at (Some body') b.place ≡ Some i → Result
       unfolding number_of inside.at_number eval breaks_slots
@@ -404,7 +406,7 @@ module _ (mode : Mode) (image : Image) (built : IsBuilt image) (good : IsImage i
       -- behind the loads of numbers for RCX, RAX and RDX
       pub by_numbers : (act : Stood on.own b c s.memory) (ss : ℕ) → IsKernelSs mode ss → (extra v : ℕ → ℕ) (f : Flags) (rcx rax rdx : ℕ)
           → At code (block mode (body mode (AtNumbers rcx rax rdx))) 3 (env ss extra v f) c s.memory
-          → InItem mode image (origin_of κ) (env ss extra v f) w b
+          → InItem mode image (origin_of κ) (env ss extra v f) w b s.memory.words
           → extra 20 ≡ item_place mode image b.body b.place → length c.regs ≡ 16 → (i : Item) → is_built_item i ≡ true
           → numbers_of (Some i) ≡ Some (rcx, rax, rdx) → item_at (Some body') b.place ≡ Some i → Result
       unfolding is_built_item numbers_of msr.at_numbers eval key_number
@@ -438,7 +440,7 @@ module _ (mode : Mode) (image : Image) (built : IsBuilt image) (good : IsImage i
       -- behind the block that comes to the address of the page's word
       pub by_page : (act : Stood on.own b c s.memory) (ss : ℕ) → IsKernelSs mode ss → (extra v : ℕ → ℕ) (f : Flags) (is_page : Bool)
           → At code (block mode (body mode (AtPageWord is_page))) (page_steps is_page) (env ss extra v f) c s.memory
-          → InItem mode image (origin_of κ) (env ss extra v f) w b → extra 20 ≡ item_place mode image b.body b.place
+          → InItem mode image (origin_of κ) (env ss extra v f) w b s.memory.words → extra 20 ≡ item_place mode image b.body b.place
           → LocalInRax mode image page_local (env ss extra v f) b → length c.regs ≡ 16 → (i : Item) → item_at (Some body') b.place ≡ Some i → Result
       unfolding page_local
       by_page act ss ss_is extra v f is_page at means place page long i hi =
@@ -462,7 +464,7 @@ module _ (mode : Mode) (image : Image) (built : IsBuilt image) (good : IsImage i
 
       -- behind the block that cuts the address in RAX
       pub by_address : (ss : ℕ) → IsKernelSs mode ss → (extra v : ℕ → ℕ) (f : Flags)
-          → At code (block mode (body mode AtUserWord)) 2 (env ss extra v f) c s.memory → InItem mode image (origin_of κ) (env ss extra v f) w b
+          → At code (block mode (body mode AtUserWord)) 2 (env ss extra v f) c s.memory → InItem mode image (origin_of κ) (env ss extra v f) w b s.memory.words
           → extra 20 ≡ item_place mode image b.body b.place → LocalInRax mode image address_local (env ss extra v f) b → length c.regs ≡ 16
           → edges mode (body mode AtUserWord) 2 ≤ on.own → (i : Item) → item_at (Some body') b.place ≡ Some i → Result
       unfolding address_local
@@ -489,8 +491,9 @@ module _ (mode : Mode) (image : Image) (built : IsBuilt image) (good : IsImage i
               long = long;
             };
             switches = addresses.address_plain mode ∙ sym o.off;
+            fills = sym (ap is_some o.unfilled);
             knows = plain_knows mode κ on.frame plain_kind (blocks.holds (body mode AtUserWord));
-            means = means_at mode image κ plain_kind AtUserWord (env ss extra v f) w b s.memory.words (means, place, address);
+            means = means_at mode image κ plain_kind AtUserWord (env ss extra v f) w b (first_fill on.fills) s.memory.words (means, place, address);
           }
 
           z : addresses.AtTheWord mode image built good facts left s m h p hp o body' is ss extra v f

@@ -1,5 +1,5 @@
 -- A frame that lies on a stack below all activations that stand there writes over no live word.
-use Rattle.std.proofs.Common.{◌≡◌, ◌⊎◌, inl, inr, ⊎_elim, ℕ, zero, suc, ◌+◌, ◌-◌, ◌*◌, ◌<◌, ◌≤◌, Bool, true, false, ◌&&◌, not, List, [], ◌∷◌, length, map, Some, refl, sym, ap, ◌∙◌, subst, arith}
+use Rattle.std.proofs.Common.{◌≡◌, ◌⊎◌, inl, inr, ⊎_elim, ℕ, zero, suc, ◌+◌, ◌-◌, ◌*◌, ◌<◌, ◌≤◌, Bool, true, false, ◌&&◌, not, List, [], ◌∷◌, length, map, Some, refl, sym, ap, ◌∙◌, subst, arith, Option}
 use Rattle.std.specs.Prelude.{◌==◌, ◌||◌, nat_lt, nat_le, filter, min, if◌then◌else◌}
 use Rattle.std.specs.List.{list_any}
 use Rattle.std.proofs.lemmas.Bool.{leb-true, le-ltb, lt-leb}
@@ -32,8 +32,10 @@ use Rattle.ev_blocks.specs.Items.{BodySpot, AtTable, AtJump, AtNumber, AtNumbers
 use Rattle.ev_blocks.specs.Blocks.{Spot, InFred, InIdt, InBody}
 use Rattle.ev_activation.specs.Seat.{Kind, SystemCall, FromTask, FromBody, NmiFromTask, NmiFromBody, kind_of, seat_of, top_at}
 use Rattle.ev_relation.specs.Nmi.{Frame}
+use Rattle.ev_relation.specs.Filling.{rest_fills, Filling, first_fill}
 use Rattle.ev_relation.specs.Active.{here, InSpot, OverBody, Means}
 use Rattle.ev_relation.specs.Relation.{body_edges, chained, Chain}
+use Rattle.ev_relation.proofs.Records.{spot_saved}
 use Rattle.ev_relation.proofs.CallKinds.{is_over_task, over_any, stands_alone, ArePlain, seat_under, plain_seat}
 use Rattle.ev_relation.proofs.Spots.{area_small}
 
@@ -189,28 +191,16 @@ delivery_safe mode image s z p r top frame n e hp hr room above four lower upper
 -- ---- the activations of a chain stand above the frame of the last one
 
 -- RSP of the processor to which an activation over a body returns is above its frame
-spot_above : (mode : Mode) (image : Image) (spot : BodySpot) (e : Env) (w : Processor) (b : BodyContext) → InSpot mode image KernelCode spot e w b
-    → e.base top_tag ≤ rsp w
-spot_above mode image AtTable e w b h = h.0.saved.above
-spot_above mode image AtJump e w b h = h.0.saved.above
-spot_above mode image BodySpot.AtItem e w b h = h.0.saved.above
-spot_above mode image (AtNumber n) e w b h = h.0.saved.above
-spot_above mode image (AtNumbers rcx rax rdx) e w b h = h.0.saved.above
-spot_above mode image AtUserWord e w b h = h.0.saved.above
-spot_above mode image (AtPageWord is_page) e w b h = h.0.saved.above
-spot_above mode image BehindSti e w b h = h.0.saved.above
-spot_above mode image _ e w b h = absurd h
-
-body_above : (mode : Mode) (image : Image) (m : Mode) (spot : Spot) (e : Env) (w : Processor) (b : BodyContext) → OverBody mode image m spot e w b
-    → e.base top_tag ≤ rsp w
-body_above mode image Fred (InFred FromKernel) e w b h = h.0.saved.above
-body_above mode image Fred (InFred (fred.Leaves FredToKernel)) e w b h = h.saved.above
-body_above mode image Fred (InBody FredFrame spot) e w b h = spot_above mode image spot e w b h
-body_above mode image Idt (InIdt (Stub KernelCode has v)) e w b h = h.1.saved.above
-body_above mode image Idt (InIdt (Common KernelCode pf)) e w b h = h.0.saved.above
-body_above mode image Idt (InIdt (idt.Leaves IdtToKernel)) e w b h = h.saved.above
-body_above mode image Idt (InBody IdtFrame spot) e w b h = spot_above mode image spot e w b h
-body_above mode image m _ e w b h = absurd h
+body_above : (mode : Mode) (image : Image) (m : Mode) (spot : Spot) (e : Env) (w : Processor) (b : BodyContext) (g : Option Filling) (words : NatMap ℕ)
+    → OverBody mode image m spot e w b g words → e.base top_tag ≤ rsp w
+body_above mode image Fred (InFred FromKernel) e w b g words h = h.0.saved.above
+body_above mode image Fred (InFred (fred.Leaves FredToKernel)) e w b g words h = h.saved.above
+body_above mode image Fred (InBody FredFrame spot) e w b g words h = (spot_saved mode image KernelCode spot e w b g words h).above
+body_above mode image Idt (InIdt (Stub KernelCode has v)) e w b g words h = h.1.saved.above
+body_above mode image Idt (InIdt (Common KernelCode pf)) e w b g words h = h.0.saved.above
+body_above mode image Idt (InIdt (idt.Leaves IdtToKernel)) e w b g words h = h.saved.above
+body_above mode image Idt (InBody IdtFrame spot) e w b g words h = (spot_saved mode image KernelCode spot e w b g words h).above
+body_above mode image m _ e w b g words h = absurd h
 
 pub above_less : (low high : ℕ) → low ≤ high → (xs : List Activation) → AllAbove high xs → AllAbove low xs
 above_less low high l [] h = tt
@@ -220,16 +210,16 @@ pub deeper : (mode : Mode) (p r n : ℕ) → top_at p (seat_under mode r (suc n)
 deeper Fred p r n = omega arith
 deeper Idt p r n = omega arith
 
-pub chain_above : (mode : Mode) (image : Image) (p left r to : ℕ) (t : Task) (f : Frame) (sw : Bool) (b : BodyContext) (below : List BodyContext)
-    (a : Activation)
+pub chain_above : (mode : Mode) (image : Image) (p left r to : ℕ) (t : Task) (f : Frame) (sw : Bool) (fs : List (Option Filling)) (b : BodyContext)
+    (below : List BodyContext) (a : Activation)
     (as' : List Activation) (c : Processor) (m : Memory) → ArePlain image (b ∷ below) → Chain mode image p left r to t f sw fs (b ∷ below) (a ∷ as') c m
     → AllAbove (top_at p (seat_under mode r (length below))) as'
 chain_above mode image p left r to t f sw fs b [] a as' c m plain h =
     let under : Chain mode image p (body_edges mode image) r to t f (chained mode image sw []) (rest_fills fs) [] as' h.0 m
     = over_any mode image (λ v. Chain mode image p (body_edges mode image) r to t f (chained mode image sw []) (rest_fills fs) [] as' v m) _ h.0 h.4 in
     subst (AllAbove (top_at p (seat_under mode r 0))) (sym under.2) tt
-chain_above mode image p left r to t f sw b (d ∷ ds) a [] c m plain h = tt
-chain_above mode image p left r to t f sw b (d ∷ ds) a (y ∷ ys) c m plain h =
+chain_above mode image p left r to t f sw fs b (d ∷ ds) a [] c m plain h = tt
+chain_above mode image p left r to t f sw fs b (d ∷ ds) a (y ∷ ys) c m plain h =
     let w : Processor = h.0 in
     let under : Chain mode image p (body_edges mode image) r to t f (chained mode image sw (d ∷ ds)) (rest_fills fs) (d ∷ ds) (y ∷ ys) w m
     = over_any mode image (λ v. Chain mode image p (body_edges mode image) r to t f (chained mode image sw (d ∷ ds)) (rest_fills fs) (d ∷ ds) (y ∷ ys) v m) _ w h.4 in
@@ -244,9 +234,9 @@ chain_above mode image p left r to t f sw b (d ∷ ds) a (y ∷ ys) c m plain h 
     )
   where
     frame_under : (κ : Kind) → kind_of image b (d ∷ ds) ≡ κ → (spot : Spot) (e : Env) → e.base top_tag ≡ top_at p (seat_of mode image r (b ∷ d ∷ ds))
-        → Means mode image κ spot e h.0 b m.words → top_at p (seat_of mode image r (b ∷ d ∷ ds)) ≤ rsp h.0
+        → Means mode image κ spot e h.0 b (first_fill fs) m.words → top_at p (seat_of mode image r (b ∷ d ∷ ds)) ≤ rsp h.0
     frame_under SystemCall q spot e at means = let z = ap length (stands_alone image b (d ∷ ds) (ap is_over_task q)) in absurd (omega arith)
     frame_under FromTask q spot e at means = let z = ap length (stands_alone image b (d ∷ ds) (ap is_over_task q)) in absurd (omega arith)
-    frame_under FromBody q spot e at means = subst (λ n. n ≤ rsp h.0) at (body_above mode image mode spot e h.0 b means)
+    frame_under FromBody q spot e at means = subst (λ n. n ≤ rsp h.0) at (body_above mode image mode spot e h.0 b (first_fill fs) m.words means)
     frame_under NmiFromTask q spot e at means = absurd means
     frame_under NmiFromBody q spot e at means = absurd means

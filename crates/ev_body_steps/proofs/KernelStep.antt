@@ -52,7 +52,7 @@ use Rattle.ev_relation.specs.Tasks.{CurrentIs}
 use Rattle.ev_relation.specs.Nmi.{Leads, inner_edges}
 use Rattle.ev_relation.specs.Named.{Named, is_task_word, is_slot, is_cell, is_page_bit, is_user_word, have_none, UnknownTo, Changes}
 use Rattle.ev_relation.specs.Domain.{IsQuiet, AreQuiet, IsInDomain}
-use Rattle.ev_relation.specs.Filling.{first_fill, rest_fills}
+use Rattle.ev_relation.specs.Filling.{Filling, first_fill, rest_fills, is_filled, AreFree}
 use Rattle.ev_relation.specs.Active.{item_place, address_of_item, here, IsKernelSs, fills_record, Means, Active}
 use Rattle.ev_relation.specs.Relation.{ApicIs, IsContext, Beneath, keeps_cr2, switches_at, chained, Interrupted, body_edges, most_edges, Chain, serves, StandsOn, Stands}
 use Rattle.ev_relation.specs.Step.{Simulated}
@@ -166,6 +166,13 @@ module _ (mode : Mode) (image : Image) (built : IsBuilt image) (good : IsImage i
   pub kept_now : Kept mode image p c
   kept_now = chain_kept mode image p on.own r to t on.frame on.switching on.fills x.bodies (s.activations p) c s.memory chain
 
+  -- a step that writes no word of calls leaves the records of all contexts
+  pub contexts_stay : (σ : Seat) → σ.stack < 7 → (names : List Named) → AreCallFree p names → (words : NatMap ℕ) → Changes p σ names s.memory.words words
+      → AreKept p on.fills x.bodies s.memory.words words
+  unfolding on
+  contexts_stay σ narrow names free words changes =
+      contexts_kept mode image left s m h p σ words names small narrow good.count.1 free changes p hp
+
   -- the classes in service are those of the contexts
   abbrev pub ServesAlike : List BodyContext → Type 0
   ServesAlike bs = (class : ℕ) → list_any (λ (a : BodyContext). serves mode image class a.service) bs
@@ -214,7 +221,7 @@ module _ (mode : Mode) (image : Image) (built : IsBuilt image) (good : IsImage i
         → StandsOn mode image p (now + inner_edges (s.latches p)) (Behind (s.apics p) cpu words None) x → Result
     edge_to cell hc hm hr hu out cpu words he σ narrow names free no_page no_cell no_user changes now fewer there =
         let run : Went s p (s.apics p) cpu words None = runs cell hc hu (s.apics p) cpu words None (he (s.apics p) (s.latches p)) in
-        let written = free.written in
+        let written = free.allowed.written in
         let all : Stands mode image (left_behind mode image p (now + inner_edges (s.latches p))) (Behind (s.apics p) cpu words None) m
         = stands_alike mode image left s (Behind (s.apics p) cpu words None) m m p (now + inner_edges (s.latches p)) x σ cpu _ words good built.accepted
         (four_tasks image good) h hp (moves (s.apics p) cpu words None) narrow names free changes
@@ -430,6 +437,7 @@ module _ (mode : Mode) (image : Image) (built : IsBuilt image) (good : IsImage i
       pub task : RunsTask mode image p to t w
       pub still : on.switching ≡ false
       pub no_others : o.others ≡ []
+      pub no_fills : rest_fills on.fills ≡ []
 
     pub alone : is_over_task κ ≡ true → Alone
     alone h =
@@ -441,6 +449,7 @@ module _ (mode : Mode) (image : Image) (built : IsBuilt image) (good : IsImage i
           task = k.0;
           still = sym (ap (switches_at mode image on.switching) none) ∙ o.off;
           no_others = k.2;
+          no_fills = k.3;
         }
 
     -- where it returns, with any CR2 and NMIs open
@@ -472,7 +481,7 @@ module _ (mode : Mode) (image : Image) (built : IsBuilt image) (good : IsImage i
         = below_spared mode image p r names s.memory.words words b below small (omega arith) shallow free.allowed.written unknown
         (subst (λ y. Changes p y names s.memory.words words) (sym seat_is) changes) all_plain in
         let all : AreKept p on.fills (b ∷ below) s.memory.words words = subst (λ bs. AreKept p on.fills bs s.memory.words words) o.bodies
-        (contexts_kept mode image left s m h p σ words names small narrow good.count.1 free changes p hp) in
+        (contexts_stay σ narrow names free words changes) in
         beneath_as mode image (keeps_cr2 mode image κ) _ _ w
         (λ v e k. chain_stays mode image p (body_edges mode image) (body_edges mode image) r to t on.frame (chained mode image on.switching below) (rest_fills on.fills) below o.others v s.memory words hp
         good.count.1 spared all.1 (rest_small on.fills (free_small x.records on.fills on.free))
@@ -513,8 +522,7 @@ module _ (mode : Mode) (image : Image) (built : IsBuilt image) (good : IsImage i
         (moves (s.apics p) cpu words None) beside narrow names sparing changes (λ i d. refl) on.tasks
         (hb ∙ sym none_is_nmi) x.pending
         (apic_again mode image (s.apics p) _ x.pending x.bodies x.bodies (at_same s.apics p p (s.apics p) refl) (λ class. refl) on.apic)
-        on.free (λ k. refl)
-        (let l = on.enough in let f = on.few in omega arith) goes_on in
+        on.free (λ k. refl) (let l = on.short in omega arith) goes_on in
         edge_to first cell hc hm hr hu out cpu words he σ narrow names sparing.free sparing.pages sparing.cells no_user changes now fewer there
 
     -- ---- what the abstract machine does
@@ -559,28 +567,28 @@ module _ (mode : Mode) (image : Image) (built : IsBuilt image) (good : IsImage i
         → (a : Apic) (cpu : Processor) (words : NatMap ℕ) (sent : Option Send) (z : Sends sent)
         → executed c (s.apics p) s.memory (s.latches p) (Some cell.ins) ≡ went cpu a words (s.latches p) sent → cpu.nmi_blocked ≡ false
         → (names : List Named) → AreCallFree p names → Changes p σ names s.memory.words words
-        → (m' : Machine) (es : List Entry) → turn image m p ≡ (m', es) → (tasks : NatMap Task) (slots : NatMap ℕ) (bs : List BodyContext)
+        → (m' : Machine) (es : List Entry) → turn image m p ≡ (m', es) → (tasks : NatMap Task) (slots : NatMap ℕ)
+        → (fs : List (Option Filling)) → AreFree x.records fs → ((k : ℕ) → is_filled k fs ≡ is_filled k on.fills) → (bs : List BodyContext)
         → Makes z.machine m' words tasks slots bs → AreQuiet bs → ApicIs mode image a x.pending bs
         → bodies_behind (length x.bodies) c cell.ins sent ≡ length bs
         → (now : ℕ) → now ≤ body_edges mode image
-        → Chained now (tasks to) bs (went_activations image.processors s p cpu sent) cpu (with_words s.memory words)
+        → Chain mode image p now r to (tasks to) on.frame on.switching fs bs (went_activations image.processors s p cpu sent) cpu (with_words s.memory words)
         → went_shows p s cell.ins cpu words sent ≡ es → Result
     unfolding comes_to
-    visible_with unblocked cell hc hm hu a cpu words sent z he hb names free changes m' es ht tasks slots bs y quiet apic told now few goes_on hes =
+    visible_with unblocked cell hc hm hu a cpu words sent z he hb names free changes m' es ht tasks slots fs fills filled bs y quiet apic told now few goes_on hes =
         let sender : abstract.Processor = processor z.machine p in
         let was : abstract.Processor = record x { mail = sender.mail; mail_nmi = sender.mail_nmi } in
         let x' : abstract.Processor = record was { tasks = tasks; slots = slots; resched = y.resched; bodies = bs } in
         let none : list_any (is_nmi_body image) bs ≡ false
-        = none_nmi image bs (chain_plain mode image p now r to (tasks to) on.frame on.switching on.fills bs _ cpu (with_words s.memory words) goes_on) in
+        = none_nmi image bs (chain_plain mode image p now r to (tasks to) on.frame on.switching fs bs _ cpu (with_words s.memory words) goes_on) in
         let posted : StandsOn mode image p (left p) (Posted sent) was = comes_to mode image p (left p) s s.apics s.latches
         (inboxes_by image.processors s p sent) x x.pending sender.mail x.nmi sender.mail_nmi refl refl on on.apic in
         let there : StandsOn mode image p (now + inner_edges (s.latches p)) (Behind a cpu words sent) x'
-        = own_becomes mode image p (left p) (Posted sent) (Behind a cpu words sent) was σ cpu _ words tasks slots y.resched on.fills bs now posted
+        = own_becomes mode image p (left p) (Posted sent) (Behind a cpu words sent) was σ cpu _ words tasks slots y.resched fs bs now posted
         small (four_tasks image good p hp) (moves a cpu words sent) beside narrow names free.allowed changes
         (λ e. y.asked (on.marked e)) y.current y.mark y.slots_are y.same_tasks y.good_tasks (hb ∙ sym none)
         x.pending (subst (λ y. ApicIs mode image y x.pending bs) (sym (at_same s.apics p p a refl)) apic)
-        on.free (records_after mode image p (left p) (Posted sent) was σ words posted small narrow names free changes on.fills (λ k. refl))
-        (let f = few_inner mode image (s.latches p) in omega arith) goes_on in
+        fills (records_after mode image p (left p) (Posted sent) was σ words posted small narrow names free changes fs filled) few goes_on in
         let inside : IsInDomain x' = record {
           nmi = domain.nmi;
           mail_nmi = (z.stands.domain p hp).mail_nmi;
@@ -605,16 +613,17 @@ module _ (mode : Mode) (image : Image) (built : IsBuilt image) (good : IsImage i
     pub visible : Unblocked b → (cell : Cell) → code c.rip ≡ Some cell → cell.mark ≡ Always → is_user c ≡ false
         → (cpu : Processor) (words : NatMap ℕ) → Executes cell.ins cpu words → cpu.nmi_blocked ≡ false
         → (names : List Named) → AreCallFree p names → Changes p σ names s.memory.words words
-        → (m' : Machine) (es : List Entry) → turn image m p ≡ (m', es) → (tasks : NatMap Task) (slots : NatMap ℕ) (bs : List BodyContext)
+        → (m' : Machine) (es : List Entry) → turn image m p ≡ (m', es) → (tasks : NatMap Task) (slots : NatMap ℕ)
+        → (fs : List (Option Filling)) → AreFree x.records fs → ((k : ℕ) → is_filled k fs ≡ is_filled k on.fills) → (bs : List BodyContext)
         → Makes m m' words tasks slots bs → AreQuiet bs → ServesAlike bs
         → (if ends_body c (Some cell.ins) then length x.bodies - 1
         else (if begins_body c (Some cell.ins) then suc (length x.bodies) else length x.bodies)) ≡ length bs
         → (now : ℕ) → now ≤ body_edges mode image
-        → Chained now (tasks to) bs (activations_by s p (s.activations p) cpu Stepped.Ran) cpu (with_words s.memory words)
+        → Chain mode image p now r to (tasks to) on.frame on.switching fs bs (activations_by s p (s.activations p) cpu Stepped.Ran) cpu (with_words s.memory words)
         → shown_always p (bodies_on s p) c s.memory.words (Some cell.ins) ≡ es → Result
-    visible unblocked cell hc hm hu cpu words he hb names free changes m' es ht tasks slots bs y quiet serving told now few goes_on hes =
+    visible unblocked cell hc hm hu cpu words he hb names free changes m' es ht tasks slots fs fills filled bs y quiet serving told now few goes_on hes =
         visible_with unblocked cell hc hm hu (s.apics p) cpu words None sends_nothing (he (s.apics p) (s.latches p)) hb
-        names free changes m' es ht tasks slots
+        names free changes m' es ht tasks slots fs fills filled
         bs y quiet (apic_again mode image (s.apics p) (s.apics p) x.pending x.bodies bs refl serving on.apic) told now few goes_on hes
 
     -- what holds of the components that a step leaves alone, by the names that it writes
@@ -689,7 +698,7 @@ module _ (mode : Mode) (image : Image) (built : IsBuilt image) (good : IsImage i
     pub calls_stay : (names : List Named) → AreCallFree p names → (words : NatMap ℕ) → Changes p σ names s.memory.words words
         → RecordsStay b.calls s.memory.words words
     calls_stay names free words changes = (subst (λ bs. AreKept p on.fills bs s.memory.words words) o.bodies
-        (contexts_kept mode image left s m h p σ words names small narrow good.count.1 free changes p hp)).0.0
+        (contexts_stay σ narrow names free words changes)).0.0
 
     pub outside : (act : Stood on.own b c s.memory) → is_in_repeat c.rip ≡ false
     outside act = active_outside mode image facts p on.own κ σ on.frame (switches_at mode image on.switching below) (first_fill on.fills) w b c s.memory ctx act

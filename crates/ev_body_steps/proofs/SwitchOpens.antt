@@ -1,6 +1,6 @@
 -- How an exit opens that switches to another task: the jump behind `ret`, where the mark is set.
-use Rattle.std.proofs.Common.{◌≡◌, ⊎_elim, ℕ, suc, ◌+◌, ◌-◌, ◌*◌, ◌%◌, ◌^◌, ◌<◌, ◌≤◌, Bool, true, false, List, [], ◌∷◌, ◌++◌, get_or, map, length, Some, None, refl, sym, ap, ◌∙◌, subst, arith}
-use Rattle.std.specs.Prelude.{◌==◌, if◌then◌else◌, slice_get}
+use Rattle.std.proofs.Common.{◌≡◌, ⊎_elim, ℕ, suc, ◌+◌, ◌-◌, ◌*◌, ◌%◌, ◌^◌, ◌<◌, ◌≤◌, Bool, true, false, List, [], ◌∷◌, ◌++◌, get_or, map, length, Some, None, refl, sym, ap, ◌∙◌, subst, arith, Option}
+use Rattle.std.specs.Prelude.{◌==◌, if◌then◌else◌, slice_get, is_some}
 use Rattle.std.proofs.lemmas.Bool.{eqb-true}
 use Rattle.std.proofs.lemmas.Bool.Decides.{eqb_tells}
 use Rattle.std.proofs.Math.Nat.{mod-lt}
@@ -51,6 +51,7 @@ use Rattle.ev_grounds.proofs.Facts.{facts_tell}
 use Rattle.ev_activation.specs.Seat.{Kind, Seat, kind_of, seat_by, seat_of, room_of, plain_room, top_at}
 use Rattle.ev_table.specs.Table.{code_table, other_exit}
 use Rattle.ev_user.specs.Tasks.{IsTask, RunsTask, level_zero, task_processor}
+use Rattle.ev_relation.specs.Filling.{Filling, first_fill}
 use Rattle.ev_relation.specs.Tasks.{order, IsSaved, CurrentIs}
 use Rattle.ev_relation.specs.Nmi.{Leads, inner_edges}
 use Rattle.ev_relation.specs.Active.{here, level_in, rest_in, GivesBack, Matches, ToNext, OverTask, Saved, Active}
@@ -65,7 +66,7 @@ use Rattle.ev_relation.proofs.Chains.{chain_kept}
 use Rattle.ev_relation.proofs.CallKinds.{is_over_task, means_by, plain_over, plain_knows, level_of, over_kind, seat_under}
 use Rattle.ev_body_steps.proofs.Bodies.{body, known_and, nothing_open, unlike}
 use Rattle.ev_relation.proofs.Fits.{IsSeat}
-use Rattle.ev_relation.proofs.Switch.{is_switch, next_level, NamesTasks, switch_fits, switch_opens}
+use Rattle.ev_relation.proofs.Switch.{switch_unfilled, is_switch, next_level, NamesTasks, switch_fits, switch_opens}
 use Rattle.ev_relation.proofs.Legality.{off_at_ret}
 use Rattle.ev_relation.proofs.Standing.{after_went, went_stays}
 use Rattle.ev_relation.proofs.After.{none_spares, apic_again, own_stands}
@@ -106,8 +107,8 @@ module _ (p : ℕ) (κ : Kind) (σ : Seat) (ss : ℕ) (w u : Processor) (extra v
     pub descriptors : selector (task_selector p next) ≡ task_selector p next → base_of u.gdt (task_selector p next) ≡ Some base
         → Described (env_next mode) (block mode spot).ground.descriptors
     pub tops : is_level_rsp ((stack_top p next + 0) % M) ≡ true → AreTops (env_next mode) (block mode spot).ground.tops
-    pub means : (image : Image) (b : BodyContext) → ToNext mode image (next_level mode (env_next mode)) (env_next mode) u b
-        → OverTask mode image mode spot (env_next mode) u b
+    pub means : (image : Image) (b : BodyContext) (g : Option Filling) (words : NatMap ℕ)
+        → ToNext mode image (next_level mode (env_next mode)) (env_next mode) u b → OverTask mode image mode spot (env_next mode) u b g words
 
   -- the processor behind the jump agrees with the exit's opening, where nothing that no block tells differs
   fred_opens : rest_in Fred κ ss u ≡ rest_in Fred κ ss w → selector (v 18) ≡ 0x33
@@ -238,7 +239,7 @@ module _ (p : ℕ) (κ : Kind) (σ : Seat) (ss : ℕ) (w u : Processor) (extra v
     };
     descriptors = λ small found. (small, found, tt);
     tops = λ level. (level, tt);
-    means = λ image b t. t;
+    means = λ image b g words t. t;
   }
 
   idt_opens_by : (by : IdtReturn) → (told : FactsHold (env_next Idt) (block Idt (InIdt (idt.Leaves (IdtToNext by)))).ground.facts)
@@ -371,7 +372,7 @@ module _ (p : ℕ) (κ : Kind) (σ : Seat) (ss : ℕ) (w u : Processor) (extra v
     };
     descriptors = λ small found. (small, found, tt);
     tops = λ level. tt;
-    means = λ image b t. (t, matches image);
+    means = λ image b g words t. (t, matches image);
   }
 
   -- by how RCX and R11 of the next task compare with its RIP and RFLAGS
@@ -658,7 +659,7 @@ module _ (mode : Mode) (image : Image) (built : IsBuilt image) (good : IsImage i
       let now : ℕ = edges mode y.spot 0 in
       let fewer = y.fewer in
       let seat : IsSeat o.σ = step.in_seat mode image built good facts left s m h p hp o in
-      let fred : has_fred u ≡ is_fred mode = (chain_kept mode image p 0 r next t on.frame false [] [] u s.memory (next_runs, refl, refl)).fred in
+      let fred : has_fred u ≡ is_fred mode = (chain_kept mode image p 0 r next t on.frame false [] [] [] u s.memory (next_runs, refl, refl, refl)).fred in
       let level : is_level_rsp ((stack_top p next + 0) % M) ≡ true =
       let few = four in let l = next_there in let p' = small in
       ap is_level_rsp (let e : (stack_top p next + 0) % M ≡ stack_top p next = omega arith in e) ∙ top_is_level p next small (omega arith) in
@@ -681,7 +682,7 @@ module _ (mode : Mode) (image : Image) (built : IsBuilt image) (good : IsImage i
         chosen = refl;
         gives = gives;
       } in
-      let act : Active mode image p now κ o.σ on.frame true u b cpu s.memory = record {
+      let act : Active mode image p now κ o.σ on.frame true (first_fill on.fills) u b cpu s.memory = record {
         stands = record {
           spot = y.spot;
           k = 0;
@@ -697,18 +698,22 @@ module _ (mode : Mode) (image : Image) (built : IsBuilt image) (good : IsImage i
           long = a.long;
         };
         switches = y.on;
+        fills = switch_unfilled mode y.spot y.is ∙ sym (ap is_some o.unfilled);
         knows = plain_knows mode κ on.frame (plain_over κ over) (blocks.holds y.spot);
-        means = means_by mode image κ over y.spot E u b words (y.means image b to_next);
+        means = means_by mode image κ over y.spot E u b (first_fill on.fills) words (y.means image b (first_fill on.fills) words to_next);
       } in
       let kind : kind_of image b [] ≡ κ = ap (kind_of image b) (sym one.none) ∙ o.kind in
       let tail = subst (λ z. Beneath mode image (keeps_cr2 mode image z)
-      (λ v. Chain mode image p (body_edges mode image) r next t on.frame (chained mode image true []) [] [] v s.memory) u
+      (λ v. Chain mode image p (body_edges mode image) r next t on.frame (chained mode image true []) [] [] [] v s.memory) u
       × Leads mode p z on.frame u words
-      × Active mode image p now z (seat_by mode z r (seat_of mode image r []) (room_of mode image [])) on.frame (switches_at mode image true []) u b cpu
-      s.memory) (sym kind)
-      (over_kind mode image p now r next t on.frame true u b cpu s.memory κ over next_runs
-      (subst (λ z. Active mode image p now κ z on.frame true u b cpu s.memory) seat_is act)) in
-      let chain : Chain mode image p now r next t on.frame true (b ∷ []) (o.last ∷ []) cpu s.memory = (u, o.ctx, o.outer, tt, tail.0, tail.1, tail.2) in
+      × Active mode image p now z (seat_by mode z r (seat_of mode image r []) (room_of mode image [])) on.frame (switches_at mode image true [])
+      (first_fill on.fills) u b cpu s.memory) (sym kind)
+      (over_kind mode image p now r next t on.frame true (first_fill on.fills) u b cpu s.memory κ over next_runs
+      (subst (λ z. Active mode image p now κ z on.frame true (first_fill on.fills) u b cpu s.memory) seat_is act)) in
+      let lower = subst (λ gs. Beneath mode image (keeps_cr2 mode image (kind_of image b []))
+      (λ v. Chain mode image p (body_edges mode image) r next t on.frame (chained mode image true []) gs [] [] v s.memory) u) (sym one.no_fills) tail.0 in
+      let chain : Chain mode image p now r next t on.frame true on.fills (b ∷ []) (o.last ∷ []) cpu s.memory
+      = (u, o.ctx, o.outer, tt, lower, tail.1, tail.2) in
       let alone : b ∷ [] ≡ x.bodies = ap (λ ds. b ∷ ds) (sym one.none) ∙ sym o.bodies in
       let stays : o.last ∷ [] ≡ activations_by s p (s.activations p) cpu Stepped.Ran
       = ap (λ ys. o.last ∷ ys) (sym one.no_others) ∙ sym o.acts
@@ -732,11 +737,14 @@ module _ (mode : Mode) (image : Image) (built : IsBuilt image) (good : IsImage i
         blocked = step.blocked mode image built good facts left s m h p hp ∙ sym (step.none_is_nmi mode image built good facts left s m h p hp);
         apic = apic_again mode image (s.apics p) (after.apics p) x.pending x.bodies x.bodies (at_same s.apics p p (s.apics p) refl) (λ class. refl) on.apic;
         slots = on.slots;
-        few = let l = on.enough in let g = on.few in omega arith;
-        chain = subst (λ as'. Chain mode image p now r next t on.frame true x.bodies as' cpu s.memory) stays
-            (subst (λ bs. Chain mode image p now r next t on.frame true bs (o.last ∷ []) cpu s.memory) alone chain);
+        fills = on.fills;
+        free = on.free;
+        records = on.records;
+        short = let l = on.short in omega arith;
+        chain = subst (λ as'. Chain mode image p now r next t on.frame true on.fills x.bodies as' cpu s.memory) stays
+            (subst (λ bs. Chain mode image p now r next t on.frame true on.fills bs (o.last ∷ []) cpu s.memory) alone chain);
       }) in
       let narrow : r < 7 = let few = four in let l = on.running in omega arith in
       step.edge_to mode image built good facts left s m h p hp (step.first mode image built good facts left s m h p hp o) cell hc unmarked back a.kernel
-      (step.outside mode image built good facts left s m h p hp o a.act) cpu words does (record { stack = r; used = 0 }) narrow [] (none_spares p).allowed
+      (step.outside mode image built good facts left s m h p hp o a.act) cpu words does (record { stack = r; used = 0 }) narrow [] (none_spares p).free
       refl refl refl (λ y far far'. refl) now (omega arith) there

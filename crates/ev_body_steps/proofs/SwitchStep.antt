@@ -1,6 +1,6 @@
 -- A step in an exit that switches to another task: an instruction of it, or the return to that task, with which the abstract machine switches.
-use Rattle.std.proofs.Common.{◌≡◌, inr, ℕ, zero, suc, ◌+◌, ◌-◌, ◌%◌, ◌<◌, ◌≤◌, Bool, true, false, not, ◌&&◌, ◌||◌, List, [], ◌∷◌, ◌++◌, get_or, map, length, Some, None, refl, sym, ap, ◌∙◌, subst, arith}
-use Rattle.std.specs.Prelude.{◌==◌, if◌then◌else◌, nat_le}
+use Rattle.std.proofs.Common.{◌≡◌, inr, ℕ, zero, suc, ◌+◌, ◌-◌, ◌%◌, ◌<◌, ◌≤◌, Bool, true, false, not, ◌&&◌, ◌||◌, List, [], ◌∷◌, ◌++◌, get_or, map, length, Some, None, refl, sym, ap, ◌∙◌, subst, arith, Option}
+use Rattle.std.specs.Prelude.{◌==◌, if◌then◌else◌, nat_le, is_some}
 use Rattle.std.proofs.lemmas.Bool.{leb-true, leb-false}
 use Rattle.std.specs.List.{list_any}
 use Rattle.ev_isa.specs.Word.{NatMap, numbers_from}
@@ -51,6 +51,7 @@ use Rattle.ev_paths.proofs.IdtEnds.{idt_returns}
 use Rattle.ev_activation.specs.Seat.{Kind, Seat, kind_of, seat_of}
 use Rattle.ev_table.specs.Table.{code_table}
 use Rattle.ev_user.specs.Tasks.{RunsTask}
+use Rattle.ev_relation.specs.Filling.{Filling, first_fill, rest_fills, is_filled}
 use Rattle.ev_relation.specs.Tasks.{CurrentIs}
 use Rattle.ev_relation.specs.Nmi.{inner_edges}
 use Rattle.ev_relation.specs.Named.{Changes}
@@ -62,13 +63,13 @@ use Rattle.ev_relation.proofs.Facts.{Facts}
 use Rattle.ev_relation.proofs.Maps.{at_same, at_other}
 use Rattle.ev_relation.proofs.Domains.{with_cr2_open, four_tasks}
 use Rattle.ev_relation.proofs.Fits.{IsSeat}
-use Rattle.ev_relation.proofs.Switch.{is_switch, next_level, means_switch, switch_ends, NamesTasks, names_tasks, switch_names, switch_changes}
+use Rattle.ev_relation.proofs.Switch.{switch_unfilled, is_switch, next_level, means_switch, switch_ends, NamesTasks, names_tasks, switch_names, switch_changes}
 use Rattle.ev_body_steps.proofs.Instructions.{stays_inside}
 use Rattle.ev_relation.proofs.Legality.{context_serves}
 use Rattle.ev_relation.proofs.Standing.{masked_first, after_went, went_stays, ran_returns}
-use Rattle.ev_relation.proofs.Stays.{means_again, leads_again, seat_fits}
+use Rattle.ev_relation.proofs.Stays.{AreKept, means_stay, leads_again, seat_fits}
 use Rattle.ev_relation.proofs.Chains.{active_masked}
-use Rattle.ev_relation.proofs.After.{AreNames, own_word, none_spares, slot_same, few_inner, apic_again, own_stands, own_becomes, Becomes}
+use Rattle.ev_relation.proofs.After.{AreCallFree, own_word, none_spares, slot_same, apic_again, own_stands, own_becomes, filled_below, records_after, CallsAlike}
 use Rattle.ev_relation.proofs.CallKinds.{is_over_task, over_any, stands_on_task, plain_no_nmi, ArePlain, means_plain, means_of, level_of}
 use Rattle.ev_relation.proofs.Depth.{active_outside, ends_a_body}
 use Rattle.ev_body_steps.proofs.Return.{Exits, tells_word, fred_exits_to_next, idt_exits_to_next}
@@ -200,10 +201,12 @@ module _ (mode : Mode) (image : Image) (built : IsBuilt image) (good : IsImage i
   narrow : r < 7
   narrow = let z = step.narrow_task mode image built good facts left s m h p hp in omega arith
 
-  allowed : AreNames p (switch_names p)
-  allowed = record {
-    written = (small, (small, (small, (small, tt))));
-    own = λ q d. (own_word p q d, (own_word p q d, (own_word p q d, (own_word p q d, tt))));
+  call_free : AreCallFree p (switch_names p)
+  call_free = record {
+    allowed = record {
+      written = (small, (small, (small, (small, tt))));
+      own = λ q d. (own_word p q d, (own_word p q d, (own_word p q d, (own_word p q d, tt))));
+    };
     calls = refl;
   }
 
@@ -218,7 +221,7 @@ module _ (mode : Mode) (image : Image) (built : IsBuilt image) (good : IsImage i
     abbrev w : Processor
     w = k.0
 
-    abbrev act : Active mode image p on.own κ σ on.frame on.switching on.fills w b c s.memory
+    abbrev act : Active mode image p on.own κ σ on.frame on.switching (first_fill on.fills) w b c s.memory
     act = k.6
 
     abbrev spot : Spot
@@ -228,7 +231,7 @@ module _ (mode : Mode) (image : Image) (built : IsBuilt image) (good : IsImage i
     env = here mode p κ σ act.stands.ss w act.stands.extra act.stands.var act.stands.flags
 
     plain : ArePlain image (b ∷ [])
-    plain = (means_plain mode image κ spot env w b s.memory.words act.means, tt)
+    plain = (means_plain mode image κ spot env w b (first_fill on.fills) s.memory.words act.means, tt)
 
     over : is_over_task κ ≡ true
     over = stands_on_task image b plain.0
@@ -237,7 +240,7 @@ module _ (mode : Mode) (image : Image) (built : IsBuilt image) (good : IsImage i
     in_seat = seat_fits mode image r b [] plain narrow (omega arith)
 
     meant : (is_switch mode spot ≡ true) × ToNext mode image (next_level mode env) env w b
-    meant = means_switch mode image κ spot env w b s.memory.words act.means (act.switches ∙ now_on)
+    meant = means_switch mode image κ spot env w b (first_fill on.fills) s.memory.words act.means (act.switches ∙ now_on)
 
     abbrev next : ℕ
     next = meant.1.next
@@ -246,18 +249,29 @@ module _ (mode : Mode) (image : Image) (built : IsBuilt image) (good : IsImage i
     names = (names_tasks mode image p κ σ act.stands.ss w act.stands.extra act.stands.var act.stands.flags _ w b meant.1).1
 
     -- the processor to which it returns runs the next task
+    lower : Chain mode image p (body_edges mode image) r to (x.tasks to) on.frame false (rest_fills on.fills) [] [] w s.memory
+    lower = over_any mode image (λ v. Chain mode image p (body_edges mode image) r to (x.tasks to) on.frame false (rest_fills on.fills) [] [] v s.memory) _ w k.4
+
     under : RunsTask mode image p to (x.tasks to) w
-    under = (over_any mode image (λ v. Chain mode image p (body_edges mode image) r to (x.tasks to) on.frame false [] [] v s.memory) _ w k.4).0
+    under = lower.0
+
+    -- it fills no call record
+    unfilled : first_fill on.fills ≡ None
+    unfilled = none_of (first_fill on.fills) (sym act.fills ∙ switch_unfilled mode spot meant.0)
+      where
+        none_of : (g : Option Filling) → is_some g ≡ false → g ≡ None
+        none_of None q = refl
+        none_of (Some f) q = let clash : true ≡ false = q in absurd (cc)
 
     off : b.interrupts ≡ false
     off = meant.1.off
 
     first : next_of c (s.apics p) (s.latches p) ≡ Next.Instruction
     first = masked_first c (s.apics p) (s.latches p) (step.latch mode image built good facts left s m h p hp)
-        (active_masked mode image p on.own κ σ on.frame on.switching on.fills w b c s.memory act ∙ off)
+        (active_masked mode image p on.own κ σ on.frame on.switching (first_fill on.fills) w b c s.memory act ∙ off)
 
     outside : is_in_repeat c.rip ≡ false
-    outside = active_outside mode image facts p on.own κ σ on.frame on.switching on.fills w b c s.memory k.1 act
+    outside = active_outside mode image facts p on.own κ σ on.frame on.switching (first_fill on.fills) w b c s.memory k.1 act
 
     kernel : is_user c ≡ false
     kernel = ap is_user act.stands.at.agrees.rest
@@ -286,7 +300,7 @@ module _ (mode : Mode) (image : Image) (built : IsBuilt image) (good : IsImage i
         let mem : Memory = with_words s.memory i.words in
         let stays : activations_by s p (s.activations p) i.cpu Stepped.Ran ≡ last ∷ []
         = went_stays image.processors s p i.cpu None i.ins ((step.fetches mode image built good facts left s m h p hp) c.rip cell i.stands).1 returns ∙ acts in
-        let act' : Active mode image p now κ σ on.frame on.switching on.fills w b i.cpu mem = record {
+        let act' : Active mode image p now κ σ on.frame on.switching (first_fill on.fills) w b i.cpu mem = record {
           stands = record {
             spot = spot;
             k = suc a.k;
@@ -302,8 +316,11 @@ module _ (mode : Mode) (image : Image) (built : IsBuilt image) (good : IsImage i
             long = i.long ∙ a.long;
           };
           switches = act.switches;
+          fills = act.fills;
           knows = act.knows;
-          means = means_again mode image κ spot env w b s.memory.words i.words act.means;
+          means = means_stay mode image κ spot env w b (first_fill on.fills) s.memory.words i.words (switch_unfilled mode spot meant.0)
+              (subst (λ bs. AreKept p on.fills bs s.memory.words i.words) bodies
+              (step.contexts_stay mode image built good facts left s m h p hp τ narrow (switch_names p) call_free i.words changes)).0.0 act.means;
         } in
         let chain : Chain mode image p now r to (x.tasks to) on.frame on.switching on.fills (b ∷ []) (last ∷ []) i.cpu mem = (
           w,
@@ -316,17 +333,18 @@ module _ (mode : Mode) (image : Image) (built : IsBuilt image) (good : IsImage i
         ) in
         let there : StandsOn mode image p (now + inner_edges (s.latches p)) (after_went image.processors s p (s.apics p) i.cpu i.words None) x
         = own_becomes mode image p (left p) s (after_went image.processors s p (s.apics p) i.cpu i.words None) x τ i.cpu _ i.words x.tasks x.slots x.resched
-        x.bodies now on small (four_tasks image good p hp) (step.moves mode image built good facts left s m h p hp (s.apics p) i.cpu i.words None)
+        on.fills x.bodies now on small (four_tasks image good p hp) (step.moves mode image built good facts left s m h p hp (s.apics p) i.cpu i.words None)
         (λ j d. inr (omega arith)) narrow
-        (switch_names p) allowed changes on.marked (λ e. absurd (never e)) (λ e. absurd (never e))
-        (λ j l. slot_same p τ (switch_names p) small narrow s.memory.words i.words allowed.written changes refl p j small l ∙ on.slots j l)
+        (switch_names p) call_free.allowed changes on.marked (λ e. absurd (never e)) (λ e. absurd (never e))
+        (λ j l. slot_same p τ (switch_names p) small narrow s.memory.words i.words call_free.allowed.written changes refl p j small l ∙ on.slots j l)
         (λ j d. refl) on.tasks (i.blocking ∙ blocked ∙ sym none_nmi) x.pending
         (apic_again mode image (s.apics p) _ x.pending x.bodies x.bodies (at_same s.apics p p (s.apics p) refl) (λ class. refl) on.apic)
-        (let l = on.enough in let f = on.few in omega arith)
+        on.free (records_after mode image p (left p) s x τ i.words on small narrow (switch_names p) call_free changes on.fills (λ k. refl))
+        (let l = on.short in omega arith)
         (subst (λ as'. Chain mode image p now r to (x.tasks to) on.frame on.switching on.fills x.bodies as' i.cpu mem) (sym stays)
         (subst (λ bs. Chain mode image p now r to (x.tasks to) on.frame on.switching on.fills bs (last ∷ []) i.cpu mem) (sym bodies) chain)) in
         step.edge_to mode image built good facts left s m h p hp first cell i.stands refl returns kernel outside i.cpu i.words i.runs τ narrow
-        (switch_names p) allowed refl refl refl changes now (one_less S a.k (blocks.behind spot) on.own lt few) there
+        (switch_names p) call_free refl refl refl changes now (one_less S a.k (blocks.behind spot) on.own lt few) there
       where
         never : on.switching ≡ false → ⊥
         never e = let clash : true ≡ false = sym now_on ∙ e in cc
@@ -416,10 +434,13 @@ module _ (mode : Mode) (image : Image) (built : IsBuilt image) (good : IsImage i
               (λ class. sym (ap (list_any (λ (a : BodyContext). serves mode image class a.service)) bodies
               ∙ ap (λ q. serves mode image class q || false) (context_serves image good built.accepted m p h.legal b [] bodies meant.1.ret))) on.apic;
           slots = on.slots;
-          few = let f = few_inner mode image (s.latches p) in omega arith;
-          chain = (runs, refl, gone);
+          fills = [];
+          free = tt;
+          records = λ i l none. on.records i l (sym (filled_below i on.fills unfilled) ∙ ap (is_filled i) lower.3);
+          short = omega arith;
+          chain = (runs, refl, gone, refl);
         }) in
-        let becomes : Becomes mode image p m (with_processor m p x') x' s.memory.words = record {
+        let becomes : CallsAlike mode image p m (with_processor m p x') x' s.memory.words = record {
           own = at_same m.processors p p x' refl;
           others = λ q f. at_other m.processors p q x' f;
           mail = refl;
@@ -432,7 +453,7 @@ module _ (mode : Mode) (image : Image) (built : IsBuilt image) (good : IsImage i
           cells = h.shares.cells;
         } in
         step.turn_to mode image built good facts left s m h p hp first cell hc refl kernel (s.apics p) back s.memory.words None
-        (step.sends_nothing mode image built good facts left s m h p hp) (y.back (s.apics p) (s.latches p)) τ narrow [] (none_spares p).allowed
+        (step.sends_nothing mode image built good facts left s m h p hp) (y.back (s.apics p) (s.latches p)) τ narrow [] (none_spares p).free
         (λ n far far'. refl) (with_processor m p x') [] turned x' becomes
         (step.context_numbers mode image built good facts left s m h p hp b [] bodies chosen Ret meant.1.ret (with_processor m p x') [] turned)
         (record { nmi = domain.nmi; mail_nmi = domain.mail_nmi; bodies = tt })
@@ -443,7 +464,7 @@ module _ (mode : Mode) (image : Image) (built : IsBuilt image) (good : IsImage i
     -- at the end of each exit
     at_end : (k : Mode) → k ≡ mode → (spot : Spot) (ss : ℕ) (extra v : ℕ → ℕ) (f : Flags) → NamesTasks p extra meant.1.task next
         → At code (block k spot) (block k spot).steps (here mode p κ σ ss w extra v f) c s.memory
-        → is_switch k spot ≡ true → OverTask mode image k spot (here mode p κ σ ss w extra v f) w b → Result
+        → is_switch k spot ≡ true → OverTask mode image k spot (here mode p κ σ ss w extra v f) w b (first_fill on.fills) s.memory.words → Result
     at_end Fred q (InFred (fred.Leaves FredToNext)) ss extra v f named at is means =
         let ends = fred_switched mode p small κ σ w ss extra v f code c s.memory meant.1.task next named at in
         leaves (fred_exits_to_next image p small κ σ to (x.tasks to) w ss extra v f b code c s.memory blocked
@@ -472,7 +493,7 @@ module _ (mode : Mode) (image : Image) (built : IsBuilt image) (good : IsImage i
             let up = leb-false _ _ q in let down = act.stands.within in
             at_end mode refl spot act.stands.ss act.stands.extra act.stands.var act.stands.flags names
             (subst (λ j. At code (block mode spot) j env c s.memory) (let z : act.stands.k ≡ (block mode spot).steps = omega arith in z) act.stands.at)
-            meant.0 (means_of mode image κ over spot env w b s.memory.words act.means)
+            meant.0 (means_of mode image κ over spot env w b (first_fill on.fills) s.memory.words act.means)
 
   -- of an activation that is in such an exit, which stands on the task alone
   pub switch_step : (b : BodyContext) (below : List BodyContext) → x.bodies ≡ b ∷ below → (a : Activation) (as' : List Activation)
@@ -481,7 +502,7 @@ module _ (mode : Mode) (image : Image) (built : IsBuilt image) (good : IsImage i
       → blocks.switches k.6.stands.spot ≡ true → Result
   switch_step b [] hb a as' acts k sw =
       let none : as' ≡ [] = (over_any mode image
-      (λ v. Chain mode image p (body_edges mode image) r to (x.tasks to) on.frame false [] as' v s.memory) _ k.0 k.4).2 in
+      (λ v. Chain mode image p (body_edges mode image) r to (x.tasks to) on.frame false (rest_fills on.fills) [] as' v s.memory) _ k.0 k.4).2 in
       act_step b hb a (subst (λ ys. s.activations p ≡ a ∷ ys) none acts)
       (subst (λ ys. Chain mode image p on.own r to (x.tasks to) on.frame on.switching on.fills (b ∷ []) (a ∷ ys) c s.memory) none k) (sym k.6.switches ∙ sw)
   switch_step b (d ∷ ds) hb a as' acts k sw = let clash : false ≡ true = sym k.6.switches ∙ sw in absurd (cc)

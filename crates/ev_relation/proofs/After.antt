@@ -38,7 +38,7 @@ use Rattle.ev_user.specs.Numbers.{HoldsNumbers}
 use Rattle.ev_user.specs.Sees.{IsUserWord, IsWrite}
 use Rattle.ev_relation.specs.Named.{Named, UserRsp, Top, Current, Mark, Port, Head, TssTop, Slot, RecordWord, CellAt, PageBit, UserWord, address_of, is_task_word, is_call_word, is_slot, is_cell, is_page_bit, is_user_word, have_none, IsWritten, Outside, NotNamed, AreWritten, NoneOf, Changes}
 use Rattle.ev_relation.specs.Domain.{IsInDomain}
-use Rattle.ev_relation.specs.Relation.{ApicIs, InboxIs, HoldsCall, Chain, Runs, serves, StandsOn, Shares, Stands, most_edges}
+use Rattle.ev_relation.specs.Relation.{ApicIs, InboxIs, HoldsCall, Chain, Runs, serves, StandsOn, Shares, Stands, body_edges, most_edges}
 use Rattle.ev_relation.proofs.Maps.{at_same}
 use Rattle.ev_relation.proofs.Words.{area_word, IsOffCalls, IsBeside, on_its_stack, fixed_stays, beside_stays, stacks_stay, offset_stays, area_stays, saved_stays}
 use Rattle.ev_relation.proofs.Records.{RecordStays, RecordsStay, call_stays, queue_stays}
@@ -254,6 +254,18 @@ pub kernel_user : (p : ℕ) (σ : Seat) → p < 32 → σ.stack < 7 → (m n use
 kernel_user p σ hp hs m n user changes same b u =
     let l = user_low b u in changes b (inl (omega arith)) (inl (omega arith), (inl (omega arith), tt)) ∙ same b u
 
+-- ---- records that are filled
+
+-- where the last context fills none, those below it fill as many
+pub filled_below : (k : ℕ) (fs : List (Option Filling)) → first_fill fs ≡ None → is_filled k (rest_fills fs) ≡ is_filled k fs
+filled_below k [] h = refl
+filled_below k (None ∷ fs) h = refl
+filled_below k (Some f ∷ fs) h = absurd (cc)
+
+pub free_below : (records : NatMap CallRecord) (fs : List (Option Filling)) → AreFree records fs → AreFree records (rest_fills fs)
+free_below records [] h = tt
+free_below records (f ∷ fs) h = h.1
+
 -- ---- what a step of p says of memory
 
 module _ (p : ℕ) (σ : Seat) (names : List Named) (hp : p < 32) (hs : σ.stack < 7) (m n : NatMap ℕ) (written : AreWritten names)
@@ -294,7 +306,7 @@ module _ (p : ℕ) (σ : Seat) (names : List Named) (hp : p < 32) (hs : σ.stack
         (λ k bounds. record_stays k bounds) h
 
     -- those of each context's calls, and the record that it fills
-    all_kept : (q : ℕ) → q < 32 → (fs : List (Option Filling)) → AreSmall fs → (bs : List BodyContext)
+    pub all_kept : (q : ℕ) → q < 32 → (fs : List (Option Filling)) → AreSmall fs → (bs : List BodyContext)
         → ((k : CallId) → 0 < times k (to_run bs) → (k.from < 32) × (k.site < 8)) → AreKept q fs bs m n
     all_kept q hq fs small [] bounds = tt
     all_kept q hq fs small (b ∷ below) bounds = (
@@ -397,7 +409,7 @@ module _ (mode : Mode) (image : Image) where
     pub fills : List (Option Filling)
     pub free : AreFree x.records fills
     pub records : (k : ℕ) → k < 8 → is_filled k fills ≡ false → HoldsCall mode image words p k (x.records k)
-    pub few : own + inner_edges (s.latches p) ≤ most_edges mode image
+    pub short : own ≤ body_edges mode image
     pub chain : Chain mode image p own x.running returning (x.tasks returning) frame switching fills x.bodies as' cpu (with_words s.memory words)
 
   -- so it stands for x behind it
@@ -405,8 +417,9 @@ module _ (mode : Mode) (image : Image) where
       (on : StandsOn mode image p left s y) → Moves p s s' cpu as' words → OwnBecomes p own s y x on.layer on.frame cpu (s'.apics p) as' words
       → StandsOn mode image p (own + inner_edges (s.latches p)) s' x
   own_stands p left own s s' y x cpu as' words on mv b = record {
-    few = b.few;
+    few = let i = few_inner (s.latches p) in let l = b.short in omega (arith, i, l);
     own = own;
+    short = b.short;
     more = 0;
     enough = subst (λ l. own + 0 + inner_edges l ≤ own + inner_edges (s.latches p)) (sym mv.latch) (omega arith);
     running = b.running;
@@ -455,11 +468,11 @@ module _ (mode : Mode) (image : Image) where
       → cpu.nmi_blocked ≡ list_any (is_nmi_body image) bs
       → (set : NatSet) → ApicIs mode image (s'.apics p) set bs
       → AreFree x.records fs → ((k : ℕ) → k < 8 → is_filled k fs ≡ false → HoldsCall mode image words p k (x.records k))
-      → own + inner_edges (s.latches p) ≤ most_edges mode image
+      → own ≤ body_edges mode image
       → Chain mode image p own x.running on.returning (ts on.returning) on.frame on.switching fs bs as' cpu (with_words s.memory words)
       → StandsOn mode image p (own + inner_edges (s.latches p)) s' (record x { tasks = ts; slots = slots; resched = asks; bodies = bs; pending = set })
   own_becomes p left s s' x σ cpu as' words ts slots asks fs bs own on hp four mv beside hs names good_names changes marked current mark slots_are same good
-      blocked set apic free records few chain =
+      blocked set apic free records short chain =
       own_stands p left own s s' x (record x { tasks = ts; slots = slots; resched = asks; bodies = bs; pending = set }) cpu as' words on mv (record {
         running = on.running;
         waiting = on.waiting;
@@ -480,7 +493,7 @@ module _ (mode : Mode) (image : Image) where
         fills = fs;
         free = free;
         records = records;
-        few = few;
+        short = short;
         chain = chain;
       })
 
@@ -501,10 +514,10 @@ module _ (mode : Mode) (image : Image) where
       → cpu.nmi_blocked ≡ list_any (is_nmi_body image) bs
       → (set : NatSet) → ApicIs mode image (s'.apics p) set bs
       → AreFree x.records fs → ((k : ℕ) → is_filled k fs ≡ is_filled k on.fills)
-      → own + inner_edges (s.latches p) ≤ most_edges mode image
+      → own ≤ body_edges mode image
       → Chain mode image p own x.running on.returning (ts on.returning) on.frame on.switching fs bs as' cpu (with_words s.memory words)
       → StandsOn mode image p (own + inner_edges (s.latches p)) s' (record x { tasks = ts; bodies = bs; pending = set })
-  own_after p left s s' x σ cpu as' words ts fs bs own on hp four mv beside hs names sparing changes same good blocked set apic free filled few chain =
+  own_after p left s s' x σ cpu as' words ts fs bs own on hp four mv beside hs names sparing changes same good blocked set apic free filled short chain =
       let words_same : AreSameWords p σ names hp hs s.memory.words words sparing.free.allowed.written changes p
       = tasks_same p σ names hp hs s.memory.words words sparing.free.allowed.written changes sparing.tasks p hp in
       own_becomes p left s s' x σ cpu as' words ts x.slots x.resched fs bs own on hp four mv beside hs names sparing.free.allowed changes
@@ -512,7 +525,7 @@ module _ (mode : Mode) (image : Image) where
       (λ e. current_is p σ names hp hs s.memory.words words sparing.free.allowed.written changes p words_same mode x.running (on.current e))
       (λ e. mark_is p σ names hp hs s.memory.words words sparing.free.allowed.written changes p words_same ∙ on.mark e)
       (λ k lt. slot_same p σ names hp hs s.memory.words words sparing.free.allowed.written changes sparing.slots p k hp lt ∙ on.slots k lt)
-      same good blocked set apic free (records_after p left s x σ words on hp hs names sparing.free changes fs filled) few chain
+      same good blocked set apic free (records_after p left s x σ words on hp hs names sparing.free changes fs filled) short chain
 
   -- ---- another processor
 
@@ -528,14 +541,16 @@ module _ (mode : Mode) (image : Image) where
       → p < 32 → q < image.processors → image.processors ≤ 8 → length x.bodies ≤ 32 → length (tasks_of image q) ≤ 4 → (q ≡ p → ⊥) → (q == p) ≡ false
       → Moves p s s' cpu as' words → σ.stack < 7 → (names : List Named) → AreNames p names
       → Changes p σ names s.memory.words words → (on : StandsOn mode image q left s x) → (rs : NatMap CallRecord) (queue : List CallId)
-      → KeepsCalls q left s x on rs words → on.own ≤ own → 8 ≤ own → own + inner_edges (s.latches q) ≤ most_edges mode image
+      → KeepsCalls q left s x on rs words → on.own ≤ own → 8 ≤ own → own ≤ body_edges mode image
       → StandsOn mode image q (most_edges mode image) s' (record x { records = rs; queue = queue })
-  other_at p q left own s s' x σ cpu as' words hp lq eight deep four d e mv hs names good_names changes on rs queue calls l more room =
+  other_at p q left own s s' x σ cpu as' words hp lq eight deep four d e mv hs names good_names changes on rs queue calls l more short =
       record {
         few = omega arith;
         own = own;
+        short = short;
         more = 0;
-        enough = subst (λ b. own + 0 + inner_edges b ≤ most_edges mode image) (sym (mv.other_latch q e)) (omega (arith, room));
+        enough = subst (λ b. own + 0 + inner_edges b ≤ most_edges mode image) (sym (mv.other_latch q e))
+            (let i = few_inner (s.latches q) in omega (arith, short, i));
         running = on.running;
         waiting = on.waiting;
         layer = on.layer;
@@ -612,12 +627,12 @@ module _ (mode : Mode) (image : Image) where
       → Changes p σ names s.memory.words words → (on : StandsOn mode image q left s x) → (rs : NatMap CallRecord) (queue : List CallId)
       → KeepsCalls q left s x on rs words → StandsOn mode image q (most_edges mode image) s' (record x { records = rs; queue = queue })
   other_stays p q left s s' x σ cpu as' words hp lq eight deep four d e mv hs names good_names changes on rs queue calls =
-      let few = on.few in let enough = on.enough in let inner = few_inner (s.latches q) in
+      let short = on.short in
       ⊎_elim
       (λ (l : (nat_le 8 on.own ≡ true) × (8 ≤ on.own)). other_at p q left on.own s s' x σ cpu as' words hp lq eight deep four d e mv hs names good_names
-      changes on rs queue calls (omega arith) l.1 (omega (arith, few, enough)))
+      changes on rs queue calls (omega arith) l.1 short)
       (λ l. other_at p q left 8 s s' x σ cpu as' words hp lq eight deep four d e mv hs names good_names changes on rs queue calls
-      (let k = l.1 in omega (arith, k)) (omega arith) (omega (arith, inner)))
+      (let k = l.1 in omega (arith, k)) (omega arith) (omega arith))
       (leb_tells 8 on.own)
 
   -- ---- what all share

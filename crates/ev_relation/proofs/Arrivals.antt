@@ -61,6 +61,7 @@ module _ (mode : Mode) (image : Image) where
   comes_to q left s apics latches inboxes x set mail nmi mail_nmi same same_nmi on a = record {
     few = on.few;
     own = on.own;
+    short = on.short;
     more = on.more;
     enough = subst (λ b. on.own + on.more + inner_edges b ≤ left) (sym same) on.enough;
     running = on.running;

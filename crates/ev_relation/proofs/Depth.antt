@@ -107,10 +107,10 @@ module _ (mode : Mode) (image : Image) (facts : Facts mode image) where
       → IsByHand mode image o e w b words offset edges → HasRange mode image e
   by_hand_range o e w b words offset edges (BehindExchange q x s is_first y z t) = y.range
   by_hand_range o e w b words offset edges (BehindOldLink n q x y z t u) = y.range
-  by_hand_range o e w b words offset edges (AtFunction q x y z t) = y.range
-  by_hand_range o e w b words offset edges (BehindArgument q x y z t) = y.range
-  by_hand_range o e w b words offset edges (BehindCaller q x y z t) = y.range
-  by_hand_range o e w b words offset edges (BehindAddress q x y z t u) = y.range
+  by_hand_range o e w b words offset edges (AtFunction q x y z t u) = y.range
+  by_hand_range o e w b words offset edges (BehindArgument q x y z t u) = y.range
+  by_hand_range o e w b words offset edges (BehindCaller q x y z t u) = y.range
+  by_hand_range o e w b words offset edges (BehindAddress q x y z t u v) = y.range
   by_hand_range o e w b words offset edges (BehindFinish q x y z t) = y.range
 
   call_range : (o : Origin) (s : CallSpot) (e : Env) (w : Processor) (b : BodyContext) (g : Option Filling) (words : NatMap ℕ)

@@ -21,6 +21,7 @@ pub mod Stays
 pub mod After
 pub mod Depth
 pub mod Items
+pub mod NoCalls
 pub mod UserState
 pub mod UserBody
 pub mod BodyTables

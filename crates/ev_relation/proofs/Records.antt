@@ -23,7 +23,7 @@ use Rattle.ev_calls.proofs.Lists.{lists_stay}
 use Rattle.ev_call_law.specs.Calls.{times, is_id}
 use Rattle.ev_call_law.proofs.Counts.{times_same, times_other, times_append, id_self}
 use Rattle.ev_relation.specs.Filling.{Filling}
-use Rattle.ev_relation.specs.Active.{HoldsCalls, InCode, InItem, Answering, Taking, BeginsCall, Finishing, Turns, IsByHand, BehindExchange, BehindOldLink, AtFunction, BehindArgument, BehindCaller, BehindAddress, BehindFinish, InCallSpot, InSpot}
+use Rattle.ev_relation.specs.Active.{SavedOf, HoldsCalls, InCode, InItem, Answering, Taking, BeginsCall, Finishing, Turns, IsByHand, BehindExchange, BehindOldLink, AtFunction, BehindArgument, BehindCaller, BehindAddress, BehindFinish, InCallSpot, InSpot}
 use Rattle.ev_relation.specs.Relation.{CallIs, HoldsCall}
 
 -- ---- the words of records
@@ -154,6 +154,11 @@ module _ (mode : Mode) (image : Image) (m n : NatMap ℕ) (o : Origin) (e : Env)
     locals = h.locals;
     flags = h.flags;
     calls = holds_again (e.var 14) h.calls;
+    site = h.site;
+    to = h.to;
+    func = h.func;
+    n = h.n;
+    code = h.code;
     next = h.next;
   }
 
@@ -196,10 +201,10 @@ module _ (mode : Mode) (image : Image) (m n : NatMap ℕ) (o : Origin) (e : Env)
   by_hand_again offset edges (BehindOldLink k q x y z t u) =
       BehindOldLink k q x (taking_again false false y) z (turns_again (e.var 0) (e.var 14) (suc k) t)
       (u ∙ sym (ahead_begun (e.var 0) k (e.var 14) t.list t.many))
-  by_hand_again offset edges (AtFunction q x y z t) = AtFunction q x (taking_again false false y) z (list_again (e.var 14) t)
-  by_hand_again offset edges (BehindArgument q x y z t) = BehindArgument q x (taking_again true false y) z (list_again (e.var 14) t)
-  by_hand_again offset edges (BehindCaller q x y z t) = BehindCaller q x (taking_again true true y) z (list_again (e.var 14) t)
-  by_hand_again offset edges (BehindAddress q x y z t u) = BehindAddress q x (taking_again true true y) z (list_again (e.var 14) t) u
+  by_hand_again offset edges (AtFunction q x y z t u) = AtFunction q x (taking_again false false y) z t (list_again (e.var 14) u)
+  by_hand_again offset edges (BehindArgument q x y z t u) = BehindArgument q x (taking_again true false y) z t (list_again (e.var 14) u)
+  by_hand_again offset edges (BehindCaller q x y z t u) = BehindCaller q x (taking_again true true y) z t (list_again (e.var 14) u)
+  by_hand_again offset edges (BehindAddress q x y z t u v) = BehindAddress q x (taking_again true true y) z t (list_again (e.var 14) u) v
   by_hand_again offset edges (BehindFinish q x y z t) = BehindFinish q x (taking_again false false y) z (list_again (e.var 14) t)
 
   finishing_again : Finishing mode image o e w b m → Finishing mode image o e w b n
@@ -218,7 +223,7 @@ module _ (mode : Mode) (image : Image) (m n : NatMap ℕ) (o : Origin) (e : Env)
   pub call_spot_again : (s : CallSpot) (f : Option Filling) → InCallSpot mode image o s e w b f m → InCallSpot mode image o (weaker s) e w b f n
   call_spot_again (AtRecord site) f h = (code_again h.0, h.1, h.2, h.3)
   call_spot_again (BehindWait true) f h = (code_again h.0, h.1, h.2)
-  call_spot_again (BehindWait false) f h = (code_again h.0, h.1, h.2)
+  call_spot_again (BehindWait false) f h = (code_again h.0, h.1, h.2, h.3, h.4)
   call_spot_again (BehindBusy s) f h = answering_again s 0 h
   call_spot_again (AtFill address func to s) f h = (code_again h.0, h.1, h.2, h.3)
   call_spot_again (AtHead address func to) f h = (code_again h.0, h.1, h.2)
@@ -246,3 +251,50 @@ module _ (mode : Mode) (image : Image) (m n : NatMap ℕ) (o : Origin) (e : Env)
   spot_again (InCall s) f h = call_spot_again s f h
   spot_again (AtKick to) f h = absurd h
   spot_again BehindKick f h = absurd h
+
+-- ---- what gives back the processor to which it returns
+
+by_hand_saved : (mode : Mode) (image : Image) (o : Origin) (e : Env) (w : Processor) (b : BodyContext) (words : NatMap ℕ) (offset edges : ℕ)
+    → IsByHand mode image o e w b words offset edges → SavedOf mode image o e w
+by_hand_saved mode image o e w b words offset edges (BehindExchange q x s is_first y z t) = y.saved
+by_hand_saved mode image o e w b words offset edges (BehindOldLink n q x y z t u) = y.saved
+by_hand_saved mode image o e w b words offset edges (AtFunction q x y z t u) = y.saved
+by_hand_saved mode image o e w b words offset edges (BehindArgument q x y z t u) = y.saved
+by_hand_saved mode image o e w b words offset edges (BehindCaller q x y z t u) = y.saved
+by_hand_saved mode image o e w b words offset edges (BehindAddress q x y z t u v) = y.saved
+by_hand_saved mode image o e w b words offset edges (BehindFinish q x y z t) = y.saved
+
+call_saved : (mode : Mode) (image : Image) (o : Origin) (s : CallSpot) (e : Env) (w : Processor) (b : BodyContext) (f : Option Filling) (words : NatMap ℕ)
+    → InCallSpot mode image o s e w b f words → SavedOf mode image o e w
+call_saved mode image o (AtRecord site) e w b f words h = h.0.saved
+call_saved mode image o (BehindWait true) e w b f words h = h.0.saved
+call_saved mode image o (BehindWait false) e w b f words h = h.0.saved
+call_saved mode image o (BehindBusy s) e w b f words h = h.saved
+call_saved mode image o (AtFill address func to s) e w b f words h = h.0.saved
+call_saved mode image o (AtHead address func to) e w b f words h = h.0.saved
+call_saved mode image o (AtLink address func to is_stale) e w b f words h = h.0.saved
+call_saved mode image o (BehindFailure address func to) e w b f words h = h.0.saved
+call_saved mode image o (BehindCall s is_first) e w b f words h = h.0.saved
+call_saved mode image o AtTake e w b f words h = h.0.saved
+call_saved mode image o (BehindTake left) e w b f words h = h.0.saved
+call_saved mode image o (AtTurn left) e w b f words h = h.0.saved
+call_saved mode image o (BehindTurn left) e w b f words h = h.0.saved
+call_saved mode image o (AtTaken is_some) e w b f words h = h.0.saved
+call_saved mode image o AtFinish e w b f words h = h.0.saved
+call_saved mode image o BehindNext e w b f words h = h.saved
+call_saved mode image o (AtOffset offset edges) e w b f words h = by_hand_saved mode image o e w b words offset edges h
+
+-- at each spot of a body
+pub spot_saved : (mode : Mode) (image : Image) (o : Origin) (s : BodySpot) (e : Env) (w : Processor) (b : BodyContext) (f : Option Filling) (words : NatMap ℕ)
+    → InSpot mode image o s e w b f words → SavedOf mode image o e w
+spot_saved mode image o AtTable e w b f words h = h.0.saved
+spot_saved mode image o AtJump e w b f words h = h.0.saved
+spot_saved mode image o AtItem e w b f words h = h.0.saved
+spot_saved mode image o (AtNumber n) e w b f words h = h.0.saved
+spot_saved mode image o (AtNumbers rcx rax rdx) e w b f words h = h.0.saved
+spot_saved mode image o AtUserWord e w b f words h = h.0.saved
+spot_saved mode image o (AtPageWord is_page) e w b f words h = h.0.saved
+spot_saved mode image o BehindSti e w b f words h = h.0.saved
+spot_saved mode image o (InCall s) e w b f words h = call_saved mode image o s e w b f words h
+spot_saved mode image o (AtKick to) e w b f words h = absurd h
+spot_saved mode image o BehindKick e w b f words h = absurd h

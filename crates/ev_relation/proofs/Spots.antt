@@ -68,6 +68,7 @@ body mode s = InBody (layout_of mode) s
 abbrev pub is_body_spot : BodySpot → Bool
 is_body_spot (AtKick to) = false
 is_body_spot BehindKick = false
+is_body_spot (InCall (BehindBusy s)) = nat_le 6 s && nat_lt s 14
 is_body_spot (InCall (BehindCall s is_first)) = nat_le 6 s && nat_lt s 14
 is_body_spot (InCall (AtOffset offset edges)) = nat_lt offset 0x100
 is_body_spot (InCall s) = not (calls.fills_record s)
@@ -128,6 +129,8 @@ pub body_spot_is : (mode : Mode) (image : Image) (o : Origin) (s : BodySpot) (e 
     → InSpot mode image o s e w b f m → fills s ≡ false → is_body_spot s ≡ true
 body_spot_is mode image o (AtKick to) e w b f m h off = absurd h
 body_spot_is mode image o BehindKick e w b f m h off = absurd h
+body_spot_is mode image o (InCall (BehindBusy s)) e w b f m h off =
+    ap (λ t. t && nat_lt s 14) (le-leb 6 s h.is_local.0) ∙ lt-ltb s 14 h.is_local.1
 body_spot_is mode image o (InCall (BehindCall s is_first)) e w b f m h off =
     ap (λ t. t && nat_lt s 14) (le-leb 6 s h.0.is_local.0) ∙ lt-ltb s 14 h.0.is_local.1
 body_spot_is mode image o (InCall (AtFill address func to s)) e w b f m h off = let clash : true ≡ false = off in absurd (cc)
@@ -142,10 +145,10 @@ body_spot_is mode image o (InCall (AtOffset offset edges)) e w b f m h off = by_
     by_offset : IsByHand mode image o e w b m offset edges → nat_lt offset 0x100 ≡ true
     by_offset (BehindExchange q x s is_first y z t) = near _ (omega arith) q
     by_offset (BehindOldLink n q x y z t u) = near _ (omega arith) q
-    by_offset (AtFunction q x y z t) = near _ (omega arith) q
-    by_offset (BehindArgument q x y z t) = near _ (omega arith) q
-    by_offset (BehindCaller q x y z t) = near _ (omega arith) q
-    by_offset (BehindAddress q x y z t u) = near _ (omega arith) q
+    by_offset (AtFunction q x y z t u) = near _ (omega arith) q
+    by_offset (BehindArgument q x y z t u) = near _ (omega arith) q
+    by_offset (BehindCaller q x y z t u) = near _ (omega arith) q
+    by_offset (BehindAddress q x y z t u v) = near _ (omega arith) q
     by_offset (BehindFinish q x y z t) = near _ (omega arith) q
 body_spot_is mode image o _ e w b f m h off = refl
 

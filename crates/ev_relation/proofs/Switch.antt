@@ -34,7 +34,7 @@ use Rattle.ev_activation.specs.Seat.{Kind, SystemCall, FromTask, FromBody, NmiFr
 use Rattle.ev_table.specs.Table.{code_table}
 use Rattle.ev_relation.specs.Named.{Named, Top, Current, Mark, TssTop, Outside, NotNamed, Changes}
 use Rattle.ev_relation.specs.Filling.{Filling}
-use Rattle.ev_relation.specs.Active.{here, ToNext, OverTask, OverBody, Means}
+use Rattle.ev_relation.specs.Active.{here, fills_record, ToNext, OverTask, OverBody, Means}
 use Rattle.ev_relation.proofs.Facts.{Facts}
 use Rattle.ev_relation.proofs.ModeFacts.{is_fred}
 use Rattle.ev_relation.proofs.Spots.{is_elsewhere, fred_switch_elsewhere, idt_switch_elsewhere}
@@ -85,6 +85,10 @@ pub each_switch : (P : Mode → Spot → Type 0) → P Fred (InFred (fred.Leaves
 each_switch P a b Fred (InFred (fred.Leaves FredToNext)) h = a
 each_switch P a b Idt (InIdt (idt.Leaves (IdtToNext by))) h = b by
 each_switch P a b mode _ h = let clash : false ≡ true = h in absurd (cc)
+
+-- none fills a call record
+pub switch_unfilled : (mode : Mode) (spot : Spot) → is_switch mode spot ≡ true → fills_record spot ≡ false
+switch_unfilled = each_switch (λ m spot. fills_record spot ≡ false) refl (λ by. refl)
 
 -- ---- closed facts of their blocks
 

@@ -110,6 +110,12 @@ page_local (Some (Map s)) = Some s
 page_local (Some (Unmap s)) = Some s
 page_local _ = None
 
+-- the site of an item that uses a record
+unfoldable pub site_of : Option Item → Option ℕ
+site_of (Some (Call site to func s)) = Some site
+site_of (Some (Wait site)) = Some site
+site_of _ = None
+
 -- whether a spot's block fills a call record
 abbrev pub fills_record : Spot → Bool
 fills_record (InBody layout s) = items.fills s
@@ -281,6 +287,10 @@ module _ (mode : Mode) (image : Image) where
   abbrev pub item_of : BodyContext → Option Item
   item_of b = item_at (slice_get image.bodies b.body) b.place
 
+  -- it is in the code of item n of the context's body
+  abbrev pub InCodeOf : Env → BodyContext → ℕ → Item → Type 0
+  InCodeOf e b n item = (item_at (slice_get image.bodies b.body) n ≡ Some item) × (e.base item_tag ≡ item_place mode image b.body n)
+
   -- In an item of calls, whose flags no context tells, the registers are the locals.
   pub record InCode (o : Origin) (e : Env) (w : Processor) (b : BodyContext) (words : NatMap ℕ) : Type 0 where
     pub range : HasRange e
@@ -288,21 +298,27 @@ module _ (mode : Mode) (image : Image) where
     pub locals : Locals e.var b
     pub calls : HoldsCalls words (e.var 14) b.calls
 
-  -- Behind the visible instruction of `call` the context has the answer n in its local s, which the register gets last.
-  pub record Answering (o : Origin) (e : Env) (w : Processor) (b : BodyContext) (s n : ℕ) (words : NatMap ℕ) : Type 0 where
+  -- Behind the visible instruction of `call` the context has the answer in its local s, which the register gets last.
+  pub record Answering (o : Origin) (e : Env) (w : Processor) (b : BodyContext) (s answer : ℕ) (words : NatMap ℕ) : Type 0 where
     pub range : HasRange e
     pub saved : SavedOf o e w
     pub is_local : (6 ≤ s) × (s < 14)
-    pub locals : b.locals ≡ set (e.var 6 ∷ e.var 7 ∷ e.var 8 ∷ e.var 9 ∷ e.var 10 ∷ e.var 11 ∷ e.var 12 ∷ e.var 13 ∷ []) (s - 6) n
+    pub locals : b.locals ≡ set (e.var 6 ∷ e.var 7 ∷ e.var 8 ∷ e.var 9 ∷ e.var 10 ∷ e.var 11 ∷ e.var 12 ∷ e.var 13 ∷ []) (s - 6) answer
     pub flags : b.flags ≡ None
     pub calls : HoldsCalls words (e.var 14) b.calls
-    pub next : HasNextPlace call_end e b
+    pub site : ℕ
+    pub to : ℕ
+    pub func : ℕ
+    pub n : ℕ
+    pub code : InCodeOf e b n (Call site to func s)
+    pub next : b.place ≡ suc n
 
-  -- the site of an item that uses a record
-  unfoldable pub site_of : Option Item → Option ℕ
-  site_of (Some (Call site to func s)) = Some site
-  site_of (Some (Wait site)) = Some site
-  site_of _ = None
+  -- Behind the visible instruction of `wait` that found the call done.
+  pub record Waited (e : Env) (b : BodyContext) : Type 0 where
+    pub site : ℕ
+    pub n : ℕ
+    pub code : InCodeOf e b n (Wait site)
+    pub next : b.place ≡ suc n
 
   -- The activation fills the record of its item's site: 22 is the record, 27 the processor and 28 the site; and these are the item's numbers.
   pub record Fills (e : Env) (b : BodyContext) (f : Option Filling) (address func to s : ℕ) : Type 0 where
@@ -352,15 +368,13 @@ module _ (mode : Mode) (image : Image) where
   pub record InTake (e : Env) (b : BodyContext) : Type 0 where
     pub n : ℕ
     pub behind : after_take (slice_get image.bodies b.body) ≡ suc n
-    pub is : item_at (slice_get image.bodies b.body) n ≡ Some Take
-    pub at : e.base item_tag ≡ item_place mode image b.body n
+    pub code : InCodeOf e b n Take
     pub none : b.calls ≡ [] → b.place ≡ suc n
 
   -- in that of a `finish`
   pub record InFinish (e : Env) (b : BodyContext) : Type 0 where
     pub n : ℕ
-    pub is : item_at (slice_get image.bodies b.body) n ≡ Some Finish
-    pub at : e.base item_tag ≡ item_place mode image b.body n
+    pub code : InCodeOf e b n Finish
     pub none : b.calls ≡ [] → b.place ≡ after_take (slice_get image.bodies b.body)
 
   -- Behind the load of the next record in `finish` RBX is the record of the first call, and R14 that of the next.
@@ -388,13 +402,13 @@ module _ (mode : Mode) (image : Image) where
     BehindOldLink : (n : ℕ) → offset ≡ at_old_link + 7 → edges ≡ turn_edges item_edges n + 4 → Taking o e w b false false words → InTake e b
         → Turns words (e.var 0) (e.var 14) b.calls (suc n) → e.var 1 ≡ words (e.var 0 + 0x18) → IsByHand o e w b words offset edges
     -- the loads of the first call's words, and the jump to its function
-    AtFunction : offset ≡ at_function → edges ≡ item_edges + 4 → Taking o e w b false false words → runs_calls b.calls ≡ true
+    AtFunction : offset ≡ at_function → edges ≡ item_edges + 4 → Taking o e w b false false words → InTake e b → runs_calls b.calls ≡ true
         → Linked words (e.var 14) b.calls → IsByHand o e w b words offset edges
-    BehindArgument : offset ≡ at_function + 7 → edges ≡ item_edges + 3 → Taking o e w b true false words → runs_calls b.calls ≡ true
+    BehindArgument : offset ≡ at_function + 7 → edges ≡ item_edges + 3 → Taking o e w b true false words → InTake e b → runs_calls b.calls ≡ true
         → Linked words (e.var 14) b.calls → IsByHand o e w b words offset edges
-    BehindCaller : offset ≡ at_function + 14 → edges ≡ item_edges + 2 → Taking o e w b true true words → runs_calls b.calls ≡ true
+    BehindCaller : offset ≡ at_function + 14 → edges ≡ item_edges + 2 → Taking o e w b true true words → InTake e b → runs_calls b.calls ≡ true
         → Linked words (e.var 14) b.calls → IsByHand o e w b words offset edges
-    BehindAddress : offset ≡ at_function + 21 → edges ≡ item_edges + 1 → Taking o e w b true true words → runs_calls b.calls ≡ true
+    BehindAddress : offset ≡ at_function + 21 → edges ≡ item_edges + 1 → Taking o e w b true true words → InTake e b → runs_calls b.calls ≡ true
         → Linked words (e.var 14) b.calls → e.var 0 ≡ item_place mode image b.body b.place → IsByHand o e w b words offset edges
     -- the jump behind the visible store of `finish`
     BehindFinish : offset ≡ 27 → edges ≡ taken_edges item_edges + 1 → Taking o e w b false false words → InFinish e b
@@ -404,8 +418,9 @@ module _ (mode : Mode) (image : Image) where
   abbrev pub InCallSpot : Origin → CallSpot → Env → Processor → BodyContext → Option Filling → NatMap ℕ → Type 0
   InCallSpot o (AtRecord site) e w b f words =
       InCode o e w b words × HasPlace e b × (site_of (item_of b) ≡ Some site) × (e.var 3 ≡ e.base gs_tag + 0x800)
-  InCallSpot o (BehindWait true) e w b f words = InCode o e w b words × HasNextPlace 36 e b × (b.flags ≡ None)
-  InCallSpot o (BehindWait false) e w b f words = InCode o e w b words × HasPlace e b × (b.flags ≡ None)
+  InCallSpot o (BehindWait true) e w b f words = InCode o e w b words × Waited e b × (b.flags ≡ None)
+  InCallSpot o (BehindWait false) e w b f words =
+      InCode o e w b words × HasPlace e b × (b.flags ≡ None) × (site : ℕ) × (item_of b ≡ Some (Wait site))
   InCallSpot o (BehindBusy s) e w b f words = Answering o e w b s 0 words
   InCallSpot o (AtFill address func to s) e w b f words =
       InCode o e w b words × HasPlace e b × (z : Fills e b f address func to s) × (e.var 25 ≡ z.number % M)

@@ -166,6 +166,7 @@ module _ (mode : Mode) (image : Image) where
   pub record StandsOn (p left : ℕ) (s : System) (x : abstract.Processor) : Type 0 where
     pub few : left ≤ most_edges
     pub own : ℕ
+    pub short : own ≤ body_edges
     pub more : ℕ
     pub enough : own + more + inner_edges (s.latches p) ≤ left
     pub running : x.running < length (tasks_of image p)

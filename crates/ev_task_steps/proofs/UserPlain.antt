@@ -163,8 +163,7 @@ module _ (mode : Mode) (image : Image) (formed : IsImage image) (built : IsBuilt
       = own_after mode image p (left p) s s' x (record { stack = x.running; used = 0 }) cpu as' words (put_at x.tasks x.running t) fs bs own u.on small four
       mv
       (λ i d. inl (λ e. d (e ∙ sym u.rest.returning))) narrow names sparing changes (λ i d. others i (λ e. d (e ∙ sym u.rest.returning))) tasks blocked
-      set apic free (λ k. filled k ∙ ap (is_filled k) (sym u.rest.fills))
-      (let f = few_inner mode image (s.latches p) in omega arith)
+      set apic free (λ k. filled k ∙ ap (is_filled k) (sym u.rest.fills)) (omega arith)
       (subst (λ k. Chain mode image p own x.running u.on.returning k u.on.frame u.on.switching fs bs as' cpu (with_words s.memory words))
       (sym (at_same x.tasks x.running u.on.returning t u.rest.returning)) (chain u.on.returning u.rest.returning)) in
       let inside : IsInDomain y = record {
