@@ -28,6 +28,7 @@ use Rattle.ev_user.specs.Words.{AreWords, HoldsWords}
 use Rattle.ev_user.proofs.Opened.{opening_sees}
 use Rattle.ev_symbolic.proofs.Values.{and_left, and_right}
 use Rattle.ev_relation.specs.Domain.{IsInDomain}
+use Rattle.ev_call_law.proofs.Runs.{opening_keeps_calls}
 use Rattle.ev_relation.specs.Relation.{Shares, Stands, StandsOn, first_word}
 use Rattle.ev_law.proofs.Runs.{opening_is_legal}
 use Rattle.ev_law.proofs.Bases.{opening_has_bases}
@@ -158,12 +159,14 @@ pcpu_zero p o (inr (inr h)) =
       lt-leb 0x800 o (omega arith),
     ) refl
 
--- a call record is free, and has the number 0
-record_zero : (p k r : ℕ) → k < 8 → (r ≡ 0) ⊎ (r ≡ 0x28) → pcpu_word p (0x800 + 0x40 * k + r) ≡ 0
+-- A call record is free and has the number 0, and says whose it is and of which site.
+abbrev first_of_record : (p k r : ℕ) → ℕ
+first_of_record p k r = if r == 0x20 then p else (if r == 0x30 then k else 0)
+
+record_first : (p k r : ℕ) → k < 8 → r < 0x40 → pcpu_word p (0x800 + 0x40 * k + r) ≡ first_of_record p k r
 unfolding pcpu_word
-record_zero p k r hk h =
+record_first p k r hk small =
     let o : ℕ = 0x800 + 0x40 * k + r in
-    let small : r < 0x40 = ⊎_elim (λ (e : r ≡ 0). omega arith) (λ (e : r ≡ 0x28). omega arith) h in
     let part : o % 0x40 ≡ r = omega arith in
     rw (
       differs o 0 (inl (omega arith)),
@@ -177,11 +180,10 @@ record_zero p k r hk h =
       le-leb 0x800 o (omega arith),
       lt-ltb o 0xa00 (omega arith),
       part,
-    ) (zero_at h)
+    ) (ap (λ j. first_of_record p j r) place_at)
   where
-    zero_at : (r ≡ 0) ⊎ (r ≡ 0x28) → (if r == 0x20 then p else (if r == 0x30 then (0x800 + 0x40 * k + r - 0x800) / 0x40 else 0)) ≡ 0
-    zero_at (inl e) = ap (λ q. if q == 0x20 then p else (if q == 0x30 then (0x800 + 0x40 * k + r - 0x800) / 0x40 else 0)) e
-    zero_at (inr e) = ap (λ q. if q == 0x20 then p else (if q == 0x30 then (0x800 + 0x40 * k + r - 0x800) / 0x40 else 0)) e
+    place_at : (0x800 + 0x40 * k + r - 0x800) / 0x40 ≡ k
+    place_at = omega arith
 
 -- ---- the first task
 
@@ -304,6 +306,11 @@ module _ (mode : Mode) (image : Image) (given : IsImage image) where
     unfolding pcpu_word
     current_first = record { top = word 0x10 (omega arith) refl; current = word 0x18 (omega arith) refl; tss = tss_first mode }
 
+    record_word : (k r : ℕ) → k < 8 → r < 0x40 → r % 8 ≡ 0 → first_word mode image (record_address p k + r) ≡ first_of_record p k r
+    record_word k r hk small even =
+        let at : record_address p k + r ≡ pcpu p + (0x800 + 0x40 * k + r) = omega arith in
+        ap (first_word mode image) at ∙ word (0x800 + 0x40 * k + r) (omega arith) (omega arith) ∙ record_first p k r hk small
+
     opening_processor : StandsOn mode image p 0 (opening_system mode image) (processor (opening image) p)
     unfolding opening_system opening
     opening_processor =
@@ -312,6 +319,7 @@ module _ (mode : Mode) (image : Image) (given : IsImage image) where
         record {
           few = omega arith;
           own = 0;
+          short = omega arith;
           more = 0;
           enough = omega arith;
           running = some;
@@ -337,6 +345,14 @@ module _ (mode : Mode) (image : Image) (given : IsImage image) where
           };
           slots = λ k lt. ap (first_word mode image) (let e : pcpu p + slot_offset k ≡ pcpu p + (0x200 + 8 * k) = omega arith in e)
               ∙ word (0x200 + 8 * k) (omega arith) (omega arith) ∙ pcpu_zero p (0x200 + 8 * k) (inr (inr (omega arith, omega arith)));
+          fills = [];
+          free = tt;
+          records = λ k lt unfilled. record {
+            from = record_word k 0x20 lt (omega arith) refl;
+            site = record_word k 0x30 lt (omega arith) refl;
+            number = record_word k 0x28 lt (omega arith) refl;
+            call = ap (first_word mode image) (let e : record_address p k ≡ record_address p k + 0 = omega arith in e) ∙ record_word k 0 lt (omega arith) refl;
+          };
           runs = (
             record {
               is = λ i. record (opening_cpu mode image p) {
@@ -346,19 +362,13 @@ module _ (mode : Mode) (image : Image) (given : IsImage image) where
             },
             refl,
             refl,
+            refl,
           );
         }
       where
         above_zero : (i : ℕ) → i ≢ 0 → 0 < i
         above_zero zero d = absurd (d refl)
         above_zero (suc i) d = omega arith
-
-    record_word : (k r : ℕ) → k < 8 → (r ≡ 0) ⊎ (r ≡ 0x28) → first_word mode image (record_address p k + r) ≡ 0
-    record_word k r hk h =
-        let at : record_address p k + r ≡ pcpu p + (0x800 + 0x40 * k + r) = omega arith in
-        let small : r < 0x40 = ⊎_elim (λ (e : r ≡ 0). omega arith) (λ (e : r ≡ 0x28). omega arith) h in
-        let even : r % 8 ≡ 0 = ⊎_elim (λ (e : r ≡ 0). omega arith) (λ (e : r ≡ 0x28). omega arith) h in
-        ap (first_word mode image) at ∙ word (0x800 + 0x40 * k + r) (omega arith) (omega arith) ∙ record_zero p k r hk h
 
   held_first : HoldsWords (opening image).words
   held_first = let sees = opening_sees mode image given in sees.held
@@ -371,9 +381,6 @@ module _ (mode : Mode) (image : Image) (given : IsImage image) where
     pages = λ i lt. page_word _ mode image i few lt;
     cells = λ k lt. cell_word _ mode image k few lt;
     mail = λ p lt. record { words = record { four = refl; small = zero_words }; vectors = λ v lv. no_vector v; nmi_is = refl };
-    numbers = λ p k lt l. record_word p lt k 0x28 l (inr refl);
-    records = λ p k lt l. ap (first_word mode image) (let e : record_address p k ≡ record_address p k + 0 = omega arith in e)
-        ∙ record_word p lt k 0 l (inl refl);
     queues = λ p lt. word p lt 0x30 (omega arith) refl ∙ pcpu_zero p 0x30 (inr (inl refl));
   }
 
@@ -394,6 +401,8 @@ module _ (mode : Mode) (image : Image) (given : IsImage image) where
     legal = opening_is_legal image;
     bases = opening_has_bases image;
     numbers = opening_holds_numbers image given;
+    told = [];
+    calls = opening_keeps_calls image;
     domain = λ p lt. domain p;
     each = opening_processor;
   }

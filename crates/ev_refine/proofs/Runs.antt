@@ -144,7 +144,7 @@ module _ (mode : Mode) (image : Image) where
       counts = λ k. let e = make_edges k left s m r p lt in (step e.now (edges_of k s p).0 m e.stands p lt).counts;
       seen = λ k. (make_edges k left s m r p lt).seen;
       others = λ k. (make_edges k left s m r p lt).others;
-      bounded = let few : left p ≤ 600 = (r.each p lt).few in omega arith;
+      bounded = let few : left p ≤ 660 = (r.each p lt).few in omega arith;
     }
 
     -- ---- turns and scripts
@@ -159,7 +159,7 @@ module _ (mode : Mode) (image : Image) where
         e = make_edges 1024 left s m r p lt
 
         go : MakesEdge mode image e.now there m p ⊎ MakesTurn mode image e.now there m p → Turns mode image s m p
-        go (inl x) = absurd (let few : left p ≤ 600 = (r.each p lt).few in let clash : true ≡ false = sym (e.seen (omega arith)) ∙ x.hidden in cc)
+        go (inl x) = absurd (let few : left p ≤ 660 = (r.each p lt).few in let clash : true ≡ false = sym (e.seen (omega arith)) ∙ x.hidden in cc)
         go (inr x) = record {
           now = x.now;
           stands = x.stands;
@@ -234,7 +234,7 @@ module _ (mode : Mode) (image : Image) where
           others = λ p lt' b. rest.others p lt' (omega arith) ∙ e.others p lt' (λ q. omega arith);
           seen = λ p b b'. ⊎_elim
               (λ x. ap (is_visible marks (all_settled marks image.processors there (numbers_from (suc a) k)).0) x.1
-              ∙ rest.others a lt (omega arith) ∙ e.seen (let few : left a ≤ 600 = (r.each a lt).few in omega arith))
+              ∙ rest.others a lt (omega arith) ∙ e.seen (let few : left a ≤ 660 = (r.each a lt).few in omega arith))
               (λ x. rest.seen p (let d = x.1 in le_next a p b d) (omega arith)) (eqb_tells p a);
         }
       where
