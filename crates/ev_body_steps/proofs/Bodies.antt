@@ -22,7 +22,7 @@ use Rattle.ev_concrete.specs.ConcreteRun.{is_return}
 use Rattle.ev_symbolic.proofs.Blocks.{unsome, at_end}
 use Rattle.ev_symbolic.proofs.Values.{and_left, and_right}
 use Rattle.ev_distances.specs.Form.{OnStack, InArea, wins_of}
-use Rattle.ev_blocks.specs.Shapes.{Origin, UserCode, KernelCode, Layout, FredFrame, IdtFrame, body_bytes, body_words}
+use Rattle.ev_blocks.specs.Shapes.{Origin, UserCode, KernelCode, FredFrame, IdtFrame, body_bytes, body_words}
 use Rattle.ev_blocks.specs.Fred.{FredToKernel, FredToTask, fexit}
 use Rattle.ev_blocks.specs.Fred as fred
 use Rattle.ev_blocks.specs.Idt.{IdtReturn, BySysret, ByOtherRip, ByOtherFlags, IdtToKernel, IdtToTask}

@@ -1,5 +1,5 @@
 -- A turn of an item that meets a page fault at a user word: the body of page faults begins on it, and the item's access runs again behind it.
-use Rattle.std.proofs.Common.{◌≡◌, ◌≤◌, ℕ, ◌<◌, Bool, true, length, Option, Some, None, refl, ap, ◌∙◌}
+use Rattle.std.proofs.Common.{◌≡◌, ◌≤◌, ℕ, ◌<◌, Bool, true, length, Option, Some, None, refl, ap}
 use Rattle.std.specs.Prelude.{slice_get, is_some}
 use Rattle.ev_isa.specs.Word.{NatMap, is_canonical}
 use Rattle.ev_isa.specs.Flags.{Flags}

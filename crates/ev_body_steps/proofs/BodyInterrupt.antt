@@ -1,10 +1,10 @@
 -- The boundary at which a body runs: an instruction comes next, or where IF is on an interrupt, at any instruction of an item. Both machines choose the same.
-use Rattle.std.proofs.Common.{◌≡◌, ◌⊎◌, inl, inr, ⊎_elim, ℕ, suc, ◌+◌, ◌-◌, ◌%◌, ◌<◌, ◌≤◌, Bool, true, false, not, ◌&&◌, List, [], ◌∷◌, get_or, map, length, Option, Some, None, refl, sym, ap, ◌∙◌, subst, arith}
-use Rattle.std.specs.Prelude.{◌==◌, if◌then◌else◌, slice_get, is_some, nat_le, nat_lt, zero}
-use Rattle.std.specs.List.{list_any, list_all}
+use Rattle.std.proofs.Common.{◌≡◌, ℕ, suc, ◌+◌, ◌-◌, ◌%◌, ◌<◌, ◌≤◌, Bool, true, false, not, ◌&&◌, List, [], ◌∷◌, get_or, map, length, Option, Some, None, refl, sym, ap, ◌∙◌, subst, arith}
+use Rattle.std.specs.Prelude.{◌==◌, if◌then◌else◌, is_some, nat_le, nat_lt, zero}
+use Rattle.std.specs.List.{list_all}
 use Rattle.std.proofs.lemmas.Bool.{eqb-true, ltb-true, leb-true}
 use Rattle.std.proofs.Math.ListN.{get_or-map}
-use Rattle.ev_isa.specs.Word.{NatMap, NatSet, put_at, is_canonical, greatest_below}
+use Rattle.ev_isa.specs.Word.{NatMap, NatSet, put_at, is_canonical}
 use Rattle.ev_isa.specs.Flags.{Flags}
 use Rattle.ev_isa.specs.Spelling.{spelling, four_bytes}
 use Rattle.ev_isa.specs.declared.mode.Mode.{Mode}
@@ -25,7 +25,7 @@ use Rattle.ev_apic.specs.Vectors.{IsGreatestBelow}
 use Rattle.ev_apic.proofs.Greatest.{greatest_law}
 use Rattle.ev_tables.proofs.Gates.{upper_canonical}
 use Rattle.ev_proc.specs.ProcessorStep.{step, step_by, next_of}
-use Rattle.ev_abstract.specs.Boundary.{Choice, choice, maskable, open_to_interrupts, interrupt_or_next, deliverable, outranks, is_nmi_body}
+use Rattle.ev_abstract.specs.Boundary.{Choice, choice, interrupt_or_next, deliverable, outranks}
 use Rattle.ev_abstract.specs.Context.{BodyContext}
 use Rattle.ev_abstract.specs.declared.entry.Entry.{Entry}
 use Rattle.ev_abstract.specs.Delivery.{body_at_start, delivered}
@@ -54,7 +54,6 @@ use Rattle.ev_blocks.specs.Calls.{CallSpot, AtRecord, BehindWait, BehindBusy, At
 use Rattle.ev_blocks.specs.Items.{BodySpot, AtTable, AtJump, AtNumber, AtNumbers, AtUserWord, AtPageWord, BehindSti, InCall}
 use Rattle.ev_blocks.specs.Items as items
 use Rattle.ev_blocks.specs.Blocks.{Spot, InFred, InIdt, InBody, block}
-use Rattle.ev_blocks.specs.Blocks as blocks
 use Rattle.ev_paths.specs.Ends.{TellsNoCr2}
 use Rattle.ev_paths.proofs.BodyEnds.{body_untold}
 use Rattle.ev_activation.specs.Seat.{Kind, SystemCall, FromTask, FromBody, NmiFromTask, NmiFromBody, Seat, kind_of, seat_of, top_at}

@@ -2,7 +2,7 @@
 use Rattle.std.proofs.Common.{◌≡◌, inl, inr, ℕ, suc, ◌+◌, ◌-◌, ◌*◌, ◌%◌, ◌<◌, ◌≤◌, Bool, true, false, not, ◌&&◌, List, [], ◌∷◌, get_or, length, Option, Some, None, refl, sym, ap, ◌∙◌, subst, arith, ◌||◌}
 use Rattle.std.specs.Prelude.{◌==◌, ◌++◌, if◌then◌else◌, slice_get}
 use Rattle.std.specs.List.{list_any}
-use Rattle.ev_isa.specs.Word.{NatMap, NatSet, put_at, is_canonical}
+use Rattle.ev_isa.specs.Word.{NatMap, NatSet, is_canonical}
 use Rattle.ev_isa.specs.Flags.{Flags}
 use Rattle.ev_isa.specs.declared.mode.Mode.{Mode}
 use Rattle.ev_isa.specs.declared.mode.Mode.TheVariants.{Idt, Fred}
@@ -44,7 +44,6 @@ use Rattle.ev_symbolic.specs.State.{Block}
 use Rattle.ev_symbolic.specs.Agrees.{Env, eval, Cell, IsTold, At, with_words}
 use Rattle.ev_symbolic.proofs.Blocks.{cell_step, every_ok}
 use Rattle.ev_blocks.specs.Blocks.{block}
-use Rattle.ev_blocks.specs.Blocks as blocks
 use Rattle.ev_paths.specs.Ends.{is_untold, TellsNoCr2}
 use Rattle.ev_table.specs.Table.{code_table}
 use Rattle.ev_activation.specs.Seat.{Kind, FromBody, NmiFromBody, Seat, kind_of, kind_from, key_by, seat_by, seat_of, room_of, top_at}
@@ -52,7 +51,7 @@ use Rattle.ev_user.proofs.Deliver.{arrives}
 use Rattle.ev_relation.specs.Nmi.{Frame, Leads, inner_edges}
 use Rattle.ev_relation.specs.Named.{Changes}
 use Rattle.ev_relation.specs.Domain.{IsQuiet, AreQuiet}
-use Rattle.ev_relation.specs.Filling.{Filling, first_fill, rest_fills}
+use Rattle.ev_relation.specs.Filling.{Filling, first_fill}
 use Rattle.ev_relation.specs.Active.{here, IsKernelSs, Active}
 use Rattle.ev_relation.specs.Relation.{IsContext, Beneath, keeps_cr2, chained, body_edges, switches_at, Chain, StandsOn, Stands, serves, ApicIs}
 use Rattle.ev_relation.specs.Step.{Simulated}
@@ -65,7 +64,7 @@ use Rattle.ev_call_law.specs.Calls.{times, to_run}
 use Rattle.ev_relation.proofs.Legality.{turn_legal, turn_bases, turn_calls, legal_few}
 use Rattle.ev_relation.proofs.Standing.{seen, Moves, step_moves, delivery_moves}
 use Rattle.ev_relation.proofs.Stays.{AreSpared, AreKept, free_small, chain_stays, below_spared}
-use Rattle.ev_relation.proofs.After.{none_spares, slot_same, cell_same, page_same, user_same, few_inner, apic_again, own_becomes, records_after, all_kept, calls_bounded, left_behind, stands_alike, AreSameWords, tasks_same, current_is, mark_is}
+use Rattle.ev_relation.proofs.After.{none_spares, slot_same, cell_same, page_same, user_same, apic_again, own_becomes, records_after, all_kept, calls_bounded, left_behind, stands_alike, AreSameWords, tasks_same, current_is, mark_is}
 use Rattle.ev_relation.proofs.Depth.{stands_depth}
 use Rattle.ev_relation.proofs.UserState.{TurnsTo, makes_turn, is_safe, tells_bodies}
 use Rattle.ev_relation.proofs.UserBody.{HasBody, has_body}

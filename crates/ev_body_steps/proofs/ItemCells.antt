@@ -1,5 +1,5 @@
 -- The cells of an item, in order: the instructions before the visible one, and that one, behind which the next item begins.
-use Rattle.std.proofs.Common.{◌≡◌, ℕ, ◌+◌, ◌-◌, ◌*◌, ◌%◌, ◌<◌, true, List, [], ◌∷◌, length, Option, Some, None, refl, sym, ap, ◌∙◌, subst, arith}
+use Rattle.std.proofs.Common.{◌≡◌, ℕ, ◌+◌, ◌-◌, ◌*◌, ◌%◌, ◌<◌, List, [], ◌∷◌, length, Option, Some, None, refl, sym, ap, ◌∙◌, subst, arith}
 use Rattle.std.specs.Prelude.{pos, negsuc, codes, if◌then◌else◌, ◌++◌}
 use Rattle.std.proofs.lemmas.Bool.{le-leb}
 use Rattle.ev_isa.specs.Spelling.{spelling, four_bytes}

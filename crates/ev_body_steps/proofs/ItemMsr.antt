@@ -11,13 +11,12 @@ use Rattle.ev_isa.specs.declared.mode.Mode.{Mode}
 use Rattle.ev_isa.specs.declared.mode.Mode.TheVariants.{Idt, Fred}
 use Rattle.ev_body.specs.declared.item.Item.{Item}
 use Rattle.ev_body.specs.declared.item.Item.TheVariants.{Eoi, Send}
-use Rattle.ev_body.specs.declared.key.Key.{Key}
 use Rattle.ev_body.specs.declared.key.Key.TheVariants.{Irq}
 use Rattle.ev_body.specs.declared.body.Body.{Body}
 use Rattle.ev_body.specs.declared.image.Image.{Image}
 use Rattle.ev_body.specs.Bodies.{key_number}
 use Rattle.ev_body.specs.WellFormed.{IsImage, is_sendable}
-use Rattle.ev_listing.specs.Expansion.{command, item_address}
+use Rattle.ev_listing.specs.Expansion.{item_address}
 use Rattle.ev_state.specs.Processor.{Processor, register, is_user}
 use Rattle.ev_mem.specs.Memory.{Memory}
 use Rattle.ev_abstract.specs.Context.{BodyContext}
@@ -63,14 +62,13 @@ use Rattle.ev_isa.specs.Instruction.{user_may}
 use Rattle.ev_event.specs.Event.{ud}
 use Rattle.ev_apic.specs.Apic.{ended}
 use Rattle.ev_apic.specs.Send.{sent, send_to, target_of}
-use Rattle.ev_apic.specs.Inbox.{mailed}
 use Rattle.ev_apic.specs.declared.send.Send.{Send as Sent}
 use Rattle.ev_apic.specs.declared.send.SendKey.TheVariants.{Fixed, Nmi}
 use Rattle.ev_apic.specs.declared.send.Target.TheVariants.{One}
 use Rattle.ev_proc.specs.ProcessorStep.{executed, ran, fault, special, write_msr, after_send, low32}
 use Rattle.ev_exec.specs.Exec.{exec}
 use Rattle.ev_symbolic.specs.Single.{IsAt, onward}
-use Rattle.ev_concrete.specs.ConcreteRun.{is_return, targets, posted}
+use Rattle.ev_concrete.specs.ConcreteRun.{is_return, posted}
 use Rattle.ev_concrete.specs.Shown.{shown_always}
 use Rattle.ev_abstract.specs.ItemMeaning.{item_step, with_context, with_mail}
 use Rattle.ev_abstract.specs.ItemMeaning as meaning

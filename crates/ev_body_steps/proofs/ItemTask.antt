@@ -54,7 +54,7 @@ use Rattle.ev_user.specs.Tasks.{IsTask, RunsTask, task_processor}
 use Rattle.ev_user.proofs.Words.{set_words}
 use Rattle.ev_user.proofs.Follows.{low_canonical}
 use Rattle.ev_relation.specs.Named.{Changes}
-use Rattle.ev_relation.specs.Filling.{first_fill, rest_fills}
+use Rattle.ev_relation.specs.Filling.{first_fill}
 use Rattle.ev_relation.specs.Active.{here, level_in, rest_in, Saved, SavedOf, Active}
 use Rattle.ev_relation.specs.Relation.{IsContext, Beneath, keeps_cr2, switches_at, chained, body_edges, Chain, StandsOn, Stands}
 use Rattle.ev_relation.specs.Nmi.{Leads as LeadsTo}

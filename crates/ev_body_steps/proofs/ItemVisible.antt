@@ -1,6 +1,6 @@
 -- A visible item: the processor makes its instruction, the abstract machine the item, and the activation stands at the next item, over what it stood over.
 -- An item says which local, which word with a name and which flags it leaves, and where it leads.
-use Rattle.std.proofs.Common.{◌≡◌, ℕ, ◌+◌, ◌<◌, ◌≤◌, Bool, true, false, not, ◌&&◌, List, ◌∷◌, get_or, length, Option, Some, refl, sym, ap, ◌∙◌, subst, arith}
+use Rattle.std.proofs.Common.{◌≡◌, ℕ, ◌+◌, ◌<◌, ◌≤◌, Bool, false, not, ◌&&◌, List, ◌∷◌, get_or, length, Option, Some, refl, sym, ap, ◌∙◌, subst, arith}
 use Rattle.std.specs.Prelude.{is_some, slice_get, nat_le, nat_lt}
 use Rattle.std.proofs.lemmas.Option.{slice_get-get_or}
 use Rattle.std.specs.List.{list_any}
@@ -21,8 +21,7 @@ use Rattle.ev_state.proofs.FlagLaws.{flags_of-flags_word}
 use Rattle.ev_mem.specs.Memory.{Memory}
 use Rattle.ev_apic.specs.declared.apic.Apic.{Apic}
 use Rattle.ev_apic.specs.declared.send.Send.{Send}
-use Rattle.ev_proc.specs.ProcessorStep.{has_fred, executed, ran}
-use Rattle.ev_proc.specs.declared.stepped.Stepped.{Stepped}
+use Rattle.ev_proc.specs.ProcessorStep.{has_fred, executed}
 use Rattle.ev_abstract.specs.Context.{BodyContext, CallId}
 use Rattle.ev_abstract.specs.declared.entry.Entry.{Entry}
 use Rattle.ev_abstract.specs.Machine.{Machine, processor, with_processor}
@@ -30,9 +29,8 @@ use Rattle.ev_abstract.specs.Machine as abstract
 use Rattle.ev_abstract.specs.Run.{item_at, turn}
 use Rattle.ev_law.specs.Legal.{Legal, IsLegalOn, AreLegal, knows}
 use Rattle.ev_listing.specs.Marks.{Always}
-use Rattle.ev_concrete.specs.ConcreteRun.{System, is_return, activations_by}
-use Rattle.ev_concrete.specs.Depth.{bodies_on, is_in_repeat, is_jump}
-use Rattle.ev_concrete.specs.Shown.{shown_always}
+use Rattle.ev_concrete.specs.ConcreteRun.{System, is_return}
+use Rattle.ev_concrete.specs.Depth.{is_in_repeat, is_jump}
 use Rattle.ev_built.specs.Built.{IsBuilt}
 use Rattle.ev_symbolic.specs.Value.{M, V}
 use Rattle.ev_symbolic.specs.Agrees.{Env, Cell, Code, Known, Fits, with_words}

@@ -284,13 +284,15 @@ module _ (mode : Mode) (image : Image) (built : IsBuilt image) (good : IsImage i
           (subst (λ y. Open y (block mode (body mode AtItem)).ground.known s.memory.regions) (sym item)
           (step.windows mode image built good facts left s m h p hp o body' is (body mode AtItem) way.over ss extra v f))))
           (omega arith) long way.off refl
-          (means_at mode image κ plain_kind AtItem e w b (first_fill on.fills) s.memory.words
-          (record {
-            saved = l.saved;
-            locals = l.locals;
-            flags = subst (λ q. FlagsAre mode image q f) (sym l.unknown) tt;
-            calls = subst (HoldsCalls mode image s.memory.words (v 14)) (sym l.quiet) tt;
-          }, place))
+          (means_at mode image κ plain_kind AtItem e w b (first_fill on.fills) s.memory.words (
+            record {
+              saved = l.saved;
+              locals = l.locals;
+              flags = subst (λ q. FlagsAre mode image q f) (sym l.unknown) tt;
+              calls = subst (HoldsCalls mode image s.memory.words (v 14)) (sym l.quiet) tt;
+            },
+            place,
+          ))
 
       -- ---- the exit's end: the return
 

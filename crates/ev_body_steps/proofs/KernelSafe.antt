@@ -28,12 +28,11 @@ use Rattle.ev_blocks.specs.Fred.{FromKernel, FredToKernel}
 use Rattle.ev_blocks.specs.Fred as fred
 use Rattle.ev_blocks.specs.Idt.{Stub, Common, IdtToKernel}
 use Rattle.ev_blocks.specs.Idt as idt
-use Rattle.ev_blocks.specs.Items.{BodySpot, AtTable, AtJump, AtNumber, AtNumbers, AtUserWord, AtPageWord, BehindSti}
 use Rattle.ev_blocks.specs.Blocks.{Spot, InFred, InIdt, InBody}
 use Rattle.ev_activation.specs.Seat.{Kind, SystemCall, FromTask, FromBody, NmiFromTask, NmiFromBody, kind_of, seat_of, top_at}
 use Rattle.ev_relation.specs.Nmi.{Frame}
 use Rattle.ev_relation.specs.Filling.{rest_fills, Filling, first_fill}
-use Rattle.ev_relation.specs.Active.{here, InSpot, OverBody, Means}
+use Rattle.ev_relation.specs.Active.{here, OverBody, Means}
 use Rattle.ev_relation.specs.Relation.{body_edges, chained, Chain}
 use Rattle.ev_relation.proofs.Records.{spot_saved}
 use Rattle.ev_relation.proofs.CallKinds.{is_over_task, over_any, stands_alone, ArePlain, seat_under, plain_seat}

@@ -2,7 +2,7 @@
 use Rattle.std.proofs.Common.{◌≡◌, inl, inr, ℕ, suc, ◌+◌, ◌-◌, ◌*◌, ◌<◌, ◌≤◌, Bool, true, false, not, ◌&&◌, List, [], ◌∷◌, length, Option, Some, refl, sym, ap, ◌∙◌, subst, arith, None}
 use Rattle.std.specs.Prelude.{if◌then◌else◌, ◌==◌, ◌++◌, get_or, slice_get, is_some, nat_le, nat_lt}
 use Rattle.std.specs.List.{list_any}
-use Rattle.ev_isa.specs.Word.{NatMap, put_at, greatest_below}
+use Rattle.ev_isa.specs.Word.{NatMap, greatest_below}
 use Rattle.ev_isa.specs.Flags.{Flags, flags_word}
 use Rattle.ev_isa.specs.declared.instruction.Ins.{Ins}
 use Rattle.ev_isa.specs.declared.mode.Mode.{Mode}
@@ -64,11 +64,11 @@ use Rattle.ev_relation.proofs.Spots.{is_spot, spot_unfilled, IsAtEntry, keeps_rs
 use Rattle.ev_relation.proofs.Fits.{IsSeat, InBodies, fits_at, opens_at, kernel_changes}
 use Rattle.ev_body_steps.proofs.Bodies.{Goes}
 use Rattle.ev_body_steps.proofs.Instructions.{stays_inside}
-use Rattle.ev_relation.proofs.Standing.{hidden, seen, inboxes_by, posted_by, went, after_went, Went, went_step, went_writes, went_safe, went_shows, went_shown, went_activations, went_stays, Moves, step_moves, masked_first}
+use Rattle.ev_relation.proofs.Standing.{hidden, seen, inboxes_by, posted_by, went, after_went, Went, went_step, went_writes, went_safe, went_shows, went_shown, went_activations, went_stays, Moves, step_moves}
 use Rattle.ev_relation.proofs.Stays.{AreKept, means_stay, free_small, rest_small, leads_again, AreSpared, chain_stays, seat_fits, below_spared, marks_under}
 use Rattle.ev_relation.proofs.Chains.{Kept, chain_kept, chain_plain, chain_open, chain_masked, word_interrupts, at_interrupts}
 use Rattle.ev_relation.proofs.Records.{RecordsStay}
-use Rattle.ev_relation.proofs.After.{AreCallFree, AreSparing, own_word, none_spares, tasks_same, current_is, mark_is, slot_same, cell_same, page_same, user_same, few_inner, latch_parts, as_chain, apic_again, own_becomes, own_after, records_after, left_behind, contexts_kept, CallsAlike, stands_alike}
+use Rattle.ev_relation.proofs.After.{AreCallFree, AreSparing, own_word, none_spares, tasks_same, current_is, mark_is, slot_same, cell_same, page_same, user_same, latch_parts, as_chain, apic_again, own_becomes, own_after, records_after, left_behind, contexts_kept, CallsAlike, stands_alike}
 use Rattle.ev_relation.proofs.CallKinds.{is_over_task, is_plain_kind, over_any, beneath_as, stands_alone, ArePlain, none_nmi, seat_under, area_under, plain_seat, plain_knows}
 use Rattle.ev_relation.proofs.Words.{IsBeside}
 use Rattle.ev_relation.proofs.Domains.{four_tasks}

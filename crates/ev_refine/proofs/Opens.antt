@@ -1,21 +1,19 @@
 -- The opening of the concrete machine stands for that of the abstract one.
-use Rattle.std.proofs.Common.{◌≡◌, ◌≢◌, ◌++◌, ℕ, suc, ◌+◌, ◌-◌, ◌*◌, ◌/◌, ◌%◌, ◌^◌, ◌<◌, ◌≤◌, ◌⊎◌, inl, inr, zero, Bool, true, false, ◌&&◌, ◌||◌, List, [], ◌∷◌, get_or, length, map, drop, refl, sym, ap, ◌∙◌, subst, arith, ⊎_elim}
+use Rattle.std.proofs.Common.{◌≡◌, ◌≢◌, ◌++◌, ℕ, suc, ◌+◌, ◌-◌, ◌*◌, ◌/◌, ◌%◌, ◌^◌, ◌<◌, ◌≤◌, ◌⊎◌, inl, inr, zero, Bool, true, false, ◌&&◌, List, [], ◌∷◌, get_or, length, map, drop, refl, sym, ap, ◌∙◌, subst, arith, ⊎_elim}
 use Rattle.std.specs.Prelude.{◌==◌, nat_lt, nat_le, if◌then◌else◌}
-use Rattle.std.specs.List.{list_all, list_any}
+use Rattle.std.specs.List.{list_all}
 use Rattle.std.proofs.lemmas.Bool.{and_parts, eqb-true, ltb-true, leb-true, eq-eqb, le-leb, lt-ltb, lt-leb, le-ltb}
 use Rattle.std.proofs.lemmas.Bool.Decides.{eqb_tells}
-use Rattle.std.proofs.Math.Nat.{zero-div, mod-eq_of_lt}
+use Rattle.std.proofs.Math.Nat.{mod-eq_of_lt}
 use Rattle.std.proofs.lemmas.List.{length-append, get_or_append_left}
-use Rattle.ev_isa.specs.Word.{NatMap, wrap, numbers_from, is_aligned, is_canonical, members, values, bit}
+use Rattle.ev_isa.specs.Word.{numbers_from, is_aligned, is_canonical, members, values, bit}
 use Rattle.ev_isa.specs.declared.mode.Mode.{Mode}
 use Rattle.ev_isa.specs.declared.mode.Mode.TheVariants.{Idt, Fred}
 use Rattle.ev_body.specs.declared.image.Image.{Image}
 use Rattle.ev_body.specs.declared.image.TaskSpec.{TaskSpec}
 use Rattle.ev_body.specs.WellFormed.{IsImage, is_task, is_text_place, is_word}
-use Rattle.ev_effect.specs.Frame.{addresses}
 use Rattle.ev_state.specs.Processor.{selector}
 use Rattle.ev_mem.specs.Memory.{page_map}
-use Rattle.ev_apic.specs.Vectors.{vectors_of}
 use Rattle.ev_listing.specs.AddressMap.{pcpu, slot_offset, record_address, user_table, kernel_table, idt_base, cells_base, task_words, stack_top, fred_page}
 use Rattle.ev_abstract.specs.Machine.{opening, processor, no_task, task_at_start}
 use Rattle.ev_concrete.specs.ConcreteRun.{opening_system}
@@ -34,7 +32,7 @@ use Rattle.ev_law.proofs.Runs.{opening_is_legal}
 use Rattle.ev_law.proofs.Bases.{opening_has_bases}
 use Rattle.ev_user.proofs.KeepsNumbers.{opening_holds_numbers}
 use Rattle.ev_relation.proofs.Areas.{opening_area, words_map}
-use Rattle.ev_relation.proofs.NoVectors.{no_words, zero_words, no_vector, none_served}
+use Rattle.ev_relation.proofs.NoVectors.{zero_words, no_vector, none_served}
 use Rattle.ev_relation.proofs.Domains.{HasTasks, has_tasks}
 use Rattle.ev_user.proofs.Follows.{low_canonical}
 

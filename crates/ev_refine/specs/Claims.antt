@@ -1,11 +1,11 @@
 -- What is proved of the machines, as the contract of this crate states it.
-use Rattle.std.specs.Prelude.{◌≡◌, ◌≢◌, ℕ, ◌-◌, ◌<◌, ◌≤◌, true, List, length}
+use Rattle.std.specs.Prelude.{◌≡◌, ◌≢◌, ℕ, ◌<◌, ◌≤◌, true, List, length}
 use Rattle.std.specs.List.{list_all}
 use Rattle.ev_isa.specs.Word.{NatMap, numbers_from}
 use Rattle.ev_isa.specs.declared.mode.Mode.{Mode}
 use Rattle.ev_body.specs.declared.image.Image.{Image}
 use Rattle.ev_body.specs.WellFormed.{IsImage}
-use Rattle.ev_abstract.specs.Machine.{Machine, opening, processor}
+use Rattle.ev_abstract.specs.Machine.{Machine, opening}
 use Rattle.ev_abstract.specs.Run.{turn, run}
 use Rattle.ev_abstract.specs.Script.{IsScript}
 use Rattle.ev_abstract.specs.declared.script_line.Line.{Line}

@@ -41,7 +41,7 @@ use Rattle.ev_relation.specs.Domain.{IsInDomain}
 use Rattle.ev_relation.specs.Relation.{ApicIs, InboxIs, HoldsCall, Chain, Runs, serves, StandsOn, Shares, Stands, body_edges, most_edges}
 use Rattle.ev_relation.proofs.Maps.{at_same}
 use Rattle.ev_relation.proofs.Words.{area_word, IsOffCalls, IsBeside, on_its_stack, fixed_stays, beside_stays, stacks_stay, offset_stays, area_stays, saved_stays}
-use Rattle.ev_relation.proofs.Records.{RecordStays, RecordsStay, call_stays, queue_stays}
+use Rattle.ev_relation.proofs.Records.{RecordStays, call_stays, queue_stays}
 use Rattle.ev_symbolic.proofs.Values.{and_left, and_right}
 use Rattle.ev_relation.proofs.Chains.{chain_plain}
 use Rattle.ev_relation.proofs.Legality.{legal_few}
@@ -694,28 +694,28 @@ module _ (mode : Mode) (image : Image) where
       → Stands mode image (left_behind p now) s' m'
   stands_become left s s' m m' p now x σ cpu as' words good accepted four h lt mv hs names good_names changes a others legal bases numbers told calls domain
       on = record {
-    regions_are = mv.regions ∙ h.regions_are;
-    fixed = λ b f. ap (λ w. w b) mv.words_are ∙ fixed_stays p σ names s.memory.words words hp hs good_names.written changes b f ∙ h.fixed b f;
-    shares = shares_become p s s' m m' x cpu as' words mv a h.shares;
-    legal = legal;
-    bases = bases;
-    numbers = numbers;
-    told = told;
-    calls = calls;
-    domain = λ q lq. ⊎_elim (λ e. subst (λ r. IsInDomain (processor m' r)) (sym e.1) (subst IsInDomain (sym a.own) domain))
-        (λ e. subst IsInDomain (sym (a.others q e.0)) (let d = h.domain q lq in record { nmi = d.nmi; mail_nmi = d.mail_nmi; bodies = d.bodies }))
-        (eqb_tells q p);
-    each = λ q lq. ⊎_elim
-        (λ e. subst (λ r. StandsOn mode image r (left_behind p now r) s' (processor m' r)) (sym e.1)
-        (subst (λ n. StandsOn mode image p n s' (processor m' p)) (sym (at_same (λ q. most_edges mode image) p p now refl))
-        (subst (StandsOn mode image p now s') (sym a.own) on)))
-        (λ e. subst (λ n. StandsOn mode image q n s' (processor m' q))
-        (sym (ap (λ b. elim b [ true ↦ now | false ↦ most_edges mode image ]) e.0))
-        (subst (StandsOn mode image q (most_edges mode image) s') (sym (a.others q e.0))
-        (other_stays p q (left q) s s' (processor m q) σ cpu as' words hp lq good.count.1 (legal_few image good accepted m q h.legal) (four q lq) e.1 e.0 mv hs
-        names good_names changes (h.each q lq) (processor m' q).records (processor m' q).queue (others q lq e.0))))
-        (eqb_tells q p);
-  }
+        regions_are = mv.regions ∙ h.regions_are;
+        fixed = λ b f. ap (λ w. w b) mv.words_are ∙ fixed_stays p σ names s.memory.words words hp hs good_names.written changes b f ∙ h.fixed b f;
+        shares = shares_become p s s' m m' x cpu as' words mv a h.shares;
+        legal = legal;
+        bases = bases;
+        numbers = numbers;
+        told = told;
+        calls = calls;
+        domain = λ q lq. ⊎_elim (λ e. subst (λ r. IsInDomain (processor m' r)) (sym e.1) (subst IsInDomain (sym a.own) domain))
+            (λ e. subst IsInDomain (sym (a.others q e.0)) (let d = h.domain q lq in record { nmi = d.nmi; mail_nmi = d.mail_nmi; bodies = d.bodies }))
+            (eqb_tells q p);
+        each = λ q lq. ⊎_elim
+            (λ e. subst (λ r. StandsOn mode image r (left_behind p now r) s' (processor m' r)) (sym e.1)
+            (subst (λ n. StandsOn mode image p n s' (processor m' p)) (sym (at_same (λ q. most_edges mode image) p p now refl))
+            (subst (StandsOn mode image p now s') (sym a.own) on)))
+            (λ e. subst (λ n. StandsOn mode image q n s' (processor m' q))
+            (sym (ap (λ b. elim b [ true ↦ now | false ↦ most_edges mode image ]) e.0))
+            (subst (StandsOn mode image q (most_edges mode image) s') (sym (a.others q e.0))
+            (other_stays p q (left q) s s' (processor m q) σ cpu as' words hp lq good.count.1 (legal_few image good accepted m q h.legal) (four q lq) e.1 e.0 mv hs
+            names good_names changes (h.each q lq) (processor m' q).records (processor m' q).queue (others q lq e.0))))
+            (eqb_tells q p);
+      }
     where
       hp : p < 32
       hp = let n = good.count.1 in omega arith

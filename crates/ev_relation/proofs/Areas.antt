@@ -7,7 +7,6 @@ use Rattle.ev_isa.specs.declared.mode.Mode.{Mode}
 use Rattle.ev_body.specs.declared.image.Image.{Image}
 use Rattle.ev_effect.specs.Frame.{addresses}
 use Rattle.ev_listing.specs.AddressMap.{pcpu, stack_top, fred_page}
-use Rattle.ev_abstract.specs.Machine.{opening, processor}
 use Rattle.ev_concrete.specs.Opening.{Placed, opening_word, word_there, pcpu_word}
 
 pub opening_area : (es : Placed) (mode : Mode) (image : Image) (p o : ℕ) → p < image.processors → image.processors ≤ 8 → o < 0x10000 → o % 8 ≡ 0

@@ -37,7 +37,7 @@ use Rattle.ev_relation.specs.Domain.{IsInDomain}
 use Rattle.ev_relation.specs.Nmi.{LatchIs, inner_edges}
 use Rattle.ev_calls.specs.Lists.{QueueIs}
 use Rattle.ev_call_law.proofs.Records.{put_same, same_calls, same_kept}
-use Rattle.ev_relation.specs.Relation.{AreVectorWords, ApicIs, InboxIs, Stands, StandsOn}
+use Rattle.ev_relation.specs.Relation.{ApicIs, InboxIs, Stands, StandsOn}
 use Rattle.ev_relation.proofs.Maps.{at_same, at_other}
 use Rattle.ev_relation.proofs.NoVectors.{zero_words, no_vector}
 

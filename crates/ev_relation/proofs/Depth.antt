@@ -25,7 +25,7 @@ use Rattle.ev_concrete.specs.ConcreteRun.{System, Activation, interrupted, is_re
 use Rattle.ev_concrete.specs.Depth.{is_in_repeat, has_body, bodies_on, ends_body, begins_body, bodies_after, told_bodies}
 use Rattle.ev_symbolic.specs.Value.{M}
 use Rattle.ev_symbolic.specs.State.{SS, Block}
-use Rattle.ev_symbolic.specs.Run.{brun, every}
+use Rattle.ev_symbolic.specs.Run.{every}
 use Rattle.ev_symbolic.specs.Agrees.{Env, addr, At}
 use Rattle.ev_symbolic.specs.Names.{item_tag, stub_tag}
 use Rattle.ev_symbolic.proofs.Values.{and_left, and_right}

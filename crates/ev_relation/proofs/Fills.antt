@@ -1,5 +1,5 @@
 -- Activations that fill a call record: their windows, of which one is the record, what their steps write, and where their blocks end.
-use Rattle.std.proofs.Common.{◌≡◌, ◌⊎◌, inl, inr, ⊎_elim, ℕ, ◌+◌, ◌*◌, ◌%◌, ◌-◌, ◌<◌, ◌≤◌, Bool, true, false, ◌&&◌, List, [], ◌∷◌, Option, Some, refl, sym, ap, ◌∙◌, subst, arith}
+use Rattle.std.proofs.Common.{◌≡◌, ◌⊎◌, inl, inr, ⊎_elim, ℕ, ◌+◌, ◌-◌, ◌<◌, ◌≤◌, Bool, true, false, ◌&&◌, List, Option, Some, refl, sym, ap, ◌∙◌, subst, arith}
 use Rattle.std.specs.Prelude.{nat_le, nat_lt, if◌then◌else◌}
 use Rattle.std.proofs.lemmas.Bool.{leb-true, ltb-true, le-leb, lt-ltb}
 use Rattle.ev_isa.specs.Spelling.{spelling, four_bytes}
@@ -8,24 +8,21 @@ use Rattle.ev_isa.specs.Flags.{Flags}
 use Rattle.ev_isa.specs.declared.mode.Mode.{Mode}
 use Rattle.ev_isa.specs.declared.mode.Mode.TheVariants.{Idt, Fred}
 use Rattle.ev_body.specs.declared.image.Image.{Image}
-use Rattle.ev_listing.specs.AddressMap.{pcpu, record_address, stack_top, stack_bytes}
+use Rattle.ev_listing.specs.AddressMap.{record_address, stack_top, stack_bytes}
 use Rattle.ev_state.specs.Processor.{Processor}
 use Rattle.ev_mem.specs.Memory.{Memory}
 use Rattle.ev_proc.specs.ProcessorStep.{has_fred}
-use Rattle.ev_abstract.specs.Context.{CallId, BodyContext}
-use Rattle.ev_concrete.specs.LiveWords.{area_bytes}
+use Rattle.ev_abstract.specs.Context.{BodyContext}
 use Rattle.ev_concrete.specs.Opening.{regions}
 use Rattle.ev_symbolic.specs.State.{SS, Block, Loc, in_win}
 use Rattle.ev_symbolic.specs.Run.{brun, every}
-use Rattle.ev_symbolic.specs.Names.{record_tag}
-use Rattle.ev_symbolic.specs.Agrees.{Env, addr, with_words, Code, FactsHold, Described, AreTops, Open, Within, Stands, Fits, At}
-use Rattle.ev_symbolic.proofs.Blocks.{stays}
+use Rattle.ev_symbolic.specs.Agrees.{Env, addr, FactsHold, Described, AreTops, Open, Within, Stands, Fits}
 use Rattle.ev_symbolic.proofs.Values.{and_left, and_right}
 use Rattle.ev_distances.specs.Span.{IsSpan, InSpan}
 use Rattle.ev_distances.specs.Form.{Form, OnStack, InRecord, Where, span_of, IsWhere, Fitting}
 use Rattle.ev_distances.proofs.ByForm.{located, forms_open}
-use Rattle.ev_blocks.specs.Shapes.{Layout, Origin, FredFrame, IdtFrame, NmiFrame, Forms, body_bytes}
-use Rattle.ev_blocks.specs.Calls.{CallSpot, AtFill, AtHead, AtLink, BehindFailure, record_forms, block_of_call}
+use Rattle.ev_blocks.specs.Shapes.{Layout, Origin, FredFrame, IdtFrame, Forms, body_bytes}
+use Rattle.ev_blocks.specs.Calls.{AtFill, AtHead, AtLink, BehindFailure, record_forms}
 use Rattle.ev_blocks.specs.Items.{BodySpot, InCall, fills, body_block, body_spot_forms, forms_of}
 use Rattle.ev_blocks.specs.Blocks.{Spot, InBody, block, forms}
 use Rattle.ev_paths.proofs.CallEnds.{call_ends}
@@ -33,13 +30,12 @@ use Rattle.ev_grounds.proofs.Grounds.{windows_fit, all_grounded}
 use Rattle.ev_activation.specs.Seat.{Kind, SystemCall, FromTask, FromBody, NmiFromTask, NmiFromBody, Seat, top_at}
 use Rattle.ev_table.specs.Table.{code_table}
 use Rattle.ev_relation.specs.Filling.{Filling}
-use Rattle.ev_relation.specs.Named.{Named, RecordWord, record_names, Outside, NotNamed, Changes}
+use Rattle.ev_relation.specs.Named.{record_names, Outside, NotNamed, Changes}
 use Rattle.ev_relation.specs.Active.{here, InSpot, OverTask, OverBody, Means, Fills, fills_record}
 use Rattle.ev_relation.proofs.Facts.{Facts}
 use Rattle.ev_relation.proofs.ModeFacts.{is_fred}
 use Rattle.ev_relation.proofs.Spots.{layout_of, is_in_item, BodyGround, body_ground}
 use Rattle.ev_relation.proofs.Fits.{IsSeat, InBodies, InSome, which_form}
-use Rattle.ev_relation.proofs.Records.{RecordStays}
 
 -- ---- which they are, and what their variables mean
 

@@ -1,9 +1,7 @@
 -- What is said of call records and of lists of calls stays where the records' words do; and which names of words leave a record alone.
-use Rattle.std.proofs.Common.{◌≡◌, ◌⊎◌, inl, inr, ⊎_elim, ℕ, zero, suc, ◌+◌, ◌*◌, ◌%◌, ◌<◌, ◌≤◌, Bool, true, false, List, [], ◌∷◌, ◌++◌, length, Option, refl, sym, ap, ◌∙◌, subst, arith}
-use Rattle.std.specs.Prelude.{◌==◌, reverse, if◌then◌else◌}
+use Rattle.std.proofs.Common.{◌≡◌, ℕ, suc, ◌+◌, ◌<◌, Bool, true, false, List, [], ◌∷◌, length, Option, refl, sym, ap, ◌∙◌, subst, arith}
+use Rattle.std.specs.Prelude.{reverse}
 use Rattle.std.proofs.lemmas.List.{reverse-append}
-use Rattle.std.proofs.lemmas.Bool.{eqb-true}
-use Rattle.std.proofs.lemmas.Bool.Decides.{eqb_tells}
 use Rattle.ev_isa.specs.Word.{NatMap}
 use Rattle.ev_isa.specs.declared.mode.Mode.{Mode}
 use Rattle.ev_body.specs.declared.image.Image.{Image}
@@ -21,7 +19,7 @@ use Rattle.ev_calls.specs.Records.{Linked}
 use Rattle.ev_calls.specs.Lists.{KeepLinks, IsTurning, QueueIs}
 use Rattle.ev_calls.proofs.Lists.{lists_stay}
 use Rattle.ev_call_law.specs.Calls.{times, is_id}
-use Rattle.ev_call_law.proofs.Counts.{times_same, times_other, times_append, id_self}
+use Rattle.ev_call_law.proofs.Counts.{times_same, times_other, times_append}
 use Rattle.ev_relation.specs.Filling.{Filling}
 use Rattle.ev_relation.specs.Active.{SavedOf, HoldsCalls, InCode, InItem, Answering, Taking, BeginsCall, Finishing, Turns, IsByHand, BehindExchange, BehindOldLink, AtFunction, BehindArgument, BehindCaller, BehindAddress, BehindFinish, InCallSpot, InSpot}
 use Rattle.ev_relation.specs.Relation.{CallIs, HoldsCall}

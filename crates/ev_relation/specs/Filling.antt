@@ -1,6 +1,6 @@
 -- Call records that activations are filling: between the load that found a record free and the exchange that puts it into a queue the words of the record are
 -- the activation's own, while the abstract machine's record is free. Own.
-use Rattle.std.specs.Prelude.{◌≡◌, ℕ, ◌<◌, Bool, true, false, ◌||◌, ◌==◌, List, [], ◌∷◌, Option, Some, None}
+use Rattle.std.specs.Prelude.{◌≡◌, ℕ, ◌<◌, Bool, false, ◌||◌, ◌==◌, List, [], ◌∷◌, Option, Some, None}
 use Rattle.ev_isa.specs.Word.{NatMap}
 use Rattle.ev_abstract.specs.Machine.{CallRecord, Free}
 

@@ -2,7 +2,7 @@
 -- The abstract machine's contexts are matched from the last down: an activation stands over the processor that its return restores. What several activations
 -- or
 -- processors read or write stands beside, word by word.
-use Rattle.std.specs.Prelude.{◌≡◌, ◌≢◌, ◌⊎◌, ℕ, suc, ◌+◌, ◌*◌, ◌-◌, ◌/◌, ◌%◌, ◌^◌, ◌<◌, ◌≤◌, Bool, true, false, ◌&&◌, ◌==◌, if◌then◌else◌, List, [], ◌∷◌, length, map, reverse, get_or, slice_get, Option, Some, None}
+use Rattle.std.specs.Prelude.{◌≡◌, ◌≢◌, ◌⊎◌, ℕ, suc, ◌+◌, ◌*◌, ◌-◌, ◌/◌, ◌%◌, ◌^◌, ◌<◌, ◌≤◌, Bool, true, false, ◌&&◌, ◌==◌, if◌then◌else◌, List, [], ◌∷◌, length, map, get_or, slice_get, Option, Some, None}
 use Rattle.std.specs.List.{list_any}
 use Rattle.ev_isa.specs.Word.{NatMap, NatSet, numbers_from}
 use Rattle.ev_isa.specs.Pages.{text_base}

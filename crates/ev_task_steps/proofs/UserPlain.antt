@@ -47,7 +47,7 @@ use Rattle.ev_relation.specs.Filling.{Filling, is_filled, AreFree}
 use Rattle.ev_relation.specs.Relation.{ApicIs, Chain, serves, StandsOn, Stands}
 use Rattle.ev_relation.proofs.Maps.{at_same, at_other}
 use Rattle.ev_relation.proofs.Standing.{vector_first, Moves, step_moves}
-use Rattle.ev_relation.proofs.After.{AreSparing, word_names, word_spares, latch_parts, apic_again, own_after, left_behind, stands_after, few_inner}
+use Rattle.ev_relation.proofs.After.{AreSparing, word_names, word_spares, latch_parts, apic_again, own_after, left_behind, stands_after}
 use Rattle.ev_relation.proofs.Domains.{four_tasks}
 use Rattle.ev_relation.proofs.Legality.{turn_legal, turn_bases, turn_calls}
 use Rattle.ev_relation.proofs.Depth.{stands_depth}
