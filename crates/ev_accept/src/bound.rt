@@ -6,7 +6,7 @@ ghost use Rattle.ev_abstract.specs.Chain.{is_nmi};
 ghost use Rattle.ev_accept.specs.Rooms.{AreRooms};
 
 use crate::items::{Kind, has_item};
-use crate::keys::{covers, least_class};
+use crate::keys::least_class;
 use ev_body::{Body, Key, Side};
 
 /// How many bodies can stand on one another by page faults, breakpoints and NMIs.
@@ -114,7 +114,7 @@ fn pf_room(bodies: &[Body]) -> u8
 {
     let mut most = 0;
     for body in bodies {
-        let share = if is_pf(body.key) && covers(body.side, Side::Kernel) {
+        let share = if is_pf(body.key) && body.side.covers(Side::Kernel) {
             1
         } else {
             0
@@ -133,7 +133,7 @@ fn bp_room(pf: u8, bodies: &[Body]) -> u8
 {
     let mut most = 0;
     for body in bodies {
-        let share = if is_bp(body.key) && covers(body.side, Side::Kernel) {
+        let share = if is_bp(body.key) && body.side.covers(Side::Kernel) {
             1 + access_room(pf, body)
         } else {
             0
@@ -154,7 +154,7 @@ fn nmi_room(bp: u8, pf: u8, bodies: &[Body]) -> u8
 {
     let mut most = 0;
     for body in bodies {
-        let share = if is_nmi(body.key) && covers(body.side, Side::Kernel) {
+        let share = if is_nmi(body.key) && body.side.covers(Side::Kernel) {
             1 + fault_room(bp, pf, body)
         } else {
             0
@@ -181,7 +181,7 @@ fn class_room(rooms: &Rooms, class: u8, up: u8, bodies: &[Body]) -> u8
 {
     let mut most = 0;
     for body in bodies {
-        let share = if is_class(class, body.key) && covers(body.side, Side::Kernel) {
+        let share = if is_class(class, body.key) && body.side.covers(Side::Kernel) {
             1 + open_room(fault_room(rooms.bp, rooms.pf, body), rooms.nmi, up, body)
         } else {
             0
@@ -229,7 +229,7 @@ pub fn bound_of(bodies: &[Body]) -> u8
     let up = irq_rooms(&rooms, bodies);
     let mut most = 0;
     for body in bodies {
-        let share = if covers(body.side, Side::User) {
+        let share = if body.side.covers(Side::User) {
             1 + entry_room(&rooms, &up, body, bodies)
         } else {
             0

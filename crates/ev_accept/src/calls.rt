@@ -9,9 +9,8 @@ ghost use Rattle.ev_accept.specs.Calls.{has_function, is_bad_take, lacks_take};
 ghost use Rattle.ev_accept.specs.Kinds.{is_of};
 
 use crate::items::{Kind, has_item, item_at, some_body, some_item};
-use crate::keys::covers;
 use ev_abstract::Refusal;
-use ev_body::{Body, Image, Item, Key, Part, Side};
+use ev_body::{Body, Image, Item, Part, Side};
 use ev_isa::Reg;
 
 /// Whether the item is the `kick` of this target and local.
@@ -57,14 +56,10 @@ fn item_before(body: &Body, i: u16) -> Option<Item>
 }
 
 /// Whether the body takes calls.
-#[tactic(auto, unfolding(ev_body::specs::Bodies::key_number))]
 fn is_call_handler(body: &Body) -> bool
     ensures { result ≡ is_call_handler body.now }
 {
-    match body.key {
-        Key::Irq(vector) => vector == 0xfb,
-        _ => false,
-    }
+    body.key.number() == 0xfb
 }
 
 fn has_function(parts: &[Part], func: u64) -> bool
@@ -149,7 +144,7 @@ fn lacks_take(body: &Body) -> bool
 {
     is_call_handler(body)
         && (!some_item(Kind::TakeCalls, body.items.as_slice())
-            || !(covers(body.side, Side::User) && covers(body.side, Side::Kernel)))
+            || !(body.side.covers(Side::User) && body.side.covers(Side::Kernel)))
 }
 
 fn failing_call(image: &Image, n: u8, body: &Body) -> Option<u16>

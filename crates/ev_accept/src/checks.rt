@@ -6,7 +6,6 @@ ghost use Rattle.ev_abstract.specs.Rules.{breaks_slots, breaks_registers, breaks
 ghost use Rattle.ev_accept.specs.Checks.{breaks_by, item_by, lacks_eoi, crosses, failing_by, name_of, refusal_by};
 
 use crate::items::{Kind, has_item, is_of, item_at, some_item};
-use crate::keys::covers;
 use ev_abstract::Refusal;
 use ev_body::{Body, Image, Item, Key, Side};
 
@@ -53,7 +52,7 @@ fn breaks_slots(processors: u8, item: Item) -> bool
 fn may_reach_task(body: &Body) -> bool
     ensures { result ≡ may_reach_task body.now }
 {
-    !covers(body.side, Side::Kernel) && !matches!(body.key, Key::Nmi)
+    !body.side.covers(Side::Kernel) && !matches!(body.key, Key::Nmi)
 }
 
 #[tactic(auto, unfolding(ev_abstract::specs::Rules::breaks_registers))]
@@ -75,8 +74,8 @@ fn breaks_faults(body: &Body, item: Item) -> bool
     let breakpoint = is_of(Kind::Breakpoint, &item);
     let access = is_of(Kind::UserAccess, &item);
     match body.key {
-        Key::Bp => covers(body.side, Side::Kernel) && breakpoint,
-        Key::Pf => covers(body.side, Side::Kernel) && (breakpoint || access),
+        Key::Bp => body.side.covers(Side::Kernel) && breakpoint,
+        Key::Pf => body.side.covers(Side::Kernel) && (breakpoint || access),
         _ => false,
     }
 }
@@ -87,8 +86,8 @@ fn is_inner(body: &Body) -> bool
 {
     match body.key {
         Key::Nmi => true,
-        Key::Bp => covers(body.side, Side::Kernel),
-        Key::Pf => covers(body.side, Side::Kernel),
+        Key::Bp => body.side.covers(Side::Kernel),
+        Key::Pf => body.side.covers(Side::Kernel),
         _ => false,
     }
 }

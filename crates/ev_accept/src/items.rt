@@ -8,7 +8,6 @@ ghost use Rattle.ev_abstract.specs.Rules.{is_eoi, is_take, is_call_at, sends, le
 ghost use Rattle.ev_body.specs.declared.body.Part.{Part};
 ghost use Rattle.ev_accept.specs.Kinds.{is_of};
 
-use crate::keys::key_number;
 use ev_body::{Body, Item, Key, Part};
 
 /// What a body is searched for.
@@ -89,8 +88,8 @@ fn sends(item: &Item, key: Key) -> bool
     ensures { result ≡ sends key item.now }
 {
     match item {
-        Item::Send(_, sent) => key_number(*sent) == key_number(key),
-        Item::Kick(_, _) => key_number(key) == 0xfb,
+        Item::Send(_, sent) => sent.number() == key.number(),
+        Item::Kick(_, _) => key.number() == 0xfb,
         _ => false,
     }
 }

@@ -1,34 +1,20 @@
 // The rule of missing bodies.
 
-ghost use Rattle.std.specs.Prelude.{◌≡◌, ◌&&◌, ◌==◌, is_none, find};
-ghost use Rattle.ev_body.specs.Bodies.{key_number, covers, first_body};
+ghost use Rattle.std.specs.Prelude.{◌≡◌, is_none, find};
+ghost use Rattle.ev_body.specs.Bodies.{key_number, first_body};
 ghost use Rattle.ev_abstract.specs.Rules.{is_used, missing, missing_body};
 ghost use Rattle.ev_accept.specs.Kinds.{is_of};
 ghost use Rattle.ev_accept.specs.Missing.{user_sides, fault_side, used_sides, interrupt_sides, required_sides};
 
 use crate::items::{Kind, has_item, some_body};
-use crate::keys::{covers, key_number};
 use ev_abstract::Refusal;
-use ev_body::{Body, Image, Key, Side};
-
-/// Whether a body has a key of this number and runs on events of the side.
-fn runs_on(body: &Body, number: u64, side: Side) -> bool
-    ensures { result ≡ ((key_number body.now.key == number) && covers body.now.side side) }
-{
-    key_number(body.key) == number && covers(body.side, side)
-}
+use ev_body::{Body, Image, Key, Side, first_body};
 
 /// Whether no body runs on events of a key and a side.
 fn lacks(bodies: &[Body], key: Key, side: Side) -> bool
     ensures { result ≡ is_none (first_body 0 bodies.now (key_number key) side) }
 {
-    let number = key_number(key);
-    for body in bodies {
-        if runs_on(body, number, side) {
-            return false;
-        }
-    }
-    true
+    first_body(bodies, key.number(), side).is_none()
 }
 
 /// Whether some body has the key, or some item sends it.
@@ -37,7 +23,7 @@ fn is_used(image: &Image, key: Key) -> bool
 {
     let bodies = image.bodies.as_slice();
     for body in bodies {
-        if key_number(body.key) == key_number(key) || has_item(Kind::Sends(key), body) {
+        if body.key.number() == key.number() || has_item(Kind::Sends(key), body) {
             return true;
         }
     }

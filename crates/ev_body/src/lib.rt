@@ -6,7 +6,7 @@ mod image;
 mod item;
 mod key;
 
-pub use body::{Body, Part};
+pub use body::{Body, Part, first_body};
 pub use image::{Image, TaskSpec};
 pub use item::Item;
 pub use key::{Key, Side};

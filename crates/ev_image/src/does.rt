@@ -2,7 +2,7 @@
 
 ghost use Rattle.std.specs.Prelude.{◌≡◌, ◌++◌, true, not, IfOk, length, filter, map, Ok};
 ghost use Rattle.std.specs.List.{list_all, list_any};
-ghost use Rattle.ev_body.specs.Bodies.{covers, fill, filled_keys, key_number};
+ghost use Rattle.ev_body.specs.Bodies.{fill, filled_keys};
 ghost use Rattle.ev_body.specs.WellFormed.{is_apart, is_user_only, is_user_side};
 ghost use Rattle.ev_text.specs.UserText.{Comes};
 ghost use Rattle.ev_image.specs.Head.{body_does, each_has_one, every_task, fill_does, new_body, new_task, of_processor, plain_body, register_given, runs_user, script_does, start_does, task_begun, tasks_by, tasks_of, with_last, with_register};
@@ -181,44 +181,13 @@ fn is_user_side(side: Side) -> bool
     matches!(side, Side::User)
 }
 
-/// The number of a key.
-#[tactic(auto, unfolding(ev_body::specs::Bodies::key_number))]
-fn key_number(key: Key) -> u64
-    ensures { result ≡ key_number key }
-{
-    match key {
-        Key::Sys => 0x100,
-        Key::Db => 1,
-        Key::Nmi => 2,
-        Key::Bp => 3,
-        Key::Ud => 6,
-        Key::Ss => 12,
-        Key::Gp => 13,
-        Key::Pf => 14,
-        Key::Ac => 17,
-        Key::Irq(vector) => u64::from(vector),
-    }
-}
-
-/// Whether a side includes another.
-#[tactic(auto, unfolding(ev_body::specs::Bodies::covers))]
-fn covers(side: Side, other: Side) -> bool
-    ensures { result ≡ covers side other }
-{
-    match side {
-        Side::Both => true,
-        Side::User => matches!(other, Side::User),
-        Side::Kernel => matches!(other, Side::Kernel),
-    }
-}
-
 /// Whether a body has another key, or no side in common.
 fn is_apart(body: &Body, key: Key, side: Side) -> bool
     ensures { result ≡ is_apart body.now (new_body key side) }
 {
-    let same = key_number(body.key) == key_number(key);
-    let user = covers(body.side, Side::User) && covers(side, Side::User);
-    let kernel = covers(body.side, Side::Kernel) && covers(side, Side::Kernel);
+    let same = body.key.number() == key.number();
+    let user = body.side.covers(Side::User) && side.covers(Side::User);
+    let kernel = body.side.covers(Side::Kernel) && side.covers(Side::Kernel);
     !same || !(user || kernel)
 }
 
@@ -332,7 +301,7 @@ const FILLED: [Key; 8] = [
 fn runs(body: &Body, key: Key) -> bool
     ensures { result ≡ runs_user body.now key }
 {
-    key_number(body.key) == key_number(key) && covers(body.side, Side::User)
+    body.runs_on(key.number(), Side::User)
 }
 
 /// Whether a body runs on the user side of the key.

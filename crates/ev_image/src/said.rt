@@ -391,14 +391,10 @@ fn end_body(operands: &[&[u8]]) -> Result<PartEnd, Cause>
 }
 
 /// Whether the key is that of cross calls, the interrupt of vector FBH.
-#[tactic(auto, unfolding(ev_body::specs::Bodies::key_number))]
 fn has_functions(key: Key) -> bool
     ensures { result ≡ (key_number key == 0xfb) }
 {
-    match key {
-        Key::Irq(vector) => vector == 0xfb,
-        _ => false,
-    }
+    key.number() == 0xfb
 }
 
 /// A line behind the end of a part.

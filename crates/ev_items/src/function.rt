@@ -13,13 +13,12 @@ ghost use Rattle.ev_items.specs.Lines.{AreAddresses, keeps_slots};
 
 use crate::body::all_items;
 use crate::expand::expansion;
-use crate::key::first_body;
 use crate::statement::line_size;
-use ev_body::{Body, Image, Item, Side};
+use ev_body::{Body, Image, Item, Side, first_body};
 use std::alloc::{AllocError, Global};
 
 /// The key whose body has the functions: vector FBH.
-const CALLS: u64 = 0xfb;
+const CALLS: u16 = 0xfb;
 
 /// The code of bodies.
 const BODIES: u64 = 0xffff_ffff_8200_0000;

@@ -5,7 +5,6 @@ ghost use Rattle.ev_body.specs.Bodies.{key_number};
 ghost use Rattle.ev_listing.specs.AddressMap.{pcpu, slot_offset, cells_base};
 ghost use Rattle.ev_listing.specs.Expansion.{saved_offset, command};
 
-use crate::key::key_number;
 use ev_body::Key;
 use ev_isa::Reg;
 
@@ -72,6 +71,6 @@ pub fn command(key: Key) -> u64
 {
     match key {
         Key::Nmi => 0x4400,
-        _ => 0x4000 + key_number(key),
+        _ => 0x4000 + u64::from(key.number()),
     }
 }

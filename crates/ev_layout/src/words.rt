@@ -15,10 +15,9 @@ use crate::address::{
 use crate::saved::stack_word;
 use byteorder::{ByteOrder, LittleEndian};
 use ev_asm::Block;
-use ev_body::{Image, Side};
+use ev_body::{Image, Side, first_body};
 use ev_gate::{Gate, gate_bytes};
 use ev_isa::Mode;
-use ev_items::first_body;
 
 /// The byte at an address of code, and 0 where there is none.
 fn byte_at(blocks: &[Block], a: u64) -> u8
@@ -63,7 +62,7 @@ fn body_address(number: Option<usize>) -> u64
 }
 
 /// The word of the table of a side at a key.
-fn table_word(image: &Image, side: Side, key: u64) -> u64
+fn table_word(image: &Image, side: Side, key: u16) -> u64
     ensures { result ≡ table_word image.now side key }
 {
     body_address(first_body(image.bodies.as_slice(), key, side))
@@ -217,10 +216,10 @@ fn table_there(image: &Image, a: u64) -> u64
     ensures { result ≡ table_there image.now a }
 {
     if within(USER_TABLE, TABLE_BYTES, a) {
-        return table_word(image, Side::User, (a - USER_TABLE) / 8);
+        return table_word(image, Side::User, ((a - USER_TABLE) / 8) as u16);
     }
     if within(KERNEL_TABLE, TABLE_BYTES, a) {
-        return table_word(image, Side::Kernel, (a - KERNEL_TABLE) / 8);
+        return table_word(image, Side::Kernel, ((a - KERNEL_TABLE) / 8) as u16);
     }
     if within(IDT, IDT_BYTES, a) {
         return idt_word((a - IDT) / 8);

@@ -3,7 +3,6 @@
 ghost use Rattle.std.specs.Prelude.{◌≡◌, ◌<◌, true, IfSome, IfOk};
 ghost use Rattle.ev_line.specs.Names.{interrupt, key_of, low_digit, side_of};
 ghost use Rattle.ev_line.specs.Operands.{key, sent_key, side};
-ghost use Rattle.ev_body.specs.Bodies.{key_number};
 ghost use Rattle.ev_body.specs.WellFormed.{is_sendable};
 
 use ev_body::{Key, Side};
@@ -63,17 +62,6 @@ pub fn key(t: &[u8]) -> Result<Key, Cause>
     key_of(t).ok_or(Cause::Name)
 }
 
-/// Whether a script or a body may send the key: nmi, or an interrupt from 20H on.
-fn is_sent(key: Key) -> bool
-    ensures { result ≡ is_sendable key }
-{
-    match key {
-        Key::Nmi => true,
-        Key::Irq(vector) => vector >= 0x20,
-        _ => false,
-    }
-}
-
 /// The key that a token names where it can be sent, else Name. Own.
 #[tactic(auto, unfolding(crate::specs::Operands::sent_key))]
 pub fn sent_key(t: &[u8]) -> Result<Key, Cause>
@@ -81,7 +69,7 @@ pub fn sent_key(t: &[u8]) -> Result<Key, Cause>
     ensures sent { IfOk result (λ key. is_sendable key ≡ true) }
 {
     let key = key(t)?;
-    if is_sent(key) {
+    if key.is_sendable() {
         Ok(key)
     } else {
         Err(Cause::Name)
@@ -107,23 +95,4 @@ pub fn side(t: &[u8]) -> Result<Side, Cause>
     ensures { result ≡ side t.now }
 {
     side_of(t).ok_or(Cause::Name)
-}
-
-/// The number of a key: its vector, and 100H for SYSCALL. Own.
-#[tactic(auto, unfolding(ev_body::specs::Bodies::key_number))]
-pub fn key_number(key: Key) -> u16
-    ensures { result ≡ key_number key }
-{
-    match key {
-        Key::Sys => 0x100,
-        Key::Db => 1,
-        Key::Nmi => 2,
-        Key::Bp => 3,
-        Key::Ud => 6,
-        Key::Ss => 12,
-        Key::Gp => 13,
-        Key::Pf => 14,
-        Key::Ac => 17,
-        Key::Irq(vector) => u16::from(vector),
-    }
 }

@@ -11,7 +11,7 @@ mod registers;
 
 pub use addressing::{gs, memory};
 pub use ev_io::Cause;
-pub use keys::{key, key_number, sent_key, side};
+pub use keys::{key, sent_key, side};
 pub use kind::{Kind, is_shaped, kind_by_start};
 pub use names::label;
 pub use numbers::{number, number_within, processor, signed};

@@ -13,7 +13,7 @@ ghost use Rattle.ev_script.specs.ScriptLine.{forms_of_word, keys_with_bodies, li
 use ev_abstract::Line;
 use ev_body::{Image, Key};
 use ev_io::{Cause, tokens_in};
-use ev_line::{key_number, number_within, processor, sent_key};
+use ev_line::{number_within, processor, sent_key};
 
 /// A script line has at most so many edges.
 const EDGE_LIMIT: u64 = 4096;
@@ -58,12 +58,12 @@ fn declared(image: &Image, t: &[u8]) -> Result<u32, Cause>
 fn has_body(image: &Image, key: Key) -> bool
     ensures { result ≡ has_body_of image.now key }
 {
-    let number = key_number(key);
+    let number = key.number();
     image
         .bodies
         .as_slice()
         .iter()
-        .any(|body| key_number(body.key) == number)
+        .any(|body| body.key.number() == number)
 }
 
 /// A key that can be sent, and of which the image has a body.
