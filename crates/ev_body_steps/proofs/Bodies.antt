@@ -196,7 +196,8 @@ load_again mode image o e g w b l = record {
 }
 
 -- at the spots of bodies an activation means the same over a task and over a body
-pub means_at : (mode : Mode) (image : Image) (κ : Kind) → is_plain_kind κ ≡ true → (s : BodySpot) (e : Env) (w : Processor) (b : BodyContext) (g : Option Filling)
+pub means_at : (mode : Mode) (image : Image) (κ : Kind) → is_plain_kind κ ≡ true → (s : BodySpot) (e : Env) (w : Processor) (b : BodyContext)
+    (g : Option Filling)
     (m : NatMap ℕ) → InSpot mode image (origin_of κ) s e w b g m → Means mode image κ (body mode s) e w b g m
 means_at Fred image SystemCall a s e w b g m h = h
 means_at Fred image FromTask a s e w b g m h = h

@@ -99,7 +99,8 @@ module _ (mode : Mode) (image : Image) (built : IsBuilt image) (good : IsImage i
     u = here mode p o.κ o.σ ss o.w further v' a.flags
 
     -- at the next item, with any CR2
-    stood : (n : ℕ) → Active mode image p (body_edges mode image) o.κ o.σ on.frame (switches_at mode image on.switching o.below) (first_fill on.fills) o.w (context.onward o.b)
+    stood : (n : ℕ) → Active mode image p (body_edges mode image) o.κ o.σ on.frame (switches_at mode image on.switching o.below) (first_fill on.fills) o.w
+        (context.onward o.b)
         (record c { rip = next; cr2 = n }) s.memory
     stood n =
         let way = at_the_item mode in

@@ -79,7 +79,8 @@ module _ (mode : Mode) (image : Image) (built : IsBuilt image) (good : IsImage i
         canonical = canonical;
         outside = refl;
         inside = inside;
-        stood = λ n. turns.stands_any mode image p on.own o.κ o.σ on.frame (switches_at mode image on.switching o.below) (first_fill on.fills) o.w o.b c s.memory
+        stood = λ n. turns.stands_any mode image p on.own o.κ o.σ on.frame (switches_at mode image on.switching o.below)
+            (first_fill on.fills) o.w o.b c s.memory
             act untold n on.short;
         machine = m;
         own = ap (λ bs. record x { bodies = bs }) o.bodies;

@@ -369,7 +369,8 @@ module _ (mode : Mode) (image : Image) (built : IsBuilt image) (good : IsImage i
           let now : Kept mode image p c = step.kept_now mode image built good facts left s m h p hp in
           let under : Kept mode image p w = chain_kept mode image p (body_edges mode image) r on.returning (x.tasks on.returning) on.frame
           (chained mode image on.switching below) (rest_fills on.fills) below others w s.memory (over_any mode image
-          (λ q. Chain mode image p (body_edges mode image) r on.returning (x.tasks on.returning) on.frame (chained mode image on.switching below) (rest_fills on.fills) below others q
+          (λ q. Chain mode image p (body_edges mode image) r on.returning (x.tasks on.returning) on.frame (chained mode image on.switching below)
+          (rest_fills on.fills) below others q
           s.memory) _ w k.4) in
           record {
             kernel = ap is_user agrees.rest;
@@ -410,7 +411,8 @@ module _ (mode : Mode) (image : Image) (built : IsBuilt image) (good : IsImage i
           k.3,
           k.4,
           k.5,
-          stands_any mode image p on.own κ σ on.frame (switches_at mode image on.switching below) (first_fill on.fills) w b c s.memory act in_it.untold a on.short,
+          stands_any mode image p on.own κ σ on.frame (switches_at mode image on.switching below)
+              (first_fill on.fills) w b c s.memory act in_it.untold a on.short,
         );
       }
 

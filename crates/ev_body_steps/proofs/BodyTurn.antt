@@ -187,7 +187,8 @@ module _ (mode : Mode) (image : Image) where
       told (Some v) h = absurd (cc)
 
   -- with the edges of a body
-  pub stands_any : (p left : ℕ) (κ : Kind) (σ : Seat) (f : Frame) (sw : Bool) (g : Option Filling) (w : Processor) (b : BodyContext) (c : Processor) (m : Memory)
+  pub stands_any : (p left : ℕ) (κ : Kind) (σ : Seat) (f : Frame) (sw : Bool) (g : Option Filling) (w : Processor) (b : BodyContext) (c : Processor)
+      (m : Memory)
       → (act : Active mode image p left κ σ f sw g w b c m) → TellsNoCr2 (block mode act.stands.spot) → (a : ℕ)
       → left ≤ body_edges mode image → Active mode image p (body_edges mode image) κ σ f sw g w b (record c { cr2 = a }) m
   stands_any p left κ σ f sw g w b c m act none a short = record {
@@ -400,7 +401,8 @@ module _ (mode : Mode) (image : Image) (built : IsBuilt image) (good : IsImage i
         (subst (λ σ. Changes p σ [] s.memory.words words') (sym seat_now) changes) plain_now
 
     records_kept : AreKept p on.fills (u.b ∷ u.below) s.memory.words words'
-    records_kept = all_kept p (seat_under mode r (suc n)) [] small narrow s.memory.words words' tt changes refl p small on.fills (free_small x.records on.fills on.free)
+    records_kept = all_kept p (seat_under mode r (suc n)) [] small narrow s.memory.words words' tt changes refl p small on.fills
+        (free_small x.records on.fills on.free)
         (u.b ∷ u.below) (λ k some. calls_bounded mode image m h.told h.calls good.count.1 p k (subst (λ ks. 0 < times k ks) u.calls some))
 
     under : (a : ℕ) → Chain mode image p (body_edges mode image) r to (x.tasks to) on.frame on.switching on.fills (u.b ∷ u.below) (under_now ∷ u.others)

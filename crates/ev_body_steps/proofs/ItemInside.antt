@@ -166,13 +166,15 @@ module _ (mode : Mode) (image : Image) (built : IsBuilt image) (good : IsImage i
         switches = number_plain mode n ∙ sym o.off;
         fills = sym (ap is_some o.unfilled);
         knows = plain_knows mode o.κ on.frame (step.plain_kind mode image built good facts left s m h p hp o) (blocks.holds (body mode (AtNumber n)));
-        means = means_at mode image o.κ (step.plain_kind mode image built good facts left s m h p hp o) (AtNumber n) e o.w b (first_fill on.fills) s.memory.words
+        means = means_at mode image o.κ (step.plain_kind mode image built good facts left s m h p hp o) (AtNumber n) e o.w b
+            (first_fill on.fills) s.memory.words
             (means, place, ap (λ o. number_of (item_at o b.place)) is ∙ ap number_of hi ∙ number);
       }) (omega arith)
 
   -- at the block's end the visible instruction comes, with the number in RAX
   unfoldable pub at_number : (act : Stood on.own b c s.memory) (ss : ℕ) → IsKernelSs mode ss → (extra v : ℕ → ℕ) (f : Flags) (n : ℕ)
-      → At code (block mode (body mode (AtNumber n))) 1 (env ss extra v f) c s.memory → InItem mode image (origin_of o.κ) (env ss extra v f) o.w b s.memory.words
+      → At code (block mode (body mode (AtNumber n))) 1 (env ss extra v f) c s.memory → InItem mode image (origin_of o.κ)
+      (env ss extra v f) o.w b s.memory.words
       → extra 20 ≡ item_place mode image b.body b.place → length c.regs ≡ 16
       → visible.AtVisible mode image built good facts left s m h p hp o body' is ss extra v f
   at_number act ss ss_is extra v f n at means place long = record {

@@ -254,7 +254,8 @@ module _ (mode : Mode) (image : Image) (built : IsBuilt image) (good : IsImage i
   -- so it is at the end of the block behind `sti`
   pub to_item : (ss : ℕ) → IsKernelSs mode ss → (extra v : ℕ → ℕ) (f : Flags)
       → At code (block mode (body mode BehindSti)) 1 (here mode p o.κ o.σ ss o.w extra v f) c s.memory
-      → InItem mode image (origin_of o.κ) (here mode p o.κ o.σ ss o.w extra v f) o.w b s.memory.words → HasNextPlace mode image 2 (here mode p o.κ o.σ ss o.w extra v f) b
+      → InItem mode image (origin_of o.κ) (here mode p o.κ o.σ ss o.w extra v f) o.w b s.memory.words → HasNextPlace mode image 2
+      (here mode p o.κ o.σ ss o.w extra v f) b
       → length c.regs ≡ 16 → edges mode (body mode BehindSti) 1 ≤ on.own
       → NextItem ss v f
   to_item ss ss_is extra v f at means next long enough =
@@ -456,7 +457,8 @@ module _ (mode : Mode) (image : Image) (built : IsBuilt image) (good : IsImage i
         (goes_on_inside false (not (is_user c)) (not (nat_le nmi_entry c.rip && nat_lt c.rip repeat_entry)) (is_jump (Some Sti))
         (is_in_repeat c.rip) (length x.bodies) refl (step.outside mode image built good facts left s m h p hp o a.act) ∙ ap length o.bodies)
         now (few_edges mode image (body mode BehindSti) (behind_is_spot mode) refl 0)
-        (subst (λ as'. Chain mode image p now x.running on.returning (x.tasks on.returning) on.frame on.switching on.fills (b' ∷ o.below) as' cpu mem) (sym still_there)
+        (subst (λ as'. Chain mode image p now x.running on.returning (x.tasks on.returning) on.frame on.switching on.fills (b' ∷ o.below) as' cpu mem)
+        (sym still_there)
         (step.with_last mode image built good facts left s m h p hp o b' o.kind ctx now cpu s.memory.words [] (none_spares p).free
         (step.unknown_none o.below) (λ y far near. refl) act))
         refl

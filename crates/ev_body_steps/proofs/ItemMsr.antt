@@ -238,13 +238,15 @@ module _ (mode : Mode) (image : Image) (built : IsBuilt image) (good : IsImage i
         fills = sym (ap is_some o.unfilled);
         knows = plain_knows mode o.κ on.frame (step.plain_kind mode image built good facts left s m h p hp o)
             (blocks.holds (body mode (AtNumbers rcx rax rdx)));
-        means = means_at mode image o.κ (step.plain_kind mode image built good facts left s m h p hp o) (AtNumbers rcx rax rdx) e o.w b (first_fill on.fills) s.memory.words
+        means = means_at mode image o.κ (step.plain_kind mode image built good facts left s m h p hp o) (AtNumbers rcx rax rdx) e o.w b
+            (first_fill on.fills) s.memory.words
             (means, place, ap (λ o. numbers_of (item_at o b.place)) is ∙ ap numbers_of hi ∙ numbers);
       }) (omega arith)
 
   -- at the block's end the visible instruction comes, with the numbers in the registers
   unfoldable pub at_numbers : (act : Stood on.own b c s.memory) (ss : ℕ) → IsKernelSs mode ss → (extra v : ℕ → ℕ) (f : Flags) (rcx rax rdx : ℕ)
-      → At code (block mode (body mode (AtNumbers rcx rax rdx))) 3 (env ss extra v f) c s.memory → InItem mode image (origin_of o.κ) (env ss extra v f) o.w b s.memory.words
+      → At code (block mode (body mode (AtNumbers rcx rax rdx))) 3 (env ss extra v f) c s.memory → InItem mode image (origin_of o.κ)
+      (env ss extra v f) o.w b s.memory.words
       → extra 20 ≡ item_place mode image b.body b.place → length c.regs ≡ 16
       → visible.AtVisible mode image built good facts left s m h p hp o body' is ss extra v f
   at_numbers act ss ss_is extra v f rcx rax rdx at means place long = record {

@@ -289,7 +289,8 @@ module _ (mode : Mode) (image : Image) (built : IsBuilt image) (good : IsImage i
             (w, ctx, o.outer, tt, lower, tail.1, tail.2)
 
         over_nothing : (ds : List BodyContext) → ds ≡ [] → (as' : List Activation) → as' ≡ [] → kind_of image b' ds ≡ o.κ
-            → Active mode image p now o.κ o.σ on.frame (switches_at mode image on.switching ds) (first_fill on.fills) w b' cpu mem → o.σ ≡ record { stack = x.running; used = 0 }
+            → Active mode image p now o.κ o.σ on.frame (switches_at mode image on.switching ds) (first_fill on.fills) w b' cpu mem
+            → o.σ ≡ record { stack = x.running; used = 0 }
             → Chain mode image p now x.running on.returning (tasks on.returning) on.frame on.switching on.fills (b' ∷ ds) (o.last ∷ as') cpu mem
         over_nothing [] e [] e' k act q = alone k act q
         over_nothing [] e (z ∷ zs) e' k act q = absurd (cc)

@@ -242,7 +242,8 @@ module _ (mode : Mode) (image : Image) (built : IsBuilt image) (good : IsImage i
         calls = calls_behind mode image (env ss extra v f) c s.memory a.offset a.rax a.rcx a.rdx a.flags a.state o.b a.means.locals d.write d.local d.words
             (step.calls_stay mode image built good facts left s m h p hp o d.names d.allowed d.words d.changes) a.means.calls;
       } in
-      let act' : Active mode image p (edges mode (body mode AtItem) 0) o.κ o.σ on.frame (switches_at mode image on.switching o.below) (first_fill on.fills) w b' cpu mem = record {
+      let act' : Active mode image p (edges mode (body mode AtItem) 0) o.κ o.σ on.frame (switches_at mode image on.switching o.below)
+          (first_fill on.fills) w b' cpu mem = record {
         stands = record {
           spot = body mode AtItem;
           k = 0;

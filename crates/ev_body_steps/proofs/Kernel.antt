@@ -396,7 +396,8 @@ module _ (mode : Mode) (image : Image) (built : IsBuilt image) (good : IsImage i
 
       at_body : (act : Stood on.own b c s.memory) (spot : BodySpot) (k ss : ℕ) → IsKernelSs mode ss → (extra v : ℕ → ℕ) (f : Flags)
           → k ≡ (block mode (body mode spot)).steps → At code (block mode (body mode spot)) k (env ss extra v f) c s.memory
-          → InSpot mode image (origin_of κ) spot (env ss extra v f) w b (first_fill on.fills) s.memory.words → length c.regs ≡ 16 → edges mode (body mode spot) k ≤ on.own
+          → InSpot mode image (origin_of κ) spot (env ss extra v f) w b (first_fill on.fills) s.memory.words → length c.regs ≡ 16 → edges mode
+          (body mode spot) k ≤ on.own
           → item_at (Some body') b.place ≡ Some ctx.item → Result
       at_body act AtTable k ss ss_is extra v f n at means long enough hi =
           at_table act ss ss_is extra v f (subst (λ j. At code (block mode (body mode AtTable)) j (env ss extra v f) c s.memory)
@@ -580,7 +581,8 @@ module _ (mode : Mode) (image : Image) (built : IsBuilt image) (good : IsImage i
         pick false q body is hi =
             at_the_end body is act (origin_of κ) refl mode refl act.stands.spot act.stands.k act.stands.ss act.stands.ss_is act.stands.extra act.stands.var
             act.stands.flags (let up = leb-false _ _ q in let down = act.stands.within in omega arith) act.stands.at
-            (over_as mode image κ act.stands.spot _ w b (first_fill on.fills) s.memory.words act.means) act.stands.long act.stands.enough (act.switches ∙ o.off) hi
+            (over_as mode image κ act.stands.spot _ w b (first_fill on.fills) s.memory.words act.means) act.stands.long act.stands.enough
+            (act.switches ∙ o.off) hi
 
   -- a step of a processor on which a body stands: an edge or a turn, and it writes no frame
   pub kernel_step : (b : BodyContext) (below : List BodyContext) → x.bodies ≡ b ∷ below → Result
@@ -588,7 +590,8 @@ module _ (mode : Mode) (image : Image) (built : IsBuilt image) (good : IsImage i
       (subst (λ bs. Chain mode image p on.own r to t on.frame on.switching on.fills bs (s.activations p) c s.memory) hb
       (step.chain mode image built good facts left s m h p hp))
     where
-      by_acts : (as' : List Activation) → s.activations p ≡ as' → Chain mode image p on.own r to t on.frame on.switching on.fills (b ∷ below) as' c s.memory → Result
+      by_acts : (as' : List Activation) → s.activations p ≡ as' → Chain mode image p on.own r to t on.frame on.switching on.fills
+          (b ∷ below) as' c s.memory → Result
       by_acts [] e k = absurd k
       by_acts (a ∷ as') e k = by_switch (blocks.switches k.6.stands.spot) refl
         where

@@ -364,7 +364,8 @@ module _ (mode : Mode) (image : Image) (built : IsBuilt image) (good : IsImage i
 
       -- behind the load of a number for RAX
       pub by_number : (act : Stood on.own b c s.memory) (ss : ℕ) → IsKernelSs mode ss → (extra v : ℕ → ℕ) (f : Flags) (n : ℕ)
-          → At code (block mode (body mode (AtNumber n))) 1 (env ss extra v f) c s.memory → InItem mode image (origin_of κ) (env ss extra v f) w b s.memory.words
+          → At code (block mode (body mode (AtNumber n))) 1 (env ss extra v f) c s.memory → InItem mode image (origin_of κ)
+          (env ss extra v f) w b s.memory.words
           → extra 20 ≡ item_place mode image b.body b.place → length c.regs ≡ 16 → (i : Item) → number_of (Some i) ≡ Some n
           → item_at (Some body') b.place ≡ Some i → Result
       unfolding number_of inside.at_number eval breaks_slots

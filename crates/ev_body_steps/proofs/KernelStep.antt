@@ -335,7 +335,8 @@ module _ (mode : Mode) (image : Image) (built : IsBuilt image) (good : IsImage i
     pub w : Processor
     pub interrupted : Interrupted mode image below w others
     pub under : Beneath mode image (keeps_cr2 mode image κ)
-        (λ v. Chain mode image p (body_edges mode image) r to t on.frame (chained mode image on.switching below) (rest_fills on.fills) below others v s.memory) w
+        (λ v. Chain mode image p (body_edges mode image) r to t on.frame (chained mode image on.switching below)
+        (rest_fills on.fills) below others v s.memory) w
     pub leads : Leads mode p κ on.frame w s.memory.words
     pub off : switches_at mode image on.switching below ≡ false  -- its exit, if it is in it, switches to no other task
     pub unfilled : first_fill on.fills ≡ None  -- it fills no call record
@@ -420,13 +421,16 @@ module _ (mode : Mode) (image : Image) (built : IsBuilt image) (good : IsImage i
 
     -- ---- what stands below
 
-    pub lower : Chain mode image p (body_edges mode image) r to t on.frame (chained mode image on.switching below) (rest_fills on.fills) below o.others w s.memory
+    pub lower : Chain mode image p (body_edges mode image) r to t on.frame (chained mode image on.switching below)
+        (rest_fills on.fills) below o.others w s.memory
     lower = over_any mode image
-        (λ v. Chain mode image p (body_edges mode image) r to t on.frame (chained mode image on.switching below) (rest_fills on.fills) below o.others v s.memory)
+        (λ v. Chain mode image p (body_edges mode image) r to t on.frame (chained mode image on.switching below)
+        (rest_fills on.fills) below o.others v s.memory)
         (keeps_cr2 mode image κ) w o.under
 
     pub kept : Kept mode image p w
-    kept = chain_kept mode image p (body_edges mode image) r to t on.frame (chained mode image on.switching below) (rest_fills on.fills) below o.others w s.memory lower
+    kept = chain_kept mode image p (body_edges mode image) r to t on.frame (chained mode image on.switching below)
+        (rest_fills on.fills) below o.others w s.memory lower
 
     pub fred_is : has_fred w ≡ is_fred mode
     fred_is = kept.fred
@@ -443,7 +447,8 @@ module _ (mode : Mode) (image : Image) (built : IsBuilt image) (good : IsImage i
     alone h =
         let none : below ≡ [] = stands_alone image b below (ap is_over_task o.kind ∙ h) in
         let k : Chain mode image p (body_edges mode image) r to t on.frame (chained mode image on.switching []) (rest_fills on.fills) [] o.others w s.memory
-        = subst (λ ds. Chain mode image p (body_edges mode image) r to t on.frame (chained mode image on.switching ds) (rest_fills on.fills) ds o.others w s.memory) none lower in
+        = subst (λ ds. Chain mode image p (body_edges mode image) r to t on.frame (chained mode image on.switching ds)
+            (rest_fills on.fills) ds o.others w s.memory) none lower in
         record {
           none = none;
           task = k.0;
@@ -455,8 +460,10 @@ module _ (mode : Mode) (image : Image) (built : IsBuilt image) (good : IsImage i
     -- where it returns, with any CR2 and NMIs open
     pub returns_to_below : (cr2 : ℕ) → Chain mode image p (body_edges mode image) r to t on.frame on.switching (rest_fills on.fills) below o.others
         (record w { cr2 = cr2; nmi_blocked = false }) s.memory
-    returns_to_below cr2 = chain_open mode image p (body_edges mode image) r to t on.frame on.switching (rest_fills on.fills) below o.others (record w { cr2 = cr2 }) s.memory
-        (subst (λ sw. Chain mode image p (body_edges mode image) r to t on.frame sw (rest_fills on.fills) below o.others (record w { cr2 = cr2 }) s.memory) (same below o.off)
+    returns_to_below cr2 = chain_open mode image p (body_edges mode image) r to t on.frame on.switching (rest_fills on.fills) below o.others
+        (record w { cr2 = cr2 }) s.memory
+        (subst (λ sw. Chain mode image p (body_edges mode image) r to t on.frame sw (rest_fills on.fills) below o.others (record w { cr2 = cr2 }) s.memory)
+        (same below o.off)
         (any_cr2 κ plain_kind _ o.under cr2))
       where
         same : (ds : List BodyContext) → switches_at mode image on.switching ds ≡ false → chained mode image on.switching ds ≡ on.switching
@@ -474,7 +481,8 @@ module _ (mode : Mode) (image : Image) (built : IsBuilt image) (good : IsImage i
     -- a step that writes its own stretch of the stack, and words that no block below knows
     pub below_stays : (names : List Named) → AreCallFree p names → UnknownTo below names → (words : NatMap ℕ) → Changes p σ names s.memory.words words
         → Beneath mode image (keeps_cr2 mode image κ)
-        (λ v. Chain mode image p (body_edges mode image) r to t on.frame (chained mode image on.switching below) (rest_fills on.fills) below o.others v (with_words s.memory words)) w
+        (λ v. Chain mode image p (body_edges mode image) r to t on.frame (chained mode image on.switching below) (rest_fills on.fills) below o.others v
+        (with_words s.memory words)) w
     below_stays names free unknown words changes =
         let z = narrow_task in
         let spared : AreSpared mode image p r below s.memory.words words
@@ -483,7 +491,8 @@ module _ (mode : Mode) (image : Image) (built : IsBuilt image) (good : IsImage i
         let all : AreKept p on.fills (b ∷ below) s.memory.words words = subst (λ bs. AreKept p on.fills bs s.memory.words words) o.bodies
         (contexts_stay σ narrow names free words changes) in
         beneath_as mode image (keeps_cr2 mode image κ) _ _ w
-        (λ v e k. chain_stays mode image p (body_edges mode image) (body_edges mode image) r to t on.frame (chained mode image on.switching below) (rest_fills on.fills) below o.others v s.memory words hp
+        (λ v e k. chain_stays mode image p (body_edges mode image) (body_edges mode image) r to t on.frame (chained mode image on.switching below)
+        (rest_fills on.fills) below o.others v s.memory words hp
         good.count.1 spared all.1 (rest_small on.fills (free_small x.records on.fills on.free))
         (marks_under mode image p below w v o.others s.memory.words words o.interrupted e) (omega arith) (omega arith) k) o.under
 
@@ -518,7 +527,8 @@ module _ (mode : Mode) (image : Image) (built : IsBuilt image) (good : IsImage i
         (subst (λ bs. Chained now t bs (o.last ∷ o.others) cpu (with_words s.memory words)) (sym o.bodies)
         (with_last b o.kind ctx now cpu words names sparing.free unknown changes act)) in
         let there : StandsOn mode image p (now + inner_edges (s.latches p)) (Behind (s.apics p) cpu words None) x
-        = own_after mode image p (left p) s (Behind (s.apics p) cpu words None) x σ cpu _ words x.tasks on.fills x.bodies now on small (four_tasks image good p hp)
+        = own_after mode image p (left p) s (Behind (s.apics p) cpu words None) x σ cpu _ words x.tasks on.fills x.bodies now on small
+            (four_tasks image good p hp)
         (moves (s.apics p) cpu words None) beside narrow names sparing changes (λ i d. refl) on.tasks
         (hb ∙ sym none_is_nmi) x.pending
         (apic_again mode image (s.apics p) _ x.pending x.bodies x.bodies (at_same s.apics p p (s.apics p) refl) (λ class. refl) on.apic)
@@ -575,7 +585,8 @@ module _ (mode : Mode) (image : Image) (built : IsBuilt image) (good : IsImage i
         → Chain mode image p now r to (tasks to) on.frame on.switching fs bs (went_activations image.processors s p cpu sent) cpu (with_words s.memory words)
         → went_shows p s cell.ins cpu words sent ≡ es → Result
     unfolding comes_to
-    visible_with unblocked cell hc hm hu a cpu words sent z he hb names free changes m' es ht tasks slots fs fills filled bs y quiet apic told now few goes_on hes =
+    visible_with unblocked cell hc hm hu a cpu words sent z he hb names free changes m' es ht tasks slots fs fills filled bs y quiet apic told now few
+        goes_on hes =
         let sender : abstract.Processor = processor z.machine p in
         let was : abstract.Processor = record x { mail = sender.mail; mail_nmi = sender.mail_nmi } in
         let x' : abstract.Processor = record was { tasks = tasks; slots = slots; resched = y.resched; bodies = bs } in
@@ -619,7 +630,8 @@ module _ (mode : Mode) (image : Image) (built : IsBuilt image) (good : IsImage i
         → (if ends_body c (Some cell.ins) then length x.bodies - 1
         else (if begins_body c (Some cell.ins) then suc (length x.bodies) else length x.bodies)) ≡ length bs
         → (now : ℕ) → now ≤ body_edges mode image
-        → Chain mode image p now r to (tasks to) on.frame on.switching fs bs (activations_by s p (s.activations p) cpu Stepped.Ran) cpu (with_words s.memory words)
+        → Chain mode image p now r to (tasks to) on.frame on.switching fs bs (activations_by s p (s.activations p) cpu Stepped.Ran) cpu
+        (with_words s.memory words)
         → shown_always p (bodies_on s p) c s.memory.words (Some cell.ins) ≡ es → Result
     visible unblocked cell hc hm hu cpu words he hb names free changes m' es ht tasks slots fs fills filled bs y quiet serving told now few goes_on hes =
         visible_with unblocked cell hc hm hu (s.apics p) cpu words None sends_nothing (he (s.apics p) (s.latches p)) hb
@@ -707,12 +719,14 @@ module _ (mode : Mode) (image : Image) (built : IsBuilt image) (good : IsImage i
     spot_names : (spot : Spot) (e : Env) → Means mode image κ spot e w b (first_fill on.fills) s.memory.words → UnknownTo below (names_at p spot)
     spot_names spot e means = by_kind κ o.kind means below o.kind
       where
-        by_kind : (κ : Kind) → kind_of image b below ≡ κ → Means mode image κ spot e w b (first_fill on.fills) s.memory.words → (ds : List BodyContext) → kind_of image b ds ≡ κ
+        by_kind : (κ : Kind) → kind_of image b below ≡ κ → Means mode image κ spot e w b (first_fill on.fills) s.memory.words → (ds : List BodyContext)
+            → kind_of image b ds ≡ κ
             → UnknownTo ds (names_at p spot)
         by_kind κ q means [] k = tt
         by_kind SystemCall q means (d ∷ ds) k = let z = ap length (stands_alone image b (d ∷ ds) (ap is_over_task k)) in absurd (omega arith)
         by_kind FromTask q means (d ∷ ds) k = let z = ap length (stands_alone image b (d ∷ ds) (ap is_over_task k)) in absurd (omega arith)
-        by_kind FromBody q means (d ∷ ds) k = subst (λ y. UnknownTo (d ∷ ds) (names_if y p)) (sym (body_writes mode image spot e w b (first_fill on.fills) s.memory.words means)) refl
+        by_kind FromBody q means (d ∷ ds) k = subst (λ y. UnknownTo (d ∷ ds) (names_if y p))
+            (sym (body_writes mode image spot e w b (first_fill on.fills) s.memory.words means)) refl
         by_kind NmiFromTask q means (d ∷ ds) k = absurd means
         by_kind NmiFromBody q means (d ∷ ds) k = absurd means
 

@@ -250,7 +250,8 @@ module _ (mode : Mode) (image : Image) (built : IsBuilt image) (good : IsImage i
 
     -- the processor to which it returns runs the next task
     lower : Chain mode image p (body_edges mode image) r to (x.tasks to) on.frame false (rest_fills on.fills) [] [] w s.memory
-    lower = over_any mode image (λ v. Chain mode image p (body_edges mode image) r to (x.tasks to) on.frame false (rest_fills on.fills) [] [] v s.memory) _ w k.4
+    lower = over_any mode image (λ v. Chain mode image p (body_edges mode image) r to (x.tasks to) on.frame false
+        (rest_fills on.fills) [] [] v s.memory) _ w k.4
 
     under : RunsTask mode image p to (x.tasks to) w
     under = lower.0

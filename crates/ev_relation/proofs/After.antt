@@ -363,11 +363,13 @@ pub latch_parts : (layer : Layer) (f : Frame) (nmi latch blocked x : Bool) → L
 latch_parts Plain Held nmi latch blocked x h = h
 
 module _ (mode : Mode) (image : Image) where
-  pub as_runs : (layer : Layer) (p left more r to : ℕ) (t : Task) (f : Frame) (sw : Bool) (fs : List (Option Filling)) (bs : List BodyContext) (as' : List Activation) (c : Processor)
+  pub as_runs : (layer : Layer) (p left more r to : ℕ) (t : Task) (f : Frame) (sw : Bool) (fs : List (Option Filling)) (bs : List BodyContext)
+      (as' : List Activation) (c : Processor)
       (m : Memory) → Chain mode image p left r to t f sw fs bs as' c m → Runs mode image p left more r to t layer f sw fs bs as' c m
   as_runs Plain p left more r to t f sw fs bs as' c m h = h
 
-  pub as_chain : (layer : Layer) (p left more r to : ℕ) (t : Task) (f : Frame) (sw : Bool) (fs : List (Option Filling)) (bs : List BodyContext) (as' : List Activation) (c : Processor)
+  pub as_chain : (layer : Layer) (p left more r to : ℕ) (t : Task) (f : Frame) (sw : Bool) (fs : List (Option Filling)) (bs : List BodyContext)
+      (as' : List Activation) (c : Processor)
       (m : Memory) → Runs mode image p left more r to t layer f sw fs bs as' c m → Chain mode image p left r to t f sw fs bs as' c m
   as_chain Plain p left more r to t f sw fs bs as' c m h = h
 
@@ -508,7 +510,8 @@ module _ (mode : Mode) (image : Image) where
   -- its slots are as they were
   pub own_after : (p left : ℕ) (s s' : System) (x : abstract.Processor) (σ : Seat) (cpu : Processor) (as' : List Activation) (words : NatMap ℕ)
       (ts : NatMap Task) (fs : List (Option Filling)) (bs : List BodyContext) (own : ℕ) (on : StandsOn mode image p left s x) → p < 32
-      → length (tasks_of image p) ≤ 4 → Moves p s s' cpu as' words → ((i : ℕ) → (i ≡ on.returning → ⊥) → IsBeside mode σ i) → σ.stack < 7 → (names : List Named) → AreSparing p names
+      → length (tasks_of image p) ≤ 4 → Moves p s s' cpu as' words → ((i : ℕ) → (i ≡ on.returning → ⊥) → IsBeside mode σ i) → σ.stack < 7 →
+      (names : List Named) → AreSparing p names
       → Changes p σ names s.memory.words words
       → ((i : ℕ) → (i ≡ on.returning → ⊥) → ts i ≡ x.tasks i) → ((i : ℕ) → i < length (tasks_of image p) → IsTask (ts i))
       → cpu.nmi_blocked ≡ list_any (is_nmi_body image) bs
@@ -602,7 +605,8 @@ module _ (mode : Mode) (image : Image) where
       words_same : AreSameWords p σ names hp hs s.memory.words words good_names.written changes q
       words_same = others_same p σ names hp hs s.memory.words words good_names.written changes q hq (good_names.own q d)
 
-      chain : Chain mode image q on.own x.running on.returning (x.tasks on.returning) on.frame on.switching on.fills x.bodies (s.activations q) (s.cpus q) s.memory
+      chain : Chain mode image q on.own x.running on.returning (x.tasks on.returning) on.frame on.switching on.fills x.bodies (s.activations q)
+          (s.cpus q) s.memory
       chain = as_chain on.layer q on.own on.more x.running on.returning (x.tasks on.returning) on.frame on.switching on.fills x.bodies (s.activations q)
           (s.cpus q) s.memory
           on.runs
@@ -637,8 +641,8 @@ module _ (mode : Mode) (image : Image) where
 
   -- ---- what all share
 
-  -- Of the processors the machines m and m' differ in p, which is x in m', in nothing of its mail, and of others in calls alone; and the words are those of what
-  -- m' has of user memory, pages, cells and queues.
+  -- Of the processors the machines m and m' differ in p, which is x in m', in nothing of its mail, and of others in calls alone;
+  -- and the words are those of what m' has of user memory, pages, cells and queues.
   pub record Becomes (p : ℕ) (m m' : Machine) (x : abstract.Processor) (words : NatMap ℕ) : Type 0 where
     pub own : processor m' p ≡ x
     pub others : (q : ℕ) → (q == p) ≡ false
@@ -712,7 +716,8 @@ module _ (mode : Mode) (image : Image) where
             (λ e. subst (λ n. StandsOn mode image q n s' (processor m' q))
             (sym (ap (λ b. elim b [ true ↦ now | false ↦ most_edges mode image ]) e.0))
             (subst (StandsOn mode image q (most_edges mode image) s') (sym (a.others q e.0))
-            (other_stays p q (left q) s s' (processor m q) σ cpu as' words hp lq good.count.1 (legal_few image good accepted m q h.legal) (four q lq) e.1 e.0 mv hs
+            (other_stays p q (left q) s s' (processor m q) σ cpu as' words hp lq good.count.1 (legal_few image good accepted m q h.legal)
+            (four q lq) e.1 e.0 mv hs
             names good_names changes (h.each q lq) (processor m' q).records (processor m' q).queue (others q lq e.0))))
             (eqb_tells q p);
       }

@@ -184,7 +184,8 @@ plain_seat mode image r b (d ∷ ds) h = on_body (plain_seat mode image r d ds h
 
 -- ---- what depends on the kind alone
 
-pub means_by : (mode : Mode) (image : Image) (κ : Kind) → is_over_task κ ≡ true → (spot : Spot) (e : Env) (w : Processor) (b : BodyContext) (g : Option Filling) (m : NatMap ℕ)
+pub means_by : (mode : Mode) (image : Image) (κ : Kind) → is_over_task κ ≡ true → (spot : Spot) (e : Env) (w : Processor) (b : BodyContext)
+    (g : Option Filling) (m : NatMap ℕ)
     → OverTask mode image mode spot e w b g m → Means mode image κ spot e w b g m
 means_by mode image SystemCall a spot e w b g m h = h
 means_by mode image FromTask a spot e w b g m h = h
@@ -192,7 +193,8 @@ means_by mode image FromBody a spot e w b g m h = let clash : false ≡ true = a
 means_by mode image NmiFromTask a spot e w b g m h = let clash : false ≡ true = a in absurd (cc)
 means_by mode image NmiFromBody a spot e w b g m h = let clash : false ≡ true = a in absurd (cc)
 
-pub means_of : (mode : Mode) (image : Image) (κ : Kind) → is_over_task κ ≡ true → (spot : Spot) (e : Env) (w : Processor) (b : BodyContext) (g : Option Filling) (m : NatMap ℕ)
+pub means_of : (mode : Mode) (image : Image) (κ : Kind) → is_over_task κ ≡ true → (spot : Spot) (e : Env) (w : Processor) (b : BodyContext)
+    (g : Option Filling) (m : NatMap ℕ)
     → Means mode image κ spot e w b g m → OverTask mode image mode spot e w b g m
 means_of mode image SystemCall a spot e w b g m h = h
 means_of mode image FromTask a spot e w b g m h = h
@@ -228,7 +230,8 @@ level_of mode NmiFromTask w a = refl
 level_of mode NmiFromBody w a = let clash : false ≡ true = a in absurd (cc)
 
 -- the chain of one activation
-pub over_kind : (mode : Mode) (image : Image) (p left r to : ℕ) (t : Task) (f : Frame) (sw : Bool) (g : Option Filling) (w : Processor) (b : BodyContext) (c : Processor)
+pub over_kind : (mode : Mode) (image : Image) (p left r to : ℕ) (t : Task) (f : Frame) (sw : Bool) (g : Option Filling) (w : Processor) (b : BodyContext)
+    (c : Processor)
     (m : Memory)
     (κ : Kind) → is_over_task κ ≡ true → RunsTask mode image p to t w
     → Active mode image p left κ (record { stack = r; used = 0 }) f sw g w b c m
@@ -260,7 +263,8 @@ saved_body mode image FromTask a e w s = let clash : false ≡ true = a in absur
 saved_body mode image NmiFromTask a e w s = let clash : false ≡ true = a in absurd (cc)
 saved_body mode image NmiFromBody a e w s = let clash : false ≡ true = a in absurd (cc)
 
-pub leaves_task : (mode : Mode) (image : Image) (κ : Kind) → is_over_task κ ≡ true → (spot : Spot) (e : Env) (w : Processor) (b : BodyContext) (g : Option Filling) (m : NatMap ℕ)
+pub leaves_task : (mode : Mode) (image : Image) (κ : Kind) → is_over_task κ ≡ true → (spot : Spot) (e : Env) (w : Processor) (b : BodyContext)
+    (g : Option Filling) (m : NatMap ℕ)
     → (Leaving mode image UserCode e w b → OverTask mode image mode spot e w b g m) → Leaving mode image (origin_of κ) e w b → Means mode image κ spot e w b g m
 leaves_task mode image SystemCall a spot e w b g m k l = k l
 leaves_task mode image FromTask a spot e w b g m k l = k l
@@ -268,8 +272,10 @@ leaves_task mode image FromBody a spot e w b g m k l = let clash : false ≡ tru
 leaves_task mode image NmiFromTask a spot e w b g m k l = let clash : false ≡ true = a in absurd (cc)
 leaves_task mode image NmiFromBody a spot e w b g m k l = let clash : false ≡ true = a in absurd (cc)
 
-pub leaves_body : (mode : Mode) (image : Image) (κ : Kind) → is_over_body κ ≡ true → (spot : Spot) (e : Env) (w : Processor) (b : BodyContext) (g : Option Filling) (m : NatMap ℕ)
-    → (Leaving mode image KernelCode e w b → OverBody mode image mode spot e w b g m) → Leaving mode image (origin_of κ) e w b → Means mode image κ spot e w b g m
+pub leaves_body : (mode : Mode) (image : Image) (κ : Kind) → is_over_body κ ≡ true → (spot : Spot) (e : Env) (w : Processor) (b : BodyContext)
+    (g : Option Filling) (m : NatMap ℕ)
+    → (Leaving mode image KernelCode e w b → OverBody mode image mode spot e w b g m) → Leaving mode image (origin_of κ) e w b
+    → Means mode image κ spot e w b g m
 leaves_body mode image FromBody a spot e w b g m k l = k l
 leaves_body mode image SystemCall a spot e w b g m k l = let clash : false ≡ true = a in absurd (cc)
 leaves_body mode image FromTask a spot e w b g m k l = let clash : false ≡ true = a in absurd (cc)
@@ -281,7 +287,8 @@ abbrev pub OverOf : Mode → Image → Origin → Mode → Spot → Env → Proc
 OverOf mode image UserCode m spot e w b g words = OverTask mode image m spot e w b g words
 OverOf mode image KernelCode m spot e w b g words = OverBody mode image m spot e w b g words
 
-pub means_as : (mode : Mode) (image : Image) (κ : Kind) → is_plain_kind κ ≡ true → (spot : Spot) (e : Env) (w : Processor) (b : BodyContext) (g : Option Filling) (m : NatMap ℕ)
+pub means_as : (mode : Mode) (image : Image) (κ : Kind) → is_plain_kind κ ≡ true → (spot : Spot) (e : Env) (w : Processor) (b : BodyContext)
+    (g : Option Filling) (m : NatMap ℕ)
     → OverOf mode image (origin_of κ) mode spot e w b g m → Means mode image κ spot e w b g m
 means_as mode image SystemCall a spot e w b g m h = h
 means_as mode image FromTask a spot e w b g m h = h

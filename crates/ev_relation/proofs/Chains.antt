@@ -68,7 +68,8 @@ module _ (mode : Mode) (image : Image) where
     stacks = ap (λ (c : Processor). length (drop 1 c.msrs.rsp)) h.is;
   }
 
-  pub chain_kept : (p left r to : ℕ) (t : Task) (f : Frame) (sw : Bool) (fs : List (Option Filling)) (bs : List BodyContext) (as' : List Activation) (c : Processor) (m : Memory)
+  pub chain_kept : (p left r to : ℕ) (t : Task) (f : Frame) (sw : Bool) (fs : List (Option Filling)) (bs : List BodyContext) (as' : List Activation)
+      (c : Processor) (m : Memory)
       → Chain mode image p left r to t f sw fs bs as' c m → Kept p c
   chain_kept p left r to t f sw fs [] as' c m h = task_kept p to t c h.0
   chain_kept p left r to t f sw fs (b ∷ below) [] c m h = absurd h
@@ -76,7 +77,8 @@ module _ (mode : Mode) (image : Image) where
       let k : Kept p h.0 = chain_kept p (body_edges mode image) r to t f (chained mode image sw below) (rest_fills fs) below as' h.0 m
       (over_any mode image (λ v. Chain mode image p (body_edges mode image) r to t f (chained mode image sw below) (rest_fills fs) below as' v m)
       (keeps_cr2 mode image (kind_of image b below)) h.0 h.4) in
-      kept_by p (kind_of image b below) (means_plain mode image (kind_of image b below) h.6.stands.spot _ h.0 b (first_fill fs) m.words h.6.means) h.6.stands.ss h.0 c
+      kept_by p (kind_of image b below) (means_plain mode image (kind_of image b below) h.6.stands.spot _ h.0 b
+          (first_fill fs) m.words h.6.means) h.6.stands.ss h.0 c
       h.6.stands.at.agrees.rest k
     where
       kept_by : (p : ℕ) (κ : Kind) → is_plain_kind κ ≡ true → (ss : ℕ) (w c : Processor) → untracked c ≡ rest_in mode κ ss w → Kept p w → Kept p c
@@ -91,7 +93,8 @@ module _ (mode : Mode) (image : Image) where
       }
 
   -- none is an NMI's
-  pub chain_plain : (p left r to : ℕ) (t : Task) (f : Frame) (sw : Bool) (fs : List (Option Filling)) (bs : List BodyContext) (as' : List Activation) (c : Processor) (m : Memory)
+  pub chain_plain : (p left r to : ℕ) (t : Task) (f : Frame) (sw : Bool) (fs : List (Option Filling)) (bs : List BodyContext) (as' : List Activation)
+      (c : Processor) (m : Memory)
       → Chain mode image p left r to t f sw fs bs as' c m → ArePlain image bs
   chain_plain p left r to t f sw fs [] as' c m h = tt
   chain_plain p left r to t f sw fs (b ∷ below) [] c m h = absurd h
@@ -104,11 +107,13 @@ module _ (mode : Mode) (image : Image) where
 
   -- ---- an activation runs with IF as its context has it
 
-  pub active_masked : (p left : ℕ) (κ : Kind) (σ : Seat) (f : Frame) (sw : Bool) (g : Option Filling) (w : Processor) (b : BodyContext) (c : Processor) (m : Memory)
+  pub active_masked : (p left : ℕ) (κ : Kind) (σ : Seat) (f : Frame) (sw : Bool) (g : Option Filling) (w : Processor) (b : BodyContext) (c : Processor)
+      (m : Memory)
       → Active mode image p left κ σ f sw g w b c m → interrupts_on c ≡ b.interrupts
   active_masked p left κ σ f sw g w b c m a = at_interrupts (code_table mode image) (block mode a.stands.spot) a.stands.k _ c m a.stands.at ∙ a.stands.masked
 
-  pub chain_masked : (p left r to : ℕ) (t : Task) (f : Frame) (sw : Bool) (fs : List (Option Filling)) (b : BodyContext) (below : List BodyContext) (as' : List Activation) (c : Processor)
+  pub chain_masked : (p left r to : ℕ) (t : Task) (f : Frame) (sw : Bool) (fs : List (Option Filling)) (b : BodyContext) (below : List BodyContext)
+      (as' : List Activation) (c : Processor)
       (m : Memory) → Chain mode image p left r to t f sw fs (b ∷ below) as' c m → interrupts_on c ≡ b.interrupts
   chain_masked p left r to t f sw fs b below [] c m h = absurd h
   chain_masked p left r to t f sw fs b below (a ∷ as') c m h = active_masked p left _ _ f _ (first_fill fs) h.0 b c m h.6
@@ -138,7 +143,8 @@ module _ (mode : Mode) (image : Image) where
     };
   }
 
-  pub chain_open : (p left r to : ℕ) (t : Task) (f : Frame) (sw : Bool) (fs : List (Option Filling)) (bs : List BodyContext) (as' : List Activation) (c : Processor) (m : Memory)
+  pub chain_open : (p left r to : ℕ) (t : Task) (f : Frame) (sw : Bool) (fs : List (Option Filling)) (bs : List BodyContext) (as' : List Activation)
+      (c : Processor) (m : Memory)
       → Chain mode image p left r to t f sw fs bs as' c m → Chain mode image p left r to t f sw fs bs as' (record c { nmi_blocked = false }) m
   chain_open p left r to t f sw fs [] as' c m h =
       (record { is = ap (λ (y : Processor). record y { nmi_blocked = false }) h.0.is; task = h.0.task }, h.1, h.2, h.3)

@@ -231,19 +231,24 @@ module _ (mode : Mode) (image : Image) (facts : Facts mode image) where
       body_outside false IdtFrame KernelCode s k e w c mem b g words ctx z l at h refl refl
   over_body_outside m _ k e w c mem b g words ctx z l at h = absurd h
 
-  pub active_outside : (p left : ℕ) (κ : Kind) (σ : Seat) (f : Frame) (sw : Bool) (g : Option Filling) (w : Processor) (b : BodyContext) (c : Processor) (m : Memory)
+  pub active_outside : (p left : ℕ) (κ : Kind) (σ : Seat) (f : Frame) (sw : Bool) (g : Option Filling) (w : Processor) (b : BodyContext) (c : Processor)
+      (m : Memory)
       → IsContext mode image b → Active mode image p left κ σ f sw g w b c m → is_in_repeat c.rip ≡ false
-  active_outside p left SystemCall σ f sw g w b c m ctx a = over_task_outside mode a.stands.spot a.stands.k _ w c m b g m.words ctx refl a.stands.within a.stands.at
+  active_outside p left SystemCall σ f sw g w b c m ctx a = over_task_outside mode a.stands.spot a.stands.k _ w c m b g m.words ctx refl a.stands.within
+      a.stands.at
       a.means
-  active_outside p left FromTask σ f sw g w b c m ctx a = over_task_outside mode a.stands.spot a.stands.k _ w c m b g m.words ctx refl a.stands.within a.stands.at
+  active_outside p left FromTask σ f sw g w b c m ctx a = over_task_outside mode a.stands.spot a.stands.k _ w c m b g m.words ctx refl a.stands.within
+      a.stands.at
       a.means
-  active_outside p left FromBody σ f sw g w b c m ctx a = over_body_outside mode a.stands.spot a.stands.k _ w c m b g m.words ctx refl a.stands.within a.stands.at
+  active_outside p left FromBody σ f sw g w b c m ctx a = over_body_outside mode a.stands.spot a.stands.k _ w c m b g m.words ctx refl a.stands.within
+      a.stands.at
       a.means
   active_outside p left NmiFromTask σ f sw g w b c m ctx a = absurd a.means
   active_outside p left NmiFromBody σ f sw g w b c m ctx a = absurd a.means
 
   -- as many bodies as contexts
-  counted : (p left r to : ℕ) (t : Task) (f : Frame) (sw : Bool) (fs : List (Option Filling)) (bs : List BodyContext) (as' : List Activation) (c : Processor) (m : Memory)
+  counted : (p left r to : ℕ) (t : Task) (f : Frame) (sw : Bool) (fs : List (Option Filling)) (bs : List BodyContext) (as' : List Activation)
+      (c : Processor) (m : Memory)
       → Chain mode image p left r to t f sw fs bs as' c m → length (filter has_body (interrupted c as')) ≡ length bs
   counted p left r to t f sw fs [] as' c m h = ap (λ xs. length (filter has_body (interrupted c xs))) h.2
   counted p left r to t f sw fs (b ∷ below) [] c m h = absurd h
@@ -273,7 +278,8 @@ module _ (mode : Mode) (image : Image) (facts : Facts mode image) where
           either false = refl
 
   pub stands_depth : (p left : ℕ) (s : System) (x : abstract.Processor) → StandsOn mode image p left s x → bodies_on s p ≡ length x.bodies
-  stands_depth p left s x o = counted p o.own x.running o.returning (x.tasks o.returning) o.frame o.switching o.fills x.bodies (s.activations p) (s.cpus p) s.memory
+  stands_depth p left s x o = counted p o.own x.running o.returning (x.tasks o.returning) o.frame o.switching o.fills x.bodies (s.activations p)
+      (s.cpus p) s.memory
       (as_chain mode image o.layer p o.own o.more x.running o.returning (x.tasks o.returning) o.frame o.switching o.fills x.bodies (s.activations p)
       (s.cpus p) s.memory o.runs)
 

@@ -610,7 +610,8 @@ call_inside fred layout BehindNext h = refl
 call_inside fred layout (AtOffset o e) h = h
 call_inside fred layout _ h = let clash : false ≡ true = h in absurd (cc)
 
-pub body_inside : (fred : Bool) (layout : Layout) (s : BodySpot) → is_body_spot s ≡ true → is_in_code s ≡ true → every is_in_item (body_block fred layout s) ≡ true
+pub body_inside : (fred : Bool) (layout : Layout) (s : BodySpot) → is_body_spot s ≡ true → is_in_code s ≡ true → every is_in_item
+    (body_block fred layout s) ≡ true
 unfolding spelling four_bytes
 body_inside fred layout AtItem h i = refl
 body_inside fred layout (AtNumber n) h i = refl

@@ -341,7 +341,8 @@ module _ (mode : Mode) (image : Image) where
       masked = a.stands.masked;
       within = subst (λ (B : Block). a.stands.k ≤ B.steps) (sym (weaken_block mode a.stands.spot)) a.stands.within;
       enough = weaken_edges mode a.stands.spot a.stands.k left left' l more a.stands.enough;
-      at = subst (λ B. At (code_table mode image) B a.stands.k (here mode q κ σ a.stands.ss w a.stands.extra a.stands.var a.stands.flags) c (with_words m words))
+      at = subst (λ B. At (code_table mode image) B a.stands.k (here mode q κ σ a.stands.ss w a.stands.extra a.stands.var a.stands.flags) c
+          (with_words m words))
           (sym (weaken_block mode a.stands.spot)) (by_switch (blocks.switches a.stands.spot) refl (fills_record a.stands.spot) refl);
       long = a.stands.long;
     };
@@ -396,7 +397,8 @@ module _ (mode : Mode) (image : Image) where
     h.2,
     h.3,
     beneath_as mode image (keeps_cr2 mode image (kind_of image b below)) _ _ h.0
-        (λ v e k. chain_stays q (body_edges mode image) (body_edges mode image) r to t f (chained mode image sw below) (rest_fills fs) below as' v m words hq few
+        (λ v e k. chain_stays q (body_edges mode image) (body_edges mode image) r to t f (chained mode image sw below)
+        (rest_fills fs) below as' v m words hq few
         spares.1 kept.1 (rest_small fs small) (marks_under q below h.0 v as' m.words words h.3 e) (omega arith) (omega arith) k) h.4,
     leads_again q (kind_of image b below) f h.0 m.words words h.5,
     active_stays (kind_of image b below) q left left' (seat_of mode image r (b ∷ below)) f (switches_at mode image sw below) (first_fill fs) h.0 b c m words

@@ -44,7 +44,8 @@ module _ (mode : Mode) (image : Image) where
   pub at_rest : (p left : ℕ) (s : System) (x : abstract.Processor) (on : StandsOn mode image p left s x) → x.bodies ≡ [] → AtRest p left s x on
   at_rest p left s x on e =
       let h : Chain mode image p on.own x.running on.returning (x.tasks on.returning) on.frame on.switching on.fills [] (s.activations p) (s.cpus p) s.memory
-      = subst (λ bs. Chain mode image p on.own x.running on.returning (x.tasks on.returning) on.frame on.switching on.fills bs (s.activations p) (s.cpus p) s.memory) e
+      = subst (λ bs. Chain mode image p on.own x.running on.returning (x.tasks on.returning) on.frame on.switching on.fills bs (s.activations p)
+          (s.cpus p) s.memory) e
       (as_chain mode image on.layer p on.own on.more x.running on.returning (x.tasks on.returning) on.frame on.switching on.fills x.bodies (s.activations p)
       (s.cpus p) s.memory
       on.runs) in
@@ -60,7 +61,8 @@ module _ (mode : Mode) (image : Image) where
       → p < image.processors → Tells mode image s m p
   stands_tells given accepted facts left s m r p lt =
       let on = r.each p lt in
-      let chain = as_chain mode image on.layer p on.own on.more (processor m p).running on.returning ((processor m p).tasks on.returning) on.frame on.switching on.fills
+      let chain = as_chain mode image on.layer p on.own on.more (processor m p).running on.returning
+          ((processor m p).tasks on.returning) on.frame on.switching on.fills
       (processor m p).bodies (s.activations p) (s.cpus p) s.memory on.runs in
       let kept : Kept mode image p (s.cpus p) = chain_kept mode image p on.own _ _ _ _ _ _ (processor m p).bodies _ (s.cpus p) s.memory chain in
       let rest = at_rest p (left p) s (processor m p) on in

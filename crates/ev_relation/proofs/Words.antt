@@ -167,7 +167,8 @@ abbrev pub IsOffCalls : ℕ → Type 0
 IsOffCalls o = (o < 0x30) ⊎ ((0x40 ≤ o) × (o < 0x800))
 
 -- the head of a queue, or a word of a record, lies elsewhere, whoever it belongs to
-off_calls : (p q o lo : ℕ) → o < 0x10000 → IsOffCalls o → (lo ≡ 0x30) ⊎ ((0x800 ≤ lo) × (lo + 8 ≤ 0x10000)) → Outside (pcpu p + lo) (pcpu p + lo + 8) (pcpu q + o)
+off_calls : (p q o lo : ℕ) → o < 0x10000 → IsOffCalls o → (lo ≡ 0x30) ⊎ ((0x800 ≤ lo) × (lo + 8 ≤ 0x10000)) → Outside (pcpu p + lo) (pcpu p + lo + 8)
+    (pcpu q + o)
 off_calls p q o lo h (inl l) (inl e) = area_word p q lo o (omega arith) h (inl (omega arith))
 off_calls p q o lo h (inr l) (inl e) = let k = l.0 in area_word p q lo o (omega arith) h (inr (omega arith))
 off_calls p q o lo h (inl l) (inr r) = let k = r.0 in let k' = r.1 in area_word p q lo o (omega arith) h (inl (omega arith))

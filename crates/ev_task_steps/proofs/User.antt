@@ -316,8 +316,10 @@ module _ (mode : Mode) (image : Image) (formed : IsImage image) (built : IsBuilt
       (subst (λ y. ApicIs mode image y set (b ∷ []))
       (sym (delivery_apic image.processors p p (after_step s p r) begun.event begun.frame ∙ at_same s.apics p p a refl)) apic)
       (omega arith) (tt, tt) (λ k. refl)
-      (λ q e. subst (λ ys. Chain mode image p entry_edges n q back u.on.frame u.on.switching (None ∷ []) (b ∷ []) ys d (with_words s.memory words')) (sym begins_last)
-      (subst (λ z. Chain mode image p entry_edges n z back u.on.frame u.on.switching (None ∷ []) (b ∷ []) (last ∷ []) d (with_words s.memory words')) (sym e) chain)) in
+      (λ q e. subst (λ ys. Chain mode image p entry_edges n q back u.on.frame u.on.switching (None ∷ []) (b ∷ []) ys d (with_words s.memory words'))
+      (sym begins_last)
+      (subst (λ z. Chain mode image p entry_edges n z back u.on.frame u.on.switching (None ∷ []) (b ∷ []) (last ∷ []) d (with_words s.memory words'))
+      (sym e) chain)) in
       let shallow : bodies_on s p ≡ 0 = stands_depth mode image facts p (left p) s x u.on ∙ ap length hb in
       let only : OnlyTask s p n = record { none = u.rest.none; user = u.at_cpl3; task_is = current.current } in
       record {

@@ -136,7 +136,8 @@ module _ (mode : Mode) (image : Image) (formed : IsImage image) (built : IsBuilt
 
   -- The task is another, and these bodies stand on it, of which the last one's activation was begun; all else is as it was.
   pub user_after : (left : NatMap ℕ) (s s' : System) (m : Machine) (p : ℕ) (lt : p < image.processors) (h : Stands mode image left s m)
-      (u : AtUser left s m p) (cpu : Processor) (as' : List Activation) (words : NatMap ℕ) (t : Task) (fs : List (Option Filling)) (bs : List BodyContext) (set : NatSet)
+      (u : AtUser left s m p) (cpu : Processor) (as' : List Activation) (words : NatMap ℕ) (t : Task) (fs : List (Option Filling)) (bs : List BodyContext)
+      (set : NatSet)
       (own : ℕ) → (processor m p).bodies ≡ []
       → Moves p s s' cpu as' words → (names : List Named) → AreSparing p names
       → Changes p (record { stack = (processor m p).running; used = 0 }) names s.memory.words words
@@ -269,7 +270,8 @@ module _ (mode : Mode) (image : Image) (formed : IsImage image) (built : IsBuilt
         turns = i.turns ∙ ap (task_step image m p) goes;
         seen = u.seen;
         now_left = 0 + inner_edges (s.latches p);
-        stands = subst (λ z. Stands mode image (left_behind mode image p (0 + inner_edges (s.latches p))) s' (with_processor (record m { words = memory }) p z)) same
+        stands = subst (λ z. Stands mode image (left_behind mode image p (0 + inner_edges (s.latches p))) s'
+            (with_processor (record m { words = memory }) p z)) same
             after.1;
         shows = λ told. ap (λ b. if b then [] else told) u.at_cpl3;
         counts = stands_depth mode image facts p _ s' _ after.0 ∙ sym (stands_depth mode image facts p (left p) s x u.on ∙ ap length hb)
