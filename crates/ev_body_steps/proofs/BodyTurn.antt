@@ -34,7 +34,7 @@ use Rattle.ev_abstract.specs.Machine as abstract
 use Rattle.ev_abstract.specs.Run.{turn}
 use Rattle.ev_law.specs.Legal.{Legal, AreLegal, knows}
 use Rattle.ev_listing.specs.Marks.{Always}
-use Rattle.ev_concrete.specs.ConcreteRun.{System, Activation, marks_of, acted, after_step, activations_by, interrupted, frame_size, starts_inner, is_visible}
+use Rattle.ev_concrete.specs.ConcreteRun.{System, Activation, marks_of, acted, after_step, activations_by, interrupted, frame_size, starts_inner, is_seen, is_visible}
 use Rattle.ev_concrete.specs.Depth.{is_in_repeat, bodies_on}
 use Rattle.ev_concrete.specs.LiveWords.{area_bytes}
 use Rattle.ev_concrete.specs.Shown.{shown_by, shown_event, told_event, told_rip, is_refused, saved_rip, key_of}
@@ -661,7 +661,8 @@ module _ (mode : Mode) (image : Image) (built : IsBuilt image) (good : IsImage i
                 (step.fetches mode image built good facts left s m h p hp) y.is first at.kernel
                 ∙ y.runs (s.apics p) (s.latches p),
           );
-          seen = seen (marks_of mode image) s p first at.kernel (facts.marks was.rip y.cell y.is ∙ y.marked);
+          seen = seen (marks_of mode image) s p first at.kernel
+              (ap (λ k. is_seen k s was) (facts.marks was.rip y.cell y.is ∙ y.marked));
           outer = ap (starts_inner s p) first;
           set = (processor m p).pending;
           apic_is = apic_stays;

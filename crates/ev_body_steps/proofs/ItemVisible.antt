@@ -205,7 +205,7 @@ module _ (mode : Mode) (image : Image) (built : IsBuilt image) (good : IsImage i
     pub slots : NatMap ℕ
     pub makes : step.Makes mode image built good facts left s m h p hp o sends.machine machine words tasks slots
         (record (behind write place status) { service = service; interrupts = interrupts } ∷ o.below)
-    pub shows : went_shows p s cell.ins (gone c (regs_with c.regs write) flags (at place)) words sent ≡ entries
+    pub shows : went_shows p s Always cell.ins (gone c (regs_with c.regs write) flags (at place)) words sent ≡ entries
 
   pub visible : (ss : ℕ) (extra v : ℕ → ℕ) (f : Flags) (a : AtVisible ss extra v f) → Does ss extra v f a → Simulated mode image left s m p
   visible ss extra v f a d =

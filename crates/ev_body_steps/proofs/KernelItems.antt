@@ -30,7 +30,7 @@ use Rattle.ev_symbolic.proofs.Values.{and_left, and_right}
 use Rattle.ev_abstract.specs.Machine.{Machine, processor, with_processor, task}
 use Rattle.ev_abstract.specs.Machine as abstract
 use Rattle.ev_abstract.specs.Run.{item_at}
-use Rattle.ev_concrete.specs.ConcreteRun.{System, is_return}
+use Rattle.ev_concrete.specs.ConcreteRun.{System, is_seen, is_return}
 use Rattle.ev_built.specs.Built.{IsBuilt, is_built_item}
 use Rattle.ev_symbolic.specs.Value.{M, X}
 use Rattle.ev_symbolic.specs.State.{Block}
@@ -241,7 +241,7 @@ module _ (mode : Mode) (image : Image) (built : IsBuilt image) (good : IsImage i
           let to_task : (is_over_task κ ≡ true → x.resched ≡ false) → Result = λ calm.
           let y : OpensExit mode p κ σ ss w extra v f c cpu s.memory = exit_from calm act ss extra v f a means.saved in
           let falls = y.fewer in
-          step.edge mode image built good facts left s m h p hp o rc.cell hc rc.unmarked (ap (λ i. is_return (Some i)) rc.jump) hu
+          step.edge mode image built good facts left s m h p hp o rc.cell hc (ap (λ k. is_seen k s c) rc.unmarked) (ap (λ i. is_return (Some i)) rc.jump) hu
           (step.outside mode image built good facts left s m h p hp o act) cpu s.memory.words does blocked [] (none_spares p) refl
           (step.unknown_none below) (λ n far far'. refl) (edges mode y.spot 0) (omega arith)
           (record {

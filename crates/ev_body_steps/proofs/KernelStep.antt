@@ -29,8 +29,8 @@ use Rattle.ev_abstract.specs.declared.entry.Entry.{Entry}
 use Rattle.ev_abstract.specs.Machine.{Machine, processor, with_processor, task}
 use Rattle.ev_abstract.specs.Machine as abstract
 use Rattle.ev_abstract.specs.Run.{item_at, item_or_nothing, next_step, chosen_step, turn}
-use Rattle.ev_listing.specs.Marks.{Always, Never}
-use Rattle.ev_concrete.specs.ConcreteRun.{System, Activation, marks_of, is_return, activations_by}
+use Rattle.ev_listing.specs.Marks.{Mark, Always}
+use Rattle.ev_concrete.specs.ConcreteRun.{System, Activation, marks_of, is_seen, is_return, activations_by}
 use Rattle.ev_concrete.specs.Depth.{is_in_repeat, bodies_on, is_jump, ends_body, begins_body}
 use Rattle.ev_built.specs.Built.{IsBuilt}
 use Rattle.ev_symbolic.specs.Value.{M}
@@ -213,17 +213,39 @@ module _ (mode : Mode) (image : Image) (built : IsBuilt image) (good : IsImage i
         → executed c (s.apics p) s.memory (s.latches p) (Some cell.ins) ≡ went cpu a words (s.latches p) sent → Went s p a cpu words sent
     runs cell hc hu a cpu words sent he = cell_step code c (s.apics p) s.memory (s.latches p) cell fetches hc first hu ∙ he
 
-    -- an edge: the processor stands for the same behind it, and it writes no word of the abstract machine's
-    pub edge_to : (cell : Cell) → code c.rip ≡ Some cell → cell.mark ≡ Never → is_return (Some cell.ins) ≡ false
+    -- an edge: the processor stands for the same behind it, and so does the system
+    pub edge_with : (cell : Cell) → code c.rip ≡ Some cell → is_seen cell.mark s c ≡ false → is_return (Some cell.ins) ≡ false
+        → is_user c ≡ false → is_in_repeat c.rip ≡ false → (cpu : Processor) (words : NatMap ℕ) → Executes cell.ins cpu words
+        → (now : ℕ) → now < on.own → StandsOn mode image p (now + inner_edges (s.latches p)) (Behind (s.apics p) cpu words None) x
+        → Stands mode image (left_behind mode image p (now + inner_edges (s.latches p))) (Behind (s.apics p) cpu words None) m → Result
+    edge_with cell hc hm hr hu out cpu words he now fewer there all =
+        let run : Went s p (s.apics p) cpu words None = runs cell hc hu (s.apics p) cpu words None (he (s.apics p) (s.latches p)) in
+        let bound = on.enough in record {
+          safe = went_safe mode image s p (s.apics p) cpu words None run;
+          counts = went_counts image.processors s p (s.apics p) cpu words None cell.ins run (fetches c.rip cell hc).1 (length x.bodies) (length x.bodies) depth
+              (stands_depth mode image facts p (now + inner_edges (s.latches p)) (Behind (s.apics p) cpu words None) x there)
+              (goes_on_inside (is_return (Some cell.ins)) (not (is_user c)) (not (nat_le nmi_entry c.rip && nat_lt c.rip repeat_entry))
+              (is_jump (Some cell.ins)) (is_in_repeat c.rip) (length x.bodies) hr out);
+          how = inl (record {
+            hidden = hidden (marks_of mode image) s p first hu (ap (λ k. is_seen k s c) (facts.marks c.rip cell hc) ∙ hm);
+            now = left_behind mode image p (now + inner_edges (s.latches p));
+            fewer = subst (λ n. n < left p) (sym (at_same (λ q. most_edges mode image) p p (now + inner_edges (s.latches p)) refl)) (omega arith);
+            stands = subst (λ y. Stands mode image (left_behind mode image p (now + inner_edges (s.latches p))) y.0 m)
+                (sym (went_step image.processors s p (s.apics p) cpu words None run)) all;
+            writes = went_writes image.processors s p (s.apics p) cpu words None run;
+          });
+        }
+
+    -- which writes no word of the abstract machine's
+    pub edge_to : (cell : Cell) → code c.rip ≡ Some cell → is_seen cell.mark s c ≡ false → is_return (Some cell.ins) ≡ false
         → is_user c ≡ false → is_in_repeat c.rip ≡ false → (cpu : Processor) (words : NatMap ℕ) → Executes cell.ins cpu words
         → (σ : Seat) → σ.stack < 7 → (names : List Named) → AreCallFree p names → have_none is_page_bit names ≡ true → have_none is_cell names ≡ true
         → have_none is_user_word names ≡ true → Changes p σ names s.memory.words words → (now : ℕ) → now < on.own
         → StandsOn mode image p (now + inner_edges (s.latches p)) (Behind (s.apics p) cpu words None) x → Result
     edge_to cell hc hm hr hu out cpu words he σ narrow names free no_page no_cell no_user changes now fewer there =
-        let run : Went s p (s.apics p) cpu words None = runs cell hc hu (s.apics p) cpu words None (he (s.apics p) (s.latches p)) in
         let written = free.allowed.written in
-        let all : Stands mode image (left_behind mode image p (now + inner_edges (s.latches p))) (Behind (s.apics p) cpu words None) m
-        = stands_alike mode image left s (Behind (s.apics p) cpu words None) m m p (now + inner_edges (s.latches p)) x σ cpu _ words good built.accepted
+        edge_with cell hc hm hr hu out cpu words he now fewer there
+        (stands_alike mode image left s (Behind (s.apics p) cpu words None) m m p (now + inner_edges (s.latches p)) x σ cpu _ words good built.accepted
         (four_tasks image good) h hp (moves (s.apics p) cpu words None) narrow names free changes
         (record {
           own = refl;
@@ -237,24 +259,36 @@ module _ (mode : Mode) (image : Image) (built : IsBuilt image) (good : IsImage i
           pages = λ i l. page_same p σ names small narrow s.memory.words words written changes no_page i l ∙ h.shares.pages i l;
           cells = λ k l. cell_same p σ names small narrow s.memory.words words written changes no_cell k l ∙ h.shares.cells k l;
         })
-        h.legal h.bases h.numbers h.told h.calls domain there in
-        let bound = on.enough in record {
-          safe = went_safe mode image s p (s.apics p) cpu words None run;
-          counts = went_counts image.processors s p (s.apics p) cpu words None cell.ins run (fetches c.rip cell hc).1 (length x.bodies) (length x.bodies) depth
-              (stands_depth mode image facts p (now + inner_edges (s.latches p)) (Behind (s.apics p) cpu words None) x there)
-              (goes_on_inside (is_return (Some cell.ins)) (not (is_user c)) (not (nat_le nmi_entry c.rip && nat_lt c.rip repeat_entry))
-              (is_jump (Some cell.ins)) (is_in_repeat c.rip) (length x.bodies) hr out);
-          how = inl (record {
-            hidden = hidden (marks_of mode image) s p first hu (facts.marks c.rip cell hc ∙ hm);
+        h.legal h.bases h.numbers h.told h.calls domain there)
+
+    -- a visible step: the processor stands for the one of the machine behind the abstract machine's turn, and the system for that machine
+    pub turn_with : (cell : Cell) → code c.rip ≡ Some cell → (mark : Mark) → cell.mark ≡ mark → is_seen mark s c ≡ true → is_user c ≡ false
+        → (a : Apic) (cpu : Processor) (words : NatMap ℕ) (sent : Option Send)
+        → executed c (s.apics p) s.memory (s.latches p) (Some cell.ins) ≡ went cpu a words (s.latches p) sent
+        → (m' : Machine) (es : List Entry) → turn image m p ≡ (m', es) → (x' : abstract.Processor)
+        → bodies_behind (length x.bodies) c cell.ins sent ≡ length x'.bodies
+        → (now : ℕ) → StandsOn mode image p (now + inner_edges (s.latches p)) (Behind a cpu words sent) x'
+        → Stands mode image (left_behind mode image p (now + inner_edges (s.latches p))) (Behind a cpu words sent) m'
+        → went_shows p s mark cell.ins cpu words sent ≡ es → Result
+    turn_with cell hc mark hm is hu a cpu words sent he m' es ht x' told now there all hes =
+        let run : Went s p a cpu words sent = runs cell hc hu a cpu words sent he in
+        let marked = facts.marks c.rip cell hc ∙ hm in
+        let turned : Stands mode image (left_behind mode image p (now + inner_edges (s.latches p))) (Behind a cpu words sent) (turn image m p).0 =
+        subst (λ q. Stands mode image (left_behind mode image p (now + inner_edges (s.latches p))) (Behind a cpu words sent) q.0) (sym ht) all in record {
+          safe = went_safe mode image s p a cpu words sent run;
+          counts = went_counts image.processors s p a cpu words sent cell.ins run (fetches c.rip cell hc).1 (length x.bodies) (length x'.bodies) depth
+              (stands_depth mode image facts p (now + inner_edges (s.latches p)) (Behind a cpu words sent) x' there) told;
+          how = inr (record {
+            seen = seen (marks_of mode image) s p first hu (ap (λ k. is_seen k s c) marked ∙ is);
             now = left_behind mode image p (now + inner_edges (s.latches p));
-            fewer = subst (λ n. n < left p) (sym (at_same (λ q. most_edges mode image) p p (now + inner_edges (s.latches p)) refl)) (omega arith);
-            stands = subst (λ y. Stands mode image (left_behind mode image p (now + inner_edges (s.latches p))) y.0 m)
-                (sym (went_step image.processors s p (s.apics p) cpu words None run)) all;
-            writes = went_writes image.processors s p (s.apics p) cpu words None run;
+            stands = subst (λ q. Stands mode image (left_behind mode image p (now + inner_edges (s.latches p))) q.0 (turn image m p).0)
+                (sym (went_step image.processors s p a cpu words sent run)) turned;
+            entries = went_shown (marks_of mode image) s p a cpu words sent mark cell.ins run hu marked (fetches c.rip cell hc).1
+                ∙ hes ∙ sym (ap (λ (q : Step). q.1) ht);
           });
         }
 
-    -- a visible step: the processor stands for the one of the machine behind the abstract machine's turn, and memory for that machine's
+    -- which writes no word of a call, and is always seen
     pub turn_to : (cell : Cell) → code c.rip ≡ Some cell → cell.mark ≡ Always → is_user c ≡ false
         → (a : Apic) (cpu : Processor) (words : NatMap ℕ) (sent : Option Send) (z : Sends sent)
         → executed c (s.apics p) s.memory (s.latches p) (Some cell.ins) ≡ went cpu a words (s.latches p) sent
@@ -263,28 +297,14 @@ module _ (mode : Mode) (image : Image) (built : IsBuilt image) (good : IsImage i
         → HoldsNumbers m' → IsInDomain x'
         → bodies_behind (length x.bodies) c cell.ins sent ≡ length x'.bodies
         → (now : ℕ) → StandsOn mode image p (now + inner_edges (s.latches p)) (Behind a cpu words sent) x'
-        → went_shows p s cell.ins cpu words sent ≡ es → Result
+        → went_shows p s Always cell.ins cpu words sent ≡ es → Result
     turn_to cell hc hm hu a cpu words sent z he σ narrow names free changes m' es ht x' becomes numbers inside told now there hes =
-        let run : Went s p a cpu words sent = runs cell hc hu a cpu words sent he in
-        let all : Stands mode image (left_behind mode image p (now + inner_edges (s.latches p))) (Behind a cpu words sent) m'
-        = stands_alike mode image left (Posted sent) (Behind a cpu words sent) z.machine m' p (now + inner_edges (s.latches p)) x' σ cpu _ words
+        turn_with cell hc Always hm refl hu a cpu words sent he m' es ht x' told now there
+        (stands_alike mode image left (Posted sent) (Behind a cpu words sent) z.machine m' p (now + inner_edges (s.latches p)) x' σ cpu _ words
         good built.accepted (four_tasks image good) z.stands hp (moves a cpu words sent) narrow names free changes becomes
         (turn_legal image good built.accepted m p hp h.legal (m', es) ht) (turn_bases image m p h.bases (m', es) ht) numbers
-        (h.told ++ es) (turn_calls image good built.accepted m p hp h.legal h.told h.calls (m', es) ht) inside there in
-        let turned : Stands mode image (left_behind mode image p (now + inner_edges (s.latches p))) (Behind a cpu words sent) (turn image m p).0 =
-        subst (λ q. Stands mode image (left_behind mode image p (now + inner_edges (s.latches p))) (Behind a cpu words sent) q.0) (sym ht) all in record {
-          safe = went_safe mode image s p a cpu words sent run;
-          counts = went_counts image.processors s p a cpu words sent cell.ins run (fetches c.rip cell hc).1 (length x.bodies) (length x'.bodies) depth
-              (stands_depth mode image facts p (now + inner_edges (s.latches p)) (Behind a cpu words sent) x' there) told;
-          how = inr (record {
-            seen = seen (marks_of mode image) s p first hu (facts.marks c.rip cell hc ∙ hm);
-            now = left_behind mode image p (now + inner_edges (s.latches p));
-            stands = subst (λ q. Stands mode image (left_behind mode image p (now + inner_edges (s.latches p))) q.0 (turn image m p).0)
-                (sym (went_step image.processors s p a cpu words sent run)) turned;
-            entries = went_shown (marks_of mode image) s p a cpu words sent cell.ins run hu (facts.marks c.rip cell hc ∙ hm) (fetches c.rip cell hc).1
-                ∙ hes ∙ sym (ap (λ (q : Step). q.1) ht);
-          });
-        }
+        (h.told ++ es) (turn_calls image good built.accepted m p hp h.legal h.told h.calls (m', es) ht) inside there)
+        hes
 
   -- ---- what the abstract machine does at the item of its last context, where nothing comes before it
 
@@ -515,7 +535,7 @@ module _ (mode : Mode) (image : Image) (built : IsBuilt image) (good : IsImage i
 
     -- ---- what a step gives
 
-    pub edge : (cell : Cell) → code c.rip ≡ Some cell → cell.mark ≡ Never → is_return (Some cell.ins) ≡ false
+    pub edge : (cell : Cell) → code c.rip ≡ Some cell → is_seen cell.mark s c ≡ false → is_return (Some cell.ins) ≡ false
         → is_user c ≡ false → is_in_repeat c.rip ≡ false → (cpu : Processor) (words : NatMap ℕ) → Executes cell.ins cpu words → cpu.nmi_blocked ≡ false
         → (names : List Named) → AreSparing p names → have_none is_user_word names ≡ true → UnknownTo below names → Changes p σ names s.memory.words words
         → (now : ℕ) → now < on.own → Stood now b cpu (with_words s.memory words) → Result
@@ -583,7 +603,7 @@ module _ (mode : Mode) (image : Image) (built : IsBuilt image) (good : IsImage i
         → bodies_behind (length x.bodies) c cell.ins sent ≡ length bs
         → (now : ℕ) → now ≤ body_edges mode image
         → Chain mode image p now r to (tasks to) on.frame on.switching fs bs (went_activations image.processors s p cpu sent) cpu (with_words s.memory words)
-        → went_shows p s cell.ins cpu words sent ≡ es → Result
+        → went_shows p s Always cell.ins cpu words sent ≡ es → Result
     unfolding comes_to
     visible_with unblocked cell hc hm hu a cpu words sent z he hb names free changes m' es ht tasks slots fs fills filled bs y quiet apic told now few
         goes_on hes =

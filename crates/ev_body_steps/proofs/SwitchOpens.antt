@@ -27,7 +27,7 @@ use Rattle.ev_abstract.specs.Machine.{Machine, processor, task}
 use Rattle.ev_abstract.specs.Machine as abstract
 use Rattle.ev_abstract.specs.Run.{item_at}
 use Rattle.ev_listing.specs.Marks.{Never}
-use Rattle.ev_concrete.specs.ConcreteRun.{System, activations_by, is_return}
+use Rattle.ev_concrete.specs.ConcreteRun.{System, activations_by, is_seen, is_return}
 use Rattle.ev_concrete.specs.LiveWords.{area_bytes}
 use Rattle.ev_concrete.specs.Opening.{listings, code_of, tasks_of}
 use Rattle.ev_built.specs.Built.{IsBuilt}
@@ -745,6 +745,7 @@ module _ (mode : Mode) (image : Image) (built : IsBuilt image) (good : IsImage i
             (subst (λ bs. Chain mode image p now r next t on.frame true on.fills bs (o.last ∷ []) cpu s.memory) alone chain);
       }) in
       let narrow : r < 7 = let few = four in let l = on.running in omega arith in
-      step.edge_to mode image built good facts left s m h p hp (step.first mode image built good facts left s m h p hp o) cell hc unmarked back a.kernel
+      step.edge_to mode image built good facts left s m h p hp (step.first mode image built good facts left s m h p hp o) cell hc
+      (ap (λ k. is_seen k s c) unmarked) back a.kernel
       (step.outside mode image built good facts left s m h p hp o a.act) cpu words does (record { stack = r; used = 0 }) narrow [] (none_spares p).free
       refl refl refl (λ y far far'. refl) now (omega arith) there

@@ -11,7 +11,7 @@ use Rattle.ev_event.specs.Boundary.{first_of, interrupt_or_instruction}
 use Rattle.ev_event.specs.declared.frame_note.FrameNote.{FrameNote}
 use Rattle.ev_body.specs.declared.image.Image.{Image}
 use Rattle.ev_abstract.specs.declared.entry.Entry.{Entry}
-use Rattle.ev_listing.specs.Marks.{Never, Always}
+use Rattle.ev_listing.specs.Marks.{Mark}
 use Rattle.ev_state.specs.Processor.{Processor, is_user, interrupts_on}
 use Rattle.ev_apic.specs.declared.apic.Apic.{Apic}
 use Rattle.ev_apic.specs.declared.inbox.Inbox.{Inbox}
@@ -24,7 +24,7 @@ use Rattle.ev_proc.specs.declared.stepped.Stepped.{Stepped}
 use Rattle.ev_concrete.specs.ConcreteRun.{System, Activation, Marks, mark_at, is_seen, is_visible, is_visible_by, is_return, is_repeated, without_last, targets, posted, acted, activations_by, after_step, concrete_step}
 use Rattle.ev_concrete.specs.Depth.{bodies_on}
 use Rattle.ev_concrete.specs.LiveWords.{IsSafeStep, overwrites}
-use Rattle.ev_concrete.specs.Shown.{shown, shown_always, shown_by, told_at}
+use Rattle.ev_concrete.specs.Shown.{shown, shown_instruction, shown_by, told_at}
 use Rattle.ev_relation.specs.Step.{EdgeWrites}
 use Rattle.ev_relation.proofs.Maps.{at_same, at_other}
 
@@ -76,14 +76,14 @@ vector_first c a nmi hn hs hi =
 -- ---- whether the step is visible
 
 pub hidden : (marks : Marks) (s : System) (p : ℕ) → next_of (s.cpus p) (s.apics p) (s.latches p) ≡ Next.Instruction → is_user (s.cpus p) ≡ false
-    → mark_at marks (s.cpus p).rip ≡ Never → is_visible marks s p ≡ false
+    → is_seen (mark_at marks (s.cpus p).rip) s (s.cpus p) ≡ false → is_visible marks s p ≡ false
 unfolding is_visible
-hidden marks s p hn hu hm = ap (is_visible_by marks s p (s.cpus p)) hn ∙ ap (λ k. is_user (s.cpus p) || is_seen k s (s.cpus p)) hm ∙ ap (λ b. b || false) hu
+hidden marks s p hn hu hm = ap (is_visible_by marks s p (s.cpus p)) hn ∙ ap (λ b. is_user (s.cpus p) || b) hm ∙ ap (λ b. b || false) hu
 
 pub seen : (marks : Marks) (s : System) (p : ℕ) → next_of (s.cpus p) (s.apics p) (s.latches p) ≡ Next.Instruction → is_user (s.cpus p) ≡ false
-    → mark_at marks (s.cpus p).rip ≡ Always → is_visible marks s p ≡ true
+    → is_seen (mark_at marks (s.cpus p).rip) s (s.cpus p) ≡ true → is_visible marks s p ≡ true
 unfolding is_visible
-seen marks s p hn hu hm = ap (is_visible_by marks s p (s.cpus p)) hn ∙ ap (λ k. is_user (s.cpus p) || is_seen k s (s.cpus p)) hm ∙ ap (λ b. b || true) hu
+seen marks s p hn hu hm = ap (is_visible_by marks s p (s.cpus p)) hn ∙ ap (λ b. is_user (s.cpus p) || b) hm ∙ ap (λ b. b || true) hu
 
 -- ---- a step that ran an instruction, which may have sent an interrupt
 
@@ -138,20 +138,20 @@ went_safe mode image s p a cpu words sent h =
     ap (λ (r : System × List FrameNote). list_any (overwrites mode image s) r.1) (went_step image.processors s p a cpu words sent h)
 
 -- what it shows; a step that sends shows nothing
-abbrev pub went_shows : ℕ → System → Ins → Processor → NatMap ℕ → Option Send → List Entry
-went_shows p s i cpu words sent = shown_by p (bodies_on s p) false (has_fred (s.cpus p)) (shown_always p (bodies_on s p) (s.cpus p) s.memory.words (Some i))
-    cpu words (sends sent)
+abbrev pub went_shows : ℕ → System → Mark → Ins → Processor → NatMap ℕ → Option Send → List Entry
+went_shows p s mark i cpu words sent = shown_by p (bodies_on s p) false (has_fred (s.cpus p))
+    (shown_instruction p (bodies_on s p) (s.cpus p) s.memory.words mark (Some i)) cpu words (sends sent)
 
-pub went_shown : (marks : Marks) (s : System) (p : ℕ) (a : Apic) (cpu : Processor) (words : NatMap ℕ) (sent : Option Send) (i : Ins)
-    → Went s p a cpu words sent → is_user (s.cpus p) ≡ false
-    → mark_at marks (s.cpus p).rip ≡ Always → instruction_at s.memory.words (s.cpus p).rip ≡ Some i
-    → shown marks s p ≡ went_shows p s i cpu words sent
+pub went_shown : (marks : Marks) (s : System) (p : ℕ) (a : Apic) (cpu : Processor) (words : NatMap ℕ) (sent : Option Send)
+    (mark : Mark) (i : Ins) → Went s p a cpu words sent → is_user (s.cpus p) ≡ false
+    → mark_at marks (s.cpus p).rip ≡ mark → instruction_at s.memory.words (s.cpus p).rip ≡ Some i
+    → shown marks s p ≡ went_shows p s mark i cpu words sent
 unfolding shown
-went_shown marks s p a cpu words sent i h hu hm hi =
+went_shown marks s p a cpu words sent mark i h hu hm hi =
     ap (λ r. by (is_user (s.cpus p)) (told_at (mark_at marks (s.cpus p).rip) s p) r.cpu r.words r.step) h
     ∙ ap (λ u. by u (told_at (mark_at marks (s.cpus p).rip) s p) cpu words (sends sent)) hu
     ∙ ap (λ k. by false (told_at k s p) cpu words (sends sent)) hm
-    ∙ ap (λ o. by false (shown_always p (bodies_on s p) (s.cpus p) s.memory.words o) cpu words (sends sent)) hi
+    ∙ ap (λ o. by false (shown_instruction p (bodies_on s p) (s.cpus p) s.memory.words mark o) cpu words (sends sent)) hi
   where
     by : Bool → List Entry → Processor → NatMap ℕ → Stepped → List Entry
     by user told cpu words act = shown_by p (bodies_on s p) user (has_fred (s.cpus p)) told cpu words act
