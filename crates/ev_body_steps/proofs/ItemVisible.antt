@@ -243,7 +243,7 @@ module _ (mode : Mode) (image : Image) (built : IsBuilt image) (good : IsImage i
             (step.calls_stay mode image built good facts left s m h p hp o d.names d.allowed d.words d.changes) a.means.calls;
       } in
       let act' : Active mode image p (edges mode (body mode AtItem) 0) o.κ o.σ on.frame (switches_at mode image on.switching o.below)
-          (first_fill on.fills) w b' cpu mem = record {
+      (first_fill on.fills) w b' cpu mem = record {
         stands = record {
           spot = body mode AtItem;
           k = 0;

@@ -222,7 +222,7 @@ chain_above mode image p left r to t f sw fs b (d ∷ ds) a (y ∷ ys) c m plain
     let w : Processor = h.0 in
     let under : Chain mode image p (body_edges mode image) r to t f (chained mode image sw (d ∷ ds)) (rest_fills fs) (d ∷ ds) (y ∷ ys) w m
     = over_any mode image (λ v. Chain mode image p (body_edges mode image) r to t f (chained mode image sw (d ∷ ds)) (rest_fills fs) (d ∷ ds)
-        (y ∷ ys) v m) _ w h.4 in
+    (y ∷ ys) v m) _ w h.4 in
     let seat : seat_of mode image r (b ∷ d ∷ ds) ≡ seat_under mode r (suc (length ds)) = plain_seat mode image r b (d ∷ ds) plain in
     let this : top_at p (seat_of mode image r (b ∷ d ∷ ds)) ≤ rsp w
     = frame_under (kind_of image b (d ∷ ds)) refl h.6.stands.spot (here mode p (kind_of image b (d ∷ ds)) (seat_of mode image r (b ∷ d ∷ ds)) h.6.stands.ss w

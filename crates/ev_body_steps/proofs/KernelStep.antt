@@ -468,7 +468,7 @@ module _ (mode : Mode) (image : Image) (built : IsBuilt image) (good : IsImage i
         let none : below ≡ [] = stands_alone image b below (ap is_over_task o.kind ∙ h) in
         let k : Chain mode image p (body_edges mode image) r to t on.frame (chained mode image on.switching []) (rest_fills on.fills) [] o.others w s.memory
         = subst (λ ds. Chain mode image p (body_edges mode image) r to t on.frame (chained mode image on.switching ds)
-            (rest_fills on.fills) ds o.others w s.memory) none lower in
+        (rest_fills on.fills) ds o.others w s.memory) none lower in
         record {
           none = none;
           task = k.0;
@@ -548,7 +548,7 @@ module _ (mode : Mode) (image : Image) (built : IsBuilt image) (good : IsImage i
         (with_last b o.kind ctx now cpu words names sparing.free unknown changes act)) in
         let there : StandsOn mode image p (now + inner_edges (s.latches p)) (Behind (s.apics p) cpu words None) x
         = own_after mode image p (left p) s (Behind (s.apics p) cpu words None) x σ cpu _ words x.tasks on.fills x.bodies now on small
-            (four_tasks image good p hp)
+        (four_tasks image good p hp)
         (moves (s.apics p) cpu words None) beside narrow names sparing changes (λ i d. refl) on.tasks
         (hb ∙ sym none_is_nmi) x.pending
         (apic_again mode image (s.apics p) _ x.pending x.bodies x.bodies (at_same s.apics p p (s.apics p) refl) (λ class. refl) on.apic)

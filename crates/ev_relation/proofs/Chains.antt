@@ -78,7 +78,7 @@ module _ (mode : Mode) (image : Image) where
       (over_any mode image (λ v. Chain mode image p (body_edges mode image) r to t f (chained mode image sw below) (rest_fills fs) below as' v m)
       (keeps_cr2 mode image (kind_of image b below)) h.0 h.4) in
       kept_by p (kind_of image b below) (means_plain mode image (kind_of image b below) h.6.stands.spot _ h.0 b
-          (first_fill fs) m.words h.6.means) h.6.stands.ss h.0 c
+      (first_fill fs) m.words h.6.means) h.6.stands.ss h.0 c
       h.6.stands.at.agrees.rest k
     where
       kept_by : (p : ℕ) (κ : Kind) → is_plain_kind κ ≡ true → (ss : ℕ) (w c : Processor) → untracked c ≡ rest_in mode κ ss w → Kept p w → Kept p c

@@ -45,7 +45,7 @@ module _ (mode : Mode) (image : Image) where
   at_rest p left s x on e =
       let h : Chain mode image p on.own x.running on.returning (x.tasks on.returning) on.frame on.switching on.fills [] (s.activations p) (s.cpus p) s.memory
       = subst (λ bs. Chain mode image p on.own x.running on.returning (x.tasks on.returning) on.frame on.switching on.fills bs (s.activations p)
-          (s.cpus p) s.memory) e
+      (s.cpus p) s.memory) e
       (as_chain mode image on.layer p on.own on.more x.running on.returning (x.tasks on.returning) on.frame on.switching on.fills x.bodies (s.activations p)
       (s.cpus p) s.memory
       on.runs) in
@@ -62,7 +62,7 @@ module _ (mode : Mode) (image : Image) where
   stands_tells given accepted facts left s m r p lt =
       let on = r.each p lt in
       let chain = as_chain mode image on.layer p on.own on.more (processor m p).running on.returning
-          ((processor m p).tasks on.returning) on.frame on.switching on.fills
+      ((processor m p).tasks on.returning) on.frame on.switching on.fills
       (processor m p).bodies (s.activations p) (s.cpus p) s.memory on.runs in
       let kept : Kept mode image p (s.cpus p) = chain_kept mode image p on.own _ _ _ _ _ _ (processor m p).bodies _ (s.cpus p) s.memory chain in
       let rest = at_rest p (left p) s (processor m p) on in
