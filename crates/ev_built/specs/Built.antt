@@ -1,8 +1,6 @@
 -- The images and script lines that the program can run today. Own.
 use Rattle.std.specs.Prelude.{◌≡◌, Bool, true, false, ◌&&◌}
 use Rattle.std.specs.List.{list_all}
-use Rattle.ev_isa.specs.declared.mode.Mode.{Mode}
-use Rattle.ev_isa.specs.declared.mode.Mode.TheVariants.{Idt, Fred}
 use Rattle.ev_body.specs.declared.key.Key.{Key}
 use Rattle.ev_body.specs.declared.key.Key.TheVariants.{Nmi, Irq}
 use Rattle.ev_body.specs.declared.item.Item.{Item}
@@ -60,11 +58,6 @@ pub record IsBuilt (image : Image) : Type 0 where
   pub accepted : IsAccepted image
   pub bodies : list_all is_built_body image.bodies ≡ true
   pub keys : list_all (λ (b : Body). is_built_key b.key) image.bodies ≡ true
-
--- the modes in which machines run
-unfoldable pub mode_is_built : Mode → Bool
-mode_is_built Idt = true
-mode_is_built Fred = true
 
 -- turns, arrivals of interrupts, and mail that is accepted, of any processor
 unfoldable pub line_is_built : Line → Bool

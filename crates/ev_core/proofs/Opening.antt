@@ -48,11 +48,11 @@ module _ (mode : Mode) (image : Image) where
         totals = totals;
       }
 
-  pub open_run : (v : MachineView) → CanRun mode image → marks_in v.places ≡ marks_of mode image
+  pub open_run : (v : MachineView) → CanRun image → marks_in v.places ≡ marks_of mode image
       → Shows image.processors v.parts (opening_system mode image) → IsRun mode image [] v
   open_run v can marks shows = record { can = can; script_is = refl; lines_built = refl; at = record { marks = marks; shows = shows } }
 
-  pub open_stands : (v : MachineView) → CanRun mode image → marks_in v.places ≡ marks_of mode image
+  pub open_stands : (v : MachineView) → CanRun image → marks_in v.places ≡ marks_of mode image
       → Shows image.processors v.parts (opening_system mode image) → IsStanding v
   open_stands v can marks shows = record {
     mode = mode;
@@ -63,6 +63,6 @@ module _ (mode : Mode) (image : Image) where
       can = can;
       at = record { marks = marks; shows = shows };
       left = λ p. 0;
-      stands = opens mode image can.built can.mode_built can.image_is;
+      stands = opens mode image can.built can.image_is;
     };
   }

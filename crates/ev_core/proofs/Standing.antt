@@ -44,10 +44,10 @@ module _ (mode : Mode) (image : Image) (s : System) (m : abstract.Machine) (v : 
   marks = marks_of mode image
 
   pub settling : Settles mode image so.left s m p
-  settling = all_settle mode image so.can.built so.can.mode_built so.can.image_is so.left s m so.stands p lt
+  settling = all_settle mode image so.can.built so.can.image_is so.left s m so.stands p lt
 
   pub telling : Tells mode image s m p
-  telling = tells mode image so.can.built so.can.mode_built so.can.image_is so.left s m so.stands p lt
+  telling = tells mode image so.can.built so.can.image_is so.left s m so.stands p lt
 
   -- edges tell how many bodies stand
   pub tell : EdgesTell (marks_in v.places) image.processors s p

@@ -35,7 +35,7 @@ module _ (mode : Mode) (image : Image) (s : System) (m : Machine) (v : MachineVi
   settles = settling mode image s m v so p lt
 
   turning : Turns mode image s m p
-  turning = turns_follow mode image so.can.built so.can.mode_built so.can.image_is so.left s m so.stands p lt
+  turning = turns_follow mode image so.can.built so.can.image_is so.left s m so.stands p lt
 
   -- the edges of p, as the machine makes them
   pub settled_made : (t : Turned) (w : Parts) → Shows image.processors w (settled (marks_in v.places) image.processors s p).0
@@ -126,7 +126,7 @@ module _ (mode : Mode) (image : Image) (script : List Line) (v : MachineView) (r
   -- what the lines lead to stands for the abstract run
   pub as_run : IsStandingAs mode image reached (run image script) v
   as_run =
-      let follows = runs_follow mode image r.can.built r.can.mode_built r.can.image_is script r.script_is r.lines_built in
+      let follows = runs_follow mode image r.can.built r.can.image_is script r.script_is r.lines_built in
       record { can = r.can; at = r.at; left = follows.0; stands = follows.1 }
 
   abstract_turn : (turn image (run image script) p).1 ≡ entries_of image script (Turn p)

@@ -9,7 +9,7 @@ use Rattle.ev_abstract.specs.Machine.{Machine}
 use Rattle.ev_abstract.specs.Script.{IsScript}
 use Rattle.ev_abstract.specs.declared.script_line.Line.{Line}
 use Rattle.ev_concrete.specs.ConcreteRun.{System, marks_of, concrete_run}
-use Rattle.ev_built.specs.Built.{IsBuilt, mode_is_built, line_is_built}
+use Rattle.ev_built.specs.Built.{IsBuilt, line_is_built}
 use Rattle.ev_relation.specs.Relation.{Stands}
 use Rattle.ev_layout.specs.KeptCode.{KeptCode}
 use Rattle.ev_layout.specs.Marks.{marks_in}
@@ -24,22 +24,21 @@ pub record IsAt (mode : Mode) (image : Image) (s : System) (v : MachineView) : T
   pub marks : marks_in v.places ≡ marks_of mode image
   pub shows : Shows image.processors v.parts s
 
--- images and modes with which machines run
-pub record CanRun (mode : Mode) (image : Image) : Type 0 where
+-- images with which machines run
+pub record CanRun (image : Image) : Type 0 where
   pub image_is : IsImage image
   pub built : IsBuilt image
-  pub mode_built : mode_is_built mode ≡ true
 
 -- the machine is in the state to which the script leads from the opening
 pub record IsRun (mode : Mode) (image : Image) (script : List Line) (v : MachineView) : Type 0 where
-  pub can : CanRun mode image
+  pub can : CanRun image
   pub script_is : IsScript image script
   pub lines_built : list_all line_is_built script ≡ true
   pub at : IsAt mode image (concrete_run mode image script).0 v
 
 -- the machine is in the state s, which stands for the state m of the abstract machine
 pub record IsStandingAs (mode : Mode) (image : Image) (s : System) (m : Machine) (v : MachineView) : Type 0 where
-  pub can : CanRun mode image
+  pub can : CanRun image
   pub at : IsAt mode image s v
   pub left : NatMap ℕ
   pub stands : Stands mode image left s m

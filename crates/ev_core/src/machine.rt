@@ -12,7 +12,7 @@ ghost use Rattle.ev_abstract.specs.Script.{has_body_of};
 ghost use Rattle.ev_body.specs.WellFormed.{IsImage};
 ghost use Rattle.ev_concrete.specs.Opening.{tasks_of};
 ghost use Rattle.ev_concrete.specs.ConcreteRun.{System, accept_mail, arrived_at, concrete_line, concrete_run, is_visible, marks_of};
-ghost use Rattle.ev_built.specs.Built.{IsBuilt, mode_is_built};
+ghost use Rattle.ev_built.specs.Built.{IsBuilt};
 ghost use Rattle.ev_core.specs.Local.{optional};
 ghost use Rattle.ev_core.specs.Mail.{HasNoMail};
 ghost use Rattle.ev_core.specs.Run.{Costs, IsAt, IsRun, IsStandingAs};
@@ -67,7 +67,6 @@ impl Machine {
     /// The machine of an image in a mode, at its opening. NoMemory means that memory was refused.
     pub fn open(alloc: Global, accepted: &Accepted, mode: Mode) -> Result<Machine, NoMemory>
         requires image { IsBuilt accepted.now.image }
-        requires mode { mode_is_built mode ≡ true }
         ensures { IfOk result (λ m. IsRun mode accepted.now.image [] m) }
     {
         // The limits of the image are known where it is read.

@@ -56,7 +56,7 @@ module _ (mode : Mode) (image : Image) (s : System) (m : Machine) (v : MachineVi
     pub tasks_end : (word : Text) (depth : ℕ) → depth ≡ 0
         → task_lines word p (processor m p) 0 (length (tasks_of image p)) ≡ end_lines word p (processor m p) depth
     tasks_end word depth none =
-        let told = tells mode image so.can.built so.can.mode_built so.can.image_is so.left s m so.stands p lt in
+        let told = tells mode image so.can.built so.can.image_is so.left s m so.stands p lt in
         let running = told.running in
         let count : length (processor m p).waiting ≡ length (tasks_of image p) - 1
         = ap length told.waiting ∙ length-map (numbers_from (suc (processor m p).running) (length (tasks_of image p) - 1)) (λ k. k % length (tasks_of image p))

@@ -4,5 +4,4 @@ pub mod Shown
 pub mod Rest
 pub mod Opened
 pub mod Parts
-pub mod Built
 pub mod Safe

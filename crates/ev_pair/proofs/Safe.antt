@@ -2,22 +2,16 @@
 use Rattle.std.proofs.Common.{◌≡◌, Bool, true, false, ◌&&◌, List, [], ◌∷◌, ◌++◌, ap, refl, sym, ◌∙◌, arith}
 use Rattle.std.specs.List.{list_all}
 use Rattle.ev_isa.specs.declared.mode.Mode.{Mode}
-use Rattle.ev_isa.specs.declared.mode.Mode.TheVariants.{Idt, Fred}
 use Rattle.ev_body.specs.declared.image.Image.{Image}
 use Rattle.ev_body.specs.WellFormed.{IsImage}
 use Rattle.ev_abstract.specs.Accepted.{IsAccepted}
 use Rattle.ev_abstract.specs.Script.{IsScript, is_line}
 use Rattle.ev_abstract.specs.declared.script_line.Line.{Line}
-use Rattle.ev_built.specs.Built.{IsBuilt, mode_is_built, line_is_built}
+use Rattle.ev_built.specs.Built.{IsBuilt, line_is_built}
 use Rattle.ev_law.proofs.Runs.{chains_are_legal, depth_is_bounded, nest_is_enough}
 use Rattle.ev_refine.proofs.Refine.{runs_are_safe}
 use Rattle.ev_pair.specs.Chains.{KeepsChains}
 use Rattle.ev_pair.specs.Safety.{RunIsSafe}
-
-in_each_mode : (mode : Mode) → mode_is_built mode ≡ true
-unfolding mode_is_built
-in_each_mode Idt = refl
-in_each_mode Fred = refl
 
 first_all : {X : Type 0} (test : X → Bool) (xs ys : List X) → list_all test (xs ++ ys) ≡ true → list_all test xs ≡ true
 first_all test [] ys h = refl
@@ -41,8 +35,8 @@ chains_are_kept image script given accepted is = record {
 pub run_is_safe : (mode : Mode) (image : Image) (script : List Line) → IsImage image → IsBuilt image → IsScript image script
     → list_all line_is_built script ≡ true → RunIsSafe mode image script
 run_is_safe mode image script given built is lines = record {
-  lines = λ done rest e p lt k. runs_are_safe mode image built (in_each_mode mode) given done
+  lines = λ done rest e p lt k. runs_are_safe mode image built given done
       (first_lines image script done rest e is)
       (first_all line_is_built done rest (sym (ap (list_all line_is_built) e) ∙ lines)) 0 (omega arith) p lt k;
-  settling = λ q le p lt k. runs_are_safe mode image built (in_each_mode mode) given script is lines q le p lt k;
+  settling = λ q le p lt k. runs_are_safe mode image built given script is lines q le p lt k;
 }

@@ -112,5 +112,5 @@ module _ (frames : Bool) (mode : Mode) (image : Image) (script : List Line) wher
 pub run_stands : (mode : Mode) (image : Image) (script : List Line) (v : MachineView) → IsRun mode image script v
     → IsStandingAs mode image (settled_first mode image script 0).0 (run image script) v
 run_stands mode image script v r =
-    let follows = runs_follow mode image r.can.built r.can.mode_built r.can.image_is script r.script_is r.lines_built in
+    let follows = runs_follow mode image r.can.built r.can.image_is script r.script_is r.lines_built in
     record { can = r.can; at = r.at; left = follows.0; stands = follows.1 }

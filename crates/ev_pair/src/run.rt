@@ -10,11 +10,11 @@ ghost use Rattle.ev_io.specs.Transfer.{Rose, TookPrefix};
 ghost use Rattle.ev_abstract.specs.CallLaws.{KeepsCalls};
 ghost use Rattle.ev_abstract.specs.Run.{trace};
 ghost use Rattle.ev_abstract.specs.Script.{IsScript};
-ghost use Rattle.ev_built.specs.Built.{IsBuilt, line_is_built, mode_is_built};
+ghost use Rattle.ev_built.specs.Built.{IsBuilt, line_is_built};
 ghost use Rattle.ev_concrete.specs.RunText.{run_text};
 ghost use Rattle.ev_core.specs.Run.{IsRun};
 ghost use Rattle.ev_pair.specs.Chains.{KeepsChains};
-ghost use Rattle.ev_pair.specs.Modes.{all_built, modes_of};
+ghost use Rattle.ev_pair.specs.Modes.{modes_of};
 ghost use Rattle.ev_pair.specs.Outcome.{OnWriteFault};
 ghost use Rattle.ev_pair.specs.Safety.{RunIsSafe};
 ghost use Rattle.ev_pair.specs.Within.{is_within};
@@ -107,7 +107,6 @@ fn run_one<L: Ledger, K: Sink>(
     steps: &mut Steps<L>,
 ) -> Result<(), RunFault>
     requires image { IsBuilt accepted.now.image }
-    requires mode { mode_is_built mode ≡ true }
     requires script { IsScript accepted.now.image script.now }
     requires lines { list_all line_is_built script.now ≡ true }
     requires few { length script.now < 2 ^ 32 }
@@ -139,8 +138,6 @@ fn run_both<L: Ledger, K: Sink>(
     steps: &mut Steps<L>,
 ) -> Result<(), RunFault>
     requires image { IsBuilt accepted.now.image }
-    requires idt { mode_is_built Idt ≡ true }
-    requires fred { mode_is_built Fred ≡ true }
     requires script { IsScript accepted.now.image script.now }
     requires lines { list_all line_is_built script.now ≡ true }
     requires few { length script.now < 2 ^ 32 }
@@ -177,7 +174,6 @@ fn run_counted<L: Ledger, K: Sink>(
 ) -> Result<(), RunFault>
     requires ledger { (blank.name ≡ L.name) × (blank.parts ≡ L.parts) × (0 < blank.parts) }
     requires image { IsBuilt accepted.now.image }
-    requires modes { all_built modes ≡ true }
     requires script { IsScript accepted.now.image script.now }
     requires lines { list_all line_is_built script.now ≡ true }
     requires few { length script.now < 2 ^ 32 }

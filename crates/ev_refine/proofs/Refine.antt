@@ -36,18 +36,18 @@ module _ (mode : Mode) (image : Image) (built : IsBuilt image) (given : IsImage 
       by_bodies (b ∷ below) q = kernel_step mode image built given code left s m h p lt b below q
 
 pub refines : Refines
-refines mode image built h given left s m r p lt = simulates mode image built given left s m r p lt
+refines mode image built given left s m r p lt = simulates mode image built given left s m r p lt
 
 pub opens : Opens
-opens mode image built h given = opening.opens mode image given
+opens mode image built given = opening.opens mode image given
 
 pub all_settle : AllSettle
-all_settle mode image built h given left s m r p lt =
-    runs.settles mode image (refines mode image built h given) (keeps_settled mode image built h given) left s m r p lt
+all_settle mode image built given left s m r p lt =
+    runs.settles mode image (refines mode image built given) (keeps_settled mode image built given) left s m r p lt
 
 pub turns_follow : TurnsFollow
-turns_follow mode image built h given left s m r p lt =
-    runs.turn_follows mode image (refines mode image built h given) (keeps_settled mode image built h given) left s m r p lt
+turns_follow mode image built given left s m r p lt =
+    runs.turn_follows mode image (refines mode image built given) (keeps_settled mode image built given) left s m r p lt
 
 -- so they are where an interrupt arrives
 pub arrivals_stand : (mode : Mode) (image : Image) → IsBuilt image → IsImage image → (left : NatMap ℕ) (s : System) (m : Machine)
@@ -62,15 +62,15 @@ pub acceptances_stand : (mode : Mode) (image : Image) → IsBuilt image → IsIm
 acceptances_stand mode image built given = acceptance_stands mode image given built.accepted
 
 pub runs_follow : RunsFollow
-runs_follow mode image built h given script i b =
-    runs.lines_follow mode image (refines mode image built h given) (keeps_settled mode image built h given)
-    (arrivals_stand mode image built given) (acceptances_stand mode image built given) script (λ p. 0) _ _ (opens mode image built h given) i b
+runs_follow mode image built given script i b =
+    runs.lines_follow mode image (refines mode image built given) (keeps_settled mode image built given)
+    (arrivals_stand mode image built given) (acceptances_stand mode image built given) script (λ p. 0) _ _ (opens mode image built given) i b
 
 pub ends_follow : EndsFollow
-ends_follow mode image built h given script i b q lt =
-    let r = runs_follow mode image built h given script i b in
-    runs.settled_first mode image (refines mode image built h given) (keeps_settled mode image built h given) q r.0 _ _ r.1 lt
+ends_follow mode image built given script i b q lt =
+    let r = runs_follow mode image built given script i b in
+    runs.settled_first mode image (refines mode image built given) (keeps_settled mode image built given) q r.0 _ _ r.1 lt
 
 pub runs_are_safe : RunsAreSafe
-runs_are_safe mode image built h given script i b q lt p lt' k =
-    let r = ends_follow mode image built h given script i b q lt in (all_settle mode image built h given r.left _ _ r.stands p lt').safe k
+runs_are_safe mode image built given script i b q lt p lt' k =
+    let r = ends_follow mode image built given script i b q lt in (all_settle mode image built given r.left _ _ r.stands p lt').safe k

@@ -12,7 +12,7 @@ use Rattle.ev_abstract.specs.declared.script_line.Line.{Line}
 use Rattle.ev_concrete.specs.ConcreteRun.{System, marks_of, is_visible, concrete_step, edges, settled, concrete_turn, all_settled, opening_system, concrete_run}
 use Rattle.ev_concrete.specs.Depth.{bodies_on, told_bodies}
 use Rattle.ev_concrete.specs.LiveWords.{IsSafeStep}
-use Rattle.ev_built.specs.Built.{IsBuilt, mode_is_built, line_is_built}
+use Rattle.ev_built.specs.Built.{IsBuilt, line_is_built}
 use Rattle.ev_relation.specs.Relation.{Stands}
 use Rattle.ev_relation.specs.Step.{Simulated}
 use Rattle.ev_concrete.specs.Shown.{shown}
@@ -21,13 +21,13 @@ use Rattle.ev_concrete.specs.Shown.{shown}
 
 -- each concrete step is an edge or visible
 abbrev pub Refines : Type 0
-Refines = (mode : Mode) (image : Image) → IsBuilt image → mode_is_built mode ≡ true → IsImage image → (left : NatMap ℕ) (s : System) (m : Machine)
+Refines = (mode : Mode) (image : Image) → IsBuilt image → IsImage image → (left : NatMap ℕ) (s : System) (m : Machine)
     → Stands mode image left s m
     → (p : ℕ) → p < image.processors → Simulated mode image left s m p
 
 -- the opening of the one stands for that of the other
 abbrev pub Opens : Type 0
-Opens = (mode : Mode) (image : Image) → IsBuilt image → mode_is_built mode ≡ true → IsImage image
+Opens = (mode : Mode) (image : Image) → IsBuilt image → IsImage image
     → Stands mode image (λ p. 0) (opening_system mode image) (opening image)
 
 -- ---- runs of edges, turns and scripts
@@ -47,7 +47,7 @@ pub record Settles (mode : Mode) (image : Image) (left : NatMap ℕ) (s : System
 
 -- so it is of every related state and processor
 abbrev pub AllSettle : Type 0
-AllSettle = (mode : Mode) (image : Image) → IsBuilt image → mode_is_built mode ≡ true → IsImage image → (left : NatMap ℕ) (s : System) (m : Machine)
+AllSettle = (mode : Mode) (image : Image) → IsBuilt image → IsImage image → (left : NatMap ℕ) (s : System) (m : Machine)
     → Stands mode image left s m
     → (p : ℕ) → p < image.processors → Settles mode image left s m p
 
@@ -60,13 +60,13 @@ pub record Turns (mode : Mode) (image : Image) (s : System) (m : Machine) (p : �
 
 -- so it is of every related state and processor
 abbrev pub TurnsFollow : Type 0
-TurnsFollow = (mode : Mode) (image : Image) → IsBuilt image → mode_is_built mode ≡ true → IsImage image → (left : NatMap ℕ) (s : System) (m : Machine)
+TurnsFollow = (mode : Mode) (image : Image) → IsBuilt image → IsImage image → (left : NatMap ℕ) (s : System) (m : Machine)
     → Stands mode image left s m
     → (p : ℕ) → p < image.processors → Turns mode image s m p
 
 -- after every script of today's lines the concrete run stands for the abstract one
 abbrev pub RunsFollow : Type 0
-RunsFollow = (mode : Mode) (image : Image) → IsBuilt image → mode_is_built mode ≡ true → IsImage image → (script : List Line) → IsScript image script
+RunsFollow = (mode : Mode) (image : Image) → IsBuilt image → IsImage image → (script : List Line) → IsScript image script
     → list_all line_is_built script ≡ true
     → (left : NatMap ℕ) × Stands mode image left (concrete_run mode image script).0 (run image script)
 
@@ -78,13 +78,13 @@ pub record SettledFirst (mode : Mode) (image : Image) (s : System) (m : Machine)
 
 -- so it is after every script
 abbrev pub EndsFollow : Type 0
-EndsFollow = (mode : Mode) (image : Image) → IsBuilt image → mode_is_built mode ≡ true → IsImage image → (script : List Line) → IsScript image script
+EndsFollow = (mode : Mode) (image : Image) → IsBuilt image → IsImage image → (script : List Line) → IsScript image script
     → list_all line_is_built script ≡ true → (q : ℕ) → q ≤ image.processors → SettledFirst mode image (concrete_run mode image script).0 (run image script) q
 
 -- No step of a run writes over a live word: not the next one of any processor, nor one behind any number of its edges; and so where the first processors were
 -- settled at the end.
 abbrev pub RunsAreSafe : Type 0
-RunsAreSafe = (mode : Mode) (image : Image) → IsBuilt image → mode_is_built mode ≡ true → IsImage image → (script : List Line) → IsScript image script
+RunsAreSafe = (mode : Mode) (image : Image) → IsBuilt image → IsImage image → (script : List Line) → IsScript image script
     → list_all line_is_built script ≡ true → (q : ℕ) → q ≤ image.processors → (p : ℕ) → p < image.processors → (k : ℕ)
     → IsSafeStep mode image (edges k (marks_of mode image) image.processors (all_settled (marks_of mode image) image.processors
     (concrete_run mode image script).0 (numbers_from 0 q)).0 p).0 p

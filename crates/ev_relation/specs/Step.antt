@@ -10,7 +10,7 @@ use Rattle.ev_abstract.specs.Run.{turn}
 use Rattle.ev_concrete.specs.ConcreteRun.{System, marks_of, is_visible, concrete_step}
 use Rattle.ev_concrete.specs.Depth.{bodies_on, told_bodies}
 use Rattle.ev_concrete.specs.LiveWords.{IsSafeStep}
-use Rattle.ev_built.specs.Built.{IsBuilt, mode_is_built}
+use Rattle.ev_built.specs.Built.{IsBuilt}
 use Rattle.ev_relation.specs.Relation.{Stands}
 use Rattle.ev_concrete.specs.Shown.{shown}
 
@@ -42,6 +42,6 @@ module _ (mode : Mode) (image : Image) where
 
 -- an edge of one processor leaves it as it is whether the next step of another is visible
 abbrev pub KeepsSettled : Type 0
-KeepsSettled = (mode : Mode) (image : Image) → IsBuilt image → mode_is_built mode ≡ true → IsImage image → (left : NatMap ℕ) (s : System) (m : Machine)
+KeepsSettled = (mode : Mode) (image : Image) → IsBuilt image → IsImage image → (left : NatMap ℕ) (s : System) (m : Machine)
     → Stands mode image left s m → (p q : ℕ) → p < image.processors → q < image.processors → p ≢ q → is_visible (marks_of mode image) s p ≡ false
     → is_visible (marks_of mode image) (concrete_step image.processors s p).0 q ≡ is_visible (marks_of mode image) s q

@@ -1,5 +1,5 @@
 -- What the relation says to those who make the steps.
-use Rattle.std.specs.Prelude.{◌≡◌, ◌≢◌, ℕ, suc, ◌-◌, ◌%◌, ◌<◌, ◌≤◌, true, [], length, map}
+use Rattle.std.specs.Prelude.{◌≡◌, ◌≢◌, ℕ, suc, ◌-◌, ◌%◌, ◌<◌, ◌≤◌, [], length, map}
 use Rattle.ev_isa.specs.Word.{NatMap, numbers_from}
 use Rattle.ev_isa.specs.Flags.{flags_word}
 use Rattle.ev_isa.specs.declared.mode.Mode.{Mode}
@@ -9,7 +9,7 @@ use Rattle.ev_abstract.specs.Machine.{Machine, processor, task}
 use Rattle.ev_concrete.specs.ConcreteRun.{System}
 use Rattle.ev_concrete.specs.Depth.{bodies_on}
 use Rattle.ev_proc.specs.Conditions.{HasEntries, IsInCode}
-use Rattle.ev_built.specs.Built.{IsBuilt, mode_is_built}
+use Rattle.ev_built.specs.Built.{IsBuilt}
 use Rattle.ev_concrete.specs.Opening.{tasks_of, control, all_descriptors}
 use Rattle.ev_law.specs.Bases.{HasBases}
 use Rattle.ev_relation.specs.Tasks.{IsSaved, CurrentIs}
@@ -38,6 +38,6 @@ pub record Tells (mode : Mode) (image : Image) (s : System) (m : Machine) (p : �
 
 -- the relation says this of each processor
 abbrev pub StandsTells : Type 0
-StandsTells = (mode : Mode) (image : Image) → IsBuilt image → mode_is_built mode ≡ true → IsImage image → (left : NatMap ℕ) (s : System) (m : Machine)
+StandsTells = (mode : Mode) (image : Image) → IsBuilt image → IsImage image → (left : NatMap ℕ) (s : System) (m : Machine)
     → Stands mode image left s m
     → (p : ℕ) → p < image.processors → Tells mode image s m p

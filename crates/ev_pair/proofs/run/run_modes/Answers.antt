@@ -1,12 +1,8 @@
 use Rattle.std.proofs.Common.{◌∙◌, subst}
 use Rattle.ev_body.specs.WellFormed.{IsImage}
 use Rattle.ev_call_law.proofs.Runs.{calls_are_kept}
-use Rattle.ev_pair.proofs.Built.{are_built}
 use Rattle.ev_pair.proofs.Safe.{chains_are_kept, run_is_safe}
 use Rattle.ev_pair.proofs.run.run_modes.Goals as goal
-
-pub run_counted-requires-clause-modes : goal.run_counted-requires-clause-modes
-run_counted-requires-clause-modes g c = are_built c.args.modes
 
 pub returns-clause-safe : goal.returns-clause-safe
 returns-clause-safe g c mode =

@@ -22,7 +22,6 @@ invariant_of-result c =
     (record {
       image_is = subst IsImage (c.image.view_is ∙ c.image-image.ensures.image) c.image.invariant;
       built = c.requires.image;
-      mode_built = c.requires.mode;
     })
     c.in_ok-parts.ensures.places
     (open_shows c.args.mode c.args.accepted.now.image _ (c.into_vec-cpus.ensures ∙ c.in_ok-parts.ensures.cpus)
@@ -34,7 +33,6 @@ returns c =
     (record {
       image_is = subst IsImage (c.image.view_is ∙ c.image-image.ensures.image) c.image.invariant;
       built = c.requires.image;
-      mode_built = c.requires.mode;
     })
     c.in_ok-parts.ensures.places
     (open_shows c.args.mode c.args.accepted.now.image _ (c.into_vec-cpus.ensures ∙ c.in_ok-parts.ensures.cpus)
