@@ -64,7 +64,7 @@ IsTaskOffset o = ((0x10 ≤ o) × (o < 0x28)) ⊎ ((0x400 ≤ o) × (o < 0x800))
 abbrev pub IsCallOffset : ℕ → Type 0
 IsCallOffset o = (o < 0x10000) × (0x30 ≤ o) × ((o < 0x200) ⊎ (0x800 ≤ o))
 
-record_word : (p i o : ℕ) → record_address p i + o ≡ pcpu p + (0x800 + 0x40 * i + o)
+pub record_word : (p i o : ℕ) → record_address p i + o ≡ pcpu p + (0x800 + 0x40 * i + o)
 record_word p i o = omega arith
 
 below_all : (o : ℕ) → IsTaskOffset o → o < 0x10000
@@ -103,7 +103,7 @@ task_apart (CellAt k) w s q o hq h = inl (omega arith)
 task_apart (PageBit i) w s q o hq h = inl (omega arith)
 task_apart (UserWord a) w s q o hq h = let l = w.1 in inr (omega arith)
 
-call_apart : (x : Named) → IsWritten x → not (is_call_word x) ≡ true → (q o : ℕ) → q < 32 → IsCallOffset o
+pub call_apart : (x : Named) → IsWritten x → not (is_call_word x) ≡ true → (q o : ℕ) → q < 32 → IsCallOffset o
     → Outside (address_of x) (address_of x + 8) (pcpu q + o)
 call_apart (UserRsp p) w s q o hq h = let l = h.1 in area_word p q 8 o (omega arith) h.0 (inr (omega arith))
 call_apart (Top p) w s q o hq h = let l = h.1 in area_word p q 0x10 o (omega arith) h.0 (inr (omega arith))
@@ -187,7 +187,7 @@ user_low : (b : ℕ) → IsUserWord b → b < 0x20000000
 user_low b u = ⊎_elim (λ t. let k = t.1 in omega arith) (λ t. let k = t.1 in omega arith) u.1
 
 -- so no name of a list has it
-free : (f : Named → Bool) (a : ℕ) → ((x : Named) → IsWritten x → not (f x) ≡ true → Outside (address_of x) (address_of x + 8) a) → (names : List Named)
+pub free : (f : Named → Bool) (a : ℕ) → ((x : Named) → IsWritten x → not (f x) ≡ true → Outside (address_of x) (address_of x + 8) a) → (names : List Named)
     → AreWritten names → have_none f names ≡ true → NotNamed names a
 free f a apart [] w s = tt
 free f a apart (x ∷ xs) w s = (apart x w.0 (and_left (not (f x)) _ s), free f a apart xs w.1 (and_right (not (f x)) _ s))

@@ -19,6 +19,7 @@ pub mod Vectors
 pub mod Standing
 pub mod Stays
 pub mod After
+pub mod CallNames
 pub mod Depth
 pub mod Items
 pub mod NoCalls

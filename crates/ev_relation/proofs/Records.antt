@@ -50,7 +50,7 @@ rest_among j k ks h = pick (is_id j k) refl
     pick false q = let e = times_other j k ks q in omega (arith, e, h)
 
 -- the order doesn't matter
-times_reverse : (k : CallId) (ks : List CallId) → times k (reverse ks) ≡ times k ks
+pub times_reverse : (k : CallId) (ks : List CallId) → times k (reverse ks) ≡ times k ks
 times_reverse k [] = refl
 times_reverse k (j ∷ ks) =
     ap (times k) (reverse-append (j ∷ []) ks)

@@ -72,7 +72,7 @@ ranged (UserWord a) h = let b = h.1 in InPages h.0 (omega arith)
 
 -- ---- words of areas
 
-three_orders : (p q : ℕ) → (p < q) ⊎ ((p ≡ q) ⊎ (q < p))
+pub three_orders : (p q : ℕ) → (p < q) ⊎ ((p ≡ q) ⊎ (q < p))
 three_orders p q = ⊎_elim (λ x. ⊎_elim (λ y. inr (inl y.1)) (λ y. inl (strict y.1 x.1)) (eqb_tells p q))
     (λ x. inr (inr (let y = x.1 in omega arith))) (leb_tells p q)
   where
