@@ -1,31 +1,28 @@
 -- Steps that write words of call records, or the head of a queue: they leave the records of all other calls, the contexts that have those or fill them, and the
 -- queues that hold those. And whose calls no other context and no queue has.
-use Rattle.std.proofs.Common.{◌≡◌, ◌≢◌, ◌⊎◌, inl, inr, ⊎_elim, ℕ, suc, ◌+◌, ◌*◌, ◌<◌, ◌≤◌, Bool, true, false, not, List, [], ◌∷◌, Option, Some, None, refl, sym, ap, ◌∙◌, subst, arith}
-use Rattle.std.specs.Prelude.{◌%◌, ◌==◌, ◌&&◌, ◌||◌, nat_lt, reverse}
-use Rattle.std.proofs.lemmas.Bool.{eqb-true, eq-eqb, ne_eqb, false_from_ne_true, ltb-true, lt-ltb, and_from}
-use Rattle.std.proofs.lemmas.Bool.Decides.{eqb_tells}
-use Rattle.ev_isa.specs.Word.{NatMap, put_at}
+use Rattle.std.proofs.Common.{◌≡◌, ◌⊎◌, inl, inr, ℕ, ◌+◌, ◌*◌, ◌<◌, ◌≤◌, Bool, true, false, not, List, [], ◌∷◌, Option, Some, None, refl, sym, ap, ◌∙◌, subst, arith}
+use Rattle.std.specs.Prelude.{◌%◌, ◌==◌, reverse}
+use Rattle.std.proofs.lemmas.Bool.{or_left, or_right, eq-eqb}
+use Rattle.ev_isa.specs.Word.{NatMap}
 use Rattle.ev_isa.specs.declared.mode.Mode.{Mode}
 use Rattle.ev_body.specs.declared.image.Image.{Image}
 use Rattle.ev_listing.specs.AddressMap.{pcpu, record_address, head_offset}
 use Rattle.ev_abstract.specs.Context.{BodyContext, CallId}
 use Rattle.ev_abstract.specs.Machine.{Machine, processor, CallRecord, CallState, Free, Queued, Taken}
 use Rattle.ev_abstract.specs.Machine as abstract
-use Rattle.ev_abstract.specs.CrossCall.{record_of}
 use Rattle.ev_concrete.specs.ConcreteRun.{System}
 use Rattle.ev_calls.specs.Records.{Linked}
 use Rattle.ev_calls.specs.Lists.{QueueIs}
-use Rattle.ev_call_law.specs.Calls.{is_id, is_free, is_queued, is_taken, one_if, times, to_run, IsInRange, IsPlaced, KeepsCallRecords}
-use Rattle.ev_call_law.proofs.Counts.{same_call, id_self, times_other, times_append, is_one}
-use Rattle.ev_symbolic.proofs.Values.{and_left, and_right}
+use Rattle.ev_call_law.specs.Calls.{is_id, times, to_run}
+use Rattle.ev_call_law.proofs.Counts.{same_call, times_other, times_append}
 use Rattle.ev_activation.specs.Seat.{Seat}
-use Rattle.ev_relation.specs.Named.{Named, UserRsp, Top, Current, Mark, Port, Head, TssTop, Slot, RecordWord, CellAt, PageBit, UserWord, address_of, have_none, IsWritten, AreWritten, AreOf, Outside, NotNamed, Changes}
-use Rattle.ev_relation.specs.Filling.{Filling, first_fill, rest_fills, is_of_site, is_filled, IsFree, AreFree}
-use Rattle.ev_relation.specs.Relation.{HoldsCall, StandsOn, Stands}
+use Rattle.ev_relation.specs.Named.{Named, Head, RecordWord, address_of, have_none, IsWritten, AreWritten, AreOf, Outside, NotNamed, Changes}
+use Rattle.ev_relation.specs.Filling.{Filling, first_fill, rest_fills, is_of_site, is_filled, AreFree}
+use Rattle.ev_relation.specs.Relation.{HoldsCall, StandsOn}
 use Rattle.ev_relation.proofs.Words.{three_orders, area_word}
-use Rattle.ev_relation.proofs.Records.{RecordStays, RecordsStay, times_reverse, linked_again, call_stays}
+use Rattle.ev_relation.proofs.Records.{RecordStays, times_reverse, linked_again, call_stays}
 use Rattle.ev_relation.proofs.Stays.{IsSmall, AreSmall, FillStays, AreKept, free_small, first_is_small, rest_small}
-use Rattle.ev_relation.proofs.After.{call_apart, record_word, free, filled_below, free_below, KeepsCalls}
+use Rattle.ev_relation.proofs.After.{call_apart, record_word, free, KeepsCalls}
 
 -- ---- words of records
 
@@ -67,9 +64,14 @@ head_apart (RecordWord p k o) q hq w h =
     (area_word p q (0x800 + 0x40 * k + o) 0x30 (omega (arith, l, b)) (omega arith) (inl (omega arith)))
 head_apart x q hq w h = call_apart x w refl q 0x30 hq (omega arith, omega arith, inl (omega arith))
 
-or_true : (x y : Bool) → y ≡ true → (x || y) ≡ true
-or_true true y e = refl
-or_true false y e = e
+-- what the last context fills is filled, and what those below it fill
+pub filled_first : (site : ℕ) (fs : List (Option Filling)) → is_of_site site (first_fill fs) ≡ true → is_filled site fs ≡ true
+filled_first site [] h = h
+filled_first site (f ∷ fs) h = or_left (is_of_site site f) (is_filled site fs) h
+
+pub filled_rest : (site : ℕ) (fs : List (Option Filling)) → is_filled site (rest_fills fs) ≡ true → is_filled site fs ≡ true
+filled_rest site [] h = h
+filled_rest site (f ∷ fs) h = or_right (is_of_site site f) (is_filled site fs) h
 
 -- a call of a list in memory is one of a processor and a site
 pub linked_bounded : (words : NatMap ℕ) (a : ℕ) (ks : List CallId) → Linked words a ks → (k : CallId) → 0 < times k ks → (k.from < 32) × (k.site < 8)
@@ -132,14 +134,6 @@ module _ (p : ℕ) (σ : Seat) (names : List Named) (hp : p < 32) (hs : σ.stack
           (λ k h. calls k (let e = times_append k b.calls (to_run below) in omega (arith, e, h))) (λ site h. filled site (filled_rest site fs h)),
     )
       where
-        filled_first : (site : ℕ) (fs : List (Option Filling)) → is_of_site site (first_fill fs) ≡ true → is_filled site fs ≡ true
-        filled_first site [] h = h
-        filled_first site (f ∷ fs) h = ap (λ t. t || is_filled site fs) h
-
-        filled_rest : (site : ℕ) (fs : List (Option Filling)) → is_filled site (rest_fills fs) ≡ true → is_filled site fs ≡ true
-        filled_rest site [] h = h
-        filled_rest site (f ∷ fs) h = or_true (is_of_site site f) (is_filled site fs) h
-
         first_spared : (g : Option Filling) → IsSmall g → ((site : ℕ) → is_of_site site g ≡ true → mine (record { from = q; site = site }) ≡ false)
             → FillStays q g m n
         first_spared None l away = tt
@@ -167,14 +161,14 @@ module _ (p : ℕ) (σ : Seat) (names : List Named) (hp : p < 32) (hs : σ.stack
         free_again [] away h = tt
         free_again (None ∷ fs) away h = (tt, free_again fs away h.1)
         free_again (Some f ∷ fs) away h =
-            let same = old f.site h.0.small (away f.site (ap (λ t. t || is_filled f.site fs) (eq-eqb f.site f.site refl))) in (
+            let same = old f.site h.0.small (away f.site (or_left (f.site == f.site) (is_filled f.site fs) (eq-eqb f.site f.site refl))) in (
               record {
                 small = h.0.small;
                 free = ap (λ (r : CallRecord). r.state) same ∙ h.0.free;
                 number = ap (λ (r : CallRecord). r.number) same ∙ h.0.number;
                 alone = h.0.alone;
               },
-              free_again fs (λ site e. away site (or_true (f.site == site) (is_filled site fs) e)) h.1,
+              free_again fs (λ site e. away site (or_right (f.site == site) (is_filled site fs) e)) h.1,
             )
 
         by_call : (k : ℕ) → k < 8 → is_filled k on.fills ≡ false → (t : Bool) → mine (record { from = q; site = k }) ≡ t

@@ -20,6 +20,7 @@ pub mod Standing
 pub mod Stays
 pub mod After
 pub mod CallNames
+pub mod CallHolders
 pub mod Depth
 pub mod Items
 pub mod NoCalls
