@@ -1,9 +1,9 @@
 -- Steps that write words of call records, or the head of a queue: they leave the records of all other calls, the contexts that have those or fill them, and the
 -- queues that hold those. And whose calls no other context and no queue has.
 use Rattle.std.proofs.Common.{◌≡◌, ◌⊎◌, inl, inr, ℕ, ◌+◌, ◌*◌, ◌<◌, ◌≤◌, Bool, true, false, not, List, [], ◌∷◌, Option, Some, None, refl, sym, ap, ◌∙◌, subst, arith}
-use Rattle.std.specs.Prelude.{◌%◌, ◌==◌, reverse}
-use Rattle.std.proofs.lemmas.Bool.{or_left, or_right, eq-eqb}
-use Rattle.ev_isa.specs.Word.{NatMap}
+use Rattle.std.specs.Prelude.{◌%◌, ◌++◌, ◌==◌, reverse}
+use Rattle.std.proofs.lemmas.Bool.{ne_eqb, or_left, or_right, eq-eqb}
+use Rattle.ev_isa.specs.Word.{NatMap, put_at}
 use Rattle.ev_isa.specs.declared.mode.Mode.{Mode}
 use Rattle.ev_body.specs.declared.image.Image.{Image}
 use Rattle.ev_listing.specs.AddressMap.{pcpu, record_address, head_offset}
@@ -12,7 +12,10 @@ use Rattle.ev_abstract.specs.Machine.{Machine, processor, CallRecord, CallState,
 use Rattle.ev_abstract.specs.Machine as abstract
 use Rattle.ev_concrete.specs.ConcreteRun.{System}
 use Rattle.ev_calls.specs.Records.{Linked}
-use Rattle.ev_calls.specs.Lists.{QueueIs}
+use Rattle.ev_calls.specs.Lists.{IsCall, link_of, IsTurning, QueueIs}
+use Rattle.ev_calls.specs.Lists.{address_of as list_address}
+use Rattle.ev_calls.proofs.Lists.{queues_grow, queues_are_taken}
+use Rattle.ev_relation.proofs.Maps.{at_same, at_other}
 use Rattle.ev_call_law.specs.Calls.{is_id, times, to_run}
 use Rattle.ev_call_law.proofs.Counts.{same_call, times_other, times_append}
 use Rattle.ev_activation.specs.Seat.{Seat}
@@ -20,7 +23,7 @@ use Rattle.ev_relation.specs.Named.{Named, Head, RecordWord, address_of, have_no
 use Rattle.ev_relation.specs.Filling.{Filling, first_fill, rest_fills, is_of_site, is_filled, AreFree}
 use Rattle.ev_relation.specs.Relation.{HoldsCall, StandsOn}
 use Rattle.ev_relation.proofs.Words.{three_orders, area_word}
-use Rattle.ev_relation.proofs.Records.{RecordStays, times_reverse, linked_again, call_stays}
+use Rattle.ev_relation.proofs.Records.{RecordStays, times_reverse, linked_again, turning_again, call_stays}
 use Rattle.ev_relation.proofs.Stays.{IsSmall, AreSmall, FillStays, AreKept, free_small, first_is_small, rest_small}
 use Rattle.ev_relation.proofs.After.{call_apart, record_word, free, KeepsCalls}
 
@@ -186,3 +189,48 @@ module _ (p : ℕ) (σ : Seat) (names : List Named) (hp : p < 32) (hs : σ.stack
         → QueueIs m q ks → QueueIs n q ks
     queue_spared q ks hq none away h = subst (λ a. Linked n a (reverse ks)) (sym (head_spared q hq none))
         (list_spared (m (pcpu q + head_offset)) (reverse ks) (λ k some. away k (let e = times_reverse k ks in omega (arith, e, some))) h)
+
+    -- ---- queues whose head is written
+
+    -- Records are over m with another head what they are in memory behind the step.
+    over_head : (q v : ℕ) → q < 32 → (k : CallId) → mine k ≡ false → k.from < 32 → k.site < 8 → RecordStays k (put_at m (pcpu q + head_offset) v) n
+    over_head q v hq k off hf hk o ho =
+        record_spared k off hf hk o ho
+        ∙ sym (at_other m (pcpu q + head_offset) (record_address k.from k.site + o) v (ne_eqb _ _ (λ e. differ e)))
+      where
+        differ : record_address k.from k.site + o ≡ pcpu q + head_offset → ⊥
+        differ e = by_processor (three_orders q k.from)
+          where
+            by_processor : (q < k.from) ⊎ ((q ≡ k.from) ⊎ (k.from < q)) → ⊥
+            by_processor (inl l) = omega (arith, l, e, hk, ho)
+            by_processor (inr (inl l)) = omega (arith, l, e, hk, ho)
+            by_processor (inr (inr l)) = omega (arith, l, e, hk, ho)
+
+    -- the exchange of `call`: its record, which has the old head as its link, is the last one
+    pub queue_pushed : (q : ℕ) (k : CallId) (ks : List CallId) → q < 32 → IsCall k → mine k ≡ false → ((j : CallId) → 0 < times j ks → mine j ≡ false)
+        → m (link_of k) ≡ m (pcpu q + head_offset) → n (pcpu q + head_offset) ≡ list_address k → QueueIs m q ks → QueueIs n q (ks ++ k ∷ [])
+    queue_pushed q k ks hq bounds off away link head h =
+        let old : NatMap ℕ = put_at m (pcpu q + head_offset) (list_address k) in
+        let first : old (pcpu q + head_offset) ≡ list_address k = at_same m (pcpu q + head_offset) (pcpu q + head_offset) (list_address k) refl in
+        let grown : QueueIs old q (ks ++ k ∷ []) = queues_grow m q k ks hq bounds link h in
+        subst (λ a. Linked n a (reverse (ks ++ k ∷ []))) (first ∙ sym head)
+        (linked_again old n (old (pcpu q + head_offset)) (reverse (ks ++ k ∷ []))
+        (λ j some. let l = linked_bounded old (old (pcpu q + head_offset)) (reverse (ks ++ k ∷ [])) grown j some in
+        over_head q (list_address k) hq j (among j (let e = times_reverse j (ks ++ k ∷ []) in omega (arith, e, some))) l.0 l.1) grown)
+      where
+        among : (j : CallId) → 0 < times j (ks ++ k ∷ []) → mine j ≡ false
+        among j some = by_call (is_id j k) refl
+          where
+            by_call : (t : Bool) → is_id j k ≡ t → mine j ≡ false
+            by_call true e = subst (λ i. mine i ≡ false) (sym (same_call j k e)) off
+            by_call false e = away j (let a = times_append j ks (k ∷ []) in let c = times_other j k [] e in omega (arith, a, c, some))
+
+    -- that of `take`: the calls of the queue are left to be turned, and the queue is empty
+    pub queue_taken : (q : ℕ) (ks : List CallId) → q < 32 → ((j : CallId) → 0 < times j ks → mine j ≡ false) → n (pcpu q + head_offset) ≡ 0
+        → QueueIs m q ks → IsTurning n (m (pcpu q + head_offset)) 0 ks × QueueIs n q []
+    queue_taken q ks hq away head h = (
+      turning_again (put_at m (pcpu q + head_offset) 0) n (m (pcpu q + head_offset)) 0 ks
+          (λ j some. let l = linked_bounded m (m (pcpu q + head_offset)) (reverse ks) h j (let e = times_reverse j ks in omega (arith, e, some)) in
+          over_head q 0 hq j (away j some) l.0 l.1) (queues_are_taken m q ks hq h).0,
+      head,
+    )

@@ -65,7 +65,7 @@ module _ (m n : NatMap ℕ) where
   pub linked_again : (a : ℕ) (ks : List CallId) → RecordsStay ks m n → Linked m a ks → Linked n a ks
   linked_again a ks h l = lists_stay m n a ks (links_keep m n ks ks (λ k i. i) h) l
 
-  turning_again : (left turned : ℕ) (calls : List CallId) → RecordsStay calls m n → (t : IsTurning m left turned calls) → IsTurning n left turned calls
+  pub turning_again : (left turned : ℕ) (calls : List CallId) → RecordsStay calls m n → (t : IsTurning m left turned calls) → IsTurning n left turned calls
   turning_again left turned calls h t =
       let counted : (k : CallId) → times k calls ≡ times k t.ahead + times k t.behind
       = λ k. ap (times k) t.are ∙ times_append k (reverse t.ahead) t.behind ∙ ap (λ i. i + times k t.behind) (times_reverse k t.ahead) in record {
