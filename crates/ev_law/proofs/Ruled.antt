@@ -14,9 +14,9 @@ use Rattle.ev_body.specs.declared.image.Image.{Image}
 use Rattle.ev_body.specs.Bodies.{body_items, key_number, covers, function_start}
 use Rattle.ev_body.specs.WellFormed.{IsImage, is_body, is_key, are_parts, has_operands, is_sendable, is_word, has_no_parts, ends_with, is_ret, is_finish, is_apart, are_apart}
 use Rattle.ev_abstract.specs.CrossCall.{take_place}
-use Rattle.ev_abstract.specs.Rules.{first_item_from, refusal_at, first_refused, first_some, rules, missing_body, slot_rule, register_rule, flag_rule, if_rule, eoi_rule, fault_rule, nmi_rule, call_rule, breaks_slots, breaks_registers, breaks_flags, breaks_if, breaks_eoi, breaks_calls, failing_eoi, failing_call, or_first, jump_target, in_function, item_before, leaves_flags, is_take, is_eoi, is_irq, is_call_handler, is_function}
+use Rattle.ev_abstract.specs.Rules.{first_item_from, refusal_at, first_refused, first_some, rules, missing_body, slot_rule, register_rule, flag_rule, if_rule, eoi_rule, fault_rule, nmi_rule, call_rule, breaks_slots, breaks_registers, breaks_flags, breaks_if, breaks_eoi, breaks_calls, failing_eoi, failing_call, or_first, jump_target, in_function, item_before, leaves_flags, is_take, is_eoi, is_irq, is_call_handler, is_function, is_inner, is_for_outer}
 use Rattle.ev_abstract.specs.declared.refusal.Refusal.{Refusal}
-use Rattle.ev_abstract.specs.declared.refusal.Refusal.TheVariants.{SlotRule, RegisterRule, FlagRule, IfRule, EoiRule, CallRule}
+use Rattle.ev_abstract.specs.declared.refusal.Refusal.TheVariants.{SlotRule, RegisterRule, FlagRule, IfRule, EoiRule, NmiRule, CallRule}
 use Rattle.ev_law.specs.Legal.{has_function, declares, is_eoi_behind}
 use Rattle.ev_law.proofs.Lists.{all_at}
 use Rattle.ev_law.proofs.Parts.{items_of, get_split, total, goes_in, starts_in, no_finish_in, leads_in, part_ends, parts_go_on, parts_no_ret, eoi_before_ret, parts_lead, parts_operands, parts_start, before, start_leaves, take_first, take_found}
@@ -356,6 +356,15 @@ module _ (image : Image) (is : IsImage image) (kept : rules image ≡ None) wher
   call_rule_of n b e =
       let z : 0 + n ≡ n = omega arith in subst (λ k. failing_call image k b ≡ None) z
       (nowhere CallRule (failing_call image) 0 n b image.bodies all_rules.1.1.1.1.1.1.1.1.0 e)
+
+  -- what CallRule and NmiRule say of an item
+  pub keeps_call_rule : (n : ℕ) (b : Body) → slice_get image.bodies n ≡ Some b → (i : ℕ) (item : Item) → slice_get (body_items b) i ≡ Some item
+      → breaks_calls image n b i item ≡ false
+  keeps_call_rule n b e i item k = no_item_of (breaks_calls image n b) i item (body_items b) (call_parts image n b (call_rule_of n b e)).1 k
+
+  pub keeps_nmi_rule : (n : ℕ) (b : Body) → slice_get image.bodies n ≡ Some b → (i : ℕ) (item : Item) → slice_get (body_items b) i ≡ Some item
+      → (is_inner b && is_for_outer item) ≡ false
+  keeps_nmi_rule n b e = at_item NmiRule (λ b i item. is_inner b && is_for_outer item) image.bodies n b all_rules.1.1.1.1.1.1.1.0 e
 
   declared : (func : ℕ) → is_function image func ≡ true → declares image func ≡ true
   unfolding declares
