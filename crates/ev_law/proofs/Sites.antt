@@ -24,13 +24,13 @@ use Rattle.ev_law.proofs.Lists.{any_at, any_before}
 use Rattle.ev_law.proofs.Ruled.{keeps_call_rule, keeps_nmi_rule}
 
 -- whether an item is one of the site's calls
-abbrev pub is_call_of : ℕ → Option Item → Bool
-is_call_of site None = false
-is_call_of site (Some item) = is_call_at site item
+abbrev pub some_call_at : ℕ → Option Item → Bool
+some_call_at site None = false
+some_call_at site (Some item) = is_call_at site item
 
 -- whether a context stands at one
 abbrev pub stands_at_call : Image → ℕ → BodyContext → Bool
-stands_at_call image site c = is_call_of site (item_at (slice_get image.bodies c.body) c.place)
+stands_at_call image site c = some_call_at site (item_at (slice_get image.bodies c.body) c.place)
 
 -- ---- one body has the calls of a site
 
@@ -101,9 +101,9 @@ module _ (image : Image) (is : IsImage image) (kept : rules image ≡ None) wher
     item_there : (c : BodyContext) (below : List BodyContext) (l : IsLegalOn image known c below) (site : ℕ) → stands_at_call image site c ≡ true
         → (x : Item) × (slice_get (body_items l.body) c.place ≡ Some x) × (is_call_at site x ≡ true)
     item_there c below l site h = by_item (slice_get (body_items l.body) c.place) refl
-        (subst (λ (o : Option Body). is_call_of site (item_at o c.place) ≡ true) l.is_body h)
+        (subst (λ (o : Option Body). some_call_at site (item_at o c.place) ≡ true) l.is_body h)
       where
-        by_item : (o : Option Item) → slice_get (body_items l.body) c.place ≡ o → is_call_of site o ≡ true
+        by_item : (o : Option Item) → slice_get (body_items l.body) c.place ≡ o → some_call_at site o ≡ true
             → (x : Item) × (slice_get (body_items l.body) c.place ≡ Some x) × (is_call_at site x ≡ true)
         by_item None e t = absurd (cc)
         by_item (Some x) e t = (x, e, t)

@@ -142,8 +142,21 @@ module _ (p : ℕ) (σ : Seat) (names : List Named) (hp : p < 32) (hs : σ.stack
         first_spared None l away = tt
         first_spared (Some f) l away = record_spared (record { from = q; site = f.site }) (away f.site (eq-eqb f.site f.site refl)) hq l
 
-    -- What memory holds of another processor's calls. `rs` are its records behind the step: those of before, but for the calls that are among the names, of
-    -- which memory has to hold what is new.
+    -- The records of a processor's calls that nobody fills behind the step, which are rs: those of before, but for the calls that are among the names, of which
+    -- memory has to hold what is new.
+    pub records_spared : (mode : Mode) (image : Image) (q : ℕ) (fs : List (Option Filling)) (xs rs : NatMap CallRecord) → q < 32
+        → ((site : ℕ) → site < 8 → mine (record { from = q; site = site }) ≡ false → rs site ≡ xs site)
+        → ((site : ℕ) → site < 8 → mine (record { from = q; site = site }) ≡ false → is_filled site fs ≡ false → HoldsCall mode image m q site (xs site))
+        → ((site : ℕ) → site < 8 → mine (record { from = q; site = site }) ≡ true → is_filled site fs ≡ false → HoldsCall mode image n q site (rs site))
+        → (site : ℕ) → site < 8 → is_filled site fs ≡ false → HoldsCall mode image n q site (rs site)
+    records_spared mode image q fs xs rs hq old held new k lt unfilled = by_call (mine (record { from = q; site = k })) refl
+      where
+        by_call : (t : Bool) → mine (record { from = q; site = k }) ≡ t → HoldsCall mode image n q k (rs k)
+        by_call true e = new k lt e unfilled
+        by_call false e = subst (HoldsCall mode image n q k) (sym (old k lt e))
+            (call_stays mode image m n q k (xs k) (record_spared (record { from = q; site = k }) e hq lt) (held k lt e unfilled))
+
+    -- What memory holds of another processor's calls, whose records are rs behind the step.
     pub calls_spared : (mode : Mode) (image : Image) (q left : ℕ) (s : System) (x : abstract.Processor) (on : StandsOn mode image q left s x)
         → s.memory.words ≡ m → q < 32 → (rs : NatMap CallRecord)
         → ((k : CallId) → 0 < times k (to_run x.bodies) → (mine k ≡ false) × (k.from < 32) × (k.site < 8))
@@ -156,7 +169,8 @@ module _ (p : ℕ) (σ : Seat) (names : List Named) (hp : p < 32) (hs : σ.stack
       kept = subst (λ w. AreKept q on.fills x.bodies w n) (sym same)
           (contexts_spared q hq on.fills (free_small x.records on.fills on.free) x.bodies calls filled);
       free = free_again on.fills filled on.free;
-      records = λ k lt unfilled. by_call k lt unfilled (mine (record { from = q; site = k })) refl;
+      records = records_spared mode image q on.fills x.records rs hq old
+          (λ k lt e unfilled. subst (λ w. HoldsCall mode image w q k (x.records k)) same (on.records k lt unfilled)) new;
     }
       where
         free_again : (fs : List (Option Filling)) → ((site : ℕ) → is_filled site fs ≡ true → mine (record { from = q; site = site }) ≡ false)
@@ -173,13 +187,6 @@ module _ (p : ℕ) (σ : Seat) (names : List Named) (hp : p < 32) (hs : σ.stack
               },
               free_again fs (λ site e. away site (or_right (f.site == site) (is_filled site fs) e)) h.1,
             )
-
-        by_call : (k : ℕ) → k < 8 → is_filled k on.fills ≡ false → (t : Bool) → mine (record { from = q; site = k }) ≡ t
-            → HoldsCall mode image n q k (rs k)
-        by_call k lt unfilled true e = new k lt e unfilled
-        by_call k lt unfilled false e = subst (HoldsCall mode image n q k) (sym (old k lt e))
-            (call_stays mode image m n q k (x.records k) (record_spared (record { from = q; site = k }) e hq lt)
-            (subst (λ w. HoldsCall mode image w q k (x.records k)) same (on.records k lt unfilled)))
 
     -- a list of other calls, and a queue of those whose head isn't among the names
     pub list_spared : (a : ℕ) (ks : List CallId) → ((k : CallId) → 0 < times k ks → mine k ≡ false) → Linked m a ks → Linked n a ks

@@ -21,6 +21,7 @@ pub mod Stays
 pub mod After
 pub mod CallNames
 pub mod CallHolders
+pub mod FilledOnce
 pub mod Depth
 pub mod Items
 pub mod NoCalls
