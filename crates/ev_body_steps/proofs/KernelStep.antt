@@ -50,7 +50,7 @@ use Rattle.ev_concrete.specs.LiveWords.{area_bytes}
 use Rattle.ev_concrete.specs.Opening.{tasks_of}
 use Rattle.ev_relation.specs.Tasks.{CurrentIs}
 use Rattle.ev_relation.specs.Nmi.{Leads, inner_edges}
-use Rattle.ev_relation.specs.Named.{Named, is_task_word, is_slot, is_cell, is_page_bit, is_user_word, have_none, UnknownTo, Changes}
+use Rattle.ev_relation.specs.Named.{Named, AreWritten, is_task_word, is_slot, is_cell, is_page_bit, is_user_word, have_none, UnknownTo, Changes}
 use Rattle.ev_relation.specs.Domain.{IsQuiet, AreQuiet, IsInDomain}
 use Rattle.ev_relation.specs.Filling.{Filling, first_fill, rest_fills, is_filled, AreFree}
 use Rattle.ev_relation.specs.Active.{item_place, address_of_item, here, IsKernelSs, fills_record, Means, Active}
@@ -498,40 +498,57 @@ module _ (mode : Mode) (image : Image) (built : IsBuilt image) (good : IsImage i
         any_cr2 NmiFromTask q C h a = let clash : false ≡ true = q in absurd (cc)
         any_cr2 NmiFromBody q C h a = let clash : false ≡ true = q in absurd (cc)
 
+    -- a step that writes no word of calls leaves the records of the contexts below
+    pub below_kept : (names : List Named) → AreCallFree p names → (words : NatMap ℕ) → Changes p σ names s.memory.words words
+        → AreKept p (rest_fills on.fills) below s.memory.words words
+    below_kept names free words changes =
+        let all : AreKept p on.fills (b ∷ below) s.memory.words words = subst (λ bs. AreKept p on.fills bs s.memory.words words) o.bodies
+        (contexts_stay σ narrow names free words changes) in all.1
+
     -- a step that writes its own stretch of the stack, and words that no block below knows
-    pub below_stays : (names : List Named) → AreCallFree p names → UnknownTo below names → (words : NatMap ℕ) → Changes p σ names s.memory.words words
+    pub below_stays : (names : List Named) → AreWritten names → UnknownTo below names → (words : NatMap ℕ) → Changes p σ names s.memory.words words
+        → AreKept p (rest_fills on.fills) below s.memory.words words
         → Beneath mode image (keeps_cr2 mode image κ)
         (λ v. Chain mode image p (body_edges mode image) r to t on.frame (chained mode image on.switching below) (rest_fills on.fills) below o.others v
         (with_words s.memory words)) w
-    below_stays names free unknown words changes =
+    below_stays names written unknown words changes records_kept =
         let z = narrow_task in
         let spared : AreSpared mode image p r below s.memory.words words
-        = below_spared mode image p r names s.memory.words words b below small (omega arith) shallow free.allowed.written unknown
+        = below_spared mode image p r names s.memory.words words b below small (omega arith) shallow written unknown
         (subst (λ y. Changes p y names s.memory.words words) (sym seat_is) changes) all_plain in
-        let all : AreKept p on.fills (b ∷ below) s.memory.words words = subst (λ bs. AreKept p on.fills bs s.memory.words words) o.bodies
-        (contexts_stay σ narrow names free words changes) in
         beneath_as mode image (keeps_cr2 mode image κ) _ _ w
         (λ v e k. chain_stays mode image p (body_edges mode image) (body_edges mode image) r to t on.frame (chained mode image on.switching below)
         (rest_fills on.fills) below o.others v s.memory words hp
-        good.count.1 spared all.1 (rest_small on.fills (free_small x.records on.fills on.free))
+        good.count.1 spared records_kept (rest_small on.fills (free_small x.records on.fills on.free))
         (marks_under mode image p below w v o.others s.memory.words words o.interrupted e) (omega arith) (omega arith) k) o.under
 
-    -- the chain with another last context of the same kind
+    -- the chain with another last context of the same kind, which may fill another record
+    pub with_last_filling : (b' : BodyContext) → kind_of image b' below ≡ κ → IsContext mode image b' → (now : ℕ) (cpu : Processor) (words : NatMap ℕ)
+        → (names : List Named) → AreWritten names → UnknownTo below names → Changes p σ names s.memory.words words
+        → AreKept p (rest_fills on.fills) below s.memory.words words → (fs : List (Option Filling)) → rest_fills fs ≡ rest_fills on.fills
+        → Active mode image p now κ σ on.frame (switches_at mode image on.switching below) (first_fill fs) w b' cpu (with_words s.memory words)
+        → Chain mode image p now r to t on.frame on.switching fs (b' ∷ below) (o.last ∷ o.others) cpu (with_words s.memory words)
+    with_last_filling b' k ctx' now cpu words names written unknown changes records_kept fs same act =
+        let mem : Memory = with_words s.memory words in
+        let at = subst (λ n. Beneath mode image (keeps_cr2 mode image n)
+        (λ v. Chain mode image p (body_edges mode image) r to t on.frame (chained mode image on.switching below) (rest_fills fs) below o.others v mem) w
+        × Leads mode p n on.frame w mem.words
+        × Active mode image p now n (seat_by mode n r (seat_of mode image r below) (room_of mode image below)) on.frame
+        (switches_at mode image on.switching below) (first_fill fs) w b' cpu mem) (sym k) (
+          subst (λ gs. Beneath mode image (keeps_cr2 mode image κ)
+          (λ v. Chain mode image p (body_edges mode image) r to t on.frame (chained mode image on.switching below) gs below o.others v mem) w) (sym same)
+          (below_stays names written unknown words changes records_kept),
+          leads_again mode image p κ on.frame w s.memory.words words o.leads,
+          subst (λ y. Active mode image p now κ y on.frame (switches_at mode image on.switching below) (first_fill fs) w b' cpu mem) (sym o.seat) act,
+        ) in
+        (w, ctx', o.outer, o.interrupted, at.0, at.1, at.2)
+
+    -- or the same one
     pub with_last : (b' : BodyContext) → kind_of image b' below ≡ κ → IsContext mode image b' → (now : ℕ) (cpu : Processor) (words : NatMap ℕ)
         → (names : List Named) → AreCallFree p names → UnknownTo below names → Changes p σ names s.memory.words words
         → Stood now b' cpu (with_words s.memory words) → Chained now t (b' ∷ below) (o.last ∷ o.others) cpu (with_words s.memory words)
-    with_last b' k ctx' now cpu words names free unknown changes act =
-        let mem : Memory = with_words s.memory words in
-        let at = subst (λ n. Beneath mode image (keeps_cr2 mode image n)
-        (λ v. Chain mode image p (body_edges mode image) r to t on.frame (chained mode image on.switching below) (rest_fills on.fills) below o.others v mem) w
-        × Leads mode p n on.frame w mem.words
-        × Active mode image p now n (seat_by mode n r (seat_of mode image r below) (room_of mode image below)) on.frame
-        (switches_at mode image on.switching below) (first_fill on.fills) w b' cpu mem) (sym k) (
-          below_stays names free unknown words changes,
-          leads_again mode image p κ on.frame w s.memory.words words o.leads,
-          subst (λ y. Active mode image p now κ y on.frame (switches_at mode image on.switching below) (first_fill on.fills) w b' cpu mem) (sym o.seat) act,
-        ) in
-        (w, ctx', o.outer, o.interrupted, at.0, at.1, at.2)
+    with_last b' k ctx' now cpu words names free unknown changes act = with_last_filling b' k ctx' now cpu words names free.allowed.written unknown changes
+        (below_kept names free words changes) on.fills refl act
 
     -- ---- what a step gives
 
