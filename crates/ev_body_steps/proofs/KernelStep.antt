@@ -116,6 +116,10 @@ module _ (mode : Mode) (image : Image) (built : IsBuilt image) (good : IsImage i
   pub on : StandsOn mode image p (left p) s x
   on = h.each p hp
 
+  pub on_is : on ≡ h.each p hp
+  unfolding on
+  on_is = refl
+
   pub domain : IsInDomain x
   domain = h.domain p hp
 
@@ -425,11 +429,11 @@ module _ (mode : Mode) (image : Image) (built : IsBuilt image) (good : IsImage i
     on_stack : σ.stack ≡ r
     on_stack = ap (λ (y : Seat). y.stack) under_is
 
-    narrow : σ.stack < 7
+    pub narrow : σ.stack < 7
     narrow = in_seat.stack
 
     -- its steps leave the saved areas of the tasks to which the bodies don't return
-    beside : (i : ℕ) → (i ≡ to → ⊥) → IsBeside mode σ i
+    pub beside : (i : ℕ) → (i ≡ to → ⊥) → IsBeside mode σ i
     beside i d = by_depth below refl
       where
         by_depth : (ds : List BodyContext) → below ≡ ds → IsBeside mode σ i

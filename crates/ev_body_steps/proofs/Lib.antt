@@ -34,3 +34,4 @@ pub mod BodyTurn
 pub mod BodyInterrupt
 pub mod BodyBreak
 pub mod BodyFault
+pub mod CallSteps
