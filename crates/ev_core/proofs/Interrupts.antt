@@ -1,11 +1,12 @@
--- An interrupt that comes to a processor: which vectors have bodies, and what the local APIC is with one more requested.
+-- An interrupt that comes to a processor: which keys have bodies, and what the local APIC is with one more requested.
 use Rattle.std.proofs.Common.{◌≡◌, ℕ, suc, ◌+◌, ◌*◌, ◌/◌, ◌%◌, ◌^◌, ◌<◌, ◌≤◌, Bool, true, false, not, ◌&&◌, ◌||◌, List, [], ◌∷◌, ◌++◌, set, get_or, length, Option, Some, None, refl, ap, sym, ◌∙◌, subst, arith, ne_eqb, ⊎_elim, slice_get}
 use Rattle.std.specs.Prelude.{◌==◌, if◌then◌else◌, is_some, nat_lt, nat_le}
 use Rattle.std.specs.List.{list_any}
-use Rattle.std.proofs.lemmas.Bool.{lt-ltb, le-leb, and_from}
+use Rattle.std.proofs.lemmas.Bool.{lt-ltb, ltb-true, and_from, and_parts}
 use Rattle.std.proofs.lemmas.Bool.Decides.{eqb_tells}
 use Rattle.ev_isa.specs.Word.{put_at}
 use Rattle.ev_isa.specs.declared.mode.Mode.{Mode}
+use Rattle.ev_body.specs.declared.key.Key.{Key}
 use Rattle.ev_body.specs.declared.key.Key.TheVariants.{Irq}
 use Rattle.ev_body.specs.declared.key.Side.{Side}
 use Rattle.ev_body.specs.declared.key.Side.TheVariants.{User, Kernel, Both}
@@ -37,7 +38,7 @@ use Rattle.ev_core.proofs.Acts.{put_same, put_other, put_shown}
 use Rattle.ev_core.proofs.Parts.{read_local}
 use Rattle.ev_core.proofs.Turns.{all_more, line_more}
 
--- ---- which vectors have bodies
+-- ---- which keys have bodies
 
 -- a word of a table of bodies tells whether there is one
 names : (o : Option ℕ) → not (body_address o == no_body) ≡ is_some o
@@ -59,17 +60,18 @@ some_side : (key n : ℕ) (bs : List Body)
 some_side key n [] = refl
 some_side key n (b ∷ bs) = of_a_side (key_number b.key == key) b.side n _ _ _ (some_side key (suc n) bs)
 
-module _ (mode : Mode) (image : Image) (s : System) (m : Machine) (v : MachineView) (so : IsStandingAs mode image s m v) (k : ℕ) (small : k < 256) where
+module _ (mode : Mode) (image : Image) (s : System) (m : Machine) (v : MachineView) (so : IsStandingAs mode image s m v) (key : Key) (k : ℕ)
+    (is : k ≡ key_number key) (small : k ≤ 0x100) where
   -- so do the words of both tables
   pub bodies_told : (not (s.memory.words (user_table + 8 * k) == no_body) || not (s.memory.words (kernel_table + 8 * k) == no_body))
-      ≡ has_body_of image (Irq k)
-  unfolding key_number
+      ≡ has_body_of image key
   bodies_told =
       let few = so.can.image_is.count.1 in
       let user = so.stands.fixed (user_table + 8 * k) (InTables (omega arith) (omega arith)) ∙ user_word_is mode image few k (omega arith) in
       let kernel = so.stands.fixed (kernel_table + 8 * k) (InTables (omega arith) (omega arith)) ∙ kernel_word_is mode image few k (omega arith) in
       (λ i. not (user i == no_body) || not (kernel i == no_body))
       ∙ (λ i. names (first_body 0 image.bodies k User) i || names (first_body 0 image.bodies k Kernel) i) ∙ some_side k 0 image.bodies
+      ∙ ap (λ n. list_any (λ (b : Body). key_number b.key == n) image.bodies) is
 
 -- what is tested in turn, the first and then the second
 pub first_holds : (a b x h : Bool) → x ≡ a → x ≡ true → (a || b) ≡ h → x ≡ h
@@ -123,13 +125,32 @@ module _ (n p k : ℕ) (s : System) (small : k < 256) where
 
 -- ---- the machine behind it
 
-module _ (mode : Mode) (image : Image) (p k : ℕ) (lt : p < image.processors) (from : 0x20 ≤ k) (small : k < 256)
-    (has : has_body_of image (Irq k) ≡ true) where
+-- none but interrupts arrive today
+pub only_interrupts : (p : ℕ) (key : Key) → line_is_built (Arrive p key) ≡ true → ((v : ℕ) → key ≡ Irq v → ⊥) → ⊥
+unfolding line_is_built
+only_interrupts p (Irq v) e other = other v refl
+only_interrupts p Key.Sys e other = absurd (cc)
+only_interrupts p Key.Db e other = absurd (cc)
+only_interrupts p Key.Nmi e other = absurd (cc)
+only_interrupts p Key.Bp e other = absurd (cc)
+only_interrupts p Key.Ud e other = absurd (cc)
+only_interrupts p Key.Ss e other = absurd (cc)
+only_interrupts p Key.Gp e other = absurd (cc)
+only_interrupts p Key.Pf e other = absurd (cc)
+only_interrupts p Key.Ac e other = absurd (cc)
+
+module _ (mode : Mode) (image : Image) (p k : ℕ) (key : Key) (is : key ≡ Irq k) (lt : p < image.processors) (sendable : is_sendable key ≡ true)
+    (has : has_body_of image key ≡ true) where
+  sent : is_sendable (Irq k) ≡ true
+  sent = ap is_sendable (sym is) ∙ sendable
+
+  small : k < 256
+  small = ltb-true k 0x100 (and_parts (nat_le 0x20 k) (nat_lt k 0x100) sent).1
+
   line_there : is_line image (Arrive p (Irq k)) ≡ true
   unfolding is_line
   line_there = and_from (nat_lt p image.processors && is_sendable (Irq k)) (has_body_of image (Irq k))
-      (and_from (nat_lt p image.processors) (is_sendable (Irq k)) (lt-ltb p image.processors lt)
-      (and_from (nat_le 0x20 k) (nat_lt k 0x100) (le-leb 0x20 k from) (lt-ltb k 0x100 small))) has
+      (and_from (nat_lt p image.processors) (is_sendable (Irq k)) (lt-ltb p image.processors lt) sent) (ap (has_body_of image) (sym is) ∙ has)
 
   line_built : line_is_built (Arrive p (Irq k)) ≡ true
   unfolding line_is_built
@@ -142,25 +163,27 @@ module _ (mode : Mode) (image : Image) (p k : ℕ) (lt : p < image.processors) (
   -- it stands for the abstract machine to which the interrupt came
   pub arrived_stands : (s : System) (m : Machine) (v : MachineView) → IsStandingAs mode image s m v → (w : Parts)
       → Shows image.processors w (arrived_at s p (Irq k))
-      → IsStandingAs mode image (arrived_at s p (Irq k)) (line_step image m (Arrive p (Irq k))).0 (record { parts = w; places = v.places })
-  arrived_stands s m v so w shows = record {
-    can = so.can;
-    at = record { marks = so.at.marks; shows = shows };
-    left = so.left;
-    stands = arrivals_stand mode image so.can.built so.can.image_is so.left s m so.stands p k lt small line_there;
-  }
+      → IsStandingAs mode image (arrived_at s p key) (line_step image m (Arrive p key)).0 (record { parts = w; places = v.places })
+  arrived_stands s m v so w shows = subst
+      (λ x. IsStandingAs mode image (arrived_at s p x) (line_step image m (Arrive p x)).0 (record { parts = w; places = v.places })) (sym is) (record {
+        can = so.can;
+        at = record { marks = so.at.marks; shows = shows };
+        left = so.left;
+        stands = arrivals_stand mode image so.can.built so.can.image_is so.left s m so.stands p k lt small line_there;
+      })
 
   -- and is the run of one line more
   pub arrived_run : (script : List Line) (v : MachineView) → IsRun mode image script v → (w : Parts)
       → Shows image.processors w (arrived_at (concrete_run mode image script).0 p (Irq k))
-      → IsRun mode image (script ++ Arrive p (Irq k) ∷ []) (record { parts = w; places = v.places })
-  arrived_run script v r w shows = record {
-    can = r.can;
-    script_is = all_more (is_line image) script (Arrive p (Irq k)) r.script_is line_there;
-    lines_built = all_more line_is_built script (Arrive p (Irq k)) r.lines_built line_built;
-    at = record {
-      marks = r.at.marks;
-      shows = subst (λ s. Shows image.processors w s)
-          (sym (line_more (marks_of mode image) image.processors _ script (Arrive p (Irq k)) ∙ line_is (concrete_run mode image script).0)) shows;
-    };
-  }
+      → IsRun mode image (script ++ Arrive p key ∷ []) (record { parts = w; places = v.places })
+  arrived_run script v r w shows = subst
+      (λ x. IsRun mode image (script ++ Arrive p x ∷ []) (record { parts = w; places = v.places })) (sym is) (record {
+        can = r.can;
+        script_is = all_more (is_line image) script (Arrive p (Irq k)) r.script_is line_there;
+        lines_built = all_more line_is_built script (Arrive p (Irq k)) r.lines_built line_built;
+        at = record {
+          marks = r.at.marks;
+          shows = subst (λ s. Shows image.processors w s)
+              (sym (line_more (marks_of mode image) image.processors _ script (Arrive p (Irq k)) ∙ line_is (concrete_run mode image script).0)) shows;
+        };
+      })

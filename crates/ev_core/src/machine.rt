@@ -1,18 +1,17 @@
 // The machine.
 
-ghost use Rattle.std.specs.Prelude.{◌≡◌, ◌↔◌, IsTrue, nat_lt, ◌<◌, ◌≤◌, ◌^◌, ℕ, true, List, [], ◌∷◌, ◌++◌, length, None, IfOk};
+ghost use Rattle.std.specs.Prelude.{◌≡◌, ◌↔◌, IsTrue, nat_lt, ◌<◌, ◌^◌, ℕ, true, List, [], ◌∷◌, ◌++◌, length, None, IfOk};
 ghost use Rattle.ev_isa.specs.declared.mode.Mode.{Mode};
 ghost use Rattle.ev_body.specs.declared.image.Image.{Image};
-ghost use Rattle.ev_body.specs.declared.key.Key.TheVariants.{Irq};
 ghost use Rattle.ev_abstract.specs.declared.script_line.Line.{Line};
 ghost use Rattle.ev_abstract.specs.declared.script_line.Line.TheVariants.{Turn, Arrive, Accept};
 ghost use Rattle.ev_abstract.specs.Machine as abstract;
 ghost use Rattle.ev_abstract.specs.Run.{entries_of, line_step};
 ghost use Rattle.ev_abstract.specs.Script.{has_body_of};
-ghost use Rattle.ev_body.specs.WellFormed.{IsImage};
+ghost use Rattle.ev_body.specs.WellFormed.{IsImage, is_sendable};
 ghost use Rattle.ev_concrete.specs.Opening.{tasks_of};
 ghost use Rattle.ev_concrete.specs.ConcreteRun.{System, accept_mail, arrived_at, concrete_line, concrete_run, is_visible, marks_of};
-ghost use Rattle.ev_built.specs.Built.{IsBuilt};
+ghost use Rattle.ev_built.specs.Built.{IsBuilt, line_is_built};
 ghost use Rattle.ev_core.specs.Local.{optional};
 ghost use Rattle.ev_core.specs.Mail.{HasNoMail};
 ghost use Rattle.ev_core.specs.Run.{Costs, IsAt, IsRun, IsStandingAs};
@@ -31,6 +30,7 @@ use crate::totals::Totals;
 use arrayvec::ArrayVec;
 use ev_abstract::Entry;
 use ev_accept::Accepted;
+use ev_body::Key;
 use ev_event::FrameNote;
 use ev_isa::{Mode, NoMemory};
 use ev_layout::{KERNEL_TABLE, Places, USER_TABLE, build};
@@ -146,33 +146,38 @@ impl Machine {
         }
     }
 
-    /// Whether an interrupt of the vector has a body, of either side.
-    pub fn has_interrupt(&self, v: u8) -> bool
+    /// Whether the key has a body, of either side.
+    pub fn has_body(&self, key: Key) -> bool
         ensures { (mode : Mode) (image : Image) (s : System) (m : abstract.Machine)
-            → IsStandingAs mode image s m self.now → result ≡ has_body_of image (Irq v) }
+            → IsStandingAs mode image s m self.now → result ≡ has_body_of image key }
     {
+        let number = key.number();
         let mem = &self.state.mem;
-        names_body(mem, USER_TABLE, v) || names_body(mem, KERNEL_TABLE, v)
+        names_body(mem, USER_TABLE, number) || names_body(mem, KERNEL_TABLE, number)
     }
 
-    /// An interrupt comes to processor p: its vector is requested in the local APIC. From any state
-    /// that stands for one of the abstract machine, so it is there; no step is made. A run of a
-    /// script becomes that of one line more.
-    pub fn arrive(&mut self, p: usize, v: u8)
+    /// An event of the key comes to processor p, today that of an interrupt: its vector is requested
+    /// in the local APIC. From any state that stands for one of the abstract machine, so it is there;
+    /// no step is made. A run of a script becomes that of one line more.
+    pub fn arrive(&mut self, p: usize, key: Key)
         requires place { p < length self.old.parts.cpus }
-        requires vector { 0x20 ≤ v }
+        requires built { line_is_built (Arrive p key) ≡ true }
+        requires sendable { is_sendable key ≡ true }
         requires body { (mode : Mode) (image : Image) (s : System) (m : abstract.Machine)
-            → IsStandingAs mode image s m self.old → has_body_of image (Irq v) ≡ true }
+            → IsStandingAs mode image s m self.old → has_body_of image key ≡ true }
         ensures arrives { (mode : Mode) (image : Image) (s : System) (m : abstract.Machine)
             → IsStandingAs mode image s m self.old
-            → IsStandingAs mode image (arrived_at s p (Irq v))
-            (line_step image m (Arrive p (Irq v))).0 self.new }
+            → IsStandingAs mode image (arrived_at s p key)
+            (line_step image m (Arrive p key)).0 self.new }
         ensures run { (mode : Mode) (image : Image) (script : List Line)
             → IsRun mode image script self.old
-            → IsRun mode image (script ++ Arrive p (Irq v) ∷ []) self.new }
+            → IsRun mode image (script ++ Arrive p key ∷ []) self.new }
         ensures totals { self.new.parts.totals ≡ self.old.parts.totals }
         ensures same { length self.new.parts.cpus ≡ length self.old.parts.cpus }
     {
+        let Key::Irq(v) = key else {
+            return;
+        };
         self.state.arrive(p, v);
     }
 

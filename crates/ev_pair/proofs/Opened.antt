@@ -1,10 +1,10 @@
 -- A machine at its opening: how many processors it has, which every line of its script names.
-use Rattle.std.proofs.Common.{◌≡◌, ℕ, zero, suc, ◌<◌, ◌≤◌, true, ◌&&◌, List, [], ◌∷◌, length, get_or, ap, refl, sym, subst, arith}
+use Rattle.std.proofs.Common.{◌≡◌, ℕ, zero, suc, ◌<◌, true, ◌&&◌, List, [], ◌∷◌, length, get_or, ap, refl, sym, subst, arith}
 use Rattle.std.specs.Prelude.{nat_lt, nat_le}
 use Rattle.std.specs.List.{list_all}
-use Rattle.std.proofs.lemmas.Bool.{and_parts, and_from, leb-true}
+use Rattle.std.proofs.lemmas.Bool.{and_parts, and_from}
 use Rattle.ev_isa.specs.declared.mode.Mode.{Mode}
-use Rattle.ev_body.specs.declared.key.Key.TheVariants.{Irq}
+use Rattle.ev_body.specs.declared.key.Key.{Key}
 use Rattle.ev_body.specs.declared.image.Image.{Image}
 use Rattle.ev_body.specs.WellFormed.{is_sendable}
 use Rattle.ev_abstract.specs.Script.{is_line, IsScript, has_body_of}
@@ -30,13 +30,13 @@ all_within image [] h = refl
 all_within image (l ∷ ls) h = let p = and_parts (is_line image l) (list_all (is_line image) ls) h in
     and_from (is_within image.processors l) (list_all (is_within image.processors) ls) (line_within image l p.0) (all_within image ls p.1)
 
--- what it is for an arrival of an interrupt to follow
-pub arrival_line : (image : Image) (p v : ℕ) → is_line image (Arrive p (Irq v)) ≡ true → (0x20 ≤ v) × (has_body_of image (Irq v) ≡ true)
+-- what it is for an arrival to follow
+pub arrival_line : (image : Image) (p : ℕ) (key : Key) → is_line image (Arrive p key) ≡ true
+    → (is_sendable key ≡ true) × (has_body_of image key ≡ true)
 unfolding is_line
-arrival_line image p v h =
-    let parts = and_parts (nat_lt p image.processors && is_sendable (Irq v)) (has_body_of image (Irq v)) h in
-    let sendable = (and_parts (nat_lt p image.processors) (is_sendable (Irq v)) parts.0).1 in
-    (leb-true 0x20 v (and_parts (nat_le 0x20 v) (nat_lt v 0x100) sendable).0, parts.1)
+arrival_line image p key h =
+    let parts = and_parts (nat_lt p image.processors && is_sendable key) (has_body_of image key) h in
+    ((and_parts (nat_lt p image.processors) (is_sendable key) parts.0).1, parts.1)
 
 -- a line of a script follows
 pub script_line : (image : Image) (ls : List Line) (i : ℕ) (d : Line) → IsScript image ls → i < length ls → is_line image (get_or ls i d) ≡ true

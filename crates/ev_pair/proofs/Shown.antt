@@ -5,7 +5,6 @@ use Rattle.std.proofs.lemmas.List.{append-nil}
 use Rattle.ev_isa.specs.declared.mode.Mode.{Mode}
 use Rattle.ev_event.specs.declared.frame_note.FrameNote.{FrameNote}
 use Rattle.ev_body.specs.declared.key.Key.{Key}
-use Rattle.ev_body.specs.declared.key.Key.TheVariants.{Irq}
 use Rattle.ev_body.specs.declared.image.Image.{Image}
 use Rattle.ev_abstract.specs.Run.{run, line_step, entries_of}
 use Rattle.ev_abstract.specs.declared.entry.Entry.{Entry}
@@ -26,20 +25,6 @@ no_stops (Turn p) e arrival acceptance other = other p refl
 no_stops (Edge p n) e arrival acceptance other = absurd (cc)
 no_stops (Arrive p key) e arrival acceptance other = arrival p key refl
 no_stops (Accept p) e arrival acceptance other = acceptance p refl
-
--- and those of interrupts alone
-pub only_interrupts : (p : ℕ) (key : Key) → line_is_built (Arrive p key) ≡ true → ((v : ℕ) → key ≡ Irq v → ⊥) → ⊥
-unfolding line_is_built
-only_interrupts p (Irq v) e other = other v refl
-only_interrupts p Key.Sys e other = absurd (cc)
-only_interrupts p Key.Db e other = absurd (cc)
-only_interrupts p Key.Nmi e other = absurd (cc)
-only_interrupts p Key.Bp e other = absurd (cc)
-only_interrupts p Key.Ud e other = absurd (cc)
-only_interrupts p Key.Ss e other = absurd (cc)
-only_interrupts p Key.Gp e other = absurd (cc)
-only_interrupts p Key.Pf e other = absurd (cc)
-only_interrupts p Key.Ac e other = absurd (cc)
 
 -- where nothing is shown, nothing is written
 pub nothing_more : (old : Option Text) (text : Text) → text ≡ [] → old ≡ append_known old text

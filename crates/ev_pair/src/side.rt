@@ -28,7 +28,7 @@ use ev_io::{Failed, Sink};
 use ev_isa::Mode;
 use std::sync::ledger::Ledger;
 
-/// An interrupt comes to processor p, where its vector has a body.
+/// An event of a key comes to processor p, where the key has a body.
 fn arrive(machine: &mut Machine, p: u32, key: Key)
     requires built { line_is_built (Arrive p key) ≡ true }
     requires place { p < length machine.old.parts.cpus }
@@ -38,11 +38,8 @@ fn arrive(machine: &mut Machine, p: u32, key: Key)
     ensures totals { machine.new.parts.totals ≡ machine.old.parts.totals }
     ensures same { length machine.new.parts.cpus ≡ length machine.old.parts.cpus }
 {
-    let Key::Irq(v) = key else {
-        return;
-    };
-    if v >= 0x20 && machine.has_interrupt(v) {
-        machine.arrive(p as usize, v);
+    if key.is_sendable() && machine.has_body(key) {
+        machine.arrive(p as usize, key);
     }
 }
 
