@@ -31,4 +31,5 @@ pub mod BodyTables
 pub mod CodeFacts
 pub mod Saved
 pub mod Visible
+pub mod Looks
 pub mod Laws

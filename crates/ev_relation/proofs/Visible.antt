@@ -27,10 +27,10 @@ use Rattle.ev_relation.proofs.After.{latch_parts}
 -- ---- what a step of another processor leaves
 
 -- registers, local APIC and latch of q
-record SameOn (s s' : System) (q : ℕ) : Type 0 where
-  cpu : s'.cpus q ≡ s.cpus q
-  apic : s'.apics q ≡ s.apics q
-  latch : s'.latches q ≡ s.latches q
+pub record SameOn (s s' : System) (q : ℕ) : Type 0 where
+  pub cpu : s'.cpus q ≡ s.cpus q
+  pub apic : s'.apics q ≡ s.apics q
+  pub latch : s'.latches q ≡ s.latches q
 
 posted_same : (s : System) (key : SendKey) (q : ℕ) (ts : List ℕ) (t : System) → SameOn s t q → SameOn s (posted t key ts) q
 posted_same s key q [] t h = h
@@ -44,7 +44,7 @@ acted_same n s t p q (Stepped.Sent m) h = posted_same s m.key q (targets n p m.t
 acted_same n s t p q (Stepped.Delivered e None) h = h
 acted_same n s t p q (Stepped.Delivered e (Some a)) h = record { cpu = h.cpu; apic = h.apic; latch = h.latch }
 
-step_leaves : (n : ℕ) (s : System) (p q : ℕ) → (q == p) ≡ false → SameOn s (concrete_step n s p).0 q
+pub step_leaves : (n : ℕ) (s : System) (p q : ℕ) → (q == p) ≡ false → SameOn s (concrete_step n s p).0 q
 unfolding concrete_step
 step_leaves n s p q d =
     let r : After = step (s.cpus p) (s.apics p) s.memory (s.latches p) in
@@ -56,7 +56,7 @@ step_leaves n s p q d =
 
 -- ---- whether a step is visible
 
-plain_seen : (k : Mark) (s s' : System) (c : Processor) → reads_no_memory k ≡ true → is_seen k s' c ≡ is_seen k s c
+pub plain_seen : (k : Mark) (s s' : System) (c : Processor) → reads_no_memory k ≡ true → is_seen k s' c ≡ is_seen k s c
 plain_seen Never s s' c h = refl
 plain_seen Always s s' c h = refl
 plain_seen IfNonzero s s' c h = absurd (cc)
@@ -64,7 +64,7 @@ plain_seen IfEqual s s' c h = absurd (cc)
 
 module _ (mode : Mode) (image : Image) (facts : Facts mode image) (left : NatMap ℕ) (s : System) (m : Machine) (h : Stands mode image left s m) where
   -- no NMI comes next
-  next_is : (q : ℕ) → q < image.processors → next_of (s.cpus q) (s.apics q) (s.latches q)
+  pub next_is : (q : ℕ) → q < image.processors → next_of (s.cpus q) (s.apics q) (s.latches q)
       ≡ (if interrupts_on (s.cpus q) && not (s.cpus q).sti_blocked then interrupt_or_instruction (next_vector (s.apics q)) else Next.Instruction)
   next_is q lt =
       let on : StandsOn mode image q (left q) s (processor m q) = h.each q lt in
