@@ -32,4 +32,5 @@ pub mod CodeFacts
 pub mod Saved
 pub mod Visible
 pub mod Looks
+pub mod CallMarks
 pub mod Laws

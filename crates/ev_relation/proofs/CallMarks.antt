@@ -1,0 +1,113 @@
+-- Where a mark looks at memory: inside a block no instruction has a mark, and before `call`'s load of its record's state and its exchange the registers say which
+-- word it is.
+use Rattle.std.proofs.Common.{◌≡◌, ◌⊎◌, inl, inr, ⊎_elim, ℕ, suc, ◌+◌, ◌*◌, ◌-◌, ◌<◌, ◌≤◌, Bool, true, false, not, ◌||◌, ◌&&◌, List, [], ◌∷◌, Option, Some, None, refl, sym, ap, ◌∙◌, subst, arith, map, get_or, set}
+use Rattle.std.specs.Prelude.{◌%◌, slice_get, is_some, nat_lt}
+use Rattle.std.proofs.lemmas.Bool.{ltb-true, or_parts, not-false}
+use Rattle.ev_isa.specs.Spelling.{spelling, four_bytes}
+use Rattle.ev_isa.specs.Flags.{Flags}
+use Rattle.ev_isa.specs.Word.{NatMap}
+use Rattle.ev_isa.specs.declared.mode.Mode.{Mode}
+use Rattle.ev_isa.specs.declared.mode.Mode.TheVariants.{Idt, Fred}
+use Rattle.ev_body.specs.declared.item.Item.{Item}
+use Rattle.ev_body.specs.declared.item.Item.TheVariants.{Call, Wait}
+use Rattle.ev_body.specs.declared.body.Body.{Body}
+use Rattle.ev_body.specs.declared.image.Image.{Image}
+use Rattle.ev_body.specs.declared.key.Key.{Key}
+use Rattle.ev_asm.specs.Assembly.{size}
+use Rattle.ev_listing.specs.Expansion.{expansion, item_address, function_address}
+use Rattle.ev_listing.specs.AddressMap.{pcpu, record_address, head_offset}
+use Rattle.ev_listing.specs.Marks.{Mark, Never, Always, IfNonzero, IfEqual}
+use Rattle.ev_state.specs.Processor.{Processor, is_user, register}
+use Rattle.ev_mem.specs.Memory.{Memory}
+use Rattle.ev_abstract.specs.Context.{BodyContext}
+use Rattle.ev_abstract.specs.Machine.{Machine, processor}
+use Rattle.ev_concrete.specs.ConcreteRun.{System, Activation, marks_of, mark_at}
+use Rattle.ev_symbolic.specs.Value.{V, K, P, X, B, OAdd, M}
+use Rattle.ev_symbolic.specs.State.{SS, Block}
+use Rattle.ev_symbolic.specs.Run.{brun}
+use Rattle.ev_symbolic.specs.Listed.{cells_from, AllFound}
+use Rattle.ev_symbolic.specs.Agrees.{Env, eval, addr, Cell, edge_cell, At}
+use Rattle.ev_symbolic.proofs.Blocks.{inside, earlier}
+use Rattle.ev_blocks.specs.Shapes.{Layout, Origin, UserCode, KernelCode, FredFrame, IdtFrame, NmiFrame}
+use Rattle.ev_blocks.specs.Calls.{CallSpot, AtRecord, AtLink}
+use Rattle.ev_blocks.specs.Items.{BodySpot, InCall}
+use Rattle.ev_blocks.specs.Blocks.{Spot, InFred, InIdt, InNmi, InBody, block}
+use Rattle.ev_blocks.specs.Blocks as blocks
+use Rattle.ev_activation.specs.Seat.{Kind, SystemCall, FromTask, FromBody, NmiFromTask, NmiFromBody, Seat, kind_of, seat_of}
+use Rattle.ev_table.specs.Table.{code_table, places_of, item_cells, reads_no_memory}
+use Rattle.ev_relation.specs.Nmi.{Frame}
+use Rattle.ev_relation.specs.Filling.{Filling, first_fill, rest_fills, is_filled}
+use Rattle.ev_relation.specs.Active.{site_of, here, fills_record, InSpot, OverTask, OverBody, Means, Active}
+use Rattle.ev_relation.specs.Relation.{Chain, StandsOn, Stands, switches_at}
+use Rattle.ev_relation.proofs.Facts.{Facts}
+use Rattle.ev_relation.proofs.Spots.{layout_of, means_over, runs_to_end}
+use Rattle.ev_relation.proofs.Switch.{means_switch, switch_ends}
+use Rattle.ev_relation.proofs.Fills.{means_fills, fill_ends}
+use Rattle.ev_relation.proofs.After.{as_chain}
+
+module _ (mode : Mode) (image : Image) where
+  -- the mark of a processor's next instruction
+  abbrev pub mark_of : Processor → Mark
+  mark_of c = mark_at (marks_of mode image) c.rip
+
+  -- ---- inside blocks
+
+  -- the block of an activation runs to its end
+  pub active_ends : (p left : ℕ) (κ : Kind) (σ : Seat) (f : Frame) (sw : Bool) (g : Option Filling) (w : Processor) (b : BodyContext) (c : Processor)
+      (m : Memory) → (a : Active mode image p left κ σ f sw g w b c m)
+      → (z : SS) × (brun (block mode a.stands.spot) (block mode a.stands.spot).steps ≡ Some z)
+  active_ends p left κ σ f sw g w b c m a = by_spot (blocks.switches a.stands.spot) refl (fills_record a.stands.spot) refl
+    where
+      by_spot : (t : Bool) → blocks.switches a.stands.spot ≡ t → (u : Bool) → fills_record a.stands.spot ≡ u
+          → (z : SS) × (brun (block mode a.stands.spot) (block mode a.stands.spot).steps ≡ Some z)
+      by_spot true on u r = switch_ends mode a.stands.spot (means_switch mode image κ a.stands.spot _ w b g m.words a.means on).0
+      by_spot false off true on = fill_ends mode a.stands.spot (means_fills mode image κ a.stands.spot _ w b g m.words a.means on).0
+      by_spot false off false none = runs_to_end mode a.stands.spot (means_over mode image κ a.stands.spot _ w b g m.words a.means off none)
+
+  -- no instruction inside has a mark
+  pub inside_unmarked : Facts mode image → (p left : ℕ) (κ : Kind) (σ : Seat) (f : Frame) (sw : Bool) (g : Option Filling) (w : Processor) (b : BodyContext)
+      (c : Processor) (m : Memory) → (a : Active mode image p left κ σ f sw g w b c m) → a.stands.k < (block mode a.stands.spot).steps → mark_of c ≡ Never
+  inside_unmarked facts p left κ σ f sw g w b c m a l =
+      let z = active_ends p left κ σ f sw g w b c m a in
+      let steps : ℕ = (block mode a.stands.spot).steps in
+      let t = earlier (block mode a.stands.spot) (suc a.stands.k) (steps - suc a.stands.k) z.0
+      (ap (brun (block mode a.stands.spot)) (let e : steps - suc a.stands.k + suc a.stands.k ≡ steps = omega (arith, l) in e) ∙ z.1) in
+      let n = inside (code_table mode image) (block mode a.stands.spot) a.stands.k _ c m a.stands.at t.0 t.1 in
+      facts.marks c.rip (edge_cell n.ins n.next) n.stands
+
+  -- ---- the activation that runs
+
+  -- a task runs, or the activation of the last context
+  pub data NowRuns (q : ℕ) (c : Processor) (m : Memory) (bs : List BodyContext) (fs : List (Option Filling)) : Type 0 where
+    OfTask : is_user c ≡ true → NowRuns q c m bs fs
+    OfBody : (left : ℕ) (κ : Kind) (σ : Seat) (f : Frame) (sw : Bool) (w : Processor) (b : BodyContext) (below : List BodyContext) → bs ≡ b ∷ below
+        → Active mode image q left κ σ f sw (first_fill fs) w b c m → NowRuns q c m bs fs
+
+  pub which_runs : (q left : ℕ) (s : System) (m : Machine) → (on : StandsOn mode image q left s (processor m q))
+      → NowRuns q (s.cpus q) s.memory (processor m q).bodies on.fills
+  which_runs q left s m on = by_list (processor m q).bodies (s.activations q) on.switching
+      (as_chain mode image on.layer q on.own on.more (processor m q).running on.returning ((processor m q).tasks on.returning) on.frame on.switching on.fills
+      (processor m q).bodies (s.activations q) (s.cpus q) s.memory on.runs)
+    where
+      by_list : (bs : List BodyContext) (as' : List Activation) (sw : Bool)
+          → Chain mode image q on.own (processor m q).running on.returning ((processor m q).tasks on.returning) on.frame sw on.fills bs as' (s.cpus q) s.memory
+          → NowRuns q (s.cpus q) s.memory bs on.fills
+      by_list [] as' sw h = OfTask (ap is_user h.0.is)
+      by_list (b ∷ below) [] sw h = absurd h
+      by_list (b ∷ below) (a ∷ as') sw h = OfBody on.own (kind_of image b below) (seat_of mode image (processor m q).running (b ∷ below)) on.frame
+          (switches_at mode image sw below) h.0 b below refl h.6
+
+  -- ---- at the load of a record's state
+
+  -- it is marked where it is of `call`
+  load_marks : (n i site : ℕ) (key : Key) (item : Item) (a : ℕ) → site_of (Some item) ≡ Some site
+      → AllFound (code_table mode image) (cells_from (places_of mode image) a (expansion mode n key (function_address mode image) i item))
+      → (x : Cell) × (code_table mode image (a + 16) ≡ Some x)
+      × ((x.mark ≡ Always) ⊎ ((x.mark ≡ IfNonzero) × (to : ℕ) × (func : ℕ) × (s : ℕ) × (item ≡ Call site to func s)))
+  unfolding expansion site_of spelling four_bytes size
+  load_marks n i site key (Call site' to func s) a e f =
+      let same : site' ≡ site = cc in
+      (_, ap (code_table mode image) (let q : a + 16 ≡ a + 9 + 7 = omega arith in q) ∙ f.1.1.0, inr (refl, to, func, s, ap (λ k. Call k to func s) same))
+  load_marks n i site key (Wait site') a e f =
+      (_, ap (code_table mode image) (let q : a + 16 ≡ a + 0 + 9 + 7 = omega arith in q) ∙ f.1.1.0, inl refl)
+  load_marks n i site key _ a e f = absurd (cc)
