@@ -27,10 +27,12 @@ use Rattle.ev_symbolic.specs.State.{SS, Block}
 use Rattle.ev_symbolic.specs.Run.{brun}
 use Rattle.ev_symbolic.specs.Listed.{cells_from, AllFound}
 use Rattle.ev_symbolic.specs.Agrees.{Env, eval, addr, Cell, edge_cell, At}
-use Rattle.ev_symbolic.proofs.Blocks.{inside, earlier}
+use Rattle.ev_symbolic.proofs.Blocks.{unsome, inside, earlier}
 use Rattle.ev_blocks.specs.Shapes.{Layout, Origin, UserCode, KernelCode, FredFrame, IdtFrame, NmiFrame}
 use Rattle.ev_blocks.specs.Calls.{CallSpot, AtRecord, AtLink}
-use Rattle.ev_blocks.specs.Items.{BodySpot, InCall}
+use Rattle.ev_symbolic.specs.Names.{item_tag}
+use Rattle.ev_paths.proofs.CallEnds.{call_ends}
+use Rattle.ev_blocks.specs.Items.{BodySpot, InCall, body_block}
 use Rattle.ev_blocks.specs.Blocks.{Spot, InFred, InIdt, InNmi, InBody, block}
 use Rattle.ev_blocks.specs.Blocks as blocks
 use Rattle.ev_activation.specs.Seat.{Kind, SystemCall, FromTask, FromBody, NmiFromTask, NmiFromBody, Seat, kind_of, seat_of}
@@ -111,3 +113,77 @@ module _ (mode : Mode) (image : Image) where
   load_marks n i site key (Wait site') a e f =
       (_, ap (code_table mode image) (let q : a + 16 ≡ a + 0 + 9 + 7 = omega arith in q) ∙ f.1.1.0, inl refl)
   load_marks n i site key _ a e f = absurd (cc)
+
+  -- ---- at the exchange
+
+  exchange_marks : (n i : ℕ) (key : Key) (site to func s a : ℕ)
+      → AllFound (code_table mode image) (cells_from (places_of mode image) a (expansion mode n key (function_address mode image) i (Call site to func s)))
+      → (x : Cell) × (code_table mode image (a + 154) ≡ Some x) × (x.mark ≡ IfEqual)
+  unfolding expansion spelling four_bytes size
+  exchange_marks n i key site to func s a f =
+      (_, ap (code_table mode image) (omega arith) ∙ f.1.1.1.1.1.1.1.1.1.1.1.1.1.1.1.1.1.1.1.1.0, refl)
+
+  -- ---- an activation in a body
+
+  -- what one at a spot of a body means
+  in_spot : (m : Mode) (κ : Kind) (layout : Layout) (spot : BodySpot) (e : Env) (w : Processor) (b : BodyContext) (g : Option Filling) (words : NatMap ℕ)
+      → m ≡ mode → Means mode image κ (InBody layout spot) e w b g words
+      → (layout ≡ layout_of mode) × (o : Origin) × InSpot mode image o spot e w b g words
+  in_spot m κ layout spot e w b g words same h = by_kind κ h
+    where
+      over_task : (m : Mode) (layout : Layout) → m ≡ mode → OverTask mode image m (InBody layout spot) e w b g words
+          → (layout ≡ layout_of mode) × (o : Origin) × InSpot mode image o spot e w b g words
+      over_task Fred FredFrame q h = (ap layout_of q, UserCode, h)
+      over_task Idt IdtFrame q h = (ap layout_of q, UserCode, h)
+      over_task Fred IdtFrame q h = absurd h
+      over_task Fred NmiFrame q h = absurd h
+      over_task Idt FredFrame q h = absurd h
+      over_task Idt NmiFrame q h = absurd h
+
+      over_body : (m : Mode) (layout : Layout) → m ≡ mode → OverBody mode image m (InBody layout spot) e w b g words
+          → (layout ≡ layout_of mode) × (o : Origin) × InSpot mode image o spot e w b g words
+      over_body Fred FredFrame q h = (ap layout_of q, KernelCode, h)
+      over_body Idt IdtFrame q h = (ap layout_of q, KernelCode, h)
+      over_body Fred IdtFrame q h = absurd h
+      over_body Fred NmiFrame q h = absurd h
+      over_body Idt FredFrame q h = absurd h
+      over_body Idt NmiFrame q h = absurd h
+
+      by_kind : (κ : Kind) → Means mode image κ (InBody layout spot) e w b g words
+          → (layout ≡ layout_of mode) × (o : Origin) × InSpot mode image o spot e w b g words
+      by_kind SystemCall h = over_task mode layout refl h
+      by_kind FromTask h = over_task mode layout refl h
+      by_kind FromBody h = over_body mode layout refl h
+      by_kind NmiFromTask h = absurd h
+      by_kind NmiFromBody h = absurd h
+
+  -- where the blocks before the two end, and the register that says which word comes
+  record_end : (fred : Bool) (layout : Layout) (site k : ℕ) (e : Env) (c : Processor) (m : Memory)
+      → At (code_table mode image) (body_block fred layout (InCall (AtRecord site))) k e c m
+      → k ≡ (body_block fred layout (InCall (AtRecord site))).steps
+      → (c.rip ≡ (e.base item_tag + 16) % M) × (register c 3 ≡ (e.var 3 + 0x40 * site) % M)
+  unfolding eval
+  record_end fred layout site k e c m at last =
+      let z = (call_ends fred layout).site site in
+      let there : at.state ≡ z.z
+      = unsome at.state z.z (sym at.is ∙ ap (brun (body_block fred layout (InCall (AtRecord site)))) last ∙ z.runs) in
+      let rip = ap (λ (t : SS). t.rip) there ∙ ap (λ (t : SS). t.rip) z.is in
+      let regs = ap (λ (t : SS). t.regs) there ∙ ap (λ (t : SS). t.regs) z.is in (
+        at.agrees.rip ∙ ap (addr e) rip,
+        ap (λ rs. get_or rs 3 0) (at.agrees.regs ∙ ap (map (eval e)) regs),
+      )
+
+  link_end : (fred : Bool) (layout : Layout) (address func to : ℕ) (is_stale : Bool) (k : ℕ) (e : Env) (c : Processor) (m : Memory)
+      → At (code_table mode image) (body_block fred layout (InCall (AtLink address func to is_stale))) k e c m
+      → k ≡ (body_block fred layout (InCall (AtLink address func to is_stale))).steps
+      → (c.rip ≡ (e.base item_tag + 154) % M) × (register c 2 ≡ pcpu to + head_offset)
+  unfolding eval
+  link_end fred layout address func to is_stale k e c m at last =
+      let z = (call_ends fred layout).links address func to is_stale in
+      let there : at.state ≡ z.z
+      = unsome at.state z.z (sym at.is ∙ ap (brun (body_block fred layout (InCall (AtLink address func to is_stale)))) last ∙ z.runs) in
+      let rip = ap (λ (t : SS). t.rip) there ∙ ap (λ (t : SS). t.rip) z.is in
+      let regs = ap (λ (t : SS). t.regs) there ∙ ap (λ (t : SS). t.regs) z.is in (
+        at.agrees.rip ∙ ap (addr e) rip,
+        ap (λ rs. get_or rs 2 0) (at.agrees.regs ∙ ap (map (eval e)) regs),
+      )
