@@ -31,6 +31,14 @@ use Rattle.ev_symbolic.proofs.Blocks.{unsome, inside, earlier}
 use Rattle.ev_blocks.specs.Shapes.{Layout, Origin, UserCode, KernelCode, FredFrame, IdtFrame, NmiFrame}
 use Rattle.ev_blocks.specs.Calls.{CallSpot, AtRecord, AtLink}
 use Rattle.ev_symbolic.specs.Names.{item_tag}
+use Rattle.ev_symbolic.specs.Openings.{gs_tag}
+use Rattle.ev_symbolic.proofs.Values.{and_left, and_right}
+use Rattle.ev_body.specs.WellFormed.{IsImage}
+use Rattle.ev_abstract.specs.Accepted.{IsAccepted}
+use Rattle.ev_abstract.specs.Rules.{breaks_slots}
+use Rattle.ev_abstract.specs.Run.{item_at}
+use Rattle.ev_law.specs.Legal.{AreLegal, IsLegalOn, knows}
+use Rattle.ev_law.proofs.Ruled.{body_ruled}
 use Rattle.ev_paths.proofs.CallEnds.{call_ends}
 use Rattle.ev_blocks.specs.Items.{BodySpot, InCall, body_block}
 use Rattle.ev_blocks.specs.Blocks.{Spot, InFred, InIdt, InNmi, InBody, block}
@@ -39,13 +47,15 @@ use Rattle.ev_activation.specs.Seat.{Kind, SystemCall, FromTask, FromBody, NmiFr
 use Rattle.ev_table.specs.Table.{code_table, places_of, item_cells, reads_no_memory}
 use Rattle.ev_relation.specs.Nmi.{Frame}
 use Rattle.ev_relation.specs.Filling.{Filling, first_fill, rest_fills, is_filled}
-use Rattle.ev_relation.specs.Active.{site_of, here, fills_record, InSpot, OverTask, OverBody, Means, Active}
+use Rattle.ev_relation.specs.Active.{site_of, item_of, address_of_item, HasPlace, here, fills_record, InSpot, OverTask, OverBody, Means, Active}
 use Rattle.ev_relation.specs.Relation.{Chain, StandsOn, Stands, switches_at}
 use Rattle.ev_relation.proofs.Facts.{Facts}
 use Rattle.ev_relation.proofs.Spots.{layout_of, means_over, runs_to_end}
 use Rattle.ev_relation.proofs.Switch.{means_switch, switch_ends}
 use Rattle.ev_relation.proofs.Fills.{means_fills, fill_ends}
-use Rattle.ev_relation.proofs.After.{as_chain}
+use Rattle.ev_relation.proofs.After.{as_chain, filled_below}
+use Rattle.ev_relation.proofs.FilledOnce.{never_filled_twice}
+use Rattle.ev_relation.proofs.Looks.{LooksAt, Nothing, State, Queue}
 
 module _ (mode : Mode) (image : Image) where
   -- the mark of a processor's next instruction
@@ -187,3 +197,88 @@ module _ (mode : Mode) (image : Image) where
         at.agrees.rip ∙ ap (addr e) rip,
         ap (λ rs. get_or rs 2 0) (at.agrees.regs ∙ ap (map (eval e)) regs),
       )
+
+-- whether what comes behind a spot's block may be marked by memory
+abbrev pub ends_at_call : Spot → Bool
+ends_at_call (InBody layout (InCall (AtRecord site))) = true
+ends_at_call (InBody layout (InCall (AtLink address func to is_stale))) = true
+ends_at_call spot = false
+
+module _ (mode : Mode) (image : Image) (given : IsImage image) (accepted : IsAccepted image) (facts : Facts mode image) (left : NatMap ℕ) (s : System)
+    (m : Machine) (h : Stands mode image left s m) (q : ℕ) (lq : q < image.processors) where
+  -- the numbers of a `call` are there
+  call_numbers : (item : Item) (site to func r : ℕ) → item ≡ Call site to func r → breaks_slots image.processors item ≡ false
+      → (site < 8) × (to < image.processors)
+  unfolding breaks_slots
+  call_numbers item site to func r e rule =
+      let all = not-false _ (subst (λ x. breaks_slots image.processors x ≡ false) e rule) in
+      let two = and_left (nat_lt site 8 && nat_lt to image.processors) _ all in
+      (ltb-true site 8 (and_left (nat_lt site 8) _ two), ltb-true to image.processors (and_right (nat_lt site 8) _ two))
+
+  -- its context, of a body of the image
+  module _ (κ : Kind) (σ : Seat) (ss : ℕ) (w : Processor) (extra var : ℕ → ℕ) (flags : Flags) (b : BodyContext) (below : List BodyContext)
+      (hb : (processor m q).bodies ≡ b ∷ below) (k : ℕ) where
+    abbrev env : Env
+    env = here mode q κ σ ss w extra var flags
+
+    legal : IsLegalOn image (knows image m) b below
+    legal = (subst (AreLegal image (knows image m)) hb (h.legal.each q).bodies).0
+
+    place : HasPlace mode image env b → env.base item_tag ≡ item_address mode b.body legal.body b.place
+    place e = e ∙ ap (address_of_item mode b.body b.place) legal.is_body
+
+    far : (o a : ℕ) → o < 0x100 → a ≡ (env.base item_tag + o) % M → HasPlace mode image env b → a ≡ item_address mode b.body legal.body b.place + o
+    far o a small e at =
+        let range = (facts.item_range b.body b.place legal.body legal.is_body).1 in
+        e ∙ ap (λ t. (t + o) % M) (place at)
+        ∙ (let e : (item_address mode b.body legal.body b.place + o) % M ≡ item_address mode b.body legal.body b.place + o = omega (arith, range, small) in e)
+
+    rules : (item : Item) → item_at (Some legal.body) b.place ≡ Some item → breaks_slots image.processors item ≡ false
+    rules item e = (body_ruled image given accepted.1.kept b.body legal.body legal.is_body).slots b.place item e
+
+    unfilled : (site to func r : ℕ) → item_of mode image b ≡ Some (Call site to func r) → first_fill (h.each q lq).fills ≡ None
+        → is_filled site (h.each q lq).fills ≡ false
+    unfilled site to func r item none =
+        sym (filled_below site (h.each q lq).fills none)
+        ∙ never_filled_twice mode image given accepted q (left q) s m h.legal (h.each q lq) b below hb site to func r item
+
+    record_looks : (fred : Bool) (layout : Layout) (site : ℕ)
+        → At (code_table mode image) (body_block fred layout (InCall (AtRecord site))) k env (s.cpus q) s.memory
+        → k ≡ (body_block fred layout (InCall (AtRecord site))).steps → HasPlace mode image env b → site_of (item_of mode image b) ≡ Some site
+        → env.var 3 ≡ env.base gs_tag + 0x800 → first_fill (h.each q lq).fills ≡ None
+        → LooksAt mode image q (h.each q lq).fills (s.cpus q) (mark_of mode image (s.cpus q))
+    unfolding site_of
+    record_looks fred layout site at last here_is of first none =
+        by_item (item_at (Some legal.body) b.place) refl
+        (subst (λ (o : Option Body). site_of (item_at o b.place) ≡ Some site) legal.is_body of)
+      where
+        ends : ((s.cpus q).rip ≡ (env.base item_tag + 16) % M) × (register (s.cpus q) 3 ≡ (env.var 3 + 0x40 * site) % M)
+        ends = record_end mode image fred layout site k env (s.cpus q) s.memory at last
+
+        by_item : (o : Option Item) → item_at (Some legal.body) b.place ≡ o → site_of o ≡ Some site
+            → LooksAt mode image q (h.each q lq).fills (s.cpus q) (mark_of mode image (s.cpus q))
+        by_item None e r = absurd (cc)
+        by_item (Some item) e r =
+            let x = load_marks mode image b.body b.place site legal.body.key item (item_address mode b.body legal.body b.place) r
+            (facts.items b.body b.place legal.body item legal.is_body e) in
+            let marked : mark_of mode image (s.cpus q) ≡ x.0.mark
+            = facts.marks (s.cpus q).rip x.0 (ap (code_table mode image) (far 16 (s.cpus q).rip (omega arith) ends.0 here_is) ∙ x.1) in
+            ⊎_elim (λ always. Nothing (ap reads_no_memory (marked ∙ always)))
+            (λ z. State (marked ∙ z.0) site (call_numbers item site z.1 z.2 z.3 z.4 (rules item e)).0
+            (ends.1 ∙ ap (λ t. (t + 0x40 * site) % M) first
+            ∙ (let e : (pcpu q + 0x800 + 0x40 * site) % M ≡ record_address q site
+            = let n = given.count.1 in let small = (call_numbers item site z.1 z.2 z.3 z.4 (rules item e)).0 in omega (arith, lq, n, small) in e))
+            (unfilled site z.1 z.2 z.3 (ap (λ (o : Option Body). item_at o b.place) legal.is_body ∙ e ∙ ap (λ t. Some t) z.4) none)) x.2
+
+    link_looks : (fred : Bool) (layout : Layout) (address func to : ℕ) (is_stale : Bool)
+        → At (code_table mode image) (body_block fred layout (InCall (AtLink address func to is_stale))) k env (s.cpus q) s.memory
+        → k ≡ (body_block fred layout (InCall (AtLink address func to is_stale))).steps → HasPlace mode image env b → (site r : ℕ)
+        → item_of mode image b ≡ Some (Call site to func r)
+        → LooksAt mode image q (h.each q lq).fills (s.cpus q) (mark_of mode image (s.cpus q))
+    link_looks fred layout address func to is_stale at last here_is site r item =
+        let ends = link_end mode image fred layout address func to is_stale k env (s.cpus q) s.memory at last in
+        let here : item_at (Some legal.body) b.place ≡ Some (Call site to func r) = sym (ap (λ (o : Option Body). item_at o b.place) legal.is_body) ∙ item in
+        let x = exchange_marks mode image b.body b.place legal.body.key site to func r (item_address mode b.body legal.body b.place)
+        (facts.items b.body b.place legal.body (Call site to func r) legal.is_body here) in
+        Queue (facts.marks (s.cpus q).rip x.0 (ap (code_table mode image) (far 154 (s.cpus q).rip (omega arith) ends.0 here_is) ∙ x.1) ∙ x.2) to
+        (call_numbers (Call site to func r) site to func r refl (rules (Call site to func r) here)).1 ends.1
