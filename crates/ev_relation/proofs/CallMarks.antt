@@ -1,7 +1,7 @@
 -- Where a mark looks at memory: inside a block no instruction has a mark, and before `call`'s load of its record's state and its exchange the registers say which
 -- word it is.
 use Rattle.std.proofs.Common.{◌≡◌, ◌⊎◌, inl, inr, ⊎_elim, ℕ, suc, ◌+◌, ◌*◌, ◌-◌, ◌<◌, ◌≤◌, Bool, true, false, not, ◌||◌, ◌&&◌, List, [], ◌∷◌, Option, Some, None, refl, sym, ap, ◌∙◌, subst, arith, map, get_or, set}
-use Rattle.std.specs.Prelude.{◌%◌, slice_get, is_some, nat_lt}
+use Rattle.std.specs.Prelude.{◌%◌, slice_get, is_some, nat_lt, nat_le}
 use Rattle.std.proofs.lemmas.Bool.{ltb-true, or_parts, not-false}
 use Rattle.ev_isa.specs.Spelling.{spelling, four_bytes}
 use Rattle.ev_isa.specs.Flags.{Flags}
@@ -47,10 +47,12 @@ use Rattle.ev_activation.specs.Seat.{Kind, SystemCall, FromTask, FromBody, NmiFr
 use Rattle.ev_table.specs.Table.{code_table, places_of, item_cells, reads_no_memory}
 use Rattle.ev_relation.specs.Nmi.{Frame}
 use Rattle.ev_relation.specs.Filling.{Filling, first_fill, rest_fills, is_filled}
-use Rattle.ev_relation.specs.Active.{site_of, item_of, address_of_item, HasPlace, here, fills_record, InSpot, OverTask, OverBody, Means, Active}
+use Rattle.ev_relation.specs.Active.{site_of, item_of, address_of_item, HasPlace, here, fills_record, InSpot, OverTask, OverBody, Means, InCallSpot, Active}
 use Rattle.ev_relation.specs.Relation.{Chain, StandsOn, Stands, switches_at}
 use Rattle.ev_relation.proofs.Facts.{Facts}
 use Rattle.ev_relation.proofs.Spots.{layout_of, means_over, runs_to_end}
+use Rattle.ev_relation.proofs.ModeFacts.{is_fred}
+use Rattle.std.proofs.lemmas.Bool.Decides.{leb_tells}
 use Rattle.ev_relation.proofs.Switch.{means_switch, switch_ends}
 use Rattle.ev_relation.proofs.Fills.{means_fills, fill_ends}
 use Rattle.ev_relation.proofs.After.{as_chain, filled_below}
@@ -204,6 +206,17 @@ ends_at_call (InBody layout (InCall (AtRecord site))) = true
 ends_at_call (InBody layout (InCall (AtLink address func to is_stale))) = true
 ends_at_call spot = false
 
+-- in a body
+block_is : (m : Mode) (layout : Layout) (s : BodySpot) → block m (InBody layout s) ≡ body_block (is_fred m) layout s
+block_is Fred layout s = refl
+block_is Idt layout s = refl
+
+-- What is asked of the code behind all other blocks: no mark there looks at memory.
+abbrev pub EndsPlain : Mode → Image → Type 0
+EndsPlain mode image = (p left : ℕ) (κ : Kind) (σ : Seat) (f : Frame) (sw : Bool) (g : Option Filling) (w : Processor) (b : BodyContext) (c : Processor)
+    (m : Memory) → (a : Active mode image p left κ σ f sw g w b c m) → a.stands.k ≡ (block mode a.stands.spot).steps → ends_at_call a.stands.spot ≡ false
+    → reads_no_memory (mark_of mode image c) ≡ true
+
 module _ (mode : Mode) (image : Image) (given : IsImage image) (accepted : IsAccepted image) (facts : Facts mode image) (left : NatMap ℕ) (s : System)
     (m : Machine) (h : Stands mode image left s m) (q : ℕ) (lq : q < image.processors) where
   -- the numbers of a `call` are there
@@ -282,3 +295,42 @@ module _ (mode : Mode) (image : Image) (given : IsImage image) (accepted : IsAcc
         (facts.items b.body b.place legal.body (Call site to func r) legal.is_body here) in
         Queue (facts.marks (s.cpus q).rip x.0 (ap (code_table mode image) (far 154 (s.cpus q).rip (omega arith) ends.0 here_is) ∙ x.1) ∙ x.2) to
         (call_numbers (Call site to func r) site to func r refl (rules (Call site to func r) here)).1 ends.1
+
+    -- so at any spot, where what comes behind the blocks of others is marked by no memory
+    spot_looks : (spot : Spot) → At (code_table mode image) (block mode spot) k env (s.cpus q) s.memory → k ≡ (block mode spot).steps
+        → Means mode image κ spot env w b (first_fill (h.each q lq).fills) s.memory.words → fills_record spot ≡ is_some (first_fill (h.each q lq).fills)
+        → (ends_at_call spot ≡ false → reads_no_memory (mark_of mode image (s.cpus q)) ≡ true)
+        → LooksAt mode image q (h.each q lq).fills (s.cpus q) (mark_of mode image (s.cpus q))
+    spot_looks (InBody layout (InCall (AtRecord site))) at last means fills plain =
+        let i = in_spot mode image mode κ layout (InCall (AtRecord site)) env w b (first_fill (h.each q lq).fills) s.memory.words refl means in
+        let z : InCallSpot mode image i.1 (AtRecord site) env w b (first_fill (h.each q lq).fills) s.memory.words = i.2 in
+        let same = block_is mode layout (InCall (AtRecord site)) in
+        record_looks (is_fred mode) layout site (subst (λ B. At (code_table mode image) B k env (s.cpus q) s.memory) same at)
+        (last ∙ ap (λ (B : Block). B.steps) same) z.1 z.2 z.3 (none_of (first_fill (h.each q lq).fills) (sym fills))
+      where
+        none_of : (g : Option Filling) → is_some g ≡ false → g ≡ None
+        none_of None e = refl
+        none_of (Some f) e = let clash : true ≡ false = e in absurd (cc)
+    spot_looks (InBody layout (InCall (AtLink address func to is_stale))) at last means fills plain =
+        let i = in_spot mode image mode κ layout (InCall (AtLink address func to is_stale)) env w b (first_fill (h.each q lq).fills) s.memory.words refl means in
+        let z : InCallSpot mode image i.1 (AtLink address func to is_stale) env w b (first_fill (h.each q lq).fills) s.memory.words = i.2 in
+        let same = block_is mode layout (InCall (AtLink address func to is_stale)) in
+        link_looks (is_fred mode) layout address func to is_stale (subst (λ B. At (code_table mode image) B k env (s.cpus q) s.memory) same at)
+        (last ∙ ap (λ (B : Block). B.steps) same) z.1 z.2.fills.site z.2.s z.2.fills.item
+    spot_looks _ at last means fills plain = Nothing (plain refl)
+
+  -- Of kernel code a processor's next mark looks at what the abstract machine tells.
+  pub looks : EndsPlain mode image → is_user (s.cpus q) ≡ false → LooksAt mode image q (h.each q lq).fills (s.cpus q) (mark_of mode image (s.cpus q))
+  looks plain kernel = by_run (which_runs mode image q (left q) s m (h.each q lq))
+    where
+      by_run : NowRuns mode image q (s.cpus q) s.memory (processor m q).bodies (h.each q lq).fills
+          → LooksAt mode image q (h.each q lq).fills (s.cpus q) (mark_of mode image (s.cpus q))
+      by_run (OfTask user) = let clash : true ≡ false = sym user ∙ kernel in absurd (cc)
+      by_run (OfBody own κ σ f sw w b below hb a) = ⊎_elim
+          (λ (l : (nat_le (block mode a.stands.spot).steps a.stands.k ≡ true) × ((block mode a.stands.spot).steps ≤ a.stands.k)).
+          let e : a.stands.k ≡ (block mode a.stands.spot).steps = let within = a.stands.within in let here = l.1 in omega (arith, within, here) in
+          spot_looks κ σ a.stands.ss w a.stands.extra a.stands.var a.stands.flags b below hb a.stands.k a.stands.spot a.stands.at e a.means a.fills
+          (plain q own κ σ f sw (first_fill (h.each q lq).fills) w b (s.cpus q) s.memory a e))
+          (λ l. Nothing (ap reads_no_memory
+          (inside_unmarked mode image facts q own κ σ f sw (first_fill (h.each q lq).fills) w b (s.cpus q) s.memory a l.1)))
+          (leb_tells (block mode a.stands.spot).steps a.stands.k)
