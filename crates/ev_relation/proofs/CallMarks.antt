@@ -1,8 +1,8 @@
 -- Where a mark looks at memory: inside a block no instruction has a mark, and before `call`'s load of its record's state and its exchange the registers say which
 -- word it is.
-use Rattle.std.proofs.Common.{◌≡◌, ◌⊎◌, inl, inr, ⊎_elim, ℕ, suc, ◌+◌, ◌*◌, ◌-◌, ◌<◌, ◌≤◌, Bool, true, false, not, ◌||◌, ◌&&◌, List, [], ◌∷◌, Option, Some, None, refl, sym, ap, ◌∙◌, subst, arith, map, get_or, set}
-use Rattle.std.specs.Prelude.{◌%◌, slice_get, is_some, nat_lt, nat_le}
-use Rattle.std.proofs.lemmas.Bool.{ltb-true, or_parts, not-false}
+use Rattle.std.proofs.Common.{◌≡◌, ◌⊎◌, inl, inr, ⊎_elim, ℕ, suc, ◌+◌, ◌*◌, ◌-◌, ◌<◌, ◌≤◌, Bool, true, false, ◌&&◌, List, [], ◌∷◌, Option, Some, None, refl, sym, ap, ◌∙◌, subst, arith, map, get_or}
+use Rattle.std.specs.Prelude.{◌%◌, is_some, nat_lt, nat_le}
+use Rattle.std.proofs.lemmas.Bool.{ltb-true, not-false}
 use Rattle.ev_isa.specs.Spelling.{spelling, four_bytes}
 use Rattle.ev_isa.specs.Flags.{Flags}
 use Rattle.ev_isa.specs.Word.{NatMap}
@@ -22,14 +22,14 @@ use Rattle.ev_mem.specs.Memory.{Memory}
 use Rattle.ev_abstract.specs.Context.{BodyContext}
 use Rattle.ev_abstract.specs.Machine.{Machine, processor}
 use Rattle.ev_concrete.specs.ConcreteRun.{System, Activation, marks_of, mark_at}
-use Rattle.ev_symbolic.specs.Value.{V, K, P, X, B, OAdd, M}
+use Rattle.ev_symbolic.specs.Value.{M}
 use Rattle.ev_symbolic.specs.State.{SS, Block}
 use Rattle.ev_symbolic.specs.Run.{brun}
 use Rattle.ev_symbolic.specs.Listed.{cells_from, AllFound}
 use Rattle.ev_symbolic.specs.Agrees.{Env, eval, addr, Cell, edge_cell, At}
 use Rattle.ev_symbolic.proofs.Blocks.{unsome, inside, earlier}
 use Rattle.ev_blocks.specs.Shapes.{Layout, Origin, UserCode, KernelCode, FredFrame, IdtFrame, NmiFrame}
-use Rattle.ev_blocks.specs.Calls.{CallSpot, AtRecord, AtLink}
+use Rattle.ev_blocks.specs.Calls.{AtRecord, AtLink}
 use Rattle.ev_symbolic.specs.Names.{item_tag}
 use Rattle.ev_symbolic.specs.Openings.{gs_tag}
 use Rattle.ev_symbolic.proofs.Values.{and_left, and_right}
@@ -44,9 +44,9 @@ use Rattle.ev_blocks.specs.Items.{BodySpot, InCall, body_block}
 use Rattle.ev_blocks.specs.Blocks.{Spot, InFred, InIdt, InNmi, InBody, block}
 use Rattle.ev_blocks.specs.Blocks as blocks
 use Rattle.ev_activation.specs.Seat.{Kind, SystemCall, FromTask, FromBody, NmiFromTask, NmiFromBody, Seat, kind_of, seat_of}
-use Rattle.ev_table.specs.Table.{code_table, places_of, item_cells, reads_no_memory}
+use Rattle.ev_table.specs.Table.{code_table, places_of, reads_no_memory}
 use Rattle.ev_relation.specs.Nmi.{Frame}
-use Rattle.ev_relation.specs.Filling.{Filling, first_fill, rest_fills, is_filled}
+use Rattle.ev_relation.specs.Filling.{Filling, first_fill, is_filled}
 use Rattle.ev_relation.specs.Active.{site_of, item_of, address_of_item, HasPlace, here, fills_record, InSpot, OverTask, OverBody, Means, InCallSpot, Active}
 use Rattle.ev_relation.specs.Relation.{Chain, StandsOn, Stands, switches_at}
 use Rattle.ev_relation.proofs.Facts.{Facts}

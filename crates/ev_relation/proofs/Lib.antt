@@ -33,4 +33,5 @@ pub mod Saved
 pub mod Visible
 pub mod Looks
 pub mod CallMarks
+pub mod Settled
 pub mod Laws
