@@ -42,7 +42,8 @@ is_the_call site _ h = absurd (cc)
 not_before : (image : Image) (n : ℕ) (b : Body) (i site to func s : ℕ) → breaks_calls image n b i (Call site to func s) ≡ false
     → list_any (has_item (is_call_at site)) (take n image.bodies) ≡ false
 unfolding breaks_calls
-not_before image n b i site to func s h = (or_parts _ (list_any (has_item (is_call_at site)) (take n image.bodies)) (or_parts _ (not (is_function image func)) h).0).1
+not_before image n b i site to func s h =
+    (or_parts _ (list_any (has_item (is_call_at site)) (take n image.bodies)) (or_parts _ (not (is_function image func)) h).0).1
 
 -- ---- a body that isn't inner stands on others only where it is an interrupt's, of a higher class than theirs
 

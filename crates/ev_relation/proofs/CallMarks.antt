@@ -1,5 +1,5 @@
--- Where a mark looks at memory: inside a block no instruction has a mark, and before `call`'s load of its record's state and its exchange the registers say which
--- word it is.
+-- Where a mark looks at memory: inside a block no instruction has a mark, and before `call`'s load of its record's state and its exchange the registers say
+-- which word it is.
 use Rattle.std.proofs.Common.{◌≡◌, ◌⊎◌, inl, inr, ⊎_elim, ℕ, suc, ◌+◌, ◌*◌, ◌-◌, ◌<◌, ◌≤◌, Bool, true, false, ◌&&◌, List, [], ◌∷◌, Option, Some, None, refl, sym, ap, ◌∙◌, subst, arith, map, get_or}
 use Rattle.std.specs.Prelude.{◌%◌, is_some, nat_lt, nat_le}
 use Rattle.std.proofs.lemmas.Bool.{ltb-true, not-false}
@@ -312,7 +312,8 @@ module _ (mode : Mode) (image : Image) (given : IsImage image) (accepted : IsAcc
         none_of None e = refl
         none_of (Some f) e = let clash : true ≡ false = e in absurd (cc)
     spot_looks (InBody layout (InCall (AtLink address func to is_stale))) at last means fills plain =
-        let i = in_spot mode image mode κ layout (InCall (AtLink address func to is_stale)) env w b (first_fill (h.each q lq).fills) s.memory.words refl means in
+        let i = in_spot mode image mode κ layout (InCall (AtLink address func to is_stale)) env w b (first_fill (h.each q lq).fills) s.memory.words refl means
+        in
         let z : InCallSpot mode image i.1 (AtLink address func to is_stale) env w b (first_fill (h.each q lq).fills) s.memory.words = i.2 in
         let same = block_is mode layout (InCall (AtLink address func to is_stale)) in
         link_looks (is_fred mode) layout address func to is_stale (subst (λ B. At (code_table mode image) B k env (s.cpus q) s.memory) same at)

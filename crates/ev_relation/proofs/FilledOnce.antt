@@ -74,8 +74,8 @@ module _ (mode : Mode) (image : Image) where
       let l : AreLegal image (knows image m) (b ∷ below) = subst (AreLegal image (knows image m)) hb (legal.each p).bodies in
       let none = none_calls_beneath image given accepted.1.kept (knows image m) b below l site
       (ap (some_call_at site) item ∙ at_its_call site (Call site to func s') to func s' refl) in
-      let chain = subst (λ bs. Chain mode image p on.own (processor m p).running on.returning ((processor m p).tasks on.returning) on.frame on.switching on.fills
-      bs (s.activations p) (s.cpus p) s.memory) hb
+      let chain = subst (λ bs. Chain mode image p on.own (processor m p).running on.returning ((processor m p).tasks on.returning) on.frame on.switching
+      on.fills bs (s.activations p) (s.cpus p) s.memory) hb
       (as_chain mode image on.layer p on.own on.more (processor m p).running on.returning ((processor m p).tasks on.returning) on.frame on.switching on.fills
       (processor m p).bodies (s.activations p) (s.cpus p) s.memory on.runs) in
       let clash : true ≡ false = sym (below_stands on.fills (s.activations p) on.own on.switching (s.cpus p) chain e) ∙ none in cc)
@@ -86,5 +86,5 @@ module _ (mode : Mode) (image : Image) where
       below_stands fs [] own sw c h e = absurd h
       below_stands fs (a ∷ as') own sw c h e =
           let z = some_beneath (keeps_cr2 mode image (kind_of image b below)) _ h.0 h.4 in
-          filled_stands p (body_edges mode image) (processor m p).running on.returning ((processor m p).tasks on.returning) on.frame (chained mode image sw below)
-          (rest_fills fs) below as' z.0 s.memory site z.1 e
+          filled_stands p (body_edges mode image) (processor m p).running on.returning ((processor m p).tasks on.returning) on.frame
+          (chained mode image sw below) (rest_fills fs) below as' z.0 s.memory site z.1 e

@@ -1,5 +1,5 @@
--- What a mark looks at in memory: the state of a record that its own processor doesn't fill, or the head of a queue. Both are told by the abstract machine, so an
--- edge of another processor, behind which the machine stands for the same one, leaves it as it is whether the step is visible.
+-- What a mark looks at in memory: the state of a record that its own processor doesn't fill, or the head of a queue. Both are told by the abstract machine, so
+-- an edge of another processor, behind which the machine stands for the same one, leaves it as it is whether the step is visible.
 use Rattle.std.proofs.Common.{◌≡◌, ℕ, ◌+◌, ◌<◌, Bool, true, false, not, ◌||◌, ◌&&◌, List, [], ◌∷◌, Option, Some, None, refl, sym, ap, ◌∙◌, subst, arith}
 use Rattle.std.specs.Prelude.{◌==◌, reverse, if◌then◌else◌}
 use Rattle.ev_isa.specs.Word.{NatMap}

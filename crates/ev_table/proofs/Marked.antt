@@ -217,3 +217,11 @@ plain_lines a q (l ∷ ls) ys h k = subst (λ (ms : Marks). PlainAt ms q) (sym (
 pub plain_at : (bs : List Listing) (q : ℕ) → all_plain bs ≡ true → reads_no_memory (mark_at (all_marks bs) q) ≡ true
 plain_at [] q h = refl
 plain_at (b ∷ bs) q h = plain_lines b.address q b.lines (all_marks bs) (and_left _ _ h) (plain_at bs q (and_right (read_no_memory b.lines) _ h))
+
+-- ---- listings that stand above an address
+
+pub skipped_all : (bs cs : List Listing) (q : ℕ) → all_unmarked bs ≡ true → Each (λ (b : Listing). q < b.address) bs
+    → mark_at (all_marks (bs ++ cs)) q ≡ mark_at (all_marks cs) q
+skipped_all [] cs q u h = refl
+skipped_all (b ∷ bs) cs q u h =
+    outside_marks b.address q b.lines (all_marks (bs ++ cs)) (and_left _ _ u) (inl h.0) ∙ skipped_all bs cs q (and_right (are_unmarked b.lines) _ u) h.1

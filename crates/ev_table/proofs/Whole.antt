@@ -38,7 +38,7 @@ use Rattle.ev_table.proofs.Items.{item_found, item_marked, next_size}
 use Rattle.ev_table.proofs.Labels.{place_behind, cells_in_same, exit_inner, all_places_append, cells_in_append}
 use Rattle.ev_table.proofs.Kernel.{kernel_cells, kernel_inner, kernel_unmarked, kernel_plain, exit_is}
 use Rattle.ev_table.proofs.Bodies.{labels, unmarked, plain, body_found, body_marked}
-use Rattle.ev_table.proofs.Marked.{all_unmarked, all_plain, EachMarked, each_marked, cell_mark, plain_at}
+use Rattle.ev_table.proofs.Marked.{all_unmarked, all_plain, EachMarked, each_marked, cell_mark, plain_at, skipped_all}
 
 -- a jump leads to the target of its distance
 pub leads_to : (target next : ℕ) → target < 2 ^ 64 → next < 2 ^ 64 → displaced next (distance target next) ≡ target
@@ -221,3 +221,14 @@ module _ (mode : Mode) (image : Image) where
     unfolding listings
     marks_plain none a =
         plain_at (listings mode image) a (plain_append bodies (kernel_listings mode) (plain mode image 0 image.bodies none) (kernel_plain mode))
+
+    -- none of the kernel's own code does
+    pub kernel_marks_plain : (a : ℕ) → a < 0xffffffff82000000 → reads_no_memory (mark_at (marks_of mode image) a) ≡ true
+    unfolding listings
+    kernel_marks_plain a l = ap reads_no_memory
+        (skipped_all bodies (kernel_listings mode) a (unmarked mode image 0 image.bodies) (above 0 image.bodies)) ∙ plain_at (kernel_listings mode) a
+        (kernel_plain mode)
+      where
+        above : (n : ℕ) (bs : List Body) → Each (λ (b : Listing). a < b.address) (body_listings mode image n bs)
+        above n [] = tt
+        above n (b ∷ bs) = (omega (arith, l), above (suc n) bs)
