@@ -24,7 +24,7 @@ use Rattle.ev_abstract.specs.Machine.{Machine, processor}
 use Rattle.ev_concrete.specs.ConcreteRun.{System, Activation, marks_of, mark_at}
 use Rattle.ev_symbolic.specs.Value.{M}
 use Rattle.ev_symbolic.specs.State.{SS, Block}
-use Rattle.ev_symbolic.specs.Run.{brun}
+use Rattle.ev_symbolic.specs.Run.{brun, every}
 use Rattle.ev_symbolic.specs.Listed.{cells_from, AllFound}
 use Rattle.ev_symbolic.specs.Agrees.{Env, eval, addr, Cell, edge_cell, At}
 use Rattle.ev_symbolic.proofs.Blocks.{unsome, inside, earlier}
@@ -50,7 +50,9 @@ use Rattle.ev_relation.specs.Filling.{Filling, first_fill, is_filled}
 use Rattle.ev_relation.specs.Active.{site_of, item_of, address_of_item, HasPlace, here, fills_record, InSpot, OverTask, OverBody, Means, InCallSpot, Active}
 use Rattle.ev_relation.specs.Relation.{Chain, StandsOn, Stands, switches_at}
 use Rattle.ev_relation.proofs.Facts.{Facts}
-use Rattle.ev_relation.proofs.Spots.{layout_of, means_over, runs_to_end}
+use Rattle.ev_symbolic.proofs.Blocks.{every_ok}
+use Rattle.ev_table.proofs.Whole.{kernel_marks_plain}
+use Rattle.ev_relation.proofs.Spots.{is_elsewhere, below_bodies, layout_of, means_over, runs_to_end}
 use Rattle.ev_relation.proofs.ModeFacts.{is_fred}
 use Rattle.std.proofs.lemmas.Bool.Decides.{leb_tells}
 use Rattle.ev_relation.proofs.Switch.{means_switch, switch_ends}
@@ -335,3 +337,10 @@ module _ (mode : Mode) (image : Image) (given : IsImage image) (accepted : IsAcc
           (λ l. Nothing (ap reads_no_memory
           (inside_unmarked mode image facts q own κ σ f sw (first_fill (h.each q lq).fills) w b (s.cpus q) s.memory a l.1)))
           (leb_tells (block mode a.stands.spot).steps a.stands.k)
+
+  -- So no mark in the kernel's own code looks at memory: of `EndsPlain` this is the half of blocks outside the bodies' code.
+  pub elsewhere_plain : (b : Block) (k : ℕ) (e : Env) (c : Processor) (n : Memory) → At (code_table mode image) b k e c n → e.base 1000 ≡ 0 → k ≤ b.steps
+      → every is_elsewhere b ≡ true → reads_no_memory (mark_of mode image c) ≡ true
+  elsewhere_plain b k e c n at zero within all =
+      let low = below_bodies e zero at.state (every_ok is_elsewhere b all k within at.state at.is) in
+      let rip = at.agrees.rip in kernel_marks_plain mode image given c.rip (omega (arith, low, rip))
