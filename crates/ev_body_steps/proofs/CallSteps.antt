@@ -116,7 +116,7 @@ module _ (mode : Mode) (image : Image) (built : IsBuilt image) (good : IsImage i
         (subst (λ bs. Chain mode image p now x.running on.returning (x.tasks on.returning) on.frame on.switching fs bs (o.last ∷ o.others) cpu
         (with_words s.memory words)) (sym o.bodies) (chain_behind o.b o.kind o.ctx now cpu act)) in
         let there : StandsOn mode image p (now + inner_edges (s.latches p))
-            (step.Behind mode image built good facts left s m h p hp (s.apics p) cpu words None) x
+        (step.Behind mode image built good facts left s m h p hp (s.apics p) cpu words None) x
         = own_becomes mode image p (left p) s (step.Behind mode image built good facts left s m h p hp (s.apics p) cpu words None) x o.σ cpu _ words x.tasks
         x.slots x.resched fs x.bodies now on small (four_tasks image good p hp)
         (step.moves mode image built good facts left s m h p hp (s.apics p) cpu words None) (step.beside mode image built good facts left s m h p hp o) narrow
@@ -180,15 +180,15 @@ module _ (mode : Mode) (image : Image) (built : IsBuilt image) (good : IsImage i
         let moves = step.moves mode image built good facts left s m h p hp (s.apics p) cpu words None in
         let x' : abstract.Processor = record x { records = (processor m' p).records; queue = (processor m' p).queue; bodies = b' ∷ o.below } in
         let serving : (class : ℕ) → list_any (λ (a : BodyContext). serves mode image class a.service) (b' ∷ o.below)
-            ≡ list_any (λ (a : BodyContext). serves mode image class a.service) x.bodies
+        ≡ list_any (λ (a : BodyContext). serves mode image class a.service) x.bodies
         = λ class. ap (λ q. serves mode image class q || list_any (λ (a : BodyContext). serves mode image class a.service) o.below) service
         ∙ sym (ap (list_any (λ (a : BodyContext). serves mode image class a.service)) o.bodies) in
         let same : activations_by s p (s.activations p) cpu Stepped.Ran ≡ o.last ∷ o.others
         = went_stays image.processors s p cpu None cell.ins (step.fetches mode image built good facts left s m h p hp c.rip cell hc).1 hr ∙ o.acts in
         let chain = chain_behind b' kind ctx now cpu act in
         let none : list_any (is_nmi_body image) (b' ∷ o.below) ≡ false = none_nmi image (b' ∷ o.below)
-            (chain_plain mode image p now x.running on.returning (x.tasks on.returning) on.frame on.switching fs (b' ∷ o.below) (o.last ∷ o.others) cpu
-            (with_words s.memory words) chain) in
+        (chain_plain mode image p now x.running on.returning (x.tasks on.returning) on.frame on.switching fs (b' ∷ o.below) (o.last ∷ o.others) cpu
+        (with_words s.memory words) chain) in
         let there : StandsOn mode image p (now + inner_edges (s.latches p)) s' x'
         = own_stands mode image p (left p) now s s' x x' cpu _ words on moves (record {
           running = on.running;

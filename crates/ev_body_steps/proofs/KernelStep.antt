@@ -540,8 +540,8 @@ module _ (mode : Mode) (image : Image) (built : IsBuilt image) (good : IsImage i
         × Active mode image p now n (seat_by mode n r (seat_of mode image r below) (room_of mode image below)) on.frame
         (switches_at mode image on.switching below) (first_fill fs) w b' cpu mem) (sym k) (
           subst (λ gs. Beneath mode image (keeps_cr2 mode image κ)
-          (λ v. Chain mode image p (body_edges mode image) r to t on.frame (chained mode image on.switching below) gs below o.others v mem) w) (sym same)
-          (below_stays names written unknown words changes records_kept),
+              (λ v. Chain mode image p (body_edges mode image) r to t on.frame (chained mode image on.switching below) gs below o.others v mem) w) (sym same)
+              (below_stays names written unknown words changes records_kept),
           leads_again mode image p κ on.frame w s.memory.words words o.leads,
           subst (λ y. Active mode image p now κ y on.frame (switches_at mode image on.switching below) (first_fill fs) w b' cpu mem) (sym o.seat) act,
         ) in
