@@ -2,6 +2,7 @@ pub mod Bodies
 pub mod Return
 pub mod ItemCells
 pub mod ItemCode
+pub mod CallCells
 pub mod ItemState
 pub mod ItemLocals
 pub mod ItemAddresses
@@ -21,6 +22,7 @@ pub mod ItemNumbers
 pub mod ItemResched
 pub mod ItemMsr
 pub mod ItemInterrupts
+pub mod ItemWait
 pub mod ItemUser
 pub mod ItemPage
 pub mod ItemPages
