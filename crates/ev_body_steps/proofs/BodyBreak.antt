@@ -154,7 +154,7 @@ module _ (mode : Mode) (image : Image) (built : IsBuilt image) (good : IsImage i
             long = a.long;
           };
           switches = way.off ∙ sym o.off;
-          fills = sym (ap is_some o.unfilled);
+          fills = sym (ap is_some a.unfilled);
           knows = plain_knows mode o.κ on.frame plain (blocks.holds (body mode spots.AtItem));
           means = means_at mode image o.κ plain spots.AtItem u o.w (context.onward o.b) (first_fill on.fills) s.memory.words (item, refl);
         }
@@ -205,7 +205,6 @@ module _ (mode : Mode) (image : Image) (built : IsBuilt image) (good : IsImage i
           same_body = refl;
           same_service = refl;
           same_calls = refl;
-          quiet = record { calls = (step.quiet mode image built good facts left s m h p hp o).calls };
           canonical = (facts.item_small o.b.body (suc o.b.place) body' is).0;
           outside = step.outside mode image built good facts left s m h p hp o a.act ∙ sym (behind_repeat next (let low = spread.0 in omega arith));
           inside = let low = spread.0 in omega arith;

@@ -75,7 +75,6 @@ module _ (mode : Mode) (image : Image) (built : IsBuilt image) (good : IsImage i
         same_body = refl;
         same_service = refl;
         same_calls = refl;
-        quiet = step.quiet mode image built good facts left s m h p hp o;
         canonical = canonical;
         outside = refl;
         inside = inside;

@@ -64,7 +64,6 @@ use Rattle.ev_relation.specs.Filling.{Filling, first_fill, rest_fills}
 use Rattle.ev_relation.specs.Active.{here, IsKernelSs, HasRange, InSpot, OverTask, OverBody, Means, Active}
 use Rattle.ev_relation.specs.Relation.{IsContext, Chain, StandsOn, Stands, ApicIs, chained, body_edges, switches_at}
 use Rattle.ev_relation.specs.Step.{Simulated}
-use Rattle.ev_relation.specs.Domain.{AreQuiet}
 use Rattle.ev_relation.proofs.Facts.{Facts}
 use Rattle.ev_relation.proofs.Maps.{at_same, at_other}
 use Rattle.ev_paths.proofs.Locals.{from_six}
@@ -401,7 +400,6 @@ module _ (mode : Mode) (image : Image) (built : IsBuilt image) (good : IsImage i
         acts = acts;
         plain = plain;
         calls = ap to_run (sym hb);
-        quiet = subst AreQuiet hb (step.domain mode image built good facts left s m h p hp).bodies;
         outside = refl;
         inside = upper.0;
         chain = λ a. (

@@ -50,7 +50,6 @@ use Rattle.ev_activation.specs.Seat.{Kind, FromBody, NmiFromBody, Seat, kind_of,
 use Rattle.ev_user.proofs.Deliver.{arrives}
 use Rattle.ev_relation.specs.Nmi.{Frame, Leads, inner_edges}
 use Rattle.ev_relation.specs.Named.{Changes}
-use Rattle.ev_relation.specs.Domain.{IsQuiet, AreQuiet}
 use Rattle.ev_relation.specs.Filling.{Filling, first_fill}
 use Rattle.ev_relation.specs.Active.{here, IsKernelSs, Active}
 use Rattle.ev_relation.specs.Relation.{IsContext, Beneath, keeps_cr2, chained, body_edges, switches_at, Chain, StandsOn, Stands, serves, ApicIs}
@@ -247,7 +246,6 @@ module _ (mode : Mode) (image : Image) (built : IsBuilt image) (good : IsImage i
     pub acts : s.activations p ≡ last ∷ others
     pub plain : ArePlain image (b ∷ below)
     pub calls : to_run (b ∷ below) ≡ to_run x.bodies
-    pub quiet : AreQuiet (b ∷ below)
     pub outside : is_in_repeat c.rip ≡ is_in_repeat saved
     pub inside : code_end ≤ saved  -- it stands in the bodies' code
     pub chain : (a : ℕ) → Chain mode image p (body_edges mode image) r to (x.tasks to) on.frame on.switching on.fills (b ∷ below) (last ∷ others)
@@ -435,9 +433,6 @@ module _ (mode : Mode) (image : Image) (built : IsBuilt image) (good : IsImage i
 
     -- ---- the relation behind it
 
-    quiet : AreQuiet now_bodies
-    quiet = (record { calls = refl }, u.quiet)
-
     abbrev now : ℕ
     now = body_edges mode image + inner_edges (s.latches p)
 
@@ -481,7 +476,7 @@ module _ (mode : Mode) (image : Image) (built : IsBuilt image) (good : IsImage i
         legal (turn_bases image m p h.bases (m', entry_of p e (suc (suc n)) ∷ []) y.turns) y.numbers
         (h.told ++ entry_of p e (suc (suc n)) ∷ [])
         (turn_calls image good built.accepted m p hp h.legal h.told h.calls (m', entry_of p e (suc (suc n)) ∷ []) y.turns)
-        (record { nmi = domain.nmi; mail_nmi = domain.mail_nmi; bodies = quiet }) there
+        (record { nmi = domain.nmi; mail_nmi = domain.mail_nmi }) there
 
     -- the frame's words are as many as before
     frame_fits : begun.frame + 8 * frame_size (middle.cpus p) e ≤ top_at p (seat_under mode r (suc n))
@@ -578,7 +573,6 @@ module _ (mode : Mode) (image : Image) (built : IsBuilt image) (good : IsImage i
     pub same_body : b.body ≡ o.b.body
     pub same_service : b.service ≡ o.b.service
     pub same_calls : b.calls ≡ o.b.calls
-    pub quiet : IsQuiet b
     pub canonical : is_canonical saved ≡ true
     pub outside : is_in_repeat (s.cpus p).rip ≡ is_in_repeat saved
     pub inside : code_end ≤ saved
@@ -632,7 +626,6 @@ module _ (mode : Mode) (image : Image) (built : IsBuilt image) (good : IsImage i
         (step.all_plain mode image built good facts left s m h p hp o).1,
       );
       calls = ap (λ ks. ks ++ to_run o.below) y.same_calls ∙ ap to_run (sym o.bodies);
-      quiet = (y.quiet, (step.are_quiet mode image built good facts left s m h p hp o).1);
       outside = y.outside;
       inside = y.inside;
       chain = λ a. step.with_last mode image built good facts left s m h p hp o b kind is_context_below (body_edges mode image)

@@ -26,7 +26,6 @@ use Rattle.ev_symbolic.specs.Agrees.{Cell, with_words}
 use Rattle.ev_activation.specs.Seat.{kind_of}
 use Rattle.ev_relation.specs.Nmi.{inner_edges}
 use Rattle.ev_relation.specs.Named.{Named, is_task_word, is_slot, is_cell, is_page_bit, is_user_word, have_none, AreOf, UnknownTo, Changes}
-use Rattle.ev_relation.specs.Domain.{AreQuiet}
 use Rattle.ev_relation.specs.Filling.{Filling, first_fill, rest_fills, is_filled, AreFree}
 use Rattle.ev_relation.specs.Active.{Active}
 use Rattle.ev_relation.specs.Relation.{IsContext, switches_at, body_edges, serves, Chain, HoldsCall, StandsOn, Stands}
@@ -172,10 +171,10 @@ module _ (mode : Mode) (image : Image) (built : IsBuilt image) (good : IsImage i
         → is_seen mark s c ≡ true → is_return (Some cell.ins) ≡ false → is_user c ≡ false → is_in_repeat c.rip ≡ false
         → (cpu : Processor) → step.Executes mode image built good facts left s m h p hp cell.ins cpu words → cpu.nmi_blocked ≡ false
         → (m' : Machine) (es : List Entry) → turn image m p ≡ (m', es) → (b' : BodyContext) → kind_of image b' o.below ≡ o.κ → IsContext mode image b'
-        → b'.service ≡ o.b.service → AreQuiet (b' ∷ o.below) → Makes m' b' → (now : ℕ) → now ≤ body_edges mode image
+        → b'.service ≡ o.b.service → Makes m' b' → (now : ℕ) → now ≤ body_edges mode image
         → Active mode image p now o.κ o.σ on.frame (switches_at mode image on.switching o.below) (first_fill fs) o.w b' cpu (with_words s.memory words)
         → went_shows p s mark cell.ins cpu words None ≡ es → Simulated mode image left s m p
-    turns unblocked cell hc mark hm is hr hu out cpu he hb m' es ht b' kind ctx service quiet y now few act hes =
+    turns unblocked cell hc mark hm is hr hu out cpu he hb m' es ht b' kind ctx service y now few act hes =
         let s' : System = step.Behind mode image built good facts left s m h p hp (s.apics p) cpu words None in
         let moves = step.moves mode image built good facts left s m h p hp (s.apics p) cpu words None in
         let x' : abstract.Processor = record x { records = (processor m' p).records; queue = (processor m' p).queue; bodies = b' ∷ o.below } in
@@ -243,5 +242,5 @@ module _ (mode : Mode) (image : Image) (built : IsBuilt image) (good : IsImage i
         (turn_legal image good built.accepted m p hp h.legal (m', es) ht) (turn_bases image m p h.bases (m', es) ht)
         (step.numbers_behind mode image built good facts left s m h p hp o unblocked m' es ht) (h.told ++ es)
         (turn_calls image good built.accepted m p hp h.legal h.told h.calls (m', es) ht)
-        (let d = step.domain mode image built good facts left s m h p hp in record { nmi = d.nmi; mail_nmi = d.mail_nmi; bodies = quiet }) there)
+        (let d = step.domain mode image built good facts left s m h p hp in record { nmi = d.nmi; mail_nmi = d.mail_nmi }) there)
         hes

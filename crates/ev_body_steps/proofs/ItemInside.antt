@@ -1,6 +1,6 @@
 -- Items that begin with a number for RAX: an activation at such an item is at the beginning of the block of that number, and at the block's end it is at the
 -- visible instruction.
-use Rattle.std.proofs.Common.{◌≡◌, ℕ, suc, ◌+◌, ◌<◌, ◌≤◌, false, [], ◌∷◌, length, Some, refl, sym, ap, ◌∙◌, subst, arith}
+use Rattle.std.proofs.Common.{◌≡◌, ℕ, suc, ◌+◌, ◌<◌, ◌≤◌, false, [], ◌∷◌, length, Some, refl, sym, ap, ◌∙◌, subst, arith, None}
 use Rattle.std.specs.Prelude.{is_some, slice_get}
 use Rattle.ev_isa.specs.Word.{NatMap}
 use Rattle.ev_isa.specs.Flags.{Flags}
@@ -130,13 +130,13 @@ module _ (mode : Mode) (image : Image) (built : IsBuilt image) (good : IsImage i
   Stood now b cpu mem = Active mode image p now o.κ o.σ on.frame (switches_at mode image on.switching o.below) (first_fill on.fills) o.w b cpu mem
 
   -- At the item: the load of the number is an edge.
-  pub to_number : (act : Stood on.own b c s.memory) (ss : ℕ) → IsKernelSs mode ss → (extra v : ℕ → ℕ) (f : Flags)
+  pub to_number : first_fill on.fills ≡ None → (act : Stood on.own b c s.memory) (ss : ℕ) → IsKernelSs mode ss → (extra v : ℕ → ℕ) (f : Flags)
       → At code (block mode (body mode AtItem)) 0 (env ss extra v f) c s.memory → InItem mode image (origin_of o.κ) (env ss extra v f) o.w b s.memory.words
       → extra 20 ≡ item_place mode image b.body b.place → length c.regs ≡ 16 → edges mode (body mode AtItem) 0 ≤ on.own
       → (i : Item) (ins : Ins) → visible_of i ≡ Some ins → item_at (Some body') b.place ≡ Some i → (n : ℕ) → number_of (Some i) ≡ Some n
       → Simulated mode image left s m p
   unfolding spelling four_bytes
-  to_number act ss ss_is extra v f at means place long enough i ins seen hi n number =
+  to_number unfilled act ss ss_is extra v f at means place long enough i ins seen hi n number =
       let e : Env = env ss extra v f in
       let a : ℕ = item_address mode b.body body' b.place in
       let base : extra 20 ≡ a = place ∙ ap (address_of_item mode b.body b.place) is in
@@ -164,20 +164,21 @@ module _ (mode : Mode) (image : Image) (built : IsBuilt image) (good : IsImage i
           long = long;
         };
         switches = number_plain mode n ∙ sym o.off;
-        fills = sym (ap is_some o.unfilled);
+        fills = sym (ap is_some unfilled);
         knows = plain_knows mode o.κ on.frame (step.plain_kind mode image built good facts left s m h p hp o) (blocks.holds (body mode (AtNumber n)));
         means = means_at mode image o.κ (step.plain_kind mode image built good facts left s m h p hp o) (AtNumber n) e o.w b
             (first_fill on.fills) s.memory.words
             (means, place, ap (λ o. number_of (item_at o b.place)) is ∙ ap number_of hi ∙ number);
-      }) (omega arith)
+      }) refl (omega arith)
 
   -- at the block's end the visible instruction comes, with the number in RAX
-  unfoldable pub at_number : (act : Stood on.own b c s.memory) (ss : ℕ) → IsKernelSs mode ss → (extra v : ℕ → ℕ) (f : Flags) (n : ℕ)
+  unfoldable pub at_number : first_fill on.fills ≡ None → (act : Stood on.own b c s.memory) (ss : ℕ) → IsKernelSs mode ss → (extra v : ℕ → ℕ) (f : Flags) (n : ℕ)
       → At code (block mode (body mode (AtNumber n))) 1 (env ss extra v f) c s.memory → InItem mode image (origin_of o.κ)
       (env ss extra v f) o.w b s.memory.words
       → extra 20 ≡ item_place mode image b.body b.place → length c.regs ≡ 16
       → visible.AtVisible mode image built good facts left s m h p hp o body' is ss extra v f
-  at_number act ss ss_is extra v f n at means place long = record {
+  at_number unfilled act ss ss_is extra v f n at means place long = record {
+    unfilled = unfilled;
     act = act;
     ss_is = ss_is;
     means = means;

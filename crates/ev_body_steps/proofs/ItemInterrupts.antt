@@ -252,13 +252,13 @@ module _ (mode : Mode) (image : Image) (built : IsBuilt image) (good : IsImage i
     pub act : Stood on.own b c s.memory
 
   -- so it is at the end of the block behind `sti`
-  pub to_item : (ss : ℕ) → IsKernelSs mode ss → (extra v : ℕ → ℕ) (f : Flags)
+  pub to_item : first_fill on.fills ≡ None → (ss : ℕ) → IsKernelSs mode ss → (extra v : ℕ → ℕ) (f : Flags)
       → At code (block mode (body mode BehindSti)) 1 (here mode p o.κ o.σ ss o.w extra v f) c s.memory
       → InItem mode image (origin_of o.κ) (here mode p o.κ o.σ ss o.w extra v f) o.w b s.memory.words → HasNextPlace mode image 2
       (here mode p o.κ o.σ ss o.w extra v f) b
       → length c.regs ≡ 16 → edges mode (body mode BehindSti) 1 ≤ on.own
       → NextItem ss v f
-  to_item ss ss_is extra v f at means next long enough =
+  to_item unfilled ss ss_is extra v f at means next long enough =
       let way = at_the_item mode in
       let extra' : ℕ → ℕ = λ i. item_place mode image b.body b.place in
       let e : Env = here mode p o.κ o.σ ss o.w extra v f in
@@ -299,7 +299,7 @@ module _ (mode : Mode) (image : Image) (built : IsBuilt image) (good : IsImage i
             long = long;
           };
           switches = way.off ∙ sym o.off;
-          fills = sym (ap is_some o.unfilled);
+          fills = sym (ap is_some unfilled);
           knows = plain_knows mode o.κ on.frame plain (blocks.holds (body mode AtItem));
           means = means_at mode image o.κ plain AtItem u o.w b (first_fill on.fills) s.memory.words (item, refl);
         };
@@ -440,7 +440,7 @@ module _ (mode : Mode) (image : Image) (built : IsBuilt image) (good : IsImage i
             long = a.long;
           };
           switches = behind_plain mode ∙ sym o.off;
-          fills = sym (ap is_some o.unfilled);
+          fills = sym (ap is_some a.unfilled);
           knows = plain_knows mode o.κ on.frame plain (blocks.holds (body mode BehindSti));
           means = means_at mode image o.κ plain BehindSti u o.w b' (first_fill on.fills) s.memory.words (item, next_is, base_range);
         } in
@@ -452,7 +452,6 @@ module _ (mode : Mode) (image : Image) (built : IsBuilt image) (good : IsImage i
         (step.masked mode image built good facts left s m h p hp o ∙ was_off) (s.apics p) (s.latches p))
         (step.blocked mode image built good facts left s m h p hp) [] (none_spares p).free (λ y far near. refl) (with_context m p b') [] turned x.tasks
         x.slots on.fills on.free (λ k. refl) (b' ∷ o.below) makes
-        (record { calls = (step.quiet mode image built good facts left s m h p hp o).calls }, (step.are_quiet mode image built good facts left s m h p hp o).1)
         (apic_stays true)
         (goes_on_inside false (not (is_user c)) (not (nat_le nmi_entry c.rip && nat_lt c.rip repeat_entry)) (is_jump (Some Sti))
         (is_in_repeat c.rip) (length x.bodies) refl (step.outside mode image built good facts left s m h p hp o a.act) ∙ ap length o.bodies)

@@ -199,14 +199,14 @@ module _ (mode : Mode) (image : Image) (built : IsBuilt image) (good : IsImage i
   Stood now b cpu mem = Active mode image p now o.κ o.σ on.frame (switches_at mode image on.switching o.below) (first_fill on.fills) o.w b cpu mem
 
   -- At the item: the first load is an edge.
-  pub to_numbers : (act : Stood on.own b c s.memory) (ss : ℕ) → IsKernelSs mode ss → (extra v : ℕ → ℕ) (f : Flags)
+  pub to_numbers : first_fill on.fills ≡ None → (act : Stood on.own b c s.memory) (ss : ℕ) → IsKernelSs mode ss → (extra v : ℕ → ℕ) (f : Flags)
       → At code (block mode (body mode AtItem)) 0 (env ss extra v f) c s.memory → InItem mode image (origin_of o.κ) (env ss extra v f) o.w b s.memory.words
       → extra 20 ≡ item_place mode image b.body b.place → length c.regs ≡ 16 → edges mode (body mode AtItem) 0 ≤ on.own
       → (i : Item) (ins : Ins) → visible_of i ≡ Some ins → item_at (Some body') b.place ≡ Some i → (rcx rax rdx : ℕ)
       → numbers_of (Some i) ≡ Some (rcx, rax, rdx)
       → Simulated mode image left s m p
   unfolding spelling four_bytes
-  to_numbers act ss ss_is extra v f at means place long enough i ins seen hi rcx rax rdx numbers =
+  to_numbers unfilled act ss ss_is extra v f at means place long enough i ins seen hi rcx rax rdx numbers =
       let e : Env = env ss extra v f in
       let a : ℕ = item_address mode b.body body' b.place in
       let base : extra 20 ≡ a = place ∙ ap (address_of_item mode b.body b.place) is in
@@ -235,21 +235,22 @@ module _ (mode : Mode) (image : Image) (built : IsBuilt image) (good : IsImage i
           long = long;
         };
         switches = numbers_plain mode rcx rax rdx ∙ sym o.off;
-        fills = sym (ap is_some o.unfilled);
+        fills = sym (ap is_some unfilled);
         knows = plain_knows mode o.κ on.frame (step.plain_kind mode image built good facts left s m h p hp o)
             (blocks.holds (body mode (AtNumbers rcx rax rdx)));
         means = means_at mode image o.κ (step.plain_kind mode image built good facts left s m h p hp o) (AtNumbers rcx rax rdx) e o.w b
             (first_fill on.fills) s.memory.words
             (means, place, ap (λ o. numbers_of (item_at o b.place)) is ∙ ap numbers_of hi ∙ numbers);
-      }) (omega arith)
+      }) refl (omega arith)
 
   -- at the block's end the visible instruction comes, with the numbers in the registers
-  unfoldable pub at_numbers : (act : Stood on.own b c s.memory) (ss : ℕ) → IsKernelSs mode ss → (extra v : ℕ → ℕ) (f : Flags) (rcx rax rdx : ℕ)
+  unfoldable pub at_numbers : first_fill on.fills ≡ None → (act : Stood on.own b c s.memory) (ss : ℕ) → IsKernelSs mode ss → (extra v : ℕ → ℕ) (f : Flags) (rcx rax rdx : ℕ)
       → At code (block mode (body mode (AtNumbers rcx rax rdx))) 3 (env ss extra v f) c s.memory → InItem mode image (origin_of o.κ)
       (env ss extra v f) o.w b s.memory.words
       → extra 20 ≡ item_place mode image b.body b.place → length c.regs ≡ 16
       → visible.AtVisible mode image built good facts left s m h p hp o body' is ss extra v f
-  at_numbers act ss ss_is extra v f rcx rax rdx at means place long = record {
+  at_numbers unfilled act ss ss_is extra v f rcx rax rdx at means place long = record {
+    unfilled = unfilled;
     act = act;
     ss_is = ss_is;
     means = means;

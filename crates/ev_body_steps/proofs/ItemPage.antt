@@ -1,6 +1,6 @@
 -- Items of a page: an activation at such an item moves the local that has an address to RAX, and at the end of the block that tells its page's word, or that
 -- it is in no page, it is at the visible instruction.
-use Rattle.std.proofs.Common.{◌≡◌, ℕ, suc, ◌+◌, ◌-◌, ◌*◌, ◌/◌, ◌^◌, ◌%◌, Bool, ◌<◌, ◌≤◌, true, false, List, ◌∷◌, set, get_or, length, Some, refl, sym, ap, ◌∙◌, subst, arith}
+use Rattle.std.proofs.Common.{◌≡◌, ℕ, suc, ◌+◌, ◌-◌, ◌*◌, ◌/◌, ◌^◌, ◌%◌, Bool, ◌<◌, ◌≤◌, true, false, List, ◌∷◌, set, get_or, length, Some, refl, sym, ap, ◌∙◌, subst, arith, None}
 use Rattle.std.specs.Prelude.{if◌then◌else◌, slice_get, nat_lt}
 use Rattle.std.proofs.lemmas.Bool.{ne_eqb}
 use Rattle.std.proofs.lemmas.List.{length-set}
@@ -243,14 +243,14 @@ module _ (mode : Mode) (image : Image) (built : IsBuilt image) (good : IsImage i
   Stood now b cpu mem = Active mode image p now o.κ o.σ on.frame (switches_at mode image on.switching o.below) (first_fill on.fills) o.w b cpu mem
 
   -- At the item: the move is an edge.
-  pub to_page : (act : Stood on.own b c s.memory) (ss : ℕ) → IsKernelSs mode ss → (extra v : ℕ → ℕ) (f : Flags)
+  pub to_page : first_fill on.fills ≡ None → (act : Stood on.own b c s.memory) (ss : ℕ) → IsKernelSs mode ss → (extra v : ℕ → ℕ) (f : Flags)
       → At code (block mode (body mode AtItem)) 0 (env ss extra v f) c s.memory → InItem mode image (origin_of o.κ) (env ss extra v f) o.w b s.memory.words
       → extra 20 ≡ item_place mode image b.body b.place → length c.regs ≡ 16 → edges mode (body mode AtItem) 0 ≤ on.own → is_user c ≡ false
       → (i : Item) (ins : Ins) → visible_of i ≡ Some ins → item_at (Some body') b.place ≡ Some i → (r : ℕ) → page_local (Some i) ≡ Some r
       → register c r ≡ local b r → c.flags ≡ modelled c.flags → c.rip ≡ item_address mode b.body body' b.place
       → Simulated mode image left s m p
   unfolding spelling four_bytes
-  to_page act ss ss_is extra v f at means place long enough hu i ins seen hi r of_item value flags rip_is =
+  to_page unfilled act ss ss_is extra v f at means place long enough hu i ins seen hi r of_item value flags rip_is =
       let a : ℕ = item_address mode b.body body' b.place in
       let n : ℕ = local b r in
       let is_page : Bool = nat_lt (number_at n) 256 in
@@ -267,7 +267,7 @@ module _ (mode : Mode) (image : Image) (built : IsBuilt image) (good : IsImage i
       let plain = step.plain_kind mode image built good facts left s m h p hp o in
       let cell : code c.rip ≡ Some (edge_cell (MovReg 0 r) (a + 3)) = ap code rip_is ∙ from.0 in
       let there : a + 3 ≡ (extra 20 + 3) % M = (let z : a + 3 ≡ (a + 3) % M = omega arith in z) ∙ ap (λ x. (x + 3) % M) (sym base) in
-      step.goes mode image built good facts left s m h p hp o body' is act (body mode (AtPageWord is_page)) ss ss_is extra u f
+      step.goes mode image built good facts left s m h p hp o body' is unfilled act (body mode (AtPageWord is_page)) ss ss_is extra u f
       (step.masks mode image built good facts left s m h p hp o (block mode (body mode AtItem)) 0 (env ss extra v f) at) hu
       (record {
         step = record {
@@ -308,15 +308,16 @@ module _ (mode : Mode) (image : Image) (built : IsBuilt image) (good : IsImage i
     pub told : nat_lt (number_at (v 0)) 256 ≡ is_page
     pub rax : register c 0 ≡ page_map + 8 * page_index is_page (v 0)
 
-  pub at_page : (act : Stood on.own b c s.memory) (ss : ℕ) → IsKernelSs mode ss → (extra v : ℕ → ℕ) (f : Flags) (is_page : Bool)
+  pub at_page : first_fill on.fills ≡ None → (act : Stood on.own b c s.memory) (ss : ℕ) → IsKernelSs mode ss → (extra v : ℕ → ℕ) (f : Flags) (is_page : Bool)
       → At code (block mode (body mode (AtPageWord is_page))) (page_steps is_page) (env ss extra v f) c s.memory
       → InItem mode image (origin_of o.κ) (env ss extra v f) o.w b s.memory.words → extra 20 ≡ item_place mode image b.body b.place → length c.regs ≡ 16
       → AtThePage ss extra v f is_page
-  at_page act ss ss_is extra v f is_page at means place long =
+  at_page unfilled act ss ss_is extra v f is_page at means place long =
       let z = page_ends mode code (env ss extra v f) c s.memory is_page at in
       let told = page_asked mode (env ss extra v f) is_page at.fits.ground.facts in
       record {
         visible = record {
+          unfilled = unfilled;
           act = act;
           ss_is = ss_is;
           means = means;

@@ -1,6 +1,6 @@
 -- A visible item: the processor makes its instruction, the abstract machine the item, and the activation stands at the next item, over what it stood over.
 -- An item says which local, which word with a name and which flags it leaves, and where it leads.
-use Rattle.std.proofs.Common.{◌≡◌, ℕ, ◌+◌, ◌<◌, ◌≤◌, Bool, false, not, ◌&&◌, List, ◌∷◌, get_or, length, Option, Some, refl, sym, ap, ◌∙◌, subst, arith}
+use Rattle.std.proofs.Common.{◌≡◌, ℕ, ◌+◌, ◌<◌, ◌≤◌, Bool, false, not, ◌&&◌, List, ◌∷◌, get_or, length, Option, Some, refl, sym, ap, ◌∙◌, subst, arith, None}
 use Rattle.std.specs.Prelude.{is_some, slice_get, nat_le, nat_lt}
 use Rattle.std.proofs.lemmas.Option.{slice_get-get_or}
 use Rattle.std.specs.List.{list_any}
@@ -118,6 +118,7 @@ module _ (mode : Mode) (image : Image) (built : IsBuilt image) (good : IsImage i
 
   -- The activation is at the visible instruction of an item, so many bytes behind the item's beginning.
   pub record AtVisible (ss : ℕ) (extra v : ℕ → ℕ) (f : Flags) : Type 0 where
+    pub unfilled : first_fill on.fills ≡ None
     pub act : Stood on.own o.b c s.memory
     pub ss_is : IsKernelSs mode ss
     pub means : InItem mode image (origin_of o.κ) (env ss extra v f) o.w o.b s.memory.words
@@ -259,20 +260,18 @@ module _ (mode : Mode) (image : Image) (built : IsBuilt image) (good : IsImage i
           long = regs_long c.regs d.write a.long;
         };
         switches = way.off ∙ sym o.off;
-        fills = sym (ap is_some o.unfilled);
+        fills = sym (ap is_some a.unfilled);
         knows = plain_knows mode o.κ on.frame plain (blocks.holds (body mode AtItem));
         means = means_at mode image o.κ plain AtItem u w b' (first_fill on.fills) d.words (item, refl);
       } in
       let still_there : went_activations image.processors s p cpu d.sent ≡ o.last ∷ o.others
       = went_stays image.processors s p cpu d.sent d.cell.ins (step.fetches mode image built good facts left s m h p hp c.rip d.cell d.found).1 d.no_return
       ∙ o.acts in
-      let quiet = step.are_quiet mode image built good facts left s m h p hp o in
       step.visible_with mode image built good facts left s m h p hp o (λ on. a.state.blocked ∙ unblocked mode) d.cell d.found d.marked a.kernel d.apic cpu
       d.words d.sent d.sends d.runs
       (step.blocked mode image built good facts left s m h p hp) d.names d.allowed d.changes d.machine d.entries d.turns d.tasks d.slots
       on.fills on.free (λ k. refl) (b' ∷ o.below)
       d.makes
-      (record { calls = quiet.0.calls }, quiet.1)
       d.apic_is
       (sent_inside (length x.bodies) c d.cell.ins d.sent
       (goes_on_inside (is_return (Some d.cell.ins)) (not (is_user c)) (not (nat_le nmi_entry c.rip && nat_lt c.rip repeat_entry)) (is_jump (Some d.cell.ins))

@@ -91,12 +91,12 @@ module _ (mode : Mode) (image : Image) (built : IsBuilt image) (good : IsImage i
     pub next : interrupts.NextItem mode image built good facts left s m h p hp o body' is ss (with_registers c.regs v) flags
 
   -- the item that begins where the block ends
-  to_next : (d : Bool) (ss : ℕ) → IsKernelSs mode ss → (extra v : ℕ → ℕ) (f : Flags)
+  to_next : first_fill on.fills ≡ None → (d : Bool) (ss : ℕ) → IsKernelSs mode ss → (extra v : ℕ → ℕ) (f : Flags)
       → At code (block mode (behind_load mode d)) 2 (here mode p o.κ o.σ ss o.w extra v f) c s.memory
       → InCode mode image (origin_of o.κ) (here mode p o.κ o.σ ss o.w extra v f) o.w b s.memory.words
       → extra 20 + behind_wait d ≡ item_place mode image b.body b.place → b.flags ≡ None → length c.regs ≡ 16
       → edges mode (behind_load mode d) 2 ≤ on.own → Opens ss v
-  to_next d ss ss_is extra v f at means next unknown long enough =
+  to_next unfilled d ss ss_is extra v f at means next unknown long enough =
       let way = at_the_item mode in
       let B : Block = block mode (behind_load mode d) in
       let e : Env = here mode p o.κ o.σ ss o.w extra v f in
@@ -156,7 +156,7 @@ module _ (mode : Mode) (image : Image) (built : IsBuilt image) (good : IsImage i
               long = long;
             };
             switches = way.off ∙ sym o.off;
-            fills = sym (ap is_some o.unfilled);
+            fills = sym (ap is_some unfilled);
             knows = plain_knows mode o.κ on.frame plain (blocks.holds (body mode AtItem));
             means = means_at mode image o.κ plain AtItem u o.w b (first_fill on.fills) s.memory.words (item, refl);
           };
@@ -164,17 +164,17 @@ module _ (mode : Mode) (image : Image) (built : IsBuilt image) (good : IsImage i
       }
 
   -- at the end of the block
-  pub behind_wait_opens : (d : Bool) (ss : ℕ) → IsKernelSs mode ss → (extra v : ℕ → ℕ) (f : Flags)
+  pub behind_wait_opens : first_fill on.fills ≡ None → (d : Bool) (ss : ℕ) → IsKernelSs mode ss → (extra v : ℕ → ℕ) (f : Flags)
       → At code (block mode (behind_load mode d)) 2 (here mode p o.κ o.σ ss o.w extra v f) c s.memory → (fill : Option Filling)
       → InCallSpot mode image (origin_of o.κ) (BehindWait d) (here mode p o.κ o.σ ss o.w extra v f) o.w b fill s.memory.words → length c.regs ≡ 16
       → edges mode (behind_load mode d) 2 ≤ on.own → Opens ss v
-  behind_wait_opens true ss ss_is extra v f at fill means long enough =
+  behind_wait_opens unfilled true ss ss_is extra v f at fill means long enough =
       let waited = means.1 in
       let cells = wait_code mode image facts b.body body' is waited.n waited.site (ap (λ q. item_at q waited.n) (sym is) ∙ waited.code.0) in
       let next : extra 20 + 36 ≡ item_place mode image b.body b.place = ap (λ y. y + 36) (waited.code.1 ∙ ap (address_of_item mode b.body waited.n) is)
       ∙ cells.follows ∙ sym (ap (address_of_item mode b.body (suc waited.n)) is) ∙ ap (item_place mode image b.body) (sym waited.next) in
-      to_next true ss ss_is extra v f at means.0 next means.2 long enough
-  behind_wait_opens false ss ss_is extra v f at fill means long enough =
+      to_next unfilled true ss ss_is extra v f at means.0 next means.2 long enough
+  behind_wait_opens unfilled false ss ss_is extra v f at fill means long enough =
       let base = means.1 in
       let next : extra 20 + 0 ≡ item_place mode image b.body b.place = (let z : extra 20 + 0 ≡ extra 20 = omega arith in z) ∙ base in
-      to_next false ss ss_is extra v f at means.0 next means.2 long enough
+      to_next unfilled false ss ss_is extra v f at means.0 next means.2 long enough

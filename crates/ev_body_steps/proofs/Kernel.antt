@@ -41,6 +41,7 @@ use Rattle.ev_blocks.specs.Fred.{FromUser, FromKernel, FredToKernel, FredToTask,
 use Rattle.ev_blocks.specs.Fred as fred
 use Rattle.ev_blocks.specs.Idt.{Stub, Sys, Common, IdtToKernel, IdtToTask, IdtToNext, idt_block, is_page_fault, table_of, stub_values, common_values, sys_values}
 use Rattle.ev_blocks.specs.Idt as idt
+use Rattle.ev_blocks.specs.Items as spots
 use Rattle.ev_blocks.specs.Items.{BodySpot, AtTable, AtJump, AtItem, AtNumber, AtNumbers, AtUserWord, AtPageWord, BehindSti, InCall, AtKick, BehindKick}
 use Rattle.ev_blocks.specs.Blocks.{Spot, InFred, InIdt, InBody, block, edges}
 use Rattle.ev_blocks.specs.Blocks as blocks
@@ -211,10 +212,10 @@ module _ (mode : Mode) (image : Image) (built : IsBuilt image) (good : IsImage i
     module _ (body' : Body) (is : slice_get image.bodies b.body ≡ Some body') where
       -- ---- at the load of the body's address
 
-      at_table : (act : Stood on.own b c s.memory) (ss : ℕ) → IsKernelSs mode ss → (extra v : ℕ → ℕ) (f : Flags)
+      at_table : first_fill on.fills ≡ None → (act : Stood on.own b c s.memory) (ss : ℕ) → IsKernelSs mode ss → (extra v : ℕ → ℕ) (f : Flags)
           → At code (block mode (body mode AtTable)) 0 (env ss extra v f) c s.memory → AtLoad mode image (origin_of κ) (env ss extra v f) w b
           → extra 20 ≡ item_place mode image b.body b.place → length c.regs ≡ 16 → edges mode (body mode AtTable) 0 ≤ on.own → Result
-      at_table act ss ss_is extra v f at l place long enough =
+      at_table unfilled act ss ss_is extra v f at l place long enough =
           let e : Env = env ss extra v f in
           let B : Block = block mode (body mode AtTable) in
           let a : ℕ = table_of (origin_of κ) + 8 * l.key in
@@ -226,7 +227,7 @@ module _ (mode : Mode) (image : Image) (built : IsBuilt image) (good : IsImage i
           let found = table_reads mode image good (origin_of κ) l.key l.small b.body l.found s.memory h.regions_are h.fixed in
           let way = at_the_jump mode in
           let falls = table_falls mode in
-          step.goes mode image built good facts left s m h p hp o body' is act (body mode AtJump) ss ss_is extra u f
+          step.goes mode image built good facts left s m h p hp o body' is unfilled act (body mode AtJump) ss ss_is extra u f
           (step.masks mode image built good facts left s m h p hp o B 0 e at) (ap is_user g.rest)
           (loads mode code e c s.memory a (body_code b.body) facts.kernel at at_a found.0 found.1
           (step.fits mode image built good facts left s m h p hp o body' is (body mode AtJump) way.over ss extra u f place tt (way.told (env ss extra u f)))
@@ -261,10 +262,10 @@ module _ (mode : Mode) (image : Image) (built : IsBuilt image) (good : IsImage i
               pick true q = sym h ∙ ap e.base (sym (eqb-true t item_tag q))
               pick false q = refl
 
-      at_jump : (act : Stood on.own b c s.memory) (ss : ℕ) → IsKernelSs mode ss → (extra v : ℕ → ℕ) (f : Flags)
+      at_jump : first_fill on.fills ≡ None → (act : Stood on.own b c s.memory) (ss : ℕ) → IsKernelSs mode ss → (extra v : ℕ → ℕ) (f : Flags)
           → At code (block mode (body mode AtJump)) 0 (env ss extra v f) c s.memory → AtStart mode image (origin_of κ) (env ss extra v f) w b
           → extra 20 ≡ item_place mode image b.body b.place → length c.regs ≡ 16 → edges mode (body mode AtJump) 0 ≤ on.own → Result
-      at_jump act ss ss_is extra v f at l place long enough =
+      at_jump unfilled act ss ss_is extra v f at l place long enough =
           let e : Env = env ss extra v f in
           let B : Block = block mode (body mode AtJump) in
           let g : Agrees e B.ground B.opening c s.memory = at_end code B 0 B.opening refl e c s.memory at in
@@ -275,7 +276,7 @@ module _ (mode : Mode) (image : Image) (built : IsBuilt image) (good : IsImage i
           let item : with_item e (v 0) ≡ e = same_base e (v 0) (place ∙ step.place_is mode image built good facts left s m h p hp o body' is ∙ sym target) in
           let way = at_the_item mode in
           let falls = jump_falls mode in
-          step.goes mode image built good facts left s m h p hp o body' is act (body mode AtItem) ss ss_is extra v f
+          step.goes mode image built good facts left s m h p hp o body' is unfilled act (body mode AtItem) ss ss_is extra v f
           (step.masks mode image built good facts left s m h p hp o B 0 e at) (ap is_user g.rest)
           (subst (Goes code c s.memory (block mode (body mode AtItem))) item
           (jumps mode code e c s.memory facts.kernel at (ap is_canonical target ∙ fine.0) (let upper = fine.1 in omega arith)
@@ -296,9 +297,9 @@ module _ (mode : Mode) (image : Image) (built : IsBuilt image) (good : IsImage i
 
       -- ---- the exit's end: the return
 
-      at_exit : Exits code c s.memory w → is_user c ≡ false → b.interrupts ≡ false → (below ≡ [] → x.resched ≡ false)
+      at_exit : first_fill on.fills ≡ None → Exits code c s.memory w → is_user c ≡ false → b.interrupts ≡ false → (below ≡ [] → x.resched ≡ false)
           → item_at (slice_get image.bodies b.body) b.place ≡ Some Ret → Result
-      at_exit x hu off calm ret =
+      at_exit unfilled x hu off calm ret =
           let cell : Cell = record { ins = x.ins; next = x.next; mark = Always } in
           let hc : code c.rip ≡ Some cell = ap code x.rip ∙ x.cell in
           let back : Processor = record w { cr2 = c.cr2; nmi_blocked = false } in
@@ -311,10 +312,9 @@ module _ (mode : Mode) (image : Image) (built : IsBuilt image) (good : IsImage i
           step.visible mode image built good facts left s m h p hp o unblocked cell hc refl hu back s.memory.words x.back refl [] (none_spares p).free
           (λ y far far'. refl) (with_processor m p (record (processor m p) { bodies = below })) []
           (step.ret_turn mode image built good facts left s m h p hp o unblocked calm ret) (processor m p).tasks (processor m p).slots
-          (rest_fills on.fills) (free_below (processor m p).records on.fills on.free) (λ k. filled_below k on.fills o.unfilled) below
+          (rest_fills on.fills) (free_below (processor m p).records on.fills on.free) (λ k. filled_below k on.fills unfilled) below
           (step.bodies_alone mode image built good facts left s m h p hp o [] (none_spares p).free s.memory.words (λ y far far'. refl) (none_spares p) refl
           below)
-          (step.are_quiet mode image built good facts left s m h p hp o).1
           (λ class. sym (ap (list_any (λ (a : BodyContext). serves mode image class a.service)) o.bodies
           ∙ ap (λ q. serves mode image class q || list_any (λ (a : BodyContext). serves mode image class a.service) below)
           (step.ret_serves mode image built good facts left s m h p hp o ret)))
@@ -331,16 +331,16 @@ module _ (mode : Mode) (image : Image) (built : IsBuilt image) (good : IsImage i
       -- ---- every spot
 
       -- at the end of an entry, which comes to the load of the body's address
-      at_entry : (act : Stood on.own b c s.memory) (B : Block) (z : SS) (θ : List V) → Enters B z θ (block mode (body mode AtTable)) → (ss : ℕ)
+      at_entry : first_fill on.fills ≡ None → (act : Stood on.own b c s.memory) (B : Block) (z : SS) (θ : List V) → Enters B z θ (block mode (body mode AtTable)) → (ss : ℕ)
           → IsKernelSs mode ss → (extra v : ℕ → ℕ) (f : Flags) → At code B B.steps (env ss extra v f) c s.memory
           → AtLoad mode image (origin_of κ) (env_after (env ss extra v f) θ f) w b → extra 20 ≡ item_place mode image b.body b.place → length c.regs ≡ 16
           → edges mode (body mode AtTable) 0 ≤ on.own → Result
-      at_entry act B z θ enters ss ss_is extra v f at l place long enough =
+      at_entry unfilled act B z θ enters ss ss_is extra v f at l place long enough =
           let e : Env = env ss extra v f in
           let g : Flags = flags_of c.flags in
           let u : ℕ → ℕ = (continued e θ c).var in
           let fine = (at_the_table mode).over in
-          at_table act ss ss_is extra u g
+          at_table unfilled act ss ss_is extra u g
           (entries_continue code B (block mode (body mode AtTable)) z θ e c s.memory enters at (table_flags mode) (table_shared mode)
           (step.fits mode image built good facts left s m h p hp o body' is (body mode AtTable) fine ss extra u g place tt
           ((at_the_table mode).told (env ss extra u g)))
@@ -348,14 +348,14 @@ module _ (mode : Mode) (image : Image) (built : IsBuilt image) (good : IsImage i
           (load_again mode image (origin_of κ) (env_after e θ f) g w b l) place long enough
 
       -- at the end of a vector's entry, which jumps to the code in common
-      at_stub : (act : Stood on.own b c s.memory) → Idt ≡ mode → (og : Origin) → origin_of κ ≡ og → (has : Bool) (v : ℕ) (ss : ℕ) → IsKernelSs mode ss
+      at_stub : first_fill on.fills ≡ None → (act : Stood on.own b c s.memory) → Idt ≡ mode → (og : Origin) → origin_of κ ≡ og → (has : Bool) (v : ℕ) (ss : ℕ) → IsKernelSs mode ss
           → (extra u : ℕ → ℕ) (f : Flags)
           → At code (idt_block (Stub og has v)) (idt_block (Stub og has v)).steps (env ss extra u f) c s.memory
           → IsAtStub (env ss extra u f) (Stub og has v)
           → AtLoad mode image og (env_after (env_after (env ss extra u f) (stub_values has v) f) (common_values og (v == 14)) f) w b
           → selector (u 18) ≡ cs_of og → extra 20 ≡ item_place mode image b.body b.place → length c.regs ≡ 16
           → edges mode (InIdt (Common og (v == 14))) 0 < on.own → Result
-      at_stub act q og oq has v ss ss_is extra u f there stub_at l ring place long enough =
+      at_stub unfilled act q og oq has v ss ss_is extra u f there stub_at l ring place long enough =
           let e : Env = env ss extra u f in
           let pf : Bool = v == 14 in
           let spot : Spot = InIdt (Common og pf) in
@@ -373,7 +373,7 @@ module _ (mode : Mode) (image : Image) (built : IsBuilt image) (good : IsImage i
           (subst (λ m. FactsHold (env ss extra u' g) (block m spot).ground.facts) q told)))
           (subst (λ m. Open (env ss extra u' g) (block m spot).ground.known s.memory.regions) (sym q)
           (step.windows mode image built good facts left s m h p hp o body' is spot fine ss extra u' g)) in
-          step.goes mode image built good facts left s m h p hp o body' is act spot ss ss_is extra u' g
+          step.goes mode image built good facts left s m h p hp o body' is unfilled act spot ss ss_is extra u' g
           (step.masked mode image built good facts left s m h p hp o) (ap is_user there.agrees.rest)
           (subst (λ m. Goes code c s.memory (block m spot) (env ss extra u' g)) q
           (goes_by code c s.memory _ _ (Jmp j.distance) _ _ on_way
@@ -394,54 +394,54 @@ module _ (mode : Mode) (image : Image) (built : IsBuilt image) (good : IsImage i
           over_common KernelCode e k a =
               subst (λ y. OverBody mode image y (InIdt (Common KernelCode (v == 14))) e w b (first_fill on.fills) s.memory.words) q (k, a)
 
-      at_body : (act : Stood on.own b c s.memory) (spot : BodySpot) (k ss : ℕ) → IsKernelSs mode ss → (extra v : ℕ → ℕ) (f : Flags)
+      at_body : (act : Stood on.own b c s.memory) (spot : BodySpot) (unfilled : spots.fills spot ≡ false → first_fill on.fills ≡ None) (k ss : ℕ) → IsKernelSs mode ss → (extra v : ℕ → ℕ) (f : Flags)
           → k ≡ (block mode (body mode spot)).steps → At code (block mode (body mode spot)) k (env ss extra v f) c s.memory
           → InSpot mode image (origin_of κ) spot (env ss extra v f) w b (first_fill on.fills) s.memory.words → length c.regs ≡ 16 → edges mode
           (body mode spot) k ≤ on.own
           → item_at (Some body') b.place ≡ Some ctx.item → Result
-      at_body act AtTable k ss ss_is extra v f n at means long enough hi =
-          at_table act ss ss_is extra v f (subst (λ j. At code (block mode (body mode AtTable)) j (env ss extra v f) c s.memory)
+      at_body act AtTable unfilled k ss ss_is extra v f n at means long enough hi =
+          at_table (unfilled refl) act ss ss_is extra v f (subst (λ j. At code (block mode (body mode AtTable)) j (env ss extra v f) c s.memory)
           (n ∙ (at_the_table mode).steps) at)
           means.0 means.1 long (subst (λ j. edges mode (body mode AtTable) j ≤ on.own) (n ∙ (at_the_table mode).steps) enough)
-      at_body act AtJump k ss ss_is extra v f n at means long enough hi =
-          at_jump act ss ss_is extra v f (subst (λ j. At code (block mode (body mode AtJump)) j (env ss extra v f) c s.memory)
+      at_body act AtJump unfilled k ss ss_is extra v f n at means long enough hi =
+          at_jump (unfilled refl) act ss ss_is extra v f (subst (λ j. At code (block mode (body mode AtJump)) j (env ss extra v f) c s.memory)
           (n ∙ (at_the_jump mode).steps) at)
           means.0 means.1 long (subst (λ j. edges mode (body mode AtJump) j ≤ on.own) (n ∙ (at_the_jump mode).steps) enough)
-      at_body act AtItem k ss ss_is extra v f n at means long enough hi =
-          items.by_item mode image built good facts left s m h p hp o body' is act ss ss_is extra v f
+      at_body act AtItem unfilled k ss ss_is extra v f n at means long enough hi =
+          items.by_item mode image built good facts left s m h p hp o body' is (unfilled refl) act ss ss_is extra v f
           (subst (λ j. At code (block mode (body mode AtItem)) j (env ss extra v f) c s.memory) (n ∙ (at_the_item mode).steps) at) means.0 means.1 long
           (subst (λ j. edges mode (body mode AtItem) j ≤ on.own) (n ∙ (at_the_item mode).steps) enough)
           ctx.item (which image built good b.body body' is b.place ctx.item hi) hi
-      at_body act (AtNumber j) k ss ss_is extra v f n at means long enough hi =
-          items.by_number mode image built good facts left s m h p hp o body' is act ss ss_is extra v f j
+      at_body act (AtNumber j) unfilled k ss ss_is extra v f n at means long enough hi =
+          items.by_number mode image built good facts left s m h p hp o body' is (unfilled refl) act ss ss_is extra v f j
           (subst (λ i. At code (block mode (body mode (AtNumber j))) i (env ss extra v f) c s.memory) (n ∙ number_steps mode j) at) means.0 means.1 long
           ctx.item (ap number_of (sym hi) ∙ ap (λ o. number_of (item_at o b.place)) (sym is) ∙ means.2) hi
-      at_body act (AtNumbers rcx rax rdx) k ss ss_is extra v f n at means long enough hi =
-          items.by_numbers mode image built good facts left s m h p hp o body' is act ss ss_is extra v f rcx rax rdx
+      at_body act (AtNumbers rcx rax rdx) unfilled k ss ss_is extra v f n at means long enough hi =
+          items.by_numbers mode image built good facts left s m h p hp o body' is (unfilled refl) act ss ss_is extra v f rcx rax rdx
           (subst (λ i. At code (block mode (body mode (AtNumbers rcx rax rdx))) i (env ss extra v f) c s.memory) (n ∙ numbers_steps mode rcx rax rdx) at)
           means.0 means.1 long ctx.item (which image built good b.body body' is b.place ctx.item hi)
           (ap numbers_of (sym hi) ∙ ap (λ o. numbers_of (item_at o b.place)) (sym is) ∙ means.2) hi
-      at_body act AtUserWord k ss ss_is extra v f n at means long enough hi =
-          items.by_address mode image built good facts left s m h p hp o body' is ss ss_is extra v f
+      at_body act AtUserWord unfilled k ss ss_is extra v f n at means long enough hi =
+          items.by_address mode image built good facts left s m h p hp o body' is (unfilled refl) ss ss_is extra v f
           (subst (λ i. At code (block mode (body mode AtUserWord)) i (env ss extra v f) c s.memory) (n ∙ address_steps mode) at) means.0 means.1 means.2 long
           (subst (λ i. edges mode (body mode AtUserWord) i ≤ on.own) (n ∙ address_steps mode) enough)
           ctx.item hi
-      at_body act (AtPageWord is_page) k ss ss_is extra v f n at means long enough hi =
-          items.by_page mode image built good facts left s m h p hp o body' is act ss ss_is extra v f is_page
+      at_body act (AtPageWord is_page) unfilled k ss ss_is extra v f n at means long enough hi =
+          items.by_page mode image built good facts left s m h p hp o body' is (unfilled refl) act ss ss_is extra v f is_page
           (subst (λ i. At code (block mode (body mode (AtPageWord is_page))) i (env ss extra v f) c s.memory) (n ∙ page_block_steps mode is_page) at)
           means.0 means.1 means.2 long ctx.item hi
-      at_body act BehindSti k ss ss_is extra v f n at means long enough hi =
+      at_body act BehindSti unfilled k ss ss_is extra v f n at means long enough hi =
           let last : k ≡ 1 = n ∙ behind_steps mode in
           let z : interrupts.NextItem mode image built good facts left s m h p hp o body' is ss v f
-          = interrupts.to_item mode image built good facts left s m h p hp o body' is ss ss_is extra v f
+          = interrupts.to_item mode image built good facts left s m h p hp o body' is (unfilled refl) ss ss_is extra v f
           (subst (λ j. At code (block mode (body mode BehindSti)) j (env ss extra v f) c s.memory) last at) means.0 means.1 long
           (subst (λ j. edges mode (body mode BehindSti) j ≤ on.own) last enough) in
-          items.by_item mode image built good facts left s m h p hp o body' is z.act ss ss_is z.extra v f z.at z.means z.place long z.enough
+          items.by_item mode image built good facts left s m h p hp o body' is (unfilled refl) z.act ss ss_is z.extra v f z.at z.means z.place long z.enough
           ctx.item (which image built good b.body body' is b.place ctx.item hi) hi
-      at_body act (InCall s') k ss ss_is extra v f n at means long enough hi = absurd (never_in_call image built good b.body body' is mode (origin_of κ)
+      at_body act (InCall s') unfilled k ss ss_is extra v f n at means long enough hi = absurd (never_in_call image built good b.body body' is mode (origin_of κ)
           (env ss extra v f) w b refl (first_fill on.fills) s.memory.words s' means)
-      at_body act (AtKick to) k ss ss_is extra v f n at means long enough hi = absurd means
-      at_body act BehindKick k ss ss_is extra v f n at means long enough hi = absurd means
+      at_body act (AtKick to) unfilled k ss ss_is extra v f n at means long enough hi = absurd means
+      at_body act BehindKick unfilled k ss ss_is extra v f n at means long enough hi = absurd means
 
       -- where the exit to the task found the mark off, nothing asks for another one
       calm : Alone → s.memory.words (pcpu p + 0x20) ≡ 0 → x.resched ≡ false
@@ -456,91 +456,92 @@ module _ (mode : Mode) (image : Image) (built : IsBuilt image) (good : IsImage i
       on_another oq e = absurd (stands_on_body image b (ap is_over_body (ap (kind_of image b) (sym e) ∙ o.kind) ∙ of_body κ plain_kind oq))
 
       -- which of them, by what was interrupted and the mode
-      at_the_end : (act : Stood on.own b c s.memory) (og : Origin) → origin_of κ ≡ og → (m : Mode) → m ≡ mode → (spot : Spot) (k ss : ℕ) → IsKernelSs mode ss
+      at_the_end : (act : Stood on.own b c s.memory) (og : Origin) → origin_of κ ≡ og → (m : Mode) → m ≡ mode → (spot : Spot)
+          → (fills_record spot ≡ false → first_fill on.fills ≡ None) → (k ss : ℕ) → IsKernelSs mode ss
           → (extra v : ℕ → ℕ) (f : Flags) → k ≡ (block m spot).steps → At code (block m spot) k (env ss extra v f) c s.memory
           → OverOf mode image og m spot (env ss extra v f) w b (first_fill on.fills) s.memory.words → length c.regs ≡ 16 → edges m spot k ≤ on.own
           → blocks.switches spot ≡ false → item_at (Some body') b.place ≡ Some ctx.item
           → Result
       unfolding eval
-      at_the_end act UserCode oq Fred q (InFred (FromUser way)) k ss ss_is extra v f n at means long enough off hi =
+      at_the_end act UserCode oq Fred q (InFred (FromUser way)) unfilled k ss ss_is extra v f n at means long enough off hi =
           let falls = (edges_fall Fred).from_user way in
-          at_entry act (fred_block (FromUser way)) _ (way_values way)
+          at_entry (unfilled refl) act (fred_block (FromUser way)) _ (way_values way)
           (subst (λ y. Enters (fred_block (FromUser way)) (fred_end (FromUser way)) (way_values way) (block y (body y AtTable))) q (fred_enters.0 way))
           ss ss_is extra v f (subst (λ j. At code (fred_block (FromUser way)) j (env ss extra v f) c s.memory) n at)
           (subst (λ y. AtLoad mode image y (env_after (env ss extra v f) (way_values way) f) w b) (sym oq) means.0) means.1 long
           (subst (λ m. edges m (body m AtTable) 0 ≤ on.own) q (omega arith))
-      at_the_end act UserCode oq Fred q (InFred (fred.Leaves FredToTask)) k ss ss_is extra v f n at means long enough off hi =
+      at_the_end act UserCode oq Fred q (InFred (fred.Leaves FredToTask)) unfilled k ss ss_is extra v f n at means long enough off hi =
           let over = of_task κ plain_kind oq in
           let one : Alone = alone over in
-          at_exit (fred_exits image p small κ σ to t w ss extra v f code c s.memory blocked (subst (λ m. HasKernel m code) (sym q) facts.kernel)
+          at_exit (unfilled refl) (fred_exits image p small κ σ to t w ss extra v f code c s.memory blocked (subst (λ m. HasKernel m code) (sym q) facts.kernel)
           (subst (λ m. RunsTask m image p to t w) (sym q) one.task) (level_of Fred κ w over) (subst (λ m. Saved m image v w) (sym q) means.saved)
           (subst (λ m. At code (fred_block (fred.Leaves FredToTask)) (fred_block (fred.Leaves FredToTask)).steps (here m p κ σ ss w extra v f) c s.memory)
           (sym q) (subst (λ j. At code (fred_block (fred.Leaves FredToTask)) j (env ss extra v f) c s.memory) n at)))
           (ap is_user at.agrees.rest) means.off (λ e. calm one (fred_mark mode p small κ σ w ss extra v f code c s.memory
           (subst (λ j. At code (fred_block (fred.Leaves FredToTask)) j (env ss extra v f) c s.memory) n at))) means.ret
-      at_the_end act KernelCode oq Fred q (InFred FromKernel) k ss ss_is extra v f n at means long enough off hi =
+      at_the_end act KernelCode oq Fred q (InFred FromKernel) unfilled k ss ss_is extra v f n at means long enough off hi =
           let falls = (edges_fall Fred).from_kernel in
-          at_entry act (fred_block FromKernel) _ kernel_values
+          at_entry (unfilled refl) act (fred_block FromKernel) _ kernel_values
           (subst (λ y. Enters (fred_block FromKernel) (fred_end FromKernel) kernel_values (block y (body y AtTable))) q fred_enters.1)
           ss ss_is extra v f (subst (λ j. At code (fred_block FromKernel) j (env ss extra v f) c s.memory) n at)
           (subst (λ y. AtLoad mode image y (env_after (env ss extra v f) kernel_values f) w b) (sym oq) means.0) means.1 long
           (subst (λ m. edges m (body m AtTable) 0 ≤ on.own) q (omega arith))
-      at_the_end act KernelCode oq Fred q (InFred (fred.Leaves FredToKernel)) k ss ss_is extra v f n at means long enough off hi =
-          at_exit (fred_exits_to_body p small κ σ w ss extra v f code c s.memory blocked image (subst (λ m. HasKernel m code) (sym q) facts.kernel)
+      at_the_end act KernelCode oq Fred q (InFred (fred.Leaves FredToKernel)) unfilled k ss ss_is extra v f n at means long enough off hi =
+          at_exit (unfilled refl) (fred_exits_to_body p small κ σ w ss extra v f code c s.memory blocked image (subst (λ m. HasKernel m code) (sym q) facts.kernel)
           (step.fred_is mode image built good facts left s m h p hp o ∙ ap is_fred (sym q)) (plain_level Fred κ w plain_kind)
           (subst (λ m. SavedBody m image (here m p κ σ ss w extra v f) w) (sym q) means.saved)
           (subst (λ m. At code (fred_block (fred.Leaves FredToKernel)) (fred_block (fred.Leaves FredToKernel)).steps (here m p κ σ ss w extra v f) c s.memory)
           (sym q) (subst (λ j. At code (fred_block (fred.Leaves FredToKernel)) j (env ss extra v f) c s.memory) n at)))
           (ap is_user at.agrees.rest) means.off (on_another oq) means.ret
-      at_the_end act UserCode oq Fred q (InBody FredFrame spot) k ss ss_is extra v f n at means long enough off hi =
-          at_body act spot k ss ss_is extra v f (n ∙ ap (λ m. (block m (body m spot)).steps) q)
+      at_the_end act UserCode oq Fred q (InBody FredFrame spot) unfilled k ss ss_is extra v f n at means long enough off hi =
+          at_body act spot unfilled k ss ss_is extra v f (n ∙ ap (λ m. (block m (body m spot)).steps) q)
           (subst (λ m. At code (block m (body m spot)) k (env ss extra v f) c s.memory) q at)
           (subst (λ y. InSpot mode image y spot (env ss extra v f) w b (first_fill on.fills) s.memory.words) (sym oq) means) long
           (subst (λ m. edges m (body m spot) k ≤ on.own) q enough) hi
-      at_the_end act KernelCode oq Fred q (InBody FredFrame spot) k ss ss_is extra v f n at means long enough off hi =
-          at_body act spot k ss ss_is extra v f (n ∙ ap (λ m. (block m (body m spot)).steps) q)
+      at_the_end act KernelCode oq Fred q (InBody FredFrame spot) unfilled k ss ss_is extra v f n at means long enough off hi =
+          at_body act spot unfilled k ss ss_is extra v f (n ∙ ap (λ m. (block m (body m spot)).steps) q)
           (subst (λ m. At code (block m (body m spot)) k (env ss extra v f) c s.memory) q at)
           (subst (λ y. InSpot mode image y spot (env ss extra v f) w b (first_fill on.fills) s.memory.words) (sym oq) means) long
           (subst (λ m. edges m (body m spot) k ≤ on.own) q enough) hi
-      at_the_end act UserCode oq Idt q (InIdt Sys) k ss ss_is extra v f n at means long enough off hi =
+      at_the_end act UserCode oq Idt q (InIdt Sys) unfilled k ss ss_is extra v f n at means long enough off hi =
           let falls = (edges_fall Idt).call in
-          at_entry act (idt_block Sys) _ sys_values
+          at_entry (unfilled refl) act (idt_block Sys) _ sys_values
           (subst (λ y. Enters (idt_block Sys) (idt_end Sys) sys_values (block y (body y AtTable))) q idt_enters.call)
           ss ss_is extra v f (subst (λ j. At code (idt_block Sys) j (env ss extra v f) c s.memory) n at)
           (subst (λ y. AtLoad mode image y (env_after (env ss extra v f) sys_values f) w b) (sym oq) means.0) means.1 long
           (subst (λ m. edges m (body m AtTable) 0 ≤ on.own) q (omega arith))
-      at_the_end act UserCode oq Idt q (InIdt (Stub UserCode has v)) k ss ss_is extra u f n at means long enough off hi =
+      at_the_end act UserCode oq Idt q (InIdt (Stub UserCode has v)) unfilled k ss ss_is extra u f n at means long enough off hi =
           let falls = (edges_fall Idt).stub UserCode has v (v == 14) in
           let one : Alone = alone (of_task κ plain_kind oq) in
-          at_stub act q UserCode oq has v ss ss_is extra u f
+          at_stub (unfilled refl) act q UserCode oq has v ss ss_is extra u f
           (subst (λ i. At code (idt_block (Stub UserCode has v)) i (env ss extra u f) c s.memory) n at) means.0
           means.1 (means.1.saved.cs ∙ ap (λ (y : Processor). y.cs) one.task.is) means.2 long
           (subst (λ m. edges m (InIdt (Common UserCode (v == 14))) 0 < on.own) q (omega arith))
-      at_the_end act KernelCode oq Idt q (InIdt (Stub KernelCode has v)) k ss ss_is extra u f n at means long enough off hi =
+      at_the_end act KernelCode oq Idt q (InIdt (Stub KernelCode has v)) unfilled k ss ss_is extra u f n at means long enough off hi =
           let falls = (edges_fall Idt).stub KernelCode has v (v == 14) in
-          at_stub act q KernelCode oq has v ss ss_is extra u f
+          at_stub (unfilled refl) act q KernelCode oq has v ss ss_is extra u f
           (subst (λ i. At code (idt_block (Stub KernelCode has v)) i (env ss extra u f) c s.memory) n at) means.0
           means.1 means.1.saved.cs means.2 long (subst (λ m. edges m (InIdt (Common KernelCode (v == 14))) 0 < on.own) q (omega arith))
-      at_the_end act UserCode oq Idt q (InIdt (Common UserCode pf)) k ss ss_is extra v f n at means long enough off hi =
+      at_the_end act UserCode oq Idt q (InIdt (Common UserCode pf)) unfilled k ss ss_is extra v f n at means long enough off hi =
           let falls = (edges_fall Idt).common UserCode pf in
-          at_entry act (idt_block (Common UserCode pf)) _ (common_values UserCode pf)
+          at_entry (unfilled refl) act (idt_block (Common UserCode pf)) _ (common_values UserCode pf)
           (subst (λ y. Enters (idt_block (Common UserCode pf)) (idt_end (Common UserCode pf)) (common_values UserCode pf) (block y (body y AtTable))) q
           (idt_enters.common UserCode pf))
           ss ss_is extra v f (subst (λ j. At code (idt_block (Common UserCode pf)) j (env ss extra v f) c s.memory) n at)
           (subst (λ y. AtLoad mode image y (env_after (env ss extra v f) (common_values UserCode pf) f) w b) (sym oq) means.0) means.1 long
           (subst (λ m. edges m (body m AtTable) 0 ≤ on.own) q (omega arith))
-      at_the_end act KernelCode oq Idt q (InIdt (Common KernelCode pf)) k ss ss_is extra v f n at means long enough off hi =
+      at_the_end act KernelCode oq Idt q (InIdt (Common KernelCode pf)) unfilled k ss ss_is extra v f n at means long enough off hi =
           let falls = (edges_fall Idt).common KernelCode pf in
-          at_entry act (idt_block (Common KernelCode pf)) _ (common_values KernelCode pf)
+          at_entry (unfilled refl) act (idt_block (Common KernelCode pf)) _ (common_values KernelCode pf)
           (subst (λ y. Enters (idt_block (Common KernelCode pf)) (idt_end (Common KernelCode pf)) (common_values KernelCode pf) (block y (body y AtTable))) q
           (idt_enters.common KernelCode pf))
           ss ss_is extra v f (subst (λ j. At code (idt_block (Common KernelCode pf)) j (env ss extra v f) c s.memory) n at)
           (subst (λ y. AtLoad mode image y (env_after (env ss extra v f) (common_values KernelCode pf) f) w b) (sym oq) means.0) means.1 long
           (subst (λ m. edges m (body m AtTable) 0 ≤ on.own) q (omega arith))
-      at_the_end act UserCode oq Idt q (InIdt (idt.Leaves (IdtToTask by))) k ss ss_is extra v f n at means long enough off hi =
+      at_the_end act UserCode oq Idt q (InIdt (idt.Leaves (IdtToTask by))) unfilled k ss ss_is extra v f n at means long enough off hi =
           let over = of_task κ plain_kind oq in
           let one : Alone = alone over in
-          at_exit (idt_exits image p small κ σ to t w ss extra v f code c s.memory blocked by (subst (λ m. HasKernel m code) (sym q) facts.kernel)
+          at_exit (unfilled refl) (idt_exits image p small κ σ to t w ss extra v f code c s.memory blocked by (subst (λ m. HasKernel m code) (sym q) facts.kernel)
           (subst (λ m. RunsTask m image p to t w) (sym q) one.task) (level_of Idt κ w over) (subst (λ m. Saved m image v w) (sym q) means.0.saved)
           (subst (λ m. Matches m image by (v 31) (v 17) (v 41) (v 19)) (sym q) means.1)
           (subst (λ m. At code (idt_block (idt.Leaves (IdtToTask by))) (idt_block (idt.Leaves (IdtToTask by))).steps (here m p κ σ ss w extra v f) c
@@ -548,39 +549,54 @@ module _ (mode : Mode) (image : Image) (built : IsBuilt image) (good : IsImage i
           (sym q) (subst (λ j. At code (idt_block (idt.Leaves (IdtToTask by))) j (env ss extra v f) c s.memory) n at)))
           (ap is_user at.agrees.rest) means.0.off (λ e. calm one (idt_mark mode p small κ σ w ss extra v f code c s.memory by
           (subst (λ j. At code (idt_block (idt.Leaves (IdtToTask by))) j (env ss extra v f) c s.memory) n at))) means.0.ret
-      at_the_end act KernelCode oq Idt q (InIdt (idt.Leaves IdtToKernel)) k ss ss_is extra v f n at means long enough off hi =
-          at_exit (idt_exits_to_body p small κ σ w ss extra v f code c s.memory blocked image (subst (λ m. HasKernel m code) (sym q) facts.kernel)
+      at_the_end act KernelCode oq Idt q (InIdt (idt.Leaves IdtToKernel)) unfilled k ss ss_is extra v f n at means long enough off hi =
+          at_exit (unfilled refl) (idt_exits_to_body p small κ σ w ss extra v f code c s.memory blocked image (subst (λ m. HasKernel m code) (sym q) facts.kernel)
           (subst (IsKernelSs Idt) means.saved.same_ss (subst (λ m. IsKernelSs m ss) (sym q) ss_is)) (plain_level Idt κ w plain_kind)
           (subst (λ m. SavedBody m image (here m p κ σ ss w extra v f) w) (sym q) means.saved)
           (subst (λ m. At code (idt_block (idt.Leaves IdtToKernel)) (idt_block (idt.Leaves IdtToKernel)).steps (here m p κ σ ss w extra v f) c s.memory)
           (sym q) (subst (λ j. At code (idt_block (idt.Leaves IdtToKernel)) j (env ss extra v f) c s.memory) n at)))
           (ap is_user at.agrees.rest) means.off (on_another oq) means.ret
-      at_the_end act UserCode oq Idt q (InBody IdtFrame spot) k ss ss_is extra v f n at means long enough off hi =
-          at_body act spot k ss ss_is extra v f (n ∙ ap (λ m. (block m (body m spot)).steps) q)
+      at_the_end act UserCode oq Idt q (InBody IdtFrame spot) unfilled k ss ss_is extra v f n at means long enough off hi =
+          at_body act spot unfilled k ss ss_is extra v f (n ∙ ap (λ m. (block m (body m spot)).steps) q)
           (subst (λ m. At code (block m (body m spot)) k (env ss extra v f) c s.memory) q at)
           (subst (λ y. InSpot mode image y spot (env ss extra v f) w b (first_fill on.fills) s.memory.words) (sym oq) means) long
           (subst (λ m. edges m (body m spot) k ≤ on.own) q enough) hi
-      at_the_end act KernelCode oq Idt q (InBody IdtFrame spot) k ss ss_is extra v f n at means long enough off hi =
-          at_body act spot k ss ss_is extra v f (n ∙ ap (λ m. (block m (body m spot)).steps) q)
+      at_the_end act KernelCode oq Idt q (InBody IdtFrame spot) unfilled k ss ss_is extra v f n at means long enough off hi =
+          at_body act spot unfilled k ss ss_is extra v f (n ∙ ap (λ m. (block m (body m spot)).steps) q)
           (subst (λ m. At code (block m (body m spot)) k (env ss extra v f) c s.memory) q at)
           (subst (λ y. InSpot mode image y spot (env ss extra v f) w b (first_fill on.fills) s.memory.words) (sym oq) means) long
           (subst (λ m. edges m (body m spot) k ≤ on.own) q enough) hi
-      at_the_end act UserCode oq Fred q (InFred (fred.Leaves FredToNext)) k ss ss_is extra v f n at means long enough off hi = absurd (cc)
-      at_the_end act UserCode oq Idt q (InIdt (idt.Leaves (IdtToNext by))) k ss ss_is extra v f n at means long enough off hi = absurd (cc)
-      at_the_end act UserCode oq m q _ k ss ss_is extra v f n at means long enough off hi = absurd means
-      at_the_end act KernelCode oq m q _ k ss ss_is extra v f n at means long enough off hi = absurd means
+      at_the_end act UserCode oq Fred q (InFred (fred.Leaves FredToNext)) unfilled k ss ss_is extra v f n at means long enough off hi = absurd (cc)
+      at_the_end act UserCode oq Idt q (InIdt (idt.Leaves (IdtToNext by))) unfilled k ss ss_is extra v f n at means long enough off hi = absurd (cc)
+      at_the_end act UserCode oq m q _ unfilled k ss ss_is extra v f n at means long enough off hi = absurd means
+      at_the_end act KernelCode oq m q _ unfilled k ss ss_is extra v f n at means long enough off hi = absurd means
 
     act_step : Stood on.own b c s.memory → Result
     act_step act =
         let found = body_at (slice_get image.bodies b.body) b.place ctx.item ctx.is in
         pick (nat_le (suc act.stands.k) (block mode act.stands.spot).steps) refl found.0 found.1 found.2
       where
+        -- today only a `call` would fill a record
+        none : (t : Bool) → fills_record act.stands.spot ≡ t → t ≡ false
+        none true q =
+            let f = (means_fills mode image κ act.stands.spot _ w b (first_fill on.fills) s.memory.words act.means q).1 in
+            let found = body_at (slice_get image.bodies b.body) b.place ctx.item ctx.is in
+            absurd (not_call image built good b.body found.0 found.1 b.place f.fills.site f.to f.func f.s f.fills.item)
+        none false q = refl
+
+        unfilled : fills_record act.stands.spot ≡ false → first_fill on.fills ≡ None
+        unfilled q = none_of (first_fill on.fills) (sym act.fills ∙ q)
+          where
+            none_of : (g : Option Filling) → is_some g ≡ false → g ≡ None
+            none_of None q = refl
+            none_of (Some f) q = let clash : true ≡ false = q in absurd (cc)
+
         pick : (t : Bool) → nat_le (suc act.stands.k) (block mode act.stands.spot).steps ≡ t → (body : Body) → slice_get image.bodies b.body ≡ Some body
             → item_at (Some body) b.place ≡ Some ctx.item → Result
-        pick true q body is hi = step.inside mode image built good facts left s m h p hp o act (leb-true _ _ q)
+        pick true q body is hi = step.inside mode image built good facts left s m h p hp o act (none (fills_record act.stands.spot) refl) (leb-true _ _ q)
         pick false q body is hi =
-            at_the_end body is act (origin_of κ) refl mode refl act.stands.spot act.stands.k act.stands.ss act.stands.ss_is act.stands.extra act.stands.var
-            act.stands.flags (let up = leb-false _ _ q in let down = act.stands.within in omega arith) act.stands.at
+            at_the_end body is act (origin_of κ) refl mode refl act.stands.spot unfilled act.stands.k act.stands.ss act.stands.ss_is act.stands.extra
+            act.stands.var act.stands.flags (let up = leb-false _ _ q in let down = act.stands.within in omega arith) act.stands.at
             (over_as mode image κ act.stands.spot _ w b (first_fill on.fills) s.memory.words act.means) act.stands.long act.stands.enough
             (act.switches ∙ o.off) hi
 
@@ -595,19 +611,6 @@ module _ (mode : Mode) (image : Image) (built : IsBuilt image) (good : IsImage i
       by_acts [] e k = absurd k
       by_acts (a ∷ as') e k = by_switch (blocks.switches k.6.stands.spot) refl
         where
-          -- only a `call` fills a record
-          none_filled : IsContext mode image b → (t : Bool) → fills_record k.6.stands.spot ≡ t
-              → fills_record k.6.stands.spot ≡ is_some (first_fill on.fills) → first_fill on.fills ≡ None
-          none_filled ctx true q h =
-              let f = (means_fills mode image (kind_of image b below) k.6.stands.spot _ k.0 b (first_fill on.fills) s.memory.words k.6.means q).1 in
-              let found = body_at (slice_get image.bodies b.body) b.place ctx.item ctx.is in
-              absurd (not_call image built good b.body found.0 found.1 b.place f.fills.site f.to f.func f.s f.fills.item)
-          none_filled ctx false q h = none_of (first_fill on.fills) (sym h ∙ q)
-            where
-              none_of : (g : Option Filling) → is_some g ≡ false → g ≡ None
-              none_of None q = refl
-              none_of (Some f) q = let clash : true ≡ false = q in absurd (cc)
-
           at_boundary : blocks.switches k.6.stands.spot ≡ false → arrivals.Boundary mode image built good facts left s m h p hp b below hb a as' e k → Result
           at_boundary off (arrivals.Delivers z) = z
           at_boundary off (arrivals.Executes first chosen) = act_step (record {
@@ -628,7 +631,6 @@ module _ (mode : Mode) (image : Image) (built : IsBuilt image) (good : IsImage i
             under = k.4;
             leads = k.5;
             off = sym k.6.switches ∙ off;
-            unfilled = none_filled k.1 (fills_record k.6.stands.spot) refl k.6.fills;
             first = first;
             chosen = chosen;
           }) k.6

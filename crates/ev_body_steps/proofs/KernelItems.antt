@@ -1,5 +1,5 @@
 -- A step of a processor at an item: `log`, which the abstract machine sees, and `ret`, which leads to the exit.
-use Rattle.std.proofs.Common.{◌≡◌, ℕ, ◌+◌, ◌%◌, ◌^◌, ◌<◌, ◌≤◌, Bool, true, false, not, List, [], get_or, length, Some, refl, sym, ap, ◌∙◌, subst, arith}
+use Rattle.std.proofs.Common.{◌≡◌, ℕ, ◌+◌, ◌%◌, ◌^◌, ◌<◌, ◌≤◌, Bool, true, false, not, List, [], get_or, length, Some, refl, sym, ap, ◌∙◌, subst, arith, None}
 use Rattle.std.specs.Prelude.{is_some, pos, nat_lt, if◌then◌else◌, slice_get}
 use Rattle.std.proofs.lemmas.Bool.{ltb-true, not-false}
 use Rattle.ev_isa.specs.Word.{NatMap, is_canonical}
@@ -167,13 +167,14 @@ module _ (mode : Mode) (image : Image) (built : IsBuilt image) (good : IsImage i
           ∙ sym (plus_zero _ (facts.item_small b.body b.place body' is).1)
 
       -- the visible instruction comes first
-      at_visible : (act : Stood on.own b c s.memory) (ss : ℕ) → IsKernelSs mode ss → (extra v : ℕ → ℕ) (f : Flags)
+      at_visible : first_fill on.fills ≡ None → (act : Stood on.own b c s.memory) (ss : ℕ) → IsKernelSs mode ss → (extra v : ℕ → ℕ) (f : Flags)
           → At code (block mode (body mode AtItem)) 0 (env ss extra v f) c s.memory → InItem mode image (origin_of κ) (env ss extra v f) w b s.memory.words
           → extra 20 ≡ item_place mode image b.body b.place → length c.regs ≡ 16
           → visible.AtVisible mode image built good facts left s m h p hp o body' is ss extra v f
-      at_visible act ss ss_is extra v f at means place long =
+      at_visible unfilled act ss ss_is extra v f at means place long =
           let B : Block = block mode (body mode AtItem) in
           let a : Agrees (env ss extra v f) B.ground B.opening c s.memory = at_end code B 0 B.opening refl (env ss extra v f) c s.memory at in record {
+            unfilled = unfilled;
             act = act;
             ss_is = ss_is;
             means = means;
@@ -217,12 +218,12 @@ module _ (mode : Mode) (image : Image) (built : IsBuilt image) (good : IsImage i
               neither NmiFromTask q r = refl
               neither NmiFromBody q r = refl
 
-      at_ret : (act : Stood on.own b c s.memory) (ss : ℕ) → IsKernelSs mode ss → (extra v : ℕ → ℕ) (f : Flags)
+      at_ret : first_fill on.fills ≡ None → (act : Stood on.own b c s.memory) (ss : ℕ) → IsKernelSs mode ss → (extra v : ℕ → ℕ) (f : Flags)
           → At code (block mode (body mode AtItem)) 0 (env ss extra v f) c s.memory → InItem mode image (origin_of κ) (env ss extra v f) w b s.memory.words
           → extra 20 ≡ item_place mode image b.body b.place → length c.regs ≡ 16 → edges mode (body mode AtItem) 0 ≤ on.own
           → item_at (Some body') b.place ≡ Some Ret → Result
       unfolding is_return
-      at_ret act ss ss_is extra v f at means place long enough hi =
+      at_ret unfilled act ss ss_is extra v f at means place long enough hi =
           let e : Env = env ss extra v f in
           let B : Block = block mode (body mode AtItem) in
           let a : Agrees e B.ground B.opening c s.memory = at_end code B 0 B.opening refl e c s.memory at in
@@ -262,7 +263,7 @@ module _ (mode : Mode) (image : Image) (built : IsBuilt image) (good : IsImage i
               long = long;
             };
             switches = y.off ∙ sym o.off;
-            fills = step.spot_fills_none mode image built good facts left s m h p hp o y.spot y.over;
+            fills = step.spot_fills_none mode image built good facts left s m h p hp o unfilled y.spot y.over;
             knows = plain_knows mode κ on.frame plain_kind (blocks.holds y.spot);
             means = y.means image b (first_fill on.fills) s.memory.words (record {
               saved = means.saved;
@@ -271,7 +272,7 @@ module _ (mode : Mode) (image : Image) (built : IsBuilt image) (good : IsImage i
             });
           }) in
           let visible : visible.AtVisible mode image built good facts left s m h p hp o body' is ss extra v f
-          = at_visible act ss ss_is extra v f at means place long in
+          = at_visible unfilled act ss ss_is extra v f at means place long in
           by_mark (is_over_task κ) refl x.resched refl to_task (λ over asked. switching.leaves mode image built good facts left s m h p hp o body' is
           ss extra v f visible over asked a (ap (λ o. item_at o b.place) is ∙ hi) rc.cell hc rc.unmarked (ap (λ i. is_return (Some i)) rc.jump) does
           (step.masks mode image built good facts left s m h p hp o B 0 e at) enough)
@@ -282,15 +283,15 @@ module _ (mode : Mode) (image : Image) (built : IsBuilt image) (good : IsImage i
           by_mark t q false r leaves switches = leaves (λ over. r)
           by_mark false q u r leaves switches = leaves (λ over. let clash : false ≡ true = sym q ∙ over in absurd (cc))
 
-      pub by_item : (act : Stood on.own b c s.memory) (ss : ℕ) → IsKernelSs mode ss → (extra v : ℕ → ℕ) (f : Flags)
+      pub by_item : first_fill on.fills ≡ None → (act : Stood on.own b c s.memory) (ss : ℕ) → IsKernelSs mode ss → (extra v : ℕ → ℕ) (f : Flags)
           → At code (block mode (body mode AtItem)) 0 (env ss extra v f) c s.memory → InItem mode image (origin_of κ) (env ss extra v f) w b s.memory.words
           → extra 20 ≡ item_place mode image b.body b.place → length c.regs ≡ 16 → edges mode (body mode AtItem) 0 ≤ on.own
           → (i : Item) → is_built_item i ≡ true → item_at (Some body') b.place ≡ Some i → Result
       unfolding is_built_item at_visible visible_of number_of numbers_of address_local page_local has_operands
-      by_item act ss ss_is extra v f at means place long enough i today hi = pick i today hi
+      by_item unfilled act ss ss_is extra v f at means place long enough i today hi = pick i today hi
         where
           a : visible.AtVisible mode image built good facts left s m h p hp o body' is ss extra v f
-          a = at_visible act ss ss_is extra v f at means place long
+          a = at_visible unfilled act ss ss_is extra v f at means place long
 
           off : a.offset ≡ 0
           off = refl
@@ -303,7 +304,7 @@ module _ (mode : Mode) (image : Image) (built : IsBuilt image) (good : IsImage i
 
           -- the number for RAX comes first
           number : (i : Item) (ins : Ins) → visible_of i ≡ Some ins → item_at (Some body') b.place ≡ Some i → (n : ℕ) → number_of (Some i) ≡ Some n → Result
-          number i ins seen hi n q = inside.to_number mode image built good facts left s m h p hp o body' is act ss ss_is extra v f at means place long enough
+          number i ins seen hi n q = inside.to_number mode image built good facts left s m h p hp o body' is unfilled act ss ss_is extra v f at means place long enough
               i ins seen hi n q
 
           ruled : IsRuled image body'
@@ -315,7 +316,7 @@ module _ (mode : Mode) (image : Image) (built : IsBuilt image) (good : IsImage i
           address i ins seen hi r q ok =
               let g : Agrees (env ss extra v f) (block mode (body mode AtItem)).ground (block mode (body mode AtItem)).opening c s.memory
               = at_end code (block mode (body mode AtItem)) 0 _ refl (env ss extra v f) c s.memory at in
-              addresses.to_address mode image built good facts left s m h p hp o body' is act ss ss_is extra v f at means place long enough a.kernel
+              addresses.to_address mode image built good facts left s m h p hp o body' is unfilled act ss ss_is extra v f at means place long enough a.kernel
               i ins seen hi r q (steps.is_the_local mode image built good facts left s m h p hp o body' is ss extra v f a r ok)
               (kept c.flags a.flags a.state.flags) (at_item ss extra v f g place)
 
@@ -325,7 +326,7 @@ module _ (mode : Mode) (image : Image) (built : IsBuilt image) (good : IsImage i
           page i ins seen hi r q ok =
               let g : Agrees (env ss extra v f) (block mode (body mode AtItem)).ground (block mode (body mode AtItem)).opening c s.memory
               = at_end code (block mode (body mode AtItem)) 0 _ refl (env ss extra v f) c s.memory at in
-              pages.to_page mode image built good facts left s m h p hp o body' is act ss ss_is extra v f at means place long enough a.kernel
+              pages.to_page mode image built good facts left s m h p hp o body' is unfilled act ss ss_is extra v f at means place long enough a.kernel
               i ins seen hi r q (steps.is_the_local mode image built good facts left s m h p hp o body' is ss extra v f a r ok)
               (kept c.flags a.flags a.state.flags) (at_item ss extra v f g place)
 
@@ -352,27 +353,27 @@ module _ (mode : Mode) (image : Image) (built : IsBuilt image) (good : IsImage i
           pick (Uput q r) today hi = address (Uput q r) (Store 0 (pos 0) r) refl hi q refl (and_left (is_local q) _ (ruled.operands b.place (Uput q r) hi).2)
           pick (Map q) today hi = page (Map q) (StoreImm 0 (pos 0) (pos 1)) refl hi q refl (ruled.operands b.place (Map q) hi).2
           pick (Unmap q) today hi = page (Unmap q) (StoreImm 0 (pos 0) (pos 0)) refl hi q refl (ruled.operands b.place (Unmap q) hi).2
-          pick Eoi today hi = msr.to_numbers mode image built good facts left s m h p hp o body' is act ss ss_is extra v f at means place long enough
+          pick Eoi today hi = msr.to_numbers mode image built good facts left s m h p hp o body' is unfilled act ss ss_is extra v f at means place long enough
               Eoi Wrmsr refl hi 0x80b 0 0 refl
-          pick (Send to (Irq k)) today hi = msr.to_numbers mode image built good facts left s m h p hp o body' is act ss ss_is extra v f at means place long
+          pick (Send to (Irq k)) today hi = msr.to_numbers mode image built good facts left s m h p hp o body' is unfilled act ss ss_is extra v f at means place long
               enough (Send to (Irq k)) Wrmsr refl hi 0x830 (command (Irq k)) to refl
           pick Item.Cli today hi = does (interrupts.by_cli mode image built good facts left s m h p hp o body' is ss extra v f a off same hi)
           pick Item.Sti today hi = interrupts.by_sti mode image built good facts left s m h p hp o body' is ss extra v f a off same hi
           pick Item.Bp today hi = breaks.by_bp mode image built good facts left s m h p hp o body' is ss extra v f a off same hi
-          pick Ret today hi = at_ret act ss ss_is extra v f at means place long enough hi
+          pick Ret today hi = at_ret unfilled act ss ss_is extra v f at means place long enough hi
           pick _ today hi = absurd (cc)
 
       -- behind the load of a number for RAX
-      pub by_number : (act : Stood on.own b c s.memory) (ss : ℕ) → IsKernelSs mode ss → (extra v : ℕ → ℕ) (f : Flags) (n : ℕ)
+      pub by_number : first_fill on.fills ≡ None → (act : Stood on.own b c s.memory) (ss : ℕ) → IsKernelSs mode ss → (extra v : ℕ → ℕ) (f : Flags) (n : ℕ)
           → At code (block mode (body mode (AtNumber n))) 1 (env ss extra v f) c s.memory → InItem mode image (origin_of κ)
           (env ss extra v f) w b s.memory.words
           → extra 20 ≡ item_place mode image b.body b.place → length c.regs ≡ 16 → (i : Item) → number_of (Some i) ≡ Some n
           → item_at (Some body') b.place ≡ Some i → Result
       unfolding number_of inside.at_number eval breaks_slots
-      by_number act ss ss_is extra v f n at means place long i number hi = pick i number hi
+      by_number unfilled act ss ss_is extra v f n at means place long i number hi = pick i number hi
         where
           a : visible.AtVisible mode image built good facts left s m h p hp o body' is ss extra v f
-          a = inside.at_number mode image built good facts left s m h p hp o body' is act ss ss_is extra v f n at means place long
+          a = inside.at_number mode image built good facts left s m h p hp o body' is unfilled act ss ss_is extra v f n at means place long
 
           off : a.offset ≡ 10
           off = refl
@@ -405,16 +406,16 @@ module _ (mode : Mode) (image : Image) (built : IsBuilt image) (good : IsImage i
           pick _ q hi = absurd (cc)
 
       -- behind the loads of numbers for RCX, RAX and RDX
-      pub by_numbers : (act : Stood on.own b c s.memory) (ss : ℕ) → IsKernelSs mode ss → (extra v : ℕ → ℕ) (f : Flags) (rcx rax rdx : ℕ)
+      pub by_numbers : first_fill on.fills ≡ None → (act : Stood on.own b c s.memory) (ss : ℕ) → IsKernelSs mode ss → (extra v : ℕ → ℕ) (f : Flags) (rcx rax rdx : ℕ)
           → At code (block mode (body mode (AtNumbers rcx rax rdx))) 3 (env ss extra v f) c s.memory
           → InItem mode image (origin_of κ) (env ss extra v f) w b s.memory.words
           → extra 20 ≡ item_place mode image b.body b.place → length c.regs ≡ 16 → (i : Item) → is_built_item i ≡ true
           → numbers_of (Some i) ≡ Some (rcx, rax, rdx) → item_at (Some body') b.place ≡ Some i → Result
       unfolding is_built_item numbers_of msr.at_numbers eval key_number
-      by_numbers act ss ss_is extra v f rcx rax rdx at means place long i today numbers hi = pick i today numbers hi
+      by_numbers unfilled act ss ss_is extra v f rcx rax rdx at means place long i today numbers hi = pick i today numbers hi
         where
           a : visible.AtVisible mode image built good facts left s m h p hp o body' is ss extra v f
-          a = msr.at_numbers mode image built good facts left s m h p hp o body' is act ss ss_is extra v f rcx rax rdx at means place long
+          a = msr.at_numbers mode image built good facts left s m h p hp o body' is unfilled act ss ss_is extra v f rcx rax rdx at means place long
 
           in_rax : register c 0 ≡ rax
           in_rax = ap (λ (xs : List ℕ). get_or xs 0 0) a.state.regs
@@ -439,16 +440,16 @@ module _ (mode : Mode) (image : Image) (built : IsBuilt image) (good : IsImage i
           pick _ today q hi = absurd (cc)
 
       -- behind the block that comes to the address of the page's word
-      pub by_page : (act : Stood on.own b c s.memory) (ss : ℕ) → IsKernelSs mode ss → (extra v : ℕ → ℕ) (f : Flags) (is_page : Bool)
+      pub by_page : first_fill on.fills ≡ None → (act : Stood on.own b c s.memory) (ss : ℕ) → IsKernelSs mode ss → (extra v : ℕ → ℕ) (f : Flags) (is_page : Bool)
           → At code (block mode (body mode (AtPageWord is_page))) (page_steps is_page) (env ss extra v f) c s.memory
           → InItem mode image (origin_of κ) (env ss extra v f) w b s.memory.words → extra 20 ≡ item_place mode image b.body b.place
           → LocalInRax mode image page_local (env ss extra v f) b → length c.regs ≡ 16 → (i : Item) → item_at (Some body') b.place ≡ Some i → Result
       unfolding page_local
-      by_page act ss ss_is extra v f is_page at means place page long i hi =
+      by_page unfilled act ss ss_is extra v f is_page at means place page long i hi =
           pick i (ap page_local (sym hi) ∙ ap (λ o. page_local (item_at o b.place)) (sym is) ∙ page.is) hi
         where
           z : pages.AtThePage mode image built good facts left s m h p hp o body' is ss extra v f is_page
-          z = pages.at_page mode image built good facts left s m h p hp o body' is act ss ss_is extra v f is_page at means place long
+          z = pages.at_page mode image built good facts left s m h p hp o body' is unfilled act ss ss_is extra v f is_page at means place long
 
           does : visible.Does mode image built good facts left s m h p hp o body' is ss extra v f z.visible → Result
           does d = visible.visible mode image built good facts left s m h p hp o body' is ss extra v f z.visible d
@@ -464,12 +465,12 @@ module _ (mode : Mode) (image : Image) (built : IsBuilt image) (good : IsImage i
           pick _ q hi = absurd (cc)
 
       -- behind the block that cuts the address in RAX
-      pub by_address : (ss : ℕ) → IsKernelSs mode ss → (extra v : ℕ → ℕ) (f : Flags)
+      pub by_address : first_fill on.fills ≡ None → (ss : ℕ) → IsKernelSs mode ss → (extra v : ℕ → ℕ) (f : Flags)
           → At code (block mode (body mode AtUserWord)) 2 (env ss extra v f) c s.memory → InItem mode image (origin_of κ) (env ss extra v f) w b s.memory.words
           → extra 20 ≡ item_place mode image b.body b.place → LocalInRax mode image address_local (env ss extra v f) b → length c.regs ≡ 16
           → edges mode (body mode AtUserWord) 2 ≤ on.own → (i : Item) → item_at (Some body') b.place ≡ Some i → Result
       unfolding address_local
-      by_address ss ss_is extra v f at means place address long enough i hi =
+      by_address unfilled ss ss_is extra v f at means place address long enough i hi =
           pick i (ap address_local (sym hi) ∙ ap (λ o. address_local (item_at o b.place)) (sym is) ∙ address.is) hi
         where
           last : (block mode (body mode AtUserWord)).steps ≡ 2
@@ -492,13 +493,13 @@ module _ (mode : Mode) (image : Image) (built : IsBuilt image) (good : IsImage i
               long = long;
             };
             switches = addresses.address_plain mode ∙ sym o.off;
-            fills = sym (ap is_some o.unfilled);
+            fills = sym (ap is_some unfilled);
             knows = plain_knows mode κ on.frame plain_kind (blocks.holds (body mode AtUserWord));
             means = means_at mode image κ plain_kind AtUserWord (env ss extra v f) w b (first_fill on.fills) s.memory.words (means, place, address);
           }
 
           z : addresses.AtTheWord mode image built good facts left s m h p hp o body' is ss extra v f
-          z = addresses.at_address mode image built good facts left s m h p hp o body' is act ss ss_is extra v f at means place long
+          z = addresses.at_address mode image built good facts left s m h p hp o body' is unfilled act ss ss_is extra v f at means place long
 
           rax : (r : ℕ) → Some r ≡ Some address.register → register c 0 ≡ user_address (local b r)
           rax r q = z.rax ∙ ap user_address (address.rax ∙ ap (local b) (sym (unsome _ _ q)))

@@ -51,7 +51,7 @@ use Rattle.ev_concrete.specs.Opening.{tasks_of}
 use Rattle.ev_relation.specs.Tasks.{CurrentIs}
 use Rattle.ev_relation.specs.Nmi.{Leads, inner_edges}
 use Rattle.ev_relation.specs.Named.{Named, AreWritten, is_task_word, is_slot, is_cell, is_page_bit, is_user_word, have_none, UnknownTo, Changes}
-use Rattle.ev_relation.specs.Domain.{IsQuiet, AreQuiet, IsInDomain}
+use Rattle.ev_relation.specs.Domain.{IsInDomain}
 use Rattle.ev_relation.specs.Filling.{Filling, first_fill, rest_fills, is_filled, AreFree}
 use Rattle.ev_relation.specs.Active.{item_place, address_of_item, here, IsKernelSs, fills_record, Means, Active}
 use Rattle.ev_relation.specs.Relation.{ApicIs, IsContext, Beneath, keeps_cr2, switches_at, chained, Interrupted, body_edges, most_edges, Chain, serves, StandsOn, Stands}
@@ -313,9 +313,6 @@ module _ (mode : Mode) (image : Image) (built : IsBuilt image) (good : IsImage i
   -- ---- what the abstract machine does at the item of its last context, where nothing comes before it
 
   module _ (b : BodyContext) (below : List BodyContext) (bodies : x.bodies ≡ b ∷ below) where
-    pub contexts_quiet : AreQuiet (b ∷ below)
-    contexts_quiet = subst AreQuiet bodies domain.bodies
-
     -- what it chooses, by IF of the context: an interrupt, or the item
     pub context_choice : choice image x ≡ (if b.interrupts then interrupt_or_next (greatest_below 256 (deliverable x)) else Choice.Next)
     unfolding choice
@@ -363,7 +360,6 @@ module _ (mode : Mode) (image : Image) (built : IsBuilt image) (good : IsImage i
         (rest_fills on.fills) below others v s.memory) w
     pub leads : Leads mode p κ on.frame w s.memory.words
     pub off : switches_at mode image on.switching below ≡ false  -- its exit, if it is in it, switches to no other task
-    pub unfilled : first_fill on.fills ≡ None  -- it fills no call record
     pub first : next_of c (s.apics p) (s.latches p) ≡ Next.Instruction
     pub chosen : Unblocked b → choice image x ≡ Choice.Next
 
@@ -578,12 +574,6 @@ module _ (mode : Mode) (image : Image) (built : IsBuilt image) (good : IsImage i
 
     -- ---- what the abstract machine does
 
-    pub are_quiet : AreQuiet (b ∷ below)
-    are_quiet = contexts_quiet b below o.bodies
-
-    pub quiet : IsQuiet b
-    quiet = are_quiet.0
-
     pub turns : Unblocked b → (i : Item) → item_at (slice_get image.bodies b.body) b.place ≡ Some i → turn image m p ≡ item_step image m p b i
     turns unblocked i hi = context_turns b below o.bodies (o.chosen unblocked) i hi
 
@@ -620,13 +610,13 @@ module _ (mode : Mode) (image : Image) (built : IsBuilt image) (good : IsImage i
         → (names : List Named) → AreCallFree p names → Changes p σ names s.memory.words words
         → (m' : Machine) (es : List Entry) → turn image m p ≡ (m', es) → (tasks : NatMap Task) (slots : NatMap ℕ)
         → (fs : List (Option Filling)) → AreFree x.records fs → ((k : ℕ) → is_filled k fs ≡ is_filled k on.fills) → (bs : List BodyContext)
-        → Makes z.machine m' words tasks slots bs → AreQuiet bs → ApicIs mode image a x.pending bs
+        → Makes z.machine m' words tasks slots bs → ApicIs mode image a x.pending bs
         → bodies_behind (length x.bodies) c cell.ins sent ≡ length bs
         → (now : ℕ) → now ≤ body_edges mode image
         → Chain mode image p now r to (tasks to) on.frame on.switching fs bs (went_activations image.processors s p cpu sent) cpu (with_words s.memory words)
         → went_shows p s Always cell.ins cpu words sent ≡ es → Result
     unfolding comes_to
-    visible_with unblocked cell hc hm hu a cpu words sent z he hb names free changes m' es ht tasks slots fs fills filled bs y quiet apic told now few
+    visible_with unblocked cell hc hm hu a cpu words sent z he hb names free changes m' es ht tasks slots fs fills filled bs y apic told now few
         goes_on hes =
         let sender : abstract.Processor = processor z.machine p in
         let was : abstract.Processor = record x { mail = sender.mail; mail_nmi = sender.mail_nmi } in
@@ -644,7 +634,6 @@ module _ (mode : Mode) (image : Image) (built : IsBuilt image) (good : IsImage i
         let inside : IsInDomain x' = record {
           nmi = domain.nmi;
           mail_nmi = (z.stands.domain p hp).mail_nmi;
-          bodies = quiet;
         } in
         turn_to first cell hc hm hu a cpu words sent z he σ narrow names free changes m' es ht x'
         (record {
@@ -667,17 +656,17 @@ module _ (mode : Mode) (image : Image) (built : IsBuilt image) (good : IsImage i
         → (names : List Named) → AreCallFree p names → Changes p σ names s.memory.words words
         → (m' : Machine) (es : List Entry) → turn image m p ≡ (m', es) → (tasks : NatMap Task) (slots : NatMap ℕ)
         → (fs : List (Option Filling)) → AreFree x.records fs → ((k : ℕ) → is_filled k fs ≡ is_filled k on.fills) → (bs : List BodyContext)
-        → Makes m m' words tasks slots bs → AreQuiet bs → ServesAlike bs
+        → Makes m m' words tasks slots bs → ServesAlike bs
         → (if ends_body c (Some cell.ins) then length x.bodies - 1
         else (if begins_body c (Some cell.ins) then suc (length x.bodies) else length x.bodies)) ≡ length bs
         → (now : ℕ) → now ≤ body_edges mode image
         → Chain mode image p now r to (tasks to) on.frame on.switching fs bs (activations_by s p (s.activations p) cpu Stepped.Ran) cpu
         (with_words s.memory words)
         → shown_always p (bodies_on s p) c s.memory.words (Some cell.ins) ≡ es → Result
-    visible unblocked cell hc hm hu cpu words he hb names free changes m' es ht tasks slots fs fills filled bs y quiet serving told now few goes_on hes =
+    visible unblocked cell hc hm hu cpu words he hb names free changes m' es ht tasks slots fs fills filled bs y serving told now few goes_on hes =
         visible_with unblocked cell hc hm hu (s.apics p) cpu words None sends_nothing (he (s.apics p) (s.latches p)) hb
         names free changes m' es ht tasks slots fs fills filled
-        bs y quiet (apic_again mode image (s.apics p) (s.apics p) x.pending x.bodies bs refl serving on.apic) told now few goes_on hes
+        bs y (apic_again mode image (s.apics p) (s.apics p) x.pending x.bodies bs refl serving on.apic) told now few goes_on hes
 
     -- what holds of the components that a step leaves alone, by the names that it writes
     module _ (names : List Named) (free : AreCallFree p names) (words : NatMap ℕ) (changes : Changes p σ names s.memory.words words) where
@@ -736,16 +725,15 @@ module _ (mode : Mode) (image : Image) (built : IsBuilt image) (good : IsImage i
 
     -- ---- inside a block
 
-    pub over_spot : (act : Stood on.own b c s.memory) → is_spot mode act.stands.spot ≡ true
-    over_spot act = means_over mode image κ act.stands.spot _ w b (first_fill on.fills) s.memory.words act.means (act.switches ∙ o.off)
-        (act.fills ∙ ap is_some o.unfilled)
+    pub over_spot : (act : Stood on.own b c s.memory) → fills_record act.stands.spot ≡ false → is_spot mode act.stands.spot ≡ true
+    over_spot act none = means_over mode image κ act.stands.spot _ w b (first_fill on.fills) s.memory.words act.means (act.switches ∙ o.off) none
 
     -- no spot but those of `call` fills a record
-    pub fills_none : (spot : Spot) → fills_record spot ≡ false → fills_record spot ≡ is_some (first_fill on.fills)
-    fills_none spot off = off ∙ sym (ap is_some o.unfilled)
+    pub fills_none : first_fill on.fills ≡ None → (spot : Spot) → fills_record spot ≡ false → fills_record spot ≡ is_some (first_fill on.fills)
+    fills_none unfilled spot off = off ∙ sym (ap is_some unfilled)
 
-    pub spot_fills_none : (spot : Spot) → is_spot mode spot ≡ true → fills_record spot ≡ is_some (first_fill on.fills)
-    spot_fills_none spot over = fills_none spot (spot_unfilled mode spot over)
+    pub spot_fills_none : first_fill on.fills ≡ None → (spot : Spot) → is_spot mode spot ≡ true → fills_record spot ≡ is_some (first_fill on.fills)
+    spot_fills_none unfilled spot over = fills_none unfilled spot (spot_unfilled mode spot over)
 
     -- the records of its calls are as they were behind a step that writes no word of calls
     pub calls_stay : (names : List Named) → AreCallFree p names → (words : NatMap ℕ) → Changes p σ names s.memory.words words
@@ -771,19 +759,19 @@ module _ (mode : Mode) (image : Image) (built : IsBuilt image) (good : IsImage i
         by_kind NmiFromTask q means (d ∷ ds) k = absurd means
         by_kind NmiFromBody q means (d ∷ ds) k = absurd means
 
-    pub inside : (act : Stood on.own b c s.memory) → act.stands.k < (block mode act.stands.spot).steps → Result
-    inside act lt =
+    pub inside : (act : Stood on.own b c s.memory) → fills_record act.stands.spot ≡ false → act.stands.k < (block mode act.stands.spot).steps → Result
+    inside act none lt =
         let a = act.stands in
         let e : Env = env a.ss a.extra a.var a.flags in
         let S : ℕ = (block mode a.spot).steps in
-        let end = runs_to_end mode a.spot (over_spot act) in
+        let end = runs_to_end mode a.spot (over_spot act none) in
         let i : Inside code (block mode a.spot) (suc a.k) e c s.memory = goes_on code (block mode a.spot) S end.0 end.1 a.k e c s.memory a.at lt in
         let next = earlier (block mode a.spot) (suc a.k) (S - suc a.k) end.0
         (ap (brun (block mode a.spot)) (let q : (S - suc a.k) + suc a.k ≡ S = omega arith in q) ∙ end.1) in
         let few = a.enough in
         let rsp : Bool = keeps_rsp a.spot in
         let changes : Changes p σ (names_at p a.spot) s.memory.words i.words = kernel_changes mode image p σ in_seat hp good.count.1 κ a.ss w a.extra a.var
-        a.flags a.spot (over_spot act) s.memory.words i.words i.within in
+        a.flags a.spot (over_spot act none) s.memory.words i.words i.within in
         edge (edge_cell i.ins i.next) i.stands refl
         (stays_inside code (block mode a.spot) a.k e c s.memory a.at next.0 next.1 i.ins i.next i.stands)
         (ap is_user a.at.agrees.rest) (outside act) i.cpu i.words i.runs (i.blocking ∙ blocked)
@@ -808,7 +796,7 @@ module _ (mode : Mode) (image : Image) (built : IsBuilt image) (good : IsImage i
           switches = act.switches;
           fills = act.fills;
           knows = act.knows;
-          means = means_stay mode image κ a.spot e w b (first_fill on.fills) s.memory.words i.words (spot_unfilled mode a.spot (over_spot act))
+          means = means_stay mode image κ a.spot e w b (first_fill on.fills) s.memory.words i.words (spot_unfilled mode a.spot (over_spot act none))
               (calls_stay (names_at p a.spot) (rsp_spares p small rsp).free i.words changes) act.means;
         })
       where
@@ -839,11 +827,11 @@ module _ (mode : Mode) (image : Image) (built : IsBuilt image) (good : IsImage i
       windows spot over ss extra v f = opens_at mode image p σ in_seat hp good.count.1 κ ss w extra v f spot over s.memory h.regions_are
 
       -- an edge to the opening of a block
-      pub goes : (act : Stood on.own b c s.memory) (spot : Spot) (ss : ℕ) → IsKernelSs mode ss → (extra v : ℕ → ℕ) (f : Flags)
+      pub goes : first_fill on.fills ≡ None → (act : Stood on.own b c s.memory) (spot : Spot) (ss : ℕ) → IsKernelSs mode ss → (extra v : ℕ → ℕ) (f : Flags)
           → f.interrupts ≡ b.interrupts → is_user c ≡ false
           → Goes code c s.memory (block mode spot) (env ss extra v f) → edges mode spot 0 < on.own → length c.regs ≡ 16 → blocks.switches spot ≡ false
           → fills_record spot ≡ false → Means mode image κ spot (env ss extra v f) w b (first_fill on.fills) s.memory.words → Result
-      goes act spot ss ss_is extra v f masked_by hu g fewer long off none means =
+      goes unfilled act spot ss ss_is extra v f masked_by hu g fewer long off none means =
           edge (edge_cell g.step.ins g.step.next) g.step.cell refl g.inner hu (outside act) g.step.cpu s.memory.words g.step.leads (g.step.blocking ∙ blocked)
           [] (none_spares p) refl (unknown_none below) (λ a far far'. refl) (edges mode spot 0) fewer
           (record {
@@ -862,7 +850,7 @@ module _ (mode : Mode) (image : Image) (built : IsBuilt image) (good : IsImage i
               long = g.step.long ∙ long;
             };
             switches = off ∙ sym o.off;
-            fills = fills_none spot none;
+            fills = fills_none unfilled spot none;
             knows = plain_knows mode κ on.frame plain_kind (blocks.holds spot);
             means = means;
           })

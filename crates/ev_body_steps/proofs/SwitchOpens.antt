@@ -698,7 +698,7 @@ module _ (mode : Mode) (image : Image) (built : IsBuilt image) (good : IsImage i
           long = a.long;
         };
         switches = y.on;
-        fills = switch_unfilled mode y.spot y.is ∙ sym (ap is_some o.unfilled);
+        fills = switch_unfilled mode y.spot y.is ∙ sym (ap is_some a.unfilled);
         knows = plain_knows mode κ on.frame (plain_over κ over) (blocks.holds y.spot);
         means = means_by mode image κ over y.spot E u b (first_fill on.fills) words (y.means image b (first_fill on.fills) words to_next);
       } in

@@ -457,7 +457,7 @@ module _ (mode : Mode) (image : Image) (built : IsBuilt image) (good : IsImage i
         (step.sends_nothing mode image built good facts left s m h p hp) (y.back (s.apics p) (s.latches p)) τ narrow [] (none_spares p).free
         (λ n far far'. refl) (with_processor m p x') [] turned x' becomes
         (step.context_numbers mode image built good facts left s m h p hp b [] bodies chosen Ret meant.1.ret (with_processor m p x') [] turned)
-        (record { nmi = domain.nmi; mail_nmi = domain.mail_nmi; bodies = tt })
+        (record { nmi = domain.nmi; mail_nmi = domain.mail_nmi })
         (ap (λ t. if t then length x.bodies - 1 else (if begins_body c (Some cell.ins) then suc (length x.bodies) else length x.bodies))
         (ends_a_body (Some cell.ins) c y.place y.rip y.outside kernel y.is) ∙ ap (λ (bs : List BodyContext). length bs - 1) bodies)
         (body_edges mode image) there (y.silent p (bodies_on s p) c s.memory.words)

@@ -387,7 +387,6 @@ module _ (mode : Mode) (image : Image) (given : IsImage image) where
   domain p = record {
     nmi = refl;
     mail_nmi = refl;
-    bodies = tt;
   }
 
   pub opens : Stands mode image (λ p. 0) (opening_system mode image) (opening image)

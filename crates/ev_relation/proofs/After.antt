@@ -707,7 +707,7 @@ module _ (mode : Mode) (image : Image) where
         told = told;
         calls = calls;
         domain = λ q lq. ⊎_elim (λ e. subst (λ r. IsInDomain (processor m' r)) (sym e.1) (subst IsInDomain (sym a.own) domain))
-            (λ e. subst IsInDomain (sym (a.others q e.0)) (let d = h.domain q lq in record { nmi = d.nmi; mail_nmi = d.mail_nmi; bodies = d.bodies }))
+            (λ e. subst IsInDomain (sym (a.others q e.0)) (let d = h.domain q lq in record { nmi = d.nmi; mail_nmi = d.mail_nmi }))
             (eqb_tells q p);
         each = λ q lq. ⊎_elim
             (λ e. subst (λ r. StandsOn mode image r (left_behind p now r) s' (processor m' r)) (sym e.1)

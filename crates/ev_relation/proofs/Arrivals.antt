@@ -188,7 +188,7 @@ module _ (mode : Mode) (image : Image) where
         inbox = h.shares.mail p lt;
         other_inboxes = λ q e. refl;
         legal = lines_keep_legal image m (Arrive p (Irq v)) good accepted line h.legal;
-        inside = record { nmi = domain.nmi; mail_nmi = domain.mail_nmi; bodies = domain.bodies };
+        inside = record { nmi = domain.nmi; mail_nmi = domain.mail_nmi };
       })
     where
       pending : (u : ℕ) → u < 256 → put_at (vectors_of (s.apics p).irr) v true u ≡ put_at (processor m p).pending v true u
@@ -234,7 +234,7 @@ module _ (mode : Mode) (image : Image) where
         });
         other_inboxes = λ q e. at_other s.inboxes p q no_mail e;
         legal = lines_keep_legal image m (Accept p) good accepted line h.legal;
-        inside = record { nmi = same_nmi ∙ domain.nmi; mail_nmi = refl; bodies = domain.bodies };
+        inside = record { nmi = same_nmi ∙ domain.nmi; mail_nmi = refl };
       })
 
   -- an interrupt that is sent to a processor stands in its mail, whether or not it did
@@ -261,5 +261,5 @@ module _ (mode : Mode) (image : Image) where
         });
         other_inboxes = λ q e. at_other s.inboxes to q now e;
         legal = (alike_mail image m to (Irq v) sendable used).legal h.legal;
-        inside = record { nmi = domain.nmi; mail_nmi = domain.mail_nmi; bodies = domain.bodies };
+        inside = record { nmi = domain.nmi; mail_nmi = domain.mail_nmi };
       })

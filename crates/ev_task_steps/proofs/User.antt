@@ -312,7 +312,6 @@ module _ (mode : Mode) (image : Image) (formed : IsImage image) (built : IsBuilt
       (with_processor m p (raised_in x cause body set), entry_of p (raised_event cause) next ∷ []) turns)
       (starts_with_words body User (raised_event cause) (causes_small cause is_cause), tt) st.task
       (begun.blocking ∙ sym (plain_no_nmi image b (ap is_over_task kind ∙ over_one cause is_cause)))
-      (record { calls = refl }, tt)
       (subst (λ y. ApicIs mode image y set (b ∷ []))
       (sym (delivery_apic image.processors p p (after_step s p r) begun.event begun.frame ∙ at_same s.apics p p a refl)) apic)
       (omega arith) (tt, tt) (λ k. refl)

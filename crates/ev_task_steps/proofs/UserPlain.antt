@@ -40,7 +40,7 @@ use Rattle.ev_user.specs.Claims.{Site, GoesOn}
 use Rattle.ev_user.proofs.Follows.{user_goes_on}
 use Rattle.ev_symbolic.proofs.Words.{put_other}
 use Rattle.ev_activation.specs.Seat.{Seat}
-use Rattle.ev_relation.specs.Domain.{AreQuiet, IsInDomain}
+use Rattle.ev_relation.specs.Domain.{IsInDomain}
 use Rattle.ev_abstract.specs.declared.entry.Entry.{Entry}
 use Rattle.ev_call_law.specs.Calls.{KeepsCallRecords}
 use Rattle.ev_relation.specs.Filling.{Filling, is_filled, AreFree}
@@ -146,14 +146,14 @@ module _ (mode : Mode) (image : Image) (formed : IsImage image) (built : IsBuilt
       → HasBases image (with_processor (record m { words = memory }) p (record (with_task (processor m p) t) { bodies = bs; pending = set }))
       → (told : List Entry) → KeepsCallRecords image (with_processor (record m { words = memory }) p
       (record (with_task (processor m p) t) { bodies = bs; pending = set })) told
-      → AreOfWords bs → IsTask t → cpu.nmi_blocked ≡ list_any (is_nmi_body image) bs → AreQuiet bs
+      → AreOfWords bs → IsTask t → cpu.nmi_blocked ≡ list_any (is_nmi_body image) bs
       → ApicIs mode image (s'.apics p) set bs → own ≤ 500 → AreFree (processor m p).records fs → ((k : ℕ) → is_filled k fs ≡ is_filled k [])
       → ((r : ℕ) → r ≡ (processor m p).running → Chain mode image p own (processor m p).running r t u.on.frame u.on.switching fs bs as' cpu
       (with_words s.memory words))
       → (StandsOn mode image p (own + inner_edges (s.latches p)) s' (record (with_task (processor m p) t) { bodies = bs; pending = set }))
       × Stands mode image (left_behind mode image p (own + inner_edges (s.latches p))) s'
       (with_processor (record m { words = memory }) p (record (with_task (processor m p) t) { bodies = bs; pending = set }))
-  user_after left s s' m p lt h u cpu as' words t fs bs set own hb mv names sparing changes memory user held legal bases told calls of_words good blocked quiet
+  user_after left s s' m p lt h u cpu as' words t fs bs set own hb mv names sparing changes memory user held legal bases told calls of_words good blocked
       apic few free filled chain =
       let x : abstract.Processor = processor m p in
       let y : abstract.Processor = record (with_task x t) { bodies = bs; pending = set } in
@@ -170,7 +170,6 @@ module _ (mode : Mode) (image : Image) (formed : IsImage image) (built : IsBuilt
       let inside : IsInDomain y = record {
         nmi = u.domain.nmi;
         mail_nmi = u.domain.mail_nmi;
-        bodies = quiet;
       } in
       let has = h.numbers.each p in
       let numbers : HoldsNumbers (with_processor (record m { words = memory }) p y)
@@ -257,7 +256,7 @@ module _ (mode : Mode) (image : Image) (formed : IsImage image) (built : IsBuilt
       (turn_bases image m p h.bases (with_processor (record m { words = memory }) p (record (with_task x t) { bodies = [] }), []) turned)
       (h.told ++ []) (turn_calls image formed built.accepted m p lt h.legal h.told h.calls
       (with_processor (record m { words = memory }) p (record (with_task x t) { bodies = [] }), []) turned)
-      tt g.runs.task u.open_to tt
+      tt g.runs.task u.open_to
       (apic_again mode image (s.apics p) _ x.pending x.bodies [] (at_same s.apics p p (s.apics p) refl)
       (λ class. sym (ap (list_any (λ (b : BodyContext). serves mode image class b.service)) hb)) u.on.apic)
       (omega arith) tt (λ k. refl)
