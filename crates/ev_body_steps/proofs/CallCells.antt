@@ -1,10 +1,10 @@
 -- The cells of the items of cross calls.
-use Rattle.std.proofs.Common.{◌≡◌, ℕ, suc, ◌+◌, ◌-◌, ◌<◌, [], ◌∷◌, length, Some, refl, sym, ap, ◌∙◌, arith}
+use Rattle.std.proofs.Common.{◌≡◌, ℕ, suc, ◌+◌, ◌-◌, Some, sym, ap, ◌∙◌, arith}
 use Rattle.std.specs.Prelude.{pos, negsuc, slice_get, codes, if◌then◌else◌}
 use Rattle.std.proofs.lemmas.Bool.{lt-leb}
 use Rattle.ev_isa.specs.declared.instruction.Ins.{Ins}
 use Rattle.ev_isa.specs.declared.instruction.Ins.TheVariants.{Load, Jcc, GsLoad, AluImm}
-use Rattle.ev_isa.specs.declared.instruction.AluOp.TheVariants.{Add, Cmp}
+use Rattle.ev_isa.specs.declared.instruction.AluOp.TheVariants.{Cmp}
 use Rattle.ev_isa.specs.declared.instruction.Cond.TheVariants.{Nz}
 use Rattle.ev_isa.specs.Spelling.{spelling, four_bytes}
 use Rattle.ev_isa.specs.declared.mode.Mode.{Mode}

@@ -1,6 +1,6 @@
 -- Steps that write words of calls which are the last context's own: those that it has taken, or the one whose record it fills. What they give: an edge, or a turn
 -- of the abstract machine.
-use Rattle.std.proofs.Common.{◌≡◌, ℕ, ◌+◌, ◌<◌, ◌≤◌, Bool, true, false, not, ◌&&◌, List, [], ◌∷◌, length, Option, Some, None, refl, sym, ap, ◌∙◌, subst, arith, eq-eqb}
+use Rattle.std.proofs.Common.{◌≡◌, ℕ, ◌+◌, ◌<◌, ◌≤◌, Bool, true, false, not, ◌&&◌, List, ◌∷◌, length, Option, Some, None, refl, sym, ap, ◌∙◌, subst, arith, eq-eqb}
 use Rattle.std.specs.Prelude.{◌==◌, ◌++◌, ◌||◌, if◌then◌else◌, nat_le, nat_lt}
 use Rattle.std.specs.List.{list_any}
 use Rattle.ev_isa.specs.Word.{NatMap}
@@ -10,7 +10,6 @@ use Rattle.ev_body.specs.WellFormed.{IsImage}
 use Rattle.ev_listing.specs.AddressMap.{nmi_entry, repeat_entry}
 use Rattle.ev_listing.specs.Marks.{Mark}
 use Rattle.ev_state.specs.Processor.{Processor, is_user}
-use Rattle.ev_mem.specs.Memory.{Memory}
 use Rattle.ev_proc.specs.declared.stepped.Stepped.{Stepped}
 use Rattle.ev_abstract.specs.Boundary.{is_nmi_body}
 use Rattle.ev_abstract.specs.Context.{BodyContext, CallId}
@@ -20,7 +19,7 @@ use Rattle.ev_abstract.specs.Machine as abstract
 use Rattle.ev_abstract.specs.Run.{turn}
 use Rattle.ev_built.specs.Built.{IsBuilt}
 use Rattle.ev_calls.specs.Lists.{QueueIs}
-use Rattle.ev_concrete.specs.ConcreteRun.{System, Activation, is_seen, is_return, activations_by}
+use Rattle.ev_concrete.specs.ConcreteRun.{System, is_seen, is_return, activations_by}
 use Rattle.ev_concrete.specs.Depth.{is_in_repeat, is_jump}
 use Rattle.ev_symbolic.specs.Agrees.{Cell, with_words}
 use Rattle.ev_activation.specs.Seat.{kind_of}

@@ -5,16 +5,12 @@ use Rattle.ev_isa.specs.Word.{NatMap}
 use Rattle.ev_isa.specs.Flags.{Flags}
 use Rattle.ev_isa.specs.declared.mode.Mode.{Mode}
 use Rattle.ev_isa.specs.declared.mode.Mode.TheVariants.{Idt, Fred}
-use Rattle.ev_body.specs.declared.item.Item.TheVariants.{Wait}
 use Rattle.ev_body.specs.declared.body.Body.{Body}
 use Rattle.ev_body.specs.declared.image.Image.{Image}
 use Rattle.ev_body.specs.WellFormed.{IsImage}
-use Rattle.ev_listing.specs.Expansion.{item_address}
 use Rattle.ev_state.specs.Processor.{Processor}
-use Rattle.ev_mem.specs.Memory.{Memory}
 use Rattle.ev_abstract.specs.Context.{BodyContext}
 use Rattle.ev_abstract.specs.Machine.{Machine, processor}
-use Rattle.ev_abstract.specs.Machine as abstract
 use Rattle.ev_abstract.specs.Run.{item_at}
 use Rattle.ev_concrete.specs.ConcreteRun.{System}
 use Rattle.ev_built.specs.Built.{IsBuilt}
@@ -33,7 +29,7 @@ use Rattle.ev_paths.specs.CallEnds.{behind_wait}
 use Rattle.ev_paths.proofs.CallEnds.{call_ends}
 use Rattle.ev_table.specs.Table.{code_table}
 use Rattle.ev_relation.specs.Filling.{Filling, first_fill}
-use Rattle.ev_relation.specs.Active.{item_place, address_of_item, here, IsKernelSs, FlagsAre, HasNextPlace, InCode, InItem, InCallSpot, Waited}
+use Rattle.ev_relation.specs.Active.{item_place, address_of_item, here, IsKernelSs, FlagsAre, InCode, InItem, InCallSpot}
 use Rattle.ev_relation.specs.Relation.{StandsOn, Stands}
 use Rattle.ev_relation.proofs.Facts.{Facts}
 use Rattle.ev_relation.proofs.CallKinds.{origin_of, plain_knows}

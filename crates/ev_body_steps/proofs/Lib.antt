@@ -3,6 +3,7 @@ pub mod Return
 pub mod ItemCells
 pub mod ItemCode
 pub mod CallCells
+pub mod CallPlaces
 pub mod ItemState
 pub mod ItemLocals
 pub mod ItemAddresses
@@ -37,3 +38,4 @@ pub mod BodyInterrupt
 pub mod BodyBreak
 pub mod BodyFault
 pub mod CallSteps
+pub mod CallGoes

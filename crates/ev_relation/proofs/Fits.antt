@@ -14,7 +14,7 @@ use Rattle.ev_concrete.specs.Opening.{regions}
 use Rattle.ev_symbolic.specs.Value.{M}
 use Rattle.ev_symbolic.specs.State.{Loc, top_tag, in_win}
 use Rattle.ev_symbolic.specs.Openings.{gs_tag}
-use Rattle.ev_symbolic.specs.Agrees.{Env, addr, FactsHold, Described, AreTops, Open, Within, Fits}
+use Rattle.ev_symbolic.specs.Agrees.{Stands, Env, addr, FactsHold, Described, AreTops, Open, Within, Fits}
 use Rattle.ev_symbolic.proofs.Values.{and_left, and_right}
 use Rattle.ev_distances.specs.Span.{IsSpan, InSpan, AllLocated}
 use Rattle.ev_distances.specs.Form.{Form, OnStack, Stretch, InArea, Where, span_of, spans_of, wins_of, HasBase, IsWhere, are_forms, Each, HasRoom, Fitting}
@@ -148,9 +148,11 @@ module _ (mode : Mode) (image : Image) (p : ℕ) (σ : Seat) (hs : IsSeat σ) (h
   has_item i (InIdt s) = tt
   has_item i (InNmi s) = tt
 
-  pub fits_at : Facts mode image → (spot : Spot) → is_spot mode spot ≡ true → has_fred w ≡ is_fred mode → InBodies extra
-      → IsAtEntry spot env → FactsHold env (block mode spot).ground.facts → Fits (code_table mode image) env (block mode spot)
-  fits_at facts spot h hf i at told =
+  -- where the block's lines stand
+  pub fits_with : Facts mode image → (spot : Spot) → is_spot mode spot ≡ true → has_fred w ≡ is_fred mode → InBodies extra
+      → FactsHold env (block mode spot).ground.facts → Stands (code_table mode image) env (block mode spot).lines
+      → Fits (code_table mode image) env (block mode spot)
+  fits_with facts spot h hf i told lines =
       let g : HasGround mode spot = has_ground mode spot h in
       record {
         ground = all_grounded image.processors mode env (where_at p σ) spot (record {
@@ -164,8 +166,14 @@ module _ (mode : Mode) (image : Image) (p : ℕ) (σ : Seat) (hs : IsSeat σ) (h
           tops = subst (AreTops env) (sym g.tops) tt;
         });
         spaced = facts.spaced;
-        stands = lines_stand mode (code_table mode image) env refl facts.kernel spot h at;
+        stands = lines;
       }
+
+  -- as they do outside of items, and at their beginnings
+  pub fits_at : Facts mode image → (spot : Spot) → is_spot mode spot ≡ true → has_fred w ≡ is_fred mode → InBodies extra
+      → IsAtEntry spot env → FactsHold env (block mode spot).ground.facts → Fits (code_table mode image) env (block mode spot)
+  fits_at facts spot h hf i at told =
+      fits_with facts spot h hf i told (lines_stand mode (code_table mode image) env refl facts.kernel spot h at)
 
   pub opens_at : (spot : Spot) → is_spot mode spot ≡ true → (m : Memory) → m.regions ≡ regions image → Open env (block mode spot).ground.known m.regions
   opens_at spot h m hr = subst (Open env (block mode spot).ground.known) (sym hr)
