@@ -76,8 +76,7 @@ use Rattle.ev_body_steps.proofs.Return.{Exits, fred_mark, idt_mark, fred_exits, 
 use Rattle.ev_relation.proofs.BodyTables.{table_place, table_reads}
 use Rattle.ev_relation.proofs.Depth.{body_at, ends_a_body}
 use Rattle.ev_relation.proofs.Items.{which}
-use Rattle.ev_relation.proofs.NoCalls.{not_call, never_in_call}
-use Rattle.ev_relation.proofs.Fills.{means_fills}
+use Rattle.ev_relation.proofs.NoCalls.{never_in_call}
 use Rattle.ev_body_steps.proofs.ItemWords.{word_of}
 use Rattle.ev_body_steps.proofs.ItemInside.{number_steps}
 use Rattle.ev_body_steps.proofs.ItemMsr.{numbers_steps}
@@ -89,6 +88,7 @@ use Rattle.ev_body_steps.proofs.ItemInterrupts.{behind_steps}
 use Rattle.ev_body_steps.proofs.ItemInterrupts as interrupts
 use Rattle.ev_body_steps.proofs.BodyInterrupt as arrivals
 use Rattle.ev_body_steps.proofs.SwitchStep as switching
+use Rattle.ev_body_steps.proofs.CallFills as fillings
 
 -- ---- from the entry of a vector to the code in common
 
@@ -576,14 +576,6 @@ module _ (mode : Mode) (image : Image) (built : IsBuilt image) (good : IsImage i
         let found = body_at (slice_get image.bodies b.body) b.place ctx.item ctx.is in
         pick (nat_le (suc act.stands.k) (block mode act.stands.spot).steps) refl found.0 found.1 found.2
       where
-        -- today only a `call` would fill a record
-        none : (t : Bool) → fills_record act.stands.spot ≡ t → t ≡ false
-        none true q =
-            let f = (means_fills mode image κ act.stands.spot _ w b (first_fill on.fills) s.memory.words act.means q).1 in
-            let found = body_at (slice_get image.bodies b.body) b.place ctx.item ctx.is in
-            absurd (not_call image built good b.body found.0 found.1 b.place f.fills.site f.to f.func f.s f.fills.item)
-        none false q = refl
-
         unfilled : fills_record act.stands.spot ≡ false → first_fill on.fills ≡ None
         unfilled q = none_of (first_fill on.fills) (sym act.fills ∙ q)
           where
@@ -593,7 +585,11 @@ module _ (mode : Mode) (image : Image) (built : IsBuilt image) (good : IsImage i
 
         pick : (t : Bool) → nat_le (suc act.stands.k) (block mode act.stands.spot).steps ≡ t → (body : Body) → slice_get image.bodies b.body ≡ Some body
             → item_at (Some body) b.place ≡ Some ctx.item → Result
-        pick true q body is hi = step.inside mode image built good facts left s m h p hp o act (none (fills_record act.stands.spot) refl) (leb-true _ _ q)
+        pick true q body is hi = within (fills_record act.stands.spot) refl
+          where
+            within : (t : Bool) → fills_record act.stands.spot ≡ t → Result
+            within true e = fillings.inside mode image built good facts left s m h p hp o act e (leb-true _ _ q)
+            within false e = step.inside mode image built good facts left s m h p hp o act e (leb-true _ _ q)
         pick false q body is hi =
             at_the_end body is act (origin_of κ) refl mode refl act.stands.spot unfilled act.stands.k act.stands.ss act.stands.ss_is act.stands.extra
             act.stands.var act.stands.flags (let up = leb-false _ _ q in let down = act.stands.within in omega arith) act.stands.at

@@ -39,3 +39,4 @@ pub mod BodyBreak
 pub mod BodyFault
 pub mod CallSteps
 pub mod CallGoes
+pub mod CallFills

@@ -143,7 +143,7 @@ module _ (mode : Mode) (image : Image) (left : NatMap ℕ) (s : System) (m : Mac
   is_of site k = is_id k (record { from = p; site = site })
 
   -- a call whose record is free is nowhere
-  free_nowhere : (k : CallId) → (record_of m k).state ≡ Free → (q : ℕ)
+  pub free_nowhere : (k : CallId) → (record_of m k).state ≡ Free → (q : ℕ)
       → (times k (to_run (processor m q).bodies) ≡ 0) × (times k (processor m q).queue ≡ 0)
   free_nowhere k e q = (
     none_there _ (is_taken (record_of m k).state) ((record_of m k).to == q) ((h.calls.placed k).list q) (ap is_taken e),

@@ -141,7 +141,7 @@ module _ (mode : Mode) (image : Image) (m n : NatMap ℕ) (o : Origin) (e : Env)
   pub item_again : InItem mode image o e w b m → InItem mode image o e w b n
   item_again h = record { saved = h.saved; locals = h.locals; flags = h.flags; calls = holds_again (e.var 14) h.calls }
 
-  code_again : InCode mode image o e w b m → InCode mode image o e w b n
+  pub code_again : InCode mode image o e w b m → InCode mode image o e w b n
   code_again h = record { range = h.range; saved = h.saved; locals = h.locals; calls = holds_again (e.var 14) h.calls }
 
   answering_again : (s v : ℕ) → Answering mode image o e w b s v m → Answering mode image o e w b s v n
