@@ -60,7 +60,7 @@ use Rattle.ev_relation.proofs.CallKinds.{is_plain_kind, ArePlain, none_nmi, seat
 use Rattle.ev_relation.proofs.Chains.{Kept, chain_kept}
 use Rattle.ev_relation.proofs.Domains.{four_tasks}
 use Rattle.ev_call_law.specs.Calls.{times, to_run}
-use Rattle.ev_relation.proofs.Legality.{turn_legal, turn_bases, turn_calls, legal_few}
+use Rattle.ev_relation.proofs.Legality.{turn_legal, turn_bases, turn_calls, turn_few, legal_few}
 use Rattle.ev_relation.proofs.Standing.{seen, Moves, step_moves, delivery_moves}
 use Rattle.ev_relation.proofs.Stays.{AreSpared, AreKept, free_small, chain_stays, below_spared}
 use Rattle.ev_relation.proofs.After.{none_spares, slot_same, cell_same, page_same, user_same, apic_again, own_becomes, records_after, all_kept, calls_bounded, left_behind, stands_alike, AreSameWords, tasks_same, current_is, mark_is}
@@ -475,6 +475,7 @@ module _ (mode : Mode) (image : Image) (built : IsBuilt image) (good : IsImage i
         })
         legal (turn_bases image m p h.bases (m', entry_of p e (suc (suc n)) ∷ []) y.turns) y.numbers
         (h.told ++ entry_of p e (suc (suc n)) ∷ [])
+        (turn_few image good built.accepted m p hp h.legal h.told h.calls s.totals.steps h.few (m', entry_of p e (suc (suc n)) ∷ []) y.turns)
         (turn_calls image good built.accepted m p hp h.legal h.told h.calls (m', entry_of p e (suc (suc n)) ∷ []) y.turns)
         (record { nmi = domain.nmi; mail_nmi = domain.mail_nmi }) there
 

@@ -28,7 +28,7 @@ use Rattle.ev_relation.specs.Named.{Named, is_task_word, is_slot, is_cell, is_pa
 use Rattle.ev_relation.specs.Filling.{Filling, first_fill, rest_fills, is_filled, AreFree}
 use Rattle.ev_relation.specs.Active.{Active}
 use Rattle.ev_relation.specs.Relation.{IsContext, switches_at, body_edges, serves, Chain, HoldsCall, StandsOn, Stands}
-use Rattle.ev_relation.specs.Step.{Simulated}
+use Rattle.ev_relation.specs.Step.{IsCounted, Simulated}
 use Rattle.ev_relation.proofs.Facts.{Facts}
 use Rattle.ev_relation.proofs.Maps.{at_same}
 use Rattle.ev_relation.proofs.Domains.{four_tasks}
@@ -41,7 +41,7 @@ use Rattle.ev_relation.proofs.After.{AreNames, current_is, mark_is, slot_same, c
 use Rattle.ev_relation.proofs.Words.{beside_stays, saved_stays}
 use Rattle.ev_relation.proofs.CallKinds.{none_nmi}
 use Rattle.ev_relation.proofs.Chains.{chain_plain}
-use Rattle.ev_relation.proofs.Legality.{turn_legal, turn_bases, turn_calls}
+use Rattle.ev_relation.proofs.Legality.{turn_legal, turn_bases, turn_calls, turn_few}
 use Rattle.ev_user.specs.Words.{HoldsWords}
 use Rattle.ev_body_steps.proofs.KernelStep as step
 
@@ -147,7 +147,7 @@ module _ (mode : Mode) (image : Image) (built : IsBuilt image) (good : IsImage i
         })
         (λ q lq e. others_kept mode image left s m h p hp o.b o.below o.bodies o.σ words names narrow good.count.1 are.allowed.written changes mine are.of alone
         q lq (λ d. differ q e d) (processor m q).records (λ k lt off. refl) (λ k lt is off. held q k lq lt is (λ d. absurd (differ q e d))))
-        h.legal h.bases h.numbers h.told h.calls (step.domain mode image built good facts left s m h p hp) there)
+        h.legal h.bases h.numbers h.told (let few = h.few in omega (arith, few)) h.calls (step.domain mode image built good facts left s m h p hp) there)
 
     -- What a turn makes of the abstract machine: of p the last context is this one, and its records and queue may be others, as may those of other processors
     -- for these calls; memory holds them. It fills these records behind the step.
@@ -172,7 +172,7 @@ module _ (mode : Mode) (image : Image) (built : IsBuilt image) (good : IsImage i
         → (m' : Machine) (es : List Entry) → turn image m p ≡ (m', es) → (b' : BodyContext) → kind_of image b' o.below ≡ o.κ → IsContext mode image b'
         → b'.service ≡ o.b.service → Makes m' b' → (now : ℕ) → now ≤ body_edges mode image
         → Active mode image p now o.κ o.σ on.frame (switches_at mode image on.switching o.below) (first_fill fs) o.w b' cpu (with_words s.memory words)
-        → went_shows p s mark cell.ins cpu words None ≡ es → Simulated mode image left s m p
+        → (IsCounted s → went_shows p s mark cell.ins cpu words None ≡ es) → Simulated mode image left s m p
     turns unblocked cell hc mark hm is hr hu out cpu he hb m' es ht b' kind ctx service y now few act hes =
         let s' : System = step.Behind mode image built good facts left s m h p hp (s.apics p) cpu words None in
         let moves = step.moves mode image built good facts left s m h p hp (s.apics p) cpu words None in
@@ -240,6 +240,7 @@ module _ (mode : Mode) (image : Image) (built : IsBuilt image) (good : IsImage i
         q lq (λ d. differ q e d) (processor m' q).records (y.old q) (λ k lt is off. y.held q k lq lt is (λ d. absurd (differ q e d))))
         (turn_legal image good built.accepted m p hp h.legal (m', es) ht) (turn_bases image m p h.bases (m', es) ht)
         (step.numbers_behind mode image built good facts left s m h p hp o unblocked m' es ht) (h.told ++ es)
+        (turn_few image good built.accepted m p hp h.legal h.told h.calls s.totals.steps h.few (m', es) ht)
         (turn_calls image good built.accepted m p hp h.legal h.told h.calls (m', es) ht)
         (let d = step.domain mode image built good facts left s m h p hp in record { nmi = d.nmi; mail_nmi = d.mail_nmi }) there)
         hes

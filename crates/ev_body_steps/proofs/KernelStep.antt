@@ -55,7 +55,7 @@ use Rattle.ev_relation.specs.Domain.{IsInDomain}
 use Rattle.ev_relation.specs.Filling.{Filling, first_fill, rest_fills, is_filled, AreFree}
 use Rattle.ev_relation.specs.Active.{item_place, address_of_item, here, IsKernelSs, fills_record, Means, Active}
 use Rattle.ev_relation.specs.Relation.{ApicIs, IsContext, Beneath, keeps_cr2, switches_at, chained, Interrupted, body_edges, most_edges, Chain, serves, StandsOn, Stands}
-use Rattle.ev_relation.specs.Step.{Simulated}
+use Rattle.ev_relation.specs.Step.{IsCounted, Simulated}
 use Rattle.ev_concrete.specs.Shown.{shown_always}
 use Rattle.ev_relation.proofs.Facts.{Facts}
 use Rattle.ev_relation.proofs.Maps.{at_same, at_other}
@@ -75,7 +75,7 @@ use Rattle.ev_relation.proofs.Domains.{four_tasks}
 use Rattle.ev_law.proofs.Ruled.{body_ruled}
 use Rattle.ev_user.specs.Numbers.{AreOfWords, HoldsNumbers}
 use Rattle.ev_user.proofs.KeepsNumbers.{items_keep_numbers}
-use Rattle.ev_relation.proofs.Legality.{turn_legal, turn_bases, turn_calls, legal_few, context_serves}
+use Rattle.ev_relation.proofs.Legality.{turn_legal, turn_bases, turn_calls, turn_few, legal_few, context_serves}
 use Rattle.ev_relation.proofs.Arrivals.{comes_to}
 use Rattle.ev_relation.proofs.Depth.{body_at, active_outside, stands_depth, goes_on_inside, bodies_behind, went_counts}
 
@@ -263,7 +263,7 @@ module _ (mode : Mode) (image : Image) (built : IsBuilt image) (good : IsImage i
           pages = λ i l. page_same p σ names small narrow s.memory.words words written changes no_page i l ∙ h.shares.pages i l;
           cells = λ k l. cell_same p σ names small narrow s.memory.words words written changes no_cell k l ∙ h.shares.cells k l;
         })
-        h.legal h.bases h.numbers h.told h.calls domain there)
+        h.legal h.bases h.numbers h.told (let few = h.few in omega (arith, few)) h.calls domain there)
 
     -- a visible step: the processor stands for the one of the machine behind the abstract machine's turn, and the system for that machine
     pub turn_with : (cell : Cell) → code c.rip ≡ Some cell → (mark : Mark) → cell.mark ≡ mark → is_seen mark s c ≡ true → is_user c ≡ false
@@ -273,7 +273,7 @@ module _ (mode : Mode) (image : Image) (built : IsBuilt image) (good : IsImage i
         → bodies_behind (length x.bodies) c cell.ins sent ≡ length x'.bodies
         → (now : ℕ) → StandsOn mode image p (now + inner_edges (s.latches p)) (Behind a cpu words sent) x'
         → Stands mode image (left_behind mode image p (now + inner_edges (s.latches p))) (Behind a cpu words sent) m'
-        → went_shows p s mark cell.ins cpu words sent ≡ es → Result
+        → (IsCounted s → went_shows p s mark cell.ins cpu words sent ≡ es) → Result
     turn_with cell hc mark hm is hu a cpu words sent he m' es ht x' told now there all hes =
         let run : Went s p a cpu words sent = runs cell hc hu a cpu words sent he in
         let marked = facts.marks c.rip cell hc ∙ hm in
@@ -287,8 +287,8 @@ module _ (mode : Mode) (image : Image) (built : IsBuilt image) (good : IsImage i
             now = left_behind mode image p (now + inner_edges (s.latches p));
             stands = subst (λ q. Stands mode image (left_behind mode image p (now + inner_edges (s.latches p))) q.0 (turn image m p).0)
                 (sym (went_step image.processors s p a cpu words sent run)) turned;
-            entries = went_shown (marks_of mode image) s p a cpu words sent mark cell.ins run hu marked (fetches c.rip cell hc).1
-                ∙ hes ∙ sym (ap (λ (q : Step). q.1) ht);
+            entries = λ counted. went_shown (marks_of mode image) s p a cpu words sent mark cell.ins run hu marked (fetches c.rip cell hc).1
+                ∙ hes counted ∙ sym (ap (λ (q : Step). q.1) ht);
           });
         }
 
@@ -307,8 +307,9 @@ module _ (mode : Mode) (image : Image) (built : IsBuilt image) (good : IsImage i
         (stands_alike mode image left (Posted sent) (Behind a cpu words sent) z.machine m' p (now + inner_edges (s.latches p)) x' σ cpu _ words
         good built.accepted (four_tasks image good) z.stands hp (moves a cpu words sent) narrow names free changes becomes
         (turn_legal image good built.accepted m p hp h.legal (m', es) ht) (turn_bases image m p h.bases (m', es) ht) numbers
-        (h.told ++ es) (turn_calls image good built.accepted m p hp h.legal h.told h.calls (m', es) ht) inside there)
-        hes
+        (h.told ++ es) (turn_few image good built.accepted m p hp h.legal h.told h.calls s.totals.steps h.few (m', es) ht)
+        (turn_calls image good built.accepted m p hp h.legal h.told h.calls (m', es) ht) inside there)
+        (λ counted. hes)
 
   -- ---- what the abstract machine does at the item of its last context, where nothing comes before it
 

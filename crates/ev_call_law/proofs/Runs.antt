@@ -56,6 +56,11 @@ step_kept image m past l is accepted k legal keeps =
 pub lines_keep_calls : LinesKeepCalls
 lines_keep_calls image m entries l is accepted k legal keeps = (step_kept image m entries l is accepted k legal keeps).kept
 
+-- and adds one entry at most
+pub lines_are_short : (image : Image) (m : Machine) (entries : List Entry) (l : Line) → IsImage image → IsAccepted image → is_line image l ≡ true
+    → Legal image m → KeepsCallRecords image m entries → length (line_step image m l).1 ≤ 1
+lines_are_short image m entries l is accepted k legal keeps = (step_kept image m entries l is accepted k legal keeps).short
+
 record KeptRun (image : Image) (m : Machine) (past entries : List Entry) (lines : ℕ) : Type 0 where
   kept : KeepsCallRecords image m (past ++ entries)
   fit : AllFit past entries

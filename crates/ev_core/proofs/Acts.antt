@@ -13,6 +13,7 @@ use Rattle.ev_trace.specs.FrameText.{Totals}
 use Rattle.ev_proc.specs.declared.stepped.Stepped.{Stepped}
 use Rattle.ev_concrete.specs.ConcreteRun.{System, acted, posted, targets, lower}
 use Rattle.ev_concrete.specs.Depth.{bodies_on}
+use Rattle.ev_relation.proofs.Standing.{posted_keeps}
 use Rattle.ev_core.specs.Local.{counted, frame_by, is_target, after_act}
 use Rattle.ev_core.specs.State.{local_of}
 
@@ -47,11 +48,6 @@ put_shown xs m n k x h each i l =
     (λ p. set_other xs k x i p.1 ∙ each i l ∙ ap (λ y. Some y) (sym (put_other m k x i p.1))) (eqb_tells i k)
 
 -- ---- mail
-
--- all but the inboxes stays
-pub posted_keeps : (s : System) (key : SendKey) (ts : List ℕ) → posted s key ts ≡ record s { inboxes = (posted s key ts).inboxes }
-posted_keeps s key [] = refl
-posted_keeps s key (t ∷ ts) = posted_keeps (record s { inboxes = put_at s.inboxes t (mailed (s.inboxes t) key) }) key ts
 
 abbrev pub mailed_at : System → SendKey → ℕ → System
 mailed_at s key t = record s { inboxes = put_at s.inboxes t (mailed (s.inboxes t) key) }

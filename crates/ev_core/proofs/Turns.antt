@@ -1,8 +1,10 @@
 -- A turn of the machine and settling, from any standing state, and a turn as a line of its script.
 use Rattle.std.proofs.Common.{◌≡◌, ℕ, ◌<◌, Bool, true, false, ◌&&◌, List, [], ◌∷◌, ◌++◌, length, ap, refl, sym, ◌∙◌, subst, arith}
+use Rattle.std.specs.Prelude.{◌^◌}
 use Rattle.std.specs.List.{list_all}
 use Rattle.std.proofs.lemmas.Bool.{lt-ltb}
 use Rattle.ev_isa.specs.declared.mode.Mode.{Mode}
+use Rattle.ev_trace.specs.FrameText.{Totals}
 use Rattle.ev_event.specs.declared.frame_note.FrameNote.{FrameNote}
 use Rattle.ev_body.specs.declared.image.Image.{Image}
 use Rattle.ev_abstract.specs.declared.entry.Entry.{Entry}
@@ -57,18 +59,19 @@ module _ (mode : Mode) (image : Image) (s : System) (m : Machine) (v : MachineVi
   pub last_tells : TellsBodies image.processors (settled (marks_in v.places) image.processors s p).0 p
   last_tells = tell mode image s m v so p lt 1024
 
-  -- a turn of p, as the machine makes it
-  pub turn_made : (t : Turned) (w : Parts) → Shows image.processors w (concrete_turn (marks_in v.places) image.processors s p).0
+  -- a turn of p, as the machine makes it while it has counted few enough steps
+  pub turn_made : v.parts.totals.steps < 2 ^ 62 → (t : Turned) (w : Parts) → Shows image.processors w (concrete_turn (marks_in v.places) image.processors s p).0
       → optional t.entry ≡ shown (marks_in v.places) (settled (marks_in v.places) image.processors s p).0 p
       → t.frames.items ≡ (concrete_turn (marks_in v.places) image.processors s p).1 → IsTurn mode image s m p t (record { parts = w; places = v.places })
-  turn_made t w shows entry frames = record {
+  turn_made few t w shows entry frames = record {
     so = record {
       can = so.can;
       at = record { marks = so.at.marks; shows = subst (λ k. Shows image.processors w (concrete_turn k image.processors s p).0) so.at.marks shows };
       left = turning.now;
       stands = turning.stands;
     };
-    entry = subst (λ k. optional t.entry ≡ shown k (settled k image.processors s p).0 p) so.at.marks entry ∙ turning.entries;
+    entry = subst (λ k. optional t.entry ≡ shown k (settled k image.processors s p).0 p) so.at.marks entry
+        ∙ turning.entries (subst (λ (x : Totals). x.steps < 2 ^ 62) so.at.shows.totals few);
     frames = subst (λ k. t.frames.items ≡ (concrete_turn k image.processors s p).1) so.at.marks frames;
     safe = settles.safe;
   }

@@ -399,6 +399,7 @@ module _ (mode : Mode) (image : Image) (given : IsImage image) where
     bases = opening_has_bases image;
     numbers = opening_holds_numbers image given;
     told = [];
+    few = omega arith;
     calls = opening_keeps_calls image;
     domain = λ p lt. domain p;
     each = opening_processor;

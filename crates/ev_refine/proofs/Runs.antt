@@ -19,9 +19,10 @@ use Rattle.ev_abstract.specs.declared.script_line.Line.{Line}
 use Rattle.ev_abstract.specs.declared.script_line.Line.TheVariants.{Turn, Edge, Arrive, Accept}
 use Rattle.ev_proc.specs.ProcessorStep.{After, step}
 use Rattle.ev_proc.specs.declared.stepped.Stepped.{Stepped}
-use Rattle.ev_concrete.specs.ConcreteRun.{System, Marks, marks_of, is_visible, acted, after_step, concrete_step, edges, with_frames, settled, all_settled, concrete_line, concrete_lines, arrived_at, accept_mail}
+use Rattle.ev_concrete.specs.ConcreteRun.{System, Marks, marks_of, is_visible, acted, after_step, concrete_step, targets, edges, with_frames, settled, all_settled, concrete_line, concrete_lines, arrived_at, accept_mail}
 use Rattle.ev_built.specs.Built.{line_is_built}
 use Rattle.ev_relation.specs.Relation.{Stands}
+use Rattle.ev_relation.proofs.Standing.{posted_keeps}
 use Rattle.ev_relation.specs.Step.{EdgeWrites, MakesEdge, MakesTurn, Simulated}
 use Rattle.ev_refine.specs.Claims.{Settles, Turns, SettledFirst}
 
@@ -62,6 +63,20 @@ at_most_one : (latch : Bool) (n : ℕ) → n ≤ frames_left latch → n ≤ 1
 at_most_one true n h = h
 at_most_one false n h = omega arith
 
+-- ---- totals
+
+-- a step counts as one
+step_counts : (n : ℕ) (s : System) (p : ℕ) → (concrete_step n s p).0.totals.steps ≡ suc s.totals.steps
+unfolding concrete_step
+step_counts n s p = let r : After = step (s.cpus p) (s.apics p) s.memory (s.latches p) in by_act (after_step s p r) r.step
+  where
+    by_act : (t : System) (st : Stepped) → (acted n t p st).0.totals.steps ≡ t.totals.steps
+    by_act t Stepped.Ran = refl
+    by_act t Stepped.Shutdown = refl
+    by_act t (Stepped.Sent m) = ap (λ (x : System). x.totals.steps) (posted_keeps t m.key (targets n p m.target))
+    by_act t (Stepped.Delivered x None) = refl
+    by_act t (Stepped.Delivered x (Some a)) = refl
+
 module _ (mode : Mode) (image : Image) where
   abbrev Follows : NatMap ℕ → System → Machine → Type 0
   Follows left s m = Stands mode image left s m
@@ -87,6 +102,17 @@ module _ (mode : Mode) (image : Image) where
   no_edges : (s : System) (p : ℕ) → edges_of 0 s p ≡ (s, [])
   unfolding edges
   no_edges s p = refl
+
+  -- each of them counts at most as one step
+  edges_count : (k : ℕ) (s : System) (p : ℕ) → (edges_of k s p).0.totals.steps ≤ s.totals.steps + k
+  edges_count zero s p = subst (λ (x : System × List FrameNote). x.0.totals.steps ≤ s.totals.steps + 0) (sym (no_edges s p)) (omega arith)
+  edges_count (suc k) s p = subst (λ (x : System × List FrameNote). x.0.totals.steps ≤ s.totals.steps + suc k) (sym (unrolled k s p))
+      (chosen (is_visible marks s p) (edges_count k (step_of s p).0 p))
+    where
+      chosen : (b : Bool) → (edges_of k (step_of s p).0 p).0.totals.steps ≤ (step_of s p).0.totals.steps + k
+          → (choose k s p b).0.totals.steps ≤ s.totals.steps + suc k
+      chosen true rest = omega arith
+      chosen false rest = let one = step_counts image.processors s p in omega (arith, one, rest)
 
   -- so many edges, counted at most
   record Edges (k : ℕ) (left : NatMap ℕ) (s : System) (m : Machine) (p : ℕ) : Type 0 where
@@ -163,7 +189,7 @@ module _ (mode : Mode) (image : Image) where
         go (inr x) = record {
           now = x.now;
           stands = x.stands;
-          entries = x.entries;
+          entries = λ few. x.entries (let many = edges_count 1024 s p in omega (arith, few, many));
           few = let a = at_most_one (s.latches p) _ e.few in let b = step_few image.processors there p in
               let same = length-append (settled marks image.processors s p).1 (step_of there p).1 in omega arith;
         }

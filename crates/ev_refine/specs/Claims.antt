@@ -1,5 +1,5 @@
 -- What is proved of the machines, as the contract of this crate states it.
-use Rattle.std.specs.Prelude.{◌≡◌, ◌≢◌, ℕ, ◌<◌, ◌≤◌, true, List, length}
+use Rattle.std.specs.Prelude.{◌≡◌, ◌≢◌, ℕ, ◌^◌, ◌<◌, ◌≤◌, true, List, length}
 use Rattle.std.specs.List.{list_all}
 use Rattle.ev_isa.specs.Word.{NatMap, numbers_from}
 use Rattle.ev_isa.specs.declared.mode.Mode.{Mode}
@@ -51,11 +51,13 @@ AllSettle = (mode : Mode) (image : Image) → IsBuilt image → IsImage image �
     → Stands mode image left s m
     → (p : ℕ) → p < image.processors → Settles mode image left s m p
 
--- A turn of the one is a turn of the other, with the entries that its visible step shows, and with at most two frames.
+-- A turn of the one is a turn of the other, with at most two frames, and with the entries that its visible step shows, where steps are few enough for the
+-- numbers of calls in them.
 pub record Turns (mode : Mode) (image : Image) (s : System) (m : Machine) (p : ℕ) : Type 0 where
   pub now : NatMap ℕ
   pub stands : Stands mode image now (concrete_turn (marks_of mode image) image.processors s p).0 (turn image m p).0
-  pub entries : shown (marks_of mode image) (settled (marks_of mode image) image.processors s p).0 p ≡ (turn image m p).1
+  pub entries : s.totals.steps < 2 ^ 62
+      → shown (marks_of mode image) (settled (marks_of mode image) image.processors s p).0 p ≡ (turn image m p).1
   pub few : length (concrete_turn (marks_of mode image) image.processors s p).1 ≤ 2
 
 -- so it is of every related state and processor

@@ -693,11 +693,11 @@ module _ (mode : Mode) (image : Image) where
       → (h : Stands mode image left s m) → p < image.processors → Moves p s s' cpu as' words → σ.stack < 7 → (names : List Named) → AreNames p names
       → Changes p σ names s.memory.words words → Becomes p m m' x words
       → ((q : ℕ) (lq : q < image.processors) → (q == p) ≡ false → KeepsCalls q (left q) s (processor m q) (h.each q lq) (processor m' q).records words)
-      → Legal image m' → HasBases image m' → HoldsNumbers m' → (told : List Entry) → KeepsCallRecords image m' told → IsInDomain x
-      → StandsOn mode image p now s' x
+      → Legal image m' → HasBases image m' → HoldsNumbers m' → (told : List Entry) → length told ≤ suc s.totals.steps
+      → KeepsCallRecords image m' told → IsInDomain x → StandsOn mode image p now s' x
       → Stands mode image (left_behind p now) s' m'
-  stands_become left s s' m m' p now x σ cpu as' words good accepted four h lt mv hs names good_names changes a others legal bases numbers told calls domain
-      on = record {
+  stands_become left s s' m m' p now x σ cpu as' words good accepted four h lt mv hs names good_names changes a others legal bases numbers told few
+      calls domain on = record {
         regions_are = mv.regions ∙ h.regions_are;
         fixed = λ b f. ap (λ w. w b) mv.words_are ∙ fixed_stays p σ names s.memory.words words hp hs good_names.written changes b f ∙ h.fixed b f;
         shares = shares_become p s s' m m' x cpu as' words mv a h.shares;
@@ -705,6 +705,7 @@ module _ (mode : Mode) (image : Image) where
         bases = bases;
         numbers = numbers;
         told = told;
+        few = let next = mv.steps in omega (arith, few, next);
         calls = calls;
         domain = λ q lq. ⊎_elim (λ e. subst (λ r. IsInDomain (processor m' r)) (sym e.1) (subst IsInDomain (sym a.own) domain))
             (λ e. subst IsInDomain (sym (a.others q e.0)) (let d = h.domain q lq in record { nmi = d.nmi; mail_nmi = d.mail_nmi }))
@@ -784,10 +785,10 @@ module _ (mode : Mode) (image : Image) where
       → ((q : ℕ) → q < image.processors → length (tasks_of image q) ≤ 4)
       → (h : Stands mode image left s m) → p < image.processors → Moves p s s' cpu as' words → σ.stack < 7 → (names : List Named) → AreCallFree p names
       → Changes p σ names s.memory.words words → CallsAlike p m m' x words
-      → Legal image m' → HasBases image m' → HoldsNumbers m' → (told : List Entry) → KeepsCallRecords image m' told → IsInDomain x
-      → StandsOn mode image p now s' x
+      → Legal image m' → HasBases image m' → HoldsNumbers m' → (told : List Entry) → length told ≤ suc s.totals.steps
+      → KeepsCallRecords image m' told → IsInDomain x → StandsOn mode image p now s' x
       → Stands mode image (left_behind p now) s' m'
-  stands_alike left s s' m m' p now x σ cpu as' words good accepted four h lt mv hs names free changes a legal bases numbers told calls domain on =
+  stands_alike left s s' m m' p now x σ cpu as' words good accepted four h lt mv hs names free changes a legal bases numbers told few calls domain on =
       stands_become left s s' m m' p now x σ cpu as' words good accepted four h lt mv hs names free.allowed changes
       (record {
         own = a.own;
@@ -802,7 +803,7 @@ module _ (mode : Mode) (image : Image) where
       })
       (λ q lq e. subst (λ (y : abstract.Processor). KeepsCalls q (left q) s (processor m q) (h.each q lq) y.records words) (sym (a.others q e))
       (calls_kept left s m h p σ words names hp hs good.count.1 free changes q lq))
-      legal bases numbers told calls domain on
+      legal bases numbers told few calls domain on
     where
       hp : p < 32
       hp = let n = good.count.1 in omega arith
@@ -828,10 +829,11 @@ module _ (mode : Mode) (image : Image) where
       → ((q : ℕ) → q < image.processors → length (tasks_of image q) ≤ 4)
       → (h : Stands mode image left s m) → p < image.processors → Moves p s s' cpu as' words → σ.stack < 7 → (names : List Named) → AreSparing p names
       → Changes p σ names s.memory.words words → ((b : ℕ) → IsUserWord b → words b ≡ m'.words b) → HoldsWords m'.words → Alike p m m' x
-      → Legal image m' → HasBases image m' → HoldsNumbers m' → (told : List Entry) → KeepsCallRecords image m' told → IsInDomain x
-      → StandsOn mode image p now s' x
+      → Legal image m' → HasBases image m' → HoldsNumbers m' → (told : List Entry) → length told ≤ suc s.totals.steps
+      → KeepsCallRecords image m' told → IsInDomain x → StandsOn mode image p now s' x
       → Stands mode image (left_behind p now) s' m'
-  stands_after left s s' m m' p now x σ cpu as' words good accepted four h lt mv hs names sparing changes user held a legal bases numbers told calls domain on =
+  stands_after left s s' m m' p now x σ cpu as' words good accepted four h lt mv hs names sparing changes user held a legal bases numbers told few calls domain
+      on =
       stands_alike left s s' m m' p now x σ cpu as' words good accepted four h lt mv hs names sparing.free changes
       (record {
         own = a.own;
@@ -846,7 +848,7 @@ module _ (mode : Mode) (image : Image) where
             ∙ sym (ap (λ w. if w i then 1 else 0) a.present);
         cells = λ k l. cell_same p σ names hp hs s.memory.words words sparing.free.allowed.written changes sparing.cells k l ∙ h.shares.cells k l
             ∙ sym (ap (λ w. w k) a.cells);
-      }) legal bases numbers told calls domain on
+      }) legal bases numbers told few calls domain on
     where
       hp : p < 32
       hp = let n = good.count.1 in omega arith

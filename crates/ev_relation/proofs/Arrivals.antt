@@ -1,5 +1,5 @@
 -- What comes to a processor between steps: its local APIC has other requested vectors, or its mail is another, and all else is as it was.
-use Rattle.std.proofs.Common.{◌≡◌, ℕ, zero, suc, ◌<◌, ◌≤◌, Bool, true, false, ◌||◌, List, [], ◌∷◌, length, get_or, refl, sym, ap, ◌∙◌, subst, ⊎_elim, arith}
+use Rattle.std.proofs.Common.{◌≡◌, ℕ, zero, suc, ◌<◌, ◌≤◌, Bool, true, false, ◌||◌, List, [], ◌∷◌, length, get_or, refl, sym, ap, ◌∙◌, subst, ⊎_elim, arith, append-nil}
 use Rattle.std.specs.Prelude.{◌==◌, ◌+◌, ◌^◌, ◌++◌}
 use Rattle.std.specs.List.{list_any}
 use Rattle.std.proofs.Math.Bool.{or-false}
@@ -152,6 +152,7 @@ module _ (mode : Mode) (image : Image) where
       bases = λ q i. sym (ap (λ (ts : NatMap Task). (ts i).gs) (component (λ (y : abstract.Processor). y.tasks) refl q)) ∙ h.bases q i;
       numbers = record { each = words_kept; cells = h.numbers.cells };
       told = h.told ++ [];
+      few = subst (λ es. length es ≤ s.totals.steps) (sym (append-nil h.told)) h.few;
       calls = (same_kept image m behind h.told [] h.calls (same_calls image m behind (put_same m p now refl refl refl)) tt tt (omega arith)).kept;
       domain = by_processor (λ q x. IsInDomain x) c.inside (λ q lq e. h.domain q lq);
       each = by_processor (λ q x. StandsOn mode image q (left q) concrete x)

@@ -1,5 +1,5 @@
 -- The abstract machine stays legal, and tasks keep their GS bases: its turns are lines of scripts. And no more bodies stand than an image may nest.
-use Rattle.std.proofs.Common.{◌≡◌, ℕ, suc, ◌<◌, ◌≤◌, true, false, List, [], ◌∷◌, length, Some, None, refl, sym, ap, ◌∙◌, subst, arith}
+use Rattle.std.proofs.Common.{◌≡◌, ℕ, suc, ◌<◌, ◌≤◌, true, false, List, [], ◌∷◌, length, Some, None, refl, sym, ap, ◌∙◌, subst, arith, length-append}
 use Rattle.std.specs.Prelude.{slice_get, if◌then◌else◌, ◌++◌}
 use Rattle.std.proofs.lemmas.Bool.{lt-ltb, or_parts}
 use Rattle.ev_body.specs.declared.image.Image.{Image}
@@ -25,7 +25,7 @@ use Rattle.ev_law.specs.Bases.{HasBases}
 use Rattle.ev_law.proofs.Lines.{lines_keep_legal}
 use Rattle.ev_law.proofs.Bases.{lines_keep_bases}
 use Rattle.ev_call_law.specs.Calls.{KeepsCallRecords}
-use Rattle.ev_call_law.proofs.Runs.{lines_keep_calls}
+use Rattle.ev_call_law.proofs.Runs.{lines_keep_calls, lines_are_short}
 
 -- behind a turn, whose outcome is told
 pub turn_legal : (image : Image) → IsImage image → IsAccepted image → (m : Machine) (p : ℕ) → p < image.processors → Legal image m
@@ -40,6 +40,16 @@ pub turn_calls : (image : Image) → IsImage image → IsAccepted image → (m :
 unfolding line_step is_line
 turn_calls image given accepted m p lt legal told h z is = subst (λ (y : Machine × List Entry). KeepsCallRecords image y.0 (told ++ y.1)) is
     (lines_keep_calls image m told (Turn p) given accepted (lt-ltb p image.processors lt) legal h)
+
+-- of which there is one at most
+pub turn_few : (image : Image) → IsImage image → IsAccepted image → (m : Machine) (p : ℕ) → p < image.processors → Legal image m → (told : List Entry)
+    → KeepsCallRecords image m told → (steps : ℕ) → length told ≤ steps → (z : Machine × List Entry) → turn image m p ≡ z
+    → length (told ++ z.1) ≤ suc steps
+unfolding line_step is_line
+turn_few image given accepted m p lt legal told h steps few z is =
+    let one = lines_are_short image m told (Turn p) given accepted (lt-ltb p image.processors lt) legal h in
+    let same = ap (λ (y : Machine × List Entry). length y.1) is in
+    let all = length-append told z.1 in omega (arith, one, same, all, few)
 
 -- and its tasks have the GS bases of the image
 pub turn_bases : (image : Image) (m : Machine) (p : ℕ) → HasBases image m → (z : Machine × List Entry) → turn image m p ≡ z → HasBases image z.0

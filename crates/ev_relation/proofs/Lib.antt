@@ -22,6 +22,7 @@ pub mod After
 pub mod CallNames
 pub mod CallHolders
 pub mod FilledOnce
+pub mod Counted
 pub mod Depth
 pub mod Items
 pub mod NoCalls

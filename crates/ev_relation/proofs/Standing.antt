@@ -1,5 +1,5 @@
 -- Steps of a processor as steps of the whole machine: the choice at the boundary, what a step shows, and what it leaves of the system.
-use Rattle.std.proofs.Common.{◌≡◌, ℕ, Bool, true, false, not, ◌&&◌, ◌||◌, List, [], ◌∷◌, Option, Some, None, refl, sym, ap, ◌∙◌, subst, inl}
+use Rattle.std.proofs.Common.{◌≡◌, ℕ, suc, Bool, true, false, not, ◌&&◌, ◌||◌, List, [], ◌∷◌, Option, Some, None, refl, sym, ap, ◌∙◌, subst, inl}
 use Rattle.std.specs.Prelude.{if◌then◌else◌, ◌==◌}
 use Rattle.std.specs.List.{list_any}
 use Rattle.ev_isa.specs.Word.{NatMap, put_at}
@@ -111,6 +111,11 @@ after_went n s p a cpu words sent = after_step (posted_by n s p sent) p (went cp
 abbrev pub Went : System → ℕ → Apic → Processor → NatMap ℕ → Option Send → Type 0
 Went s p a cpu words sent = step (s.cpus p) (s.apics p) s.memory (s.latches p) ≡ went cpu a words (s.latches p) sent
 
+-- what is sent leaves all but the mail
+pub posted_keeps : (s : System) (key : SendKey) (ts : List ℕ) → posted s key ts ≡ record s { inboxes = (posted s key ts).inboxes }
+posted_keeps s key [] = refl
+posted_keeps s key (t ∷ ts) = posted_keeps (record s { inboxes = put_at s.inboxes t (mailed (s.inboxes t) key) }) key ts
+
 -- it is the same whether mail comes before the rest of the step or behind it
 posted_first : (key : SendKey) (ts : List ℕ) (s : System) (p : ℕ) (a : Apic) (cpu : Processor) (words : NatMap ℕ) (nmi : Bool) (m : Send)
     → posted (after_step s p (went cpu a words nmi (Some m))) key ts
@@ -186,6 +191,7 @@ pub record Moves (p : ℕ) (s s' : System) (cpu : Processor) (as' : List Activat
   pub inboxes : s'.inboxes ≡ s.inboxes
   pub regions : s'.memory.regions ≡ s.memory.regions
   pub words_are : s'.memory.words ≡ words
+  pub steps : s'.totals.steps ≡ suc s.totals.steps
   pub other_cpu : (q : ℕ) → (q == p) ≡ false → s'.cpus q ≡ s.cpus q
   pub other_activations : (q : ℕ) → (q == p) ≡ false → s'.activations q ≡ s.activations q
   pub other_apic : (q : ℕ) → (q == p) ≡ false → s'.apics q ≡ s.apics q
@@ -201,6 +207,7 @@ step_moves s p r hn = record {
   inboxes = refl;
   regions = refl;
   words_are = refl;
+  steps = refl;
   other_cpu = λ q d. at_other s.cpus p q r.cpu d;
   other_activations = λ q d. at_other s.activations p q _ d;
   other_apic = λ q d. at_other s.apics p q r.apic d;
@@ -218,6 +225,7 @@ delivery_moves n p s s' cpu as' words e (Some a) h = record {
   inboxes = h.inboxes;
   regions = h.regions;
   words_are = h.words_are;
+  steps = h.steps;
   other_cpu = h.other_cpu;
   other_activations = h.other_activations;
   other_apic = h.other_apic;

@@ -54,7 +54,7 @@ module _ (mode : Mode) (image : Image) where
     stands = subst (λ z. Stands mode image (left_behind mode image p t.now_left) z.0 (turn image m p).0) (sym (concrete_is left s m p t))
         (subst (λ z. Stands mode image (left_behind mode image p t.now_left) (acted image.processors (after_step s p t.after) p t.after.step).0 z.0)
         (sym t.turns) t.stands);
-    entries = let told : List Entry = told_at (mark_at (marks_of mode image) (s.cpus p).rip) s p in
+    entries = λ counted. let told : List Entry = told_at (mark_at (marks_of mode image) (s.cpus p).rip) s p in
         ap (λ r. shown_by p (bodies_on s p) (is_user (s.cpus p)) (has_fred (s.cpus p)) told r.cpu r.words r.step) t.steps
         ∙ t.shows told ∙ sym (ap (λ z. z.1) t.turns);
   }

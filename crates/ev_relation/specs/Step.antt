@@ -1,5 +1,5 @@
 -- One step of the concrete machine from a state that stands for one of the abstract machine: an edge or visible.
-use Rattle.std.specs.Prelude.{◌≡◌, ◌≢◌, ◌⊎◌, ℕ, ◌<◌, Bool, true, false, List, [], length}
+use Rattle.std.specs.Prelude.{◌≡◌, ◌≢◌, ◌⊎◌, ℕ, ◌^◌, ◌<◌, Bool, true, false, List, [], length}
 use Rattle.ev_isa.specs.Word.{NatMap}
 use Rattle.ev_isa.specs.declared.mode.Mode.{Mode}
 use Rattle.ev_event.specs.declared.frame_note.FrameNote.{FrameNote}
@@ -18,6 +18,10 @@ use Rattle.ev_concrete.specs.Shown.{shown}
 abbrev pub EdgeWrites : (latch now : Bool) → List FrameNote → Type 0
 EdgeWrites latch now frames = ((frames ≡ []) × (now ≡ latch)) ⊎ ((length frames ≡ 1) × (latch ≡ true) × (now ≡ false))
 
+-- So few steps that no number of a call has grown beyond a word, in which the concrete machine keeps it modulo 2^64.
+abbrev pub IsCounted : System → Type 0
+IsCounted s = s.totals.steps < 2 ^ 63
+
 module _ (mode : Mode) (image : Image) where
   -- an edge: the abstract state stays, and fewer edges of this processor are left
   pub record MakesEdge (left : NatMap ℕ) (s : System) (m : Machine) (p : ℕ) : Type 0 where
@@ -27,12 +31,12 @@ module _ (mode : Mode) (image : Image) where
     pub stands : Stands mode image now (concrete_step image.processors s p).0 m
     pub writes : EdgeWrites (s.latches p) ((concrete_step image.processors s p).0.latches p) (concrete_step image.processors s p).1
 
-  -- a visible step: the abstract machine makes one with the same entries
+  -- a visible step: the abstract machine makes one with the same entries, where steps are few enough for their numbers
   pub record MakesTurn (left : NatMap ℕ) (s : System) (m : Machine) (p : ℕ) : Type 0 where
     pub seen : is_visible (marks_of mode image) s p ≡ true
     pub now : NatMap ℕ
     pub stands : Stands mode image now (concrete_step image.processors s p).0 (turn image m p).0
-    pub entries : shown (marks_of mode image) s p ≡ (turn image m p).1
+    pub entries : IsCounted s → shown (marks_of mode image) s p ≡ (turn image m p).1
 
   -- one concrete step, which writes over no live word, and tells how many bodies stand behind it
   pub record Simulated (left : NatMap ℕ) (s : System) (m : Machine) (p : ℕ) : Type 0 where

@@ -59,7 +59,7 @@ use Rattle.ev_relation.proofs.CallKinds.{is_over_task, plain_no_nmi, over_kind}
 use Rattle.ev_relation.proofs.Domains.{four_tasks}
 use Rattle.ev_relation.proofs.Maps.{at_same, at_other}
 use Rattle.ev_user.proofs.KeepsNumbers.{starts_with_words, causes_small}
-use Rattle.ev_relation.proofs.Legality.{turn_legal, turn_bases, turn_calls}
+use Rattle.ev_relation.proofs.Legality.{turn_legal, turn_bases, turn_calls, turn_few}
 use Rattle.ev_relation.proofs.Standing.{Moves, step_moves, delivery_moves, delivery_apic}
 use Rattle.ev_relation.proofs.After.{apic_again, kernel_names, kernel_spares, kernel_user}
 use Rattle.ev_relation.proofs.Depth.{stands_depth}
@@ -308,7 +308,10 @@ module _ (mode : Mode) (image : Image) (formed : IsImage image) (built : IsBuilt
       (kernel_user p (record { stack = n; used = 0 }) small (omega arith) words words' m.words begun.changes h.shares.user) h.shares.held
       (turn_legal image formed built.accepted m p lt h.legal (with_processor m p (raised_in x cause body set), entry_of p (raised_event cause) next ∷ []) turns)
       (turn_bases image m p h.bases (with_processor m p (raised_in x cause body set), entry_of p (raised_event cause) next ∷ []) turns)
-      (h.told ++ entry_of p (raised_event cause) next ∷ []) (turn_calls image formed built.accepted m p lt h.legal h.told h.calls
+      (h.told ++ entry_of p (raised_event cause) next ∷ [])
+      (turn_few image formed built.accepted m p lt h.legal h.told h.calls s.totals.steps h.few
+      (with_processor m p (raised_in x cause body set), entry_of p (raised_event cause) next ∷ []) turns)
+      (turn_calls image formed built.accepted m p lt h.legal h.told h.calls
       (with_processor m p (raised_in x cause body set), entry_of p (raised_event cause) next ∷ []) turns)
       (starts_with_words body User (raised_event cause) (causes_small cause is_cause), tt) st.task
       (begun.blocking ∙ sym (plain_no_nmi image b (ap is_over_task kind ∙ over_one cause is_cause)))

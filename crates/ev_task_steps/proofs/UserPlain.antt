@@ -49,7 +49,7 @@ use Rattle.ev_relation.proofs.Maps.{at_same, at_other}
 use Rattle.ev_relation.proofs.Standing.{vector_first, Moves, step_moves}
 use Rattle.ev_relation.proofs.After.{AreSparing, word_names, word_spares, latch_parts, apic_again, own_after, left_behind, stands_after}
 use Rattle.ev_relation.proofs.Domains.{four_tasks}
-use Rattle.ev_relation.proofs.Legality.{turn_legal, turn_bases, turn_calls}
+use Rattle.ev_relation.proofs.Legality.{turn_legal, turn_bases, turn_calls, turn_few}
 use Rattle.ev_relation.proofs.Depth.{stands_depth}
 use Rattle.ev_relation.proofs.Tells.{AtRest, at_rest}
 use Rattle.ev_relation.proofs.Facts.{Facts}
@@ -144,7 +144,7 @@ module _ (mode : Mode) (image : Image) (formed : IsImage image) (built : IsBuilt
       → (memory : NatMap ℕ) → ((a : ℕ) → IsUserWord a → words a ≡ memory a) → HoldsWords memory
       → Legal image (with_processor (record m { words = memory }) p (record (with_task (processor m p) t) { bodies = bs; pending = set }))
       → HasBases image (with_processor (record m { words = memory }) p (record (with_task (processor m p) t) { bodies = bs; pending = set }))
-      → (told : List Entry) → KeepsCallRecords image (with_processor (record m { words = memory }) p
+      → (told : List Entry) → length told ≤ suc s.totals.steps → KeepsCallRecords image (with_processor (record m { words = memory }) p
       (record (with_task (processor m p) t) { bodies = bs; pending = set })) told
       → AreOfWords bs → IsTask t → cpu.nmi_blocked ≡ list_any (is_nmi_body image) bs
       → ApicIs mode image (s'.apics p) set bs → own ≤ 500 → AreFree (processor m p).records fs → ((k : ℕ) → is_filled k fs ≡ is_filled k [])
@@ -153,8 +153,8 @@ module _ (mode : Mode) (image : Image) (formed : IsImage image) (built : IsBuilt
       → (StandsOn mode image p (own + inner_edges (s.latches p)) s' (record (with_task (processor m p) t) { bodies = bs; pending = set }))
       × Stands mode image (left_behind mode image p (own + inner_edges (s.latches p))) s'
       (with_processor (record m { words = memory }) p (record (with_task (processor m p) t) { bodies = bs; pending = set }))
-  user_after left s s' m p lt h u cpu as' words t fs bs set own hb mv names sparing changes memory user held legal bases told calls of_words good blocked
-      apic few free filled chain =
+  user_after left s s' m p lt h u cpu as' words t fs bs set own hb mv names sparing changes memory user held legal bases told few_told calls of_words good
+      blocked apic few free filled chain =
       let x : abstract.Processor = processor m p in
       let y : abstract.Processor = record (with_task x t) { bodies = bs; pending = set } in
       let small : p < 32 = let eight = formed.count.1 in omega arith in
@@ -189,7 +189,7 @@ module _ (mode : Mode) (image : Image) (formed : IsImage image) (built : IsBuilt
               mail_nmi = refl;
               records = refl;
               queue = refl;
-            }) legal bases numbers told calls inside there,
+            }) legal bases numbers told few_told calls inside there,
       )
     where
       others : (i : ℕ) → (i ≡ (processor m p).running → ⊥) → put_at (processor m p).tasks (processor m p).running t i ≡ (processor m p).tasks i
@@ -254,7 +254,9 @@ module _ (mode : Mode) (image : Image) (formed : IsImage image) (built : IsBuilt
       (turn_legal image formed built.accepted m p lt h.legal (with_processor (record m { words = memory }) p (record (with_task x t) { bodies = [] }), [])
       turned)
       (turn_bases image m p h.bases (with_processor (record m { words = memory }) p (record (with_task x t) { bodies = [] }), []) turned)
-      (h.told ++ []) (turn_calls image formed built.accepted m p lt h.legal h.told h.calls
+      (h.told ++ []) (turn_few image formed built.accepted m p lt h.legal h.told h.calls s.totals.steps h.few
+      (with_processor (record m { words = memory }) p (record (with_task x t) { bodies = [] }), []) turned)
+      (turn_calls image formed built.accepted m p lt h.legal h.told h.calls
       (with_processor (record m { words = memory }) p (record (with_task x t) { bodies = [] }), []) turned)
       tt g.runs.task u.open_to
       (apic_again mode image (s.apics p) _ x.pending x.bodies [] (at_same s.apics p p (s.apics p) refl)

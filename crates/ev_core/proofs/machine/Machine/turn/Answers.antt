@@ -1,4 +1,5 @@
 use Rattle.std.proofs.Common.{◌<◌, ◌+◌, ◌++◌, ◌∙◌, ap, sym, subst, length, arith}
+use Rattle.std.specs.Prelude.{◌^◌}
 use Rattle.ev_abstract.specs.Run.{run}
 use Rattle.ev_core.specs.Run.{MachineView, IsRun, IsStandingAs}
 use Rattle.ev_core.specs.contracts.machine.Machine.{the_view}
@@ -27,7 +28,8 @@ returns-clause-turns g c mode image s m so =
     let tells = tell mode image s m _ here c.args.p within in
     let shows = c.settle.ensures.settled _ _ here.at.shows tells in
     let edges = c.settle.ensures.frames _ _ here.at.shows tells in
-    turn_made mode image s m _ here c.args.p within _ _
+    let few = subst (λ (v : MachineView). v.parts.totals.steps < 2 ^ 62) (sym c.self.view_is) c.requires.count in
+    turn_made mode image s m _ here c.args.p within few _ _
     (c.step-shown.ensures.shows _ _ shows (last_tells mode image s m _ here c.args.p within))
     (c.step-shown.ensures.entry _ _ shows) (c.keep.ensures ∙ (λ k. edges k ++ c.step-shown.ensures.frame _ _ shows k))
 
@@ -38,7 +40,8 @@ invariant_of-self g c =
     let tells = edges_tell _ h c.args.p within in
     let shows = c.settle.ensures.settled _ _ h.so.at.shows tells in
     let edges = c.settle.ensures.frames _ _ h.so.at.shows tells in
-    let made = turn_made h.mode h.image h.system h.machine _ h.so c.args.p (lt _ h c.args.p within)
+    let few = subst (λ (v : MachineView). v.parts.totals.steps < 2 ^ 62) (sym c.self.view_is) c.requires.count in
+    let made = turn_made h.mode h.image h.system h.machine _ h.so c.args.p (lt _ h c.args.p within) few
     (record { entry = c.step-shown.result.entry; frames = c.keep.new.frames }) _
     (c.step-shown.ensures.shows _ _ shows (last_tells h.mode h.image h.system h.machine _ h.so c.args.p (lt _ h c.args.p within)))
     (c.step-shown.ensures.entry _ _ shows) (c.keep.ensures ∙ (λ k. edges k ++ c.step-shown.ensures.frame _ _ shows k)) in
