@@ -4,6 +4,7 @@ pub mod ItemCells
 pub mod ItemCode
 pub mod CallCells
 pub mod CallPlaces
+pub mod CallFunctions
 pub mod ItemState
 pub mod ItemLocals
 pub mod ItemAddresses
