@@ -24,13 +24,13 @@ use Rattle.ev_symbolic.specs.Agrees.{Code, edge_cell}
 use Rattle.ev_symbolic.specs.Listed.{cells_from, AllFound}
 use Rattle.ev_blocks.specs.Calls.{record_code, busy_code, record_filling, fill_code, link_code, answer_code, turn_code, turned_code, taken_code, behind_first, behind_state, at_head, at_link, behind_exchange, at_answer, call_end, behind_take, at_turn, at_old_link, behind_turn, at_taken, at_function, take_end, at_next, behind_next}
 use Rattle.ev_blocks.specs.Calls as calls
-use Rattle.ev_blocks.specs.Items.{numbers_code, behind_branch, behind_kick}
+use Rattle.ev_blocks.specs.Items.{numbers_code, behind_branch, behind_kick, at_quiet, kick_end}
 use Rattle.ev_paths.specs.Cells.{CellIs}
 use Rattle.ev_table.specs.Table.{code_table, places_of, item_lines}
 use Rattle.ev_table.proofs.Whole.{leads_to}
 use Rattle.ev_relation.proofs.Facts.{Facts}
 use Rattle.ev_body_steps.proofs.ItemCells.{bytes_of, EdgesFrom}
-use Rattle.ev_body_steps.proofs.ItemCode.{fill_label, quiet_label, kick_end, call_labels_are}
+use Rattle.ev_body_steps.proofs.ItemCode.{fill_label, call_labels_are}
 
 -- ---- what stands where
 
@@ -96,7 +96,7 @@ pub record KickCode (code : Code) (a next to s : ℕ) : Type 0 where
   pub numbers : EdgesFrom code (a + behind_branch) (numbers_code 0x830 0x40fb to)
   pub sends : CellIs code (a + 43) Wrmsr (a + behind_kick) Always
   pub over : EdgesFrom code (a + behind_kick) (Jmp (pos 1) ∷ [])
-  pub quiet : CellIs code (a + quiet_label) Ins.Nop (a + kick_end) Always
+  pub quiet : CellIs code (a + at_quiet) Ins.Nop (a + kick_end) Always
   pub follows : a + kick_end ≡ next
 
 -- ---- distances
@@ -344,7 +344,7 @@ module _ (mode : Mode) (image : Image) (facts : Facts mode image) (n : ℕ) (b :
       let k2 : Name = own_label n i (codes "K2") in
       let labels = call_labels_are mode image facts n b is i (Kick to s) hi in
       let test = several code env a 0 (AluImm Cmp s (pos 2) ∷ []) (drop 1 lines) (cells (Kick to s) hi) in
-      let none = jumps_to code env a 7 (Some Nz) k1 quiet_label (drop 2 lines) labels.0 test.1 in
+      let none = jumps_to code env a 7 (Some Nz) k1 at_quiet (drop 2 lines) labels.0 test.1 in
       let numbers = several code env a 13 (numbers_code 0x830 0x40fb to) (drop 5 lines) none.1 in
       let sends = one code env a 43 Wrmsr Always (drop 6 lines) numbers.1 in
       let over = jumps_to code env a 45 None k2 kick_end (drop 7 lines) labels.1 sends.1 in

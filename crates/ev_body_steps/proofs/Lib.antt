@@ -25,6 +25,7 @@ pub mod ItemResched
 pub mod ItemMsr
 pub mod ItemInterrupts
 pub mod ItemWait
+pub mod ItemKick
 pub mod ItemUser
 pub mod ItemPage
 pub mod ItemPages
