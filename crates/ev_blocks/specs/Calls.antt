@@ -46,12 +46,19 @@ record_code site = AluImm Add 3 (pos (0x40 * site)) ∷ []
 abbrev pub wait_code : List Ins
 wait_code = AluImm Cmp 0 (pos 0) ∷ Jcc Nz (negsuc 35) ∷ []
 
--- `call` behind its load, up to the load of the head
-abbrev pub fill_code : (address func to s : ℕ) → List Ins
-fill_code address func to s =
-    AluImm Cmp 0 (pos 0) ∷ Jcc Z (pos 15) ∷ MovImm s 0 ∷ Jmp (pos 151)
-    ∷ MovImm 0 address ∷ Store 3 (pos 8) 0 ∷ MovImm 0 func ∷ Store 3 (pos 0x38) 0 ∷ Store 3 (pos 0x10) s ∷ Load 0 3 (pos 0x28) ∷ AluImm Add 0 (pos 1)
+-- `call` behind its load: where the record is in use the local gets 0, and the item is done
+abbrev pub busy_code : ℕ → List Ins
+busy_code s = AluImm Cmp 0 (pos 0) ∷ Jcc Z (pos 15) ∷ MovImm s 0 ∷ Jmp (pos 151) ∷ []
+
+-- else it is filled
+abbrev pub record_filling : (address func to s : ℕ) → List Ins
+record_filling address func to s =
+    MovImm 0 address ∷ Store 3 (pos 8) 0 ∷ MovImm 0 func ∷ Store 3 (pos 0x38) 0 ∷ Store 3 (pos 0x10) s ∷ Load 0 3 (pos 0x28) ∷ AluImm Add 0 (pos 1)
     ∷ Store 3 (pos 0x28) 0 ∷ MovImm 0 1 ∷ Store 3 (pos 0) 0 ∷ MovImm 2 (pcpu to + head_offset) ∷ []
+
+-- both, up to the load of the head
+abbrev pub fill_code : (address func to s : ℕ) → List Ins
+fill_code address func to s = busy_code s ++ record_filling address func to s
 
 -- the record's link becomes the head that was read
 abbrev pub link_code : List Ins
@@ -230,7 +237,7 @@ block_of_call fred layout (BehindWait is_done) =
     call_block fred layout (call_forms layout (BehindWait is_done)) [] behind_state wait_code
     (with_rax (K (state_word is_done)) (item_opening layout behind_state)) 2
 block_of_call fred layout (BehindBusy s) =
-    call_block fred layout (call_forms layout (BehindBusy s)) [] behind_state (fill_code 0 0 0 s) (with_rax (K 1) (item_opening layout behind_state)) 4
+    call_block fred layout (call_forms layout (BehindBusy s)) [] behind_state (busy_code s) (with_rax (K 1) (item_opening layout behind_state)) 4
 block_of_call fred layout (AtFill address func to s) =
     call_block fred layout (call_forms layout (AtFill address func to s)) [] behind_state (fill_code address func to s)
     (with_record (word (at_base record_tag 0x28) (X 25) ∷ site_words) (with_rax (K 0) (item_opening layout behind_state))) 13

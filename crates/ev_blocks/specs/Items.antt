@@ -101,7 +101,8 @@ page_word false = K (page_map + 0x800)
 abbrev pub numbers_code : (rcx rax rdx : ℕ) → List Ins
 numbers_code rcx rax rdx = MovImm 1 rcx ∷ MovImm 0 rax ∷ MovImm 2 rdx ∷ []
 
--- So many bytes of an item come before: the move of a register to RAX; `sti`; of `kick`, the comparison with its branch; and its sending.
+-- So many bytes of an item come before: the move of a register to RAX; `sti`; of `kick`, the comparison, the branch and the sending; what is visible where it
+-- sends nothing; and its end.
 abbrev pub behind_move : ℕ
 behind_move = 3
 
@@ -109,13 +110,25 @@ behind_move = 3
 abbrev pub behind_sti : ℕ
 behind_sti = 1
 
--- the comparison of `kick` and its branch
+-- the comparison of `kick`
+abbrev pub behind_comparison : ℕ
+behind_comparison = 7
+
+-- and its branch
 abbrev pub behind_branch : ℕ
 behind_branch = 13
 
 -- what `kick` sends with
 abbrev pub behind_kick : ℕ
 behind_kick = 45
+
+-- and what is visible where it sends nothing
+abbrev pub at_quiet : ℕ
+at_quiet = 50
+
+-- its end
+abbrev pub kick_end : ℕ
+kick_end = 51
 
 -- the block of each spot, in a mode and a layout
 abbrev pub body_block : Bool → Layout → BodySpot → Block

@@ -51,7 +51,7 @@ use Rattle.ev_blocks.specs.Fred as fred
 use Rattle.ev_blocks.specs.Idt.{Stub, Sys, Common, IdtToKernel, IdtToTask, IdtToNext}
 use Rattle.ev_blocks.specs.Idt as idt
 use Rattle.ev_blocks.specs.Calls.{CallSpot, AtRecord, BehindWait, BehindBusy, AtFill, AtHead, AtLink, BehindFailure, BehindCall, AtTake, BehindTake, AtTurn, BehindTurn, AtTaken, AtFinish, BehindNext, AtOffset}
-use Rattle.ev_blocks.specs.Items.{BodySpot, AtTable, AtJump, AtNumber, AtNumbers, AtUserWord, AtPageWord, BehindSti, InCall}
+use Rattle.ev_blocks.specs.Items.{BodySpot, AtTable, AtJump, AtNumber, AtNumbers, AtKick, AtUserWord, AtPageWord, BehindSti, BehindKick, InCall}
 use Rattle.ev_blocks.specs.Items as items
 use Rattle.ev_blocks.specs.Blocks.{Spot, InFred, InIdt, InBody, block}
 use Rattle.ev_paths.specs.Ends.{TellsNoCr2}
@@ -141,22 +141,25 @@ unfolding spelling four_bytes
 stays_open Fred items.AtItem h i = refl
 stays_open Fred (AtNumber n) h i = refl
 stays_open Fred (AtNumbers rcx rax rdx) h i = refl
+stays_open Fred (AtKick to) h i = refl
 stays_open Fred AtUserWord h i = refl
 stays_open Fred (AtPageWord true) h i = refl
 stays_open Fred (AtPageWord false) h i = refl
 stays_open Fred BehindSti h i = refl
+stays_open Fred BehindKick h i = refl
 stays_open Fred (InCall s) h i = call_open Fred s h
 stays_open Idt items.AtItem h i = refl
 stays_open Idt (AtNumber n) h i = refl
 stays_open Idt (AtNumbers rcx rax rdx) h i = refl
+stays_open Idt (AtKick to) h i = refl
 stays_open Idt AtUserWord h i = refl
 stays_open Idt (AtPageWord true) h i = refl
 stays_open Idt (AtPageWord false) h i = refl
 stays_open Idt BehindSti h i = refl
+stays_open Idt BehindKick h i = refl
 stays_open Idt (InCall s) h i = call_open Idt s h
 stays_open mode AtTable h i = let clash : false ≡ true = i in absurd (cc)
 stays_open mode AtJump h i = let clash : false ≡ true = i in absurd (cc)
-stays_open mode _ h i = let clash : false ≡ true = h in absurd (cc)
 
 -- those of a record that is filled too
 fill_open : (mode : Mode) (s : BodySpot) → is_fill_spot s ≡ true → every (is_open mode) (block mode (body mode s)) ≡ true

@@ -20,6 +20,7 @@ use Rattle.ev_listing.specs.Marks.{Marked, stmts_of, Always}
 use Rattle.ev_abstract.specs.Run.{item_at}
 use Rattle.ev_symbolic.specs.Agrees.{Code}
 use Rattle.ev_blocks.specs.Calls.{at_head, call_end, at_turn, take_end}
+use Rattle.ev_blocks.specs.Items.{at_quiet, kick_end}
 use Rattle.ev_paths.specs.Cells.{CellIs}
 use Rattle.ev_table.specs.Table.{code_table, places_of, item_lines}
 use Rattle.ev_table.proofs.Whole.{leads_to}
@@ -58,21 +59,13 @@ taken_other n i x =
 abbrev pub fill_label : ℕ
 fill_label = 51
 
--- that of `kick` where it sends nothing
-abbrev pub quiet_label : ℕ
-quiet_label = 50
-
--- and that behind it
-abbrev pub kick_end : ℕ
-kick_end = 51
-
 -- each label that such an item jumps to and that is its own
 abbrev pub CallLabelsAre : Places → ℕ → ℕ → ℕ → Item → Type 0
 CallLabelsAre env n k a (Call site to func s) =
     (place env (own_label n k (codes "L1")) ≡ a + fill_label) × (place env (own_label n k (codes "L2")) ≡ a + at_head)
     × (place env (own_label n k (codes "L3")) ≡ a + call_end)
 CallLabelsAre env n k a (Kick to s) =
-    (place env (own_label n k (codes "K1")) ≡ a + quiet_label) × (place env (own_label n k (codes "K2")) ≡ a + kick_end)
+    (place env (own_label n k (codes "K1")) ≡ a + at_quiet) × (place env (own_label n k (codes "K2")) ≡ a + kick_end)
 CallLabelsAre env n k a (Wait site) = place env (own_label n k (codes "W0")) ≡ a
 CallLabelsAre env n k a Take = (place env (own_label n k (codes "T1")) ≡ a + at_turn) × (place env (own_label n k (codes "T3")) ≡ a + take_end)
 CallLabelsAre env n k a _ = Unit {0}
@@ -120,7 +113,7 @@ module _ (mode : Mode) (image : Image) (facts : Facts mode image) (n : ℕ) (b :
       let k1 : Name = own_label n i (codes "K1") in
       let k2 : Name = own_label n i (codes "K2") in
       let lines : List Marked = item_lines mode image n b i (Kick to s) in (
-        facts.own_labels n i b (Kick to s) 75 (49 ∷ []) quiet_label (omega arith) is h
+        facts.own_labels n i b (Kick to s) 75 (49 ∷ []) at_quiet (omega arith) is h
             (first_label (take 7 lines) (drop 8 lines) k1 (past4 (past (past (past tt))))),
         facts.own_labels n i b (Kick to s) 75 (50 ∷ []) kick_end (omega arith) is h
             (first_label (take 9 lines) (drop 10 lines) k2

@@ -14,7 +14,7 @@ use Rattle.ev_abstract.specs.Machine.{Machine, processor}
 use Rattle.ev_abstract.specs.Run.{item_at}
 use Rattle.ev_concrete.specs.ConcreteRun.{System}
 use Rattle.ev_built.specs.Built.{IsBuilt}
-use Rattle.ev_symbolic.specs.Value.{M, K, X}
+use Rattle.ev_symbolic.specs.Value.{M, V, K, X}
 use Rattle.ev_symbolic.specs.State.{SS, Block}
 use Rattle.ev_symbolic.specs.Run.{brun}
 use Rattle.ev_symbolic.specs.Agrees.{Env, eval_flags, Code, Agrees, At}
@@ -86,21 +86,15 @@ module _ (mode : Mode) (image : Image) (built : IsBuilt image) (good : IsImage i
     pub flags : Flags
     pub next : interrupts.NextItem mode image built good facts left s m h p hp o body' is ss (with_registers c.regs v) flags
 
-  -- the item that begins where the block ends
-  to_next : first_fill on.fills ≡ None → (d : Bool) (ss : ℕ) → IsKernelSs mode ss → (extra v : ℕ → ℕ) (f : Flags)
-      → At code (block mode (behind_load mode d)) 2 (here mode p o.κ o.σ ss o.w extra v f) c s.memory
+  -- the item that begins where an activation is so many bytes behind the beginning of the one before, whose flags no context tells
+  pub opens_behind : first_fill on.fills ≡ None → (ss : ℕ) → IsKernelSs mode ss → (extra v : ℕ → ℕ) (f : Flags) (offset : ℕ) (rax rcx rdx : V) (g : Flags)
+      → ItemState mode (here mode p o.κ o.σ ss o.w extra v f) c s.memory offset rax rcx rdx g
       → InCode mode image (origin_of o.κ) (here mode p o.κ o.σ ss o.w extra v f) o.w b s.memory.words
-      → extra 20 + behind_wait d ≡ item_place mode image b.body b.place → b.flags ≡ None → length c.regs ≡ 16
-      → edges mode (behind_load mode d) 2 ≤ on.own → Opens ss v
-  to_next unfilled d ss ss_is extra v f at means next unknown long enough =
+      → extra 20 + offset ≡ item_place mode image b.body b.place → b.flags ≡ None → length c.regs ≡ 16
+      → edges mode (body mode AtItem) 0 ≤ on.own → Opens ss v
+  opens_behind unfilled ss ss_is extra v f offset rax rcx rdx g state means next unknown long enough =
       let way = at_the_item mode in
-      let B : Block = block mode (behind_load mode d) in
       let e : Env = here mode p o.κ o.σ ss o.w extra v f in
-      let z = wait_end mode d in
-      let a : Agrees e B.ground z.0 c s.memory = at_end code B 2 z.0 z.1 e c s.memory at in
-      let g : Flags = eval_flags e z.0.flags in
-      let state : ItemState mode e c s.memory (behind_wait d) (K (state_word d)) (X 1) (X 2) g
-      = item_state mode e B.ground z.0 c s.memory (behind_wait d) (K (state_word d)) (X 1) (X 2) (wait_known mode d) z.2 a in
       let there : ℕ = item_place mode image b.body b.place in
       let extra' : ℕ → ℕ = λ i. there in
       let v' : ℕ → ℕ = with_registers c.regs v in
@@ -109,7 +103,7 @@ module _ (mode : Mode) (image : Image) (built : IsBuilt image) (good : IsImage i
       let small : there + 16 < 2 ^ 64 = subst (λ y. y + 16 < 2 ^ 64) (sym here_is) (facts.item_small b.body b.place body' is).1 in
       let plain = step.plain_kind mode image built good facts left s m h p hp o in
       let windows = step.windows mode image built good facts left s m h p hp o body' is (body mode AtItem) way.over ss extra' v' g in
-      let lands_at = lands mode e u c s.memory (behind_wait d) (K (state_word d)) (X 1) (X 2) g state
+      let lands_at = lands mode e u c s.memory offset rax rcx rdx g state
       (any_registers mode p o.κ o.σ ss o.w o.w extra extra' v v f g c.regs refl refl refl) refl c.regs long refl v refl there refl small
       s.memory.words (any_known mode p o.κ o.σ ss o.w extra extra' v f g c.regs s.memory.words state.words) windows in
       let rip : c.rip ≡ there = state.rip ∙ ap (λ y. y % M) next ∙ (let q : there % M ≡ there = omega arith in q) in
@@ -122,20 +116,17 @@ module _ (mode : Mode) (image : Image) (built : IsBuilt image) (good : IsImage i
       (step.fits mode image built good facts left s m h p hp o body' is (body mode AtItem) way.over ss extra' v' g refl tt (way.told u)) agrees in
       let item : InItem mode image (origin_of o.κ) u o.w b s.memory.words = record {
         saved = saved_again mode image (origin_of o.κ) e u o.w (beyond_registers c.regs v) refl refl refl means.saved;
-        locals = locals_behind mode image e c s.memory (behind_wait d) (K (state_word d)) (X 1) (X 2) g state b means.locals None tt;
+        locals = locals_behind mode image e c s.memory offset rax rcx rdx g state b means.locals None tt;
         flags = subst (λ q. FlagsAre mode image q g) (sym unknown) tt;
-        calls = calls_behind mode image e c s.memory (behind_wait d) (K (state_word d)) (X 1) (X 2) g state b means.locals None tt s.memory.words
-            (λ k l j lj. refl) means.calls;
-      } in
-      let falls = wait_falls mode d in
-      let enough' : edges mode (body mode AtItem) 0 ≤ on.own = omega arith in record {
+        calls = calls_behind mode image e c s.memory offset rax rcx rdx g state b means.locals None tt s.memory.words (λ k l j lj. refl) means.calls;
+      } in record {
         flags = g;
         next = record {
           extra = extra';
           place = refl;
           means = item;
           at = at_next;
-          enough = enough';
+          enough = enough;
           act = record {
             stands = record {
               spot = body mode AtItem;
@@ -147,7 +138,7 @@ module _ (mode : Mode) (image : Image) (built : IsBuilt image) (good : IsImage i
               ss_is = ss_is;
               masked = step.masks_flags mode image built good facts left s m h p hp o g state.flags;
               within = omega arith;
-              enough = enough';
+              enough = enough;
               at = at_next;
               long = long;
             };
@@ -158,6 +149,21 @@ module _ (mode : Mode) (image : Image) (built : IsBuilt image) (good : IsImage i
           };
         };
       }
+
+  -- the one that begins where the block of `wait` ends
+  to_next : first_fill on.fills ≡ None → (d : Bool) (ss : ℕ) → IsKernelSs mode ss → (extra v : ℕ → ℕ) (f : Flags)
+      → At code (block mode (behind_load mode d)) 2 (here mode p o.κ o.σ ss o.w extra v f) c s.memory
+      → InCode mode image (origin_of o.κ) (here mode p o.κ o.σ ss o.w extra v f) o.w b s.memory.words
+      → extra 20 + behind_wait d ≡ item_place mode image b.body b.place → b.flags ≡ None → length c.regs ≡ 16
+      → edges mode (behind_load mode d) 2 ≤ on.own → Opens ss v
+  to_next unfilled d ss ss_is extra v f at means next unknown long enough =
+      let B : Block = block mode (behind_load mode d) in
+      let e : Env = here mode p o.κ o.σ ss o.w extra v f in
+      let z = wait_end mode d in
+      let a : Agrees e B.ground z.0 c s.memory = at_end code B 2 z.0 z.1 e c s.memory at in
+      let falls = wait_falls mode d in
+      opens_behind unfilled ss ss_is extra v f (behind_wait d) (K (state_word d)) (X 1) (X 2) (eval_flags e z.0.flags)
+      (item_state mode e B.ground z.0 c s.memory (behind_wait d) (K (state_word d)) (X 1) (X 2) (wait_known mode d) z.2 a) means next unknown long (omega arith)
 
   -- at the end of the block
   pub behind_wait_opens : first_fill on.fills ≡ None → (d : Bool) (ss : ℕ) → IsKernelSs mode ss → (extra v : ℕ → ℕ) (f : Flags)

@@ -10,7 +10,7 @@ use Rattle.ev_isa.specs.declared.instruction.Ins.TheVariants.{Jmp}
 use Rattle.ev_isa.specs.declared.mode.Mode.{Mode}
 use Rattle.ev_isa.specs.declared.mode.Mode.TheVariants.{Idt, Fred}
 use Rattle.ev_effect.specs.Task.{Task}
-use Rattle.ev_body.specs.declared.item.Item.TheVariants.{Ret}
+use Rattle.ev_body.specs.declared.item.Item.TheVariants.{Kick, Ret}
 use Rattle.ev_body.specs.declared.body.Body.{Body}
 use Rattle.ev_body.specs.declared.image.Image.{Image}
 use Rattle.ev_body.specs.WellFormed.{IsImage}
@@ -28,7 +28,7 @@ use Rattle.ev_abstract.specs.Run.{item_at}
 use Rattle.ev_listing.specs.Marks.{Always}
 use Rattle.ev_concrete.specs.ConcreteRun.{System, Activation, without_last, activations_by, is_return}
 use Rattle.ev_concrete.specs.Depth.{bodies_on, begins_body}
-use Rattle.ev_built.specs.Built.{IsBuilt}
+use Rattle.ev_built.specs.Built.{IsBuilt, is_built_item}
 use Rattle.ev_symbolic.specs.State.{SS, Block}
 use Rattle.ev_symbolic.specs.Value.{V, FVar}
 use Rattle.ev_symbolic.specs.Names.{item_tag, key, says_ring}
@@ -76,7 +76,7 @@ use Rattle.ev_body_steps.proofs.Return.{Exits, fred_mark, idt_mark, fred_exits, 
 use Rattle.ev_relation.proofs.BodyTables.{table_place, table_reads}
 use Rattle.ev_relation.proofs.Depth.{body_at, ends_a_body}
 use Rattle.ev_relation.proofs.Items.{which}
-use Rattle.ev_relation.proofs.NoCalls.{never_in_call}
+use Rattle.ev_relation.proofs.NoCalls.{not_built, never_in_call}
 use Rattle.ev_body_steps.proofs.ItemWords.{word_of}
 use Rattle.ev_body_steps.proofs.ItemInside.{number_steps}
 use Rattle.ev_body_steps.proofs.ItemMsr.{numbers_steps}
@@ -85,7 +85,10 @@ use Rattle.ev_body_steps.proofs.ItemPage.{page_block_steps}
 use Rattle.ev_body_steps.proofs.KernelStep as step
 use Rattle.ev_body_steps.proofs.KernelItems as items
 use Rattle.ev_body_steps.proofs.ItemInterrupts.{behind_steps}
+use Rattle.ev_body_steps.proofs.ItemState.{with_registers}
 use Rattle.ev_body_steps.proofs.ItemInterrupts as interrupts
+use Rattle.ev_body_steps.proofs.ItemWait as wait
+use Rattle.ev_body_steps.proofs.ItemKick as kick
 use Rattle.ev_body_steps.proofs.BodyInterrupt as arrivals
 use Rattle.ev_body_steps.proofs.SwitchStep as switching
 use Rattle.ev_body_steps.proofs.CallFills as fillings
@@ -399,6 +402,7 @@ module _ (mode : Mode) (image : Image) (built : IsBuilt image) (good : IsImage i
           → InSpot mode image (origin_of κ) spot (env ss extra v f) w b (first_fill on.fills) s.memory.words → length c.regs ≡ 16 → edges mode
           (body mode spot) k ≤ on.own
           → item_at (Some body') b.place ≡ Some ctx.item → Result
+      unfolding is_built_item
       at_body act AtTable unfilled k ss ss_is extra v f n at means long enough hi =
           at_table (unfilled refl) act ss ss_is extra v f (subst (λ j. At code (block mode (body mode AtTable)) j (env ss extra v f) c s.memory)
           (n ∙ (at_the_table mode).steps) at)
@@ -440,8 +444,16 @@ module _ (mode : Mode) (image : Image) (built : IsBuilt image) (good : IsImage i
           ctx.item (which image built good b.body body' is b.place ctx.item hi) hi
       at_body act (InCall s') unfilled k ss ss_is extra v f n at means long enough hi = absurd (never_in_call image built good b.body body' is mode (origin_of κ)
           (env ss extra v f) w b refl (first_fill on.fills) s.memory.words s' means)
-      at_body act (AtKick to) unfilled k ss ss_is extra v f n at means long enough hi = absurd means
-      at_body act BehindKick unfilled k ss ss_is extra v f n at means long enough hi = absurd means
+      at_body act (AtKick to) unfilled k ss ss_is extra v f n at means long enough hi =
+          absurd (not_built image built good b.body body' is b.place (Kick to means.s) means.item refl)
+      at_body act BehindKick unfilled k ss ss_is extra v f n at means long enough hi =
+          let last : k ≡ 1 = n ∙ kick.jump_steps mode in
+          let z : wait.Opens mode image built good facts left s m h p hp o body' is ss v
+          = kick.behind_kick_opens mode image built good facts left s m h p hp o body' is (unfilled refl) ss ss_is extra v f
+          (subst (λ j. At code (block mode (body mode BehindKick)) j (env ss extra v f) c s.memory) last at) means long
+          (subst (λ j. edges mode (body mode BehindKick) j ≤ on.own) last enough) in
+          items.by_item mode image built good facts left s m h p hp o body' is (unfilled refl) z.next.act ss ss_is z.next.extra (with_registers c.regs v)
+          z.flags z.next.at z.next.means z.next.place long z.next.enough ctx.item (which image built good b.body body' is b.place ctx.item hi) hi
 
       -- where the exit to the task found the mark off, nothing asks for another one
       calm : Alone → s.memory.words (pcpu p + 0x20) ≡ 0 → x.resched ≡ false

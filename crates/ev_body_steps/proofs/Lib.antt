@@ -4,6 +4,7 @@ pub mod ItemCells
 pub mod ItemCode
 pub mod CallCells
 pub mod CallPlaces
+pub mod CallFunctions
 pub mod ItemState
 pub mod ItemLocals
 pub mod ItemAddresses
@@ -24,6 +25,7 @@ pub mod ItemResched
 pub mod ItemMsr
 pub mod ItemInterrupts
 pub mod ItemWait
+pub mod ItemKick
 pub mod ItemUser
 pub mod ItemPage
 pub mod ItemPages

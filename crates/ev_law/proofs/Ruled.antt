@@ -34,6 +34,8 @@ pub record IsRuled (image : Image) (b : Body) : Type 0 where
   -- a function stands in a body with a `take`
   pub part : (i : ℕ) → i < length (body_items b) → in_function b i ≡ true
       → (take_place 0 (body_items b) < length b.items) × (slice_get (body_items b) (take_place 0 (body_items b)) ≡ Some Take)
+  -- a body has one `take`
+  pub first : (i : ℕ) → slice_get (body_items b) i ≡ Some Take → list_any is_take (take i (body_items b)) ≡ false
   pub take : (i : ℕ) → slice_get (body_items b) i ≡ Some Take
       → (take_place 0 (body_items b) ≡ i) × (in_function b i ≡ false) × (is_call_handler b ≡ true)
   pub finish : (i : ℕ) → slice_get (body_items b) i ≡ Some Finish → in_function b i ≡ true
@@ -269,15 +271,18 @@ module _ (image : Image) (bytes n : ℕ) (b : Body) (ends : ends_with is_ret b.i
           let same : f.0 ≡ take_place 0 (body_items b) = omega (arith, at) in
           subst (λ k. (k < length b.items) × (slice_get (body_items b) k ≡ Some Take)) same (f.2, f.3)
 
+  first_at : (i : ℕ) → (is_call_handler b ≡ true) × (in_function b i ≡ false) × (list_any is_take (take i b.items) ≡ false)
+      → list_any is_take (take i (body_items b)) ≡ false
+  first_at i rule =
+      let l : i < length b.items = leb-false (length b.items) i rule.1 in
+      let le : i ≤ length b.items = omega (arith, l) in
+      ap (list_any is_take) (take-append-le i b.items (items_of b.parts) le) ∙ rule.2
+
   take_at : (i : ℕ) → (is_call_handler b ≡ true) × (in_function b i ≡ false) × (list_any is_take (take i b.items) ≡ false)
       → slice_get (body_items b) i ≡ Some Take
       → (take_place 0 (body_items b) ≡ i) × (in_function b i ≡ false) × (is_call_handler b ≡ true)
   take_at i rule k =
-      let l : i < length b.items = leb-false (length b.items) i rule.1 in
-      let le : i ≤ length b.items = omega (arith, l) in
-      let same : take i (body_items b) ≡ take i b.items = take-append-le i b.items (items_of b.parts) le in
-      let at = take_first 0 (body_items b) i k (ap (list_any is_take) same ∙ rule.2) in
-      let q : take_place 0 (body_items b) ≡ 0 + i = at in
+      let q : take_place 0 (body_items b) ≡ 0 + i = take_first 0 (body_items b) i k (first_at i rule) in
       (omega (arith, q), rule.1, rule.0)
 
   func_at : (func : ℕ) → list_any (λ (part : Part). part.func == func) b.parts ≡ true
@@ -366,11 +371,15 @@ module _ (image : Image) (is : IsImage image) (kept : rules image ≡ None) wher
       → (is_inner b && is_for_outer item) ≡ false
   keeps_nmi_rule n b e = at_item NmiRule (λ b i item. is_inner b && is_for_outer item) image.bodies n b all_rules.1.1.1.1.1.1.1.0 e
 
+  -- a body that takes calls serves user code
+  pub handler_serves_users : (n : ℕ) (b : Body) → slice_get image.bodies n ≡ Some b → is_call_handler b ≡ true → covers b.side User ≡ true
+  handler_serves_users n b e q = ((call_parts image n b (call_rule_of n b e)).0 q).1
+
   declared : (func : ℕ) → is_function image func ≡ true → declares image func ≡ true
   unfolding declares
   declared func h = one_handler func image.bodies is.bodies_given.2
       (all_from (λ (c : Body). not (is_call_handler c) || covers c.side User) image.bodies
-      (λ n b e. covered (is_call_handler b) (covers b.side User) (λ q. ((call_parts image n b (call_rule_of n b e)).0 q).1))) h
+      (λ n b e. covered (is_call_handler b) (covers b.side User) (handler_serves_users n b e))) h
     where
       covered : (x y : Bool) → (x ≡ true → y ≡ true) → (not x || y) ≡ true
       covered true y h = h refl
@@ -396,7 +405,8 @@ module _ (image : Image) (is : IsImage image) (kept : rules image ≡ None) wher
         eoi = λ i item k. no_item_of (breaks_eoi b) i item (body_items b)
             (eoi_items _ _ (nowhere EoiRule (λ n b. failing_eoi b) 0 n b image.bodies all_rules.1.1.1.1.1.0 e)) k;
         part = λ i l f. part_at image bytes n b h2.1 h3.1 h5.1 h4.1 (λ q. (call.0 q).0) i l f;
-        take = λ i k. take_at image bytes n b h2.1 h3.1 h5.1 i (take_rule image n b i (no_item_of (breaks_calls image n b) i Take (body_items b) call.1 k)) k;
+        take = λ i k. take_at image bytes n b h2.1 h3.1 h5.1 i (take_rule image n b i (keeps_call_rule n b e i Take k)) k;
+        first = λ i k. first_at image bytes n b h2.1 h3.1 h5.1 i (take_rule image n b i (keeps_call_rule n b e i Take k));
         finish = λ i k. finish_at image bytes n b h2.1 h3.1 h5.1 i k;
         ret = λ i k. ret_at image bytes n b h2.1 h3.1 h5.1
             (eoi_there _ _ (nowhere EoiRule (λ n b. failing_eoi b) 0 n b image.bodies all_rules.1.1.1.1.1.0 e)) i k;

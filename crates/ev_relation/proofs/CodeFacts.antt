@@ -11,21 +11,24 @@ use Rattle.ev_body.specs.WellFormed.{IsImage, is_key, has_no_parts}
 use Rattle.ev_body.specs.Bodies.{key_number, body_items}
 use Rattle.ev_body.specs.declared.key.Key.{Key}
 use Rattle.ev_body.specs.declared.key.Key.TheVariants.{Sys, Db, Nmi, Bp, Ud, Ss, Gp, Pf, Ac, Irq}
-use Rattle.ev_body.specs.declared.item.Item.TheVariants.{Call, Ret}
+use Rattle.ev_body.specs.declared.item.Item.TheVariants.{Call, Take, Ret}
 use Rattle.ev_isa.specs.declared.mode.Mode.{Mode}
 use Rattle.ev_built.specs.Built.{IsBuilt, is_built_item, is_built_body, is_built_key}
 use Rattle.ev_abstract.specs.Run.{item_at}
-use Rattle.ev_listing.specs.Expansion.{item_address}
+use Rattle.ev_asm.specs.Assembly.{place}
+use Rattle.ev_listing.specs.Expansion.{taken_label, item_address}
 use Rattle.ev_listing.specs.Marks.{all_places}
 use Rattle.ev_concrete.specs.Opening.{listings}
 use Rattle.ev_symbolic.proofs.Listed.{spaced_in}
 use Rattle.ev_symbolic.proofs.Values.{and_left, and_right}
-use Rattle.ev_table.specs.Table.{code_table, other_exit, exit_address, RetCell, is_call}
+use Rattle.ev_table.specs.Table.{code_table, places_of, other_exit, exit_address, RetCell, is_call}
 use Rattle.ev_table.proofs.Kernel as kernel
 use Rattle.ev_paths.specs.Lines.{HasKernel}
 use Rattle.ev_table.proofs.Whole as whole
 use Rattle.ev_table.proofs.LabelPlaces.{labels_placed}
 use Rattle.ev_table.proofs.OwnPlaces.{own_labels_placed}
+use Rattle.ev_table.proofs.TakenPlace.{taken_placed}
+use Rattle.ev_blocks.specs.Calls.{at_taken}
 use Rattle.ev_fetch.proofs.Kernel.{kernel_fetches}
 use Rattle.ev_fetch.proofs.InCode.{stays_in_code}
 use Rattle.ev_law.proofs.Ruled.{body_ruled}
@@ -101,6 +104,11 @@ module _ (mode : Mode) (image : Image) (given : IsImage image) (built : IsBuilt 
             (body_ruled image given built.accepted.1.kept n b h).key);
       }
 
+  -- the `take` of a body is its first one
+  taken_labels : (n i : ℕ) (b : Body) → slice_get image.bodies n ≡ Some b → item_at (Some b) i ≡ Some Take
+      → place (places_of mode image) (taken_label n) ≡ item_address mode n b i + at_taken
+  taken_labels n i b h k = taken_placed mode image given n i b h k ((body_ruled image given built.accepted.1.kept n b h).first i k)
+
   kernel_found : HasKernel mode (code_table mode image)
   unfolding kernel.kernel_cells
   kernel_found = whole.kernel_found mode image given
@@ -121,6 +129,7 @@ module _ (mode : Mode) (image : Image) (given : IsImage image) (built : IsBuilt 
     follow = λ n i b item k. whole.next_address mode image n i b item k;
     labels = labels_placed mode image given;
     own_labels = λ n i b item c cs off high h l found. own_labels_placed mode image i c cs high item off given n b h l found;
+    taken_labels = taken_labels;
     ret_cell = ret;
     first_item = λ n b. whole.first_item mode n b;
     item_small = λ n i b h. whole.canonical_items mode image given n i b h;

@@ -42,7 +42,7 @@ use Rattle.ev_blocks.specs.Blocks.{Spot, InFred, InIdt, InBody, block}
 use Rattle.ev_table.specs.Table.{code_table}
 use Rattle.ev_relation.specs.Nmi.{Frame}
 use Rattle.ev_relation.specs.Filling.{Filling, first_fill, rest_fills}
-use Rattle.ev_relation.specs.Active.{address_of_item, HasPlace, HasRange, IsByHand, BehindExchange, BehindOldLink, AtFunction, BehindArgument, BehindCaller, BehindAddress, BehindFinish, InCallSpot, InSpot, OverTask, OverBody, Active}
+use Rattle.ev_relation.specs.Active.{address_of_item, HasPlace, HasRange, IsByHand, BehindExchange, BehindOldLink, AtFunction, BehindArgument, BehindCaller, BehindAddress, BehindFinish, BehindComparison, AtQuiet, InCallSpot, InSpot, OverTask, OverBody, Active}
 use Rattle.ev_relation.specs.Relation.{IsContext, body_edges, chained, Interrupted, Chain, StandsOn}
 use Rattle.ev_relation.proofs.Facts.{Facts}
 use Rattle.ev_relation.proofs.Spots.{is_elsewhere, entry_elsewhere, kernel_entry_elsewhere, kernel_exit_elsewhere, fred_exit_elsewhere, sys_elsewhere, common_elsewhere, idt_exit_elsewhere, idt_kernel_exit_elsewhere, is_in_stub, stub_inside, is_in_item, is_in_code, body_spot_is, body_inside, fred_switch_elsewhere, idt_switch_elsewhere}
@@ -112,6 +112,8 @@ module _ (mode : Mode) (image : Image) (facts : Facts mode image) where
   by_hand_range o e w b words offset edges (BehindCaller q x y z t u) = y.range
   by_hand_range o e w b words offset edges (BehindAddress q x y z t u v) = y.range
   by_hand_range o e w b words offset edges (BehindFinish q x y z t) = y.range
+  by_hand_range o e w b words offset edges (BehindComparison q x to sends y z) = y.code.range
+  by_hand_range o e w b words offset edges (AtQuiet q x to y) = y.code.range
 
   call_range : (o : Origin) (s : CallSpot) (e : Env) (w : Processor) (b : BodyContext) (g : Option Filling) (words : NatMap ℕ)
       → InCallSpot mode image o s e w b g words → HasRange mode image e
@@ -144,8 +146,8 @@ module _ (mode : Mode) (image : Image) (facts : Facts mode image) where
   spot_range o (InCall s) e w b g words ctx h i = call_range o s e w b g words h
   spot_range o AtTable e w b g words ctx h i = let clash : false ≡ true = i in absurd (cc)
   spot_range o AtJump e w b g words ctx h i = let clash : false ≡ true = i in absurd (cc)
-  spot_range o (AtKick to) e w b g words ctx h i = absurd h
-  spot_range o BehindKick e w b g words ctx h i = absurd h
+  spot_range o (AtKick to) e w b g words ctx h i = h.code.range
+  spot_range o BehindKick e w b g words ctx h i = h.0.range
 
   -- the entries of vectors stand before it
   at_stub_outside : (o : Origin) (has : Bool) (v k : ℕ) (e : Env) (c : Processor) (m : Memory) → At (code_table mode image) (idt_block (Stub o has v)) k e c m
@@ -178,8 +180,8 @@ module _ (mode : Mode) (image : Image) (facts : Facts mode image) where
       → is_in_repeat c.rip ≡ false
   body_outside fred layout o AtTable k e w c mem b g words ctx z l at h t j = at_elsewhere (body_block fred layout AtTable) k e c mem at z l t
   body_outside fred layout o AtJump k e w c mem b g words ctx z l at h t j = at_elsewhere (body_block fred layout AtJump) k e c mem at z l j
-  body_outside fred layout o (AtKick to) k e w c mem b g words ctx z l at h t j = absurd h
-  body_outside fred layout o BehindKick k e w c mem b g words ctx z l at h t j = absurd h
+  body_outside fred layout o (AtKick to) k e w c mem b g words ctx z l at h t j = in_code fred layout o (AtKick to) k e w c mem b g words ctx l at h refl
+  body_outside fred layout o BehindKick k e w c mem b g words ctx z l at h t j = in_code fred layout o BehindKick k e w c mem b g words ctx l at h refl
   body_outside fred layout o AtItem k e w c mem b g words ctx z l at h t j = in_code fred layout o AtItem k e w c mem b g words ctx l at h refl
   body_outside fred layout o (AtNumber n) k e w c mem b g words ctx z l at h t j = in_code fred layout o (AtNumber n) k e w c mem b g words ctx l at h refl
   body_outside fred layout o (AtNumbers rcx rax rdx) k e w c mem b g words ctx z l at h t j =

@@ -5,7 +5,7 @@ use Rattle.ev_isa.specs.Word.{is_canonical, bit_if}
 use Rattle.ev_isa.specs.Flags.{Flags, flags_word}
 use Rattle.ev_isa.specs.declared.mode.Mode.{Mode}
 use Rattle.ev_body.specs.declared.item.Item.{Item}
-use Rattle.ev_body.specs.declared.item.Item.TheVariants.{Ret}
+use Rattle.ev_body.specs.declared.item.Item.TheVariants.{Take, Ret}
 use Rattle.ev_body.specs.declared.body.Body.{Body}
 use Rattle.ev_body.specs.declared.image.Image.{Image}
 use Rattle.ev_body.specs.Bodies.{body_items}
@@ -13,7 +13,7 @@ use Rattle.ev_mem.specs.Memory.{Memory}
 use Rattle.ev_state.specs.Processor.{Processor}
 use Rattle.ev_listing.specs.AddressMap.{body_code}
 use Rattle.ev_asm.specs.Assembly.{Name, place, total_size}
-use Rattle.ev_listing.specs.Expansion.{item_label, own_label, item_address, function_address}
+use Rattle.ev_listing.specs.Expansion.{item_label, own_label, taken_label, item_address, function_address}
 use Rattle.ev_listing.specs.Marks.{stmts_of}
 use Rattle.ev_abstract.specs.Run.{item_at}
 use Rattle.ev_concrete.specs.Opening.{regions}
@@ -23,6 +23,7 @@ use Rattle.ev_symbolic.specs.Agrees.{Cell, Spaced}
 use Rattle.ev_symbolic.specs.Listed.{AllFound}
 use Rattle.ev_symbolic.specs.Machine.{Fetches}
 pub use Rattle.ev_user.proofs.KeepsNumbers.{word_of_canonical}
+use Rattle.ev_blocks.specs.Calls.{at_taken}
 use Rattle.ev_paths.specs.Lines.{HasKernel}
 use Rattle.ev_table.specs.Table.{code_table, other_exit, RetCell, places_of, item_lines, item_cells, IsPlacedIn, reads_no_memory}
 use Rattle.ev_fetch.specs.Claims.{HoldsText}
@@ -44,6 +45,8 @@ pub record Facts (mode : Mode) (image : Image) : Type 0 where
   pub own_labels : (n i : ℕ) (b : Body) (item : Item) (c : ℕ) (cs : Name) (off : ℕ) → 58 ≤ c → slice_get image.bodies n ≡ Some b
       → item_at (Some b) i ≡ Some item → IsPlacedIn mode n b.key (function_address mode image) i item (c ∷ cs) off
       → place (places_of mode image) (own_label n i (c ∷ cs)) ≡ item_address mode n b i + off
+  pub taken_labels : (n i : ℕ) (b : Body) → slice_get image.bodies n ≡ Some b → item_at (Some b) i ≡ Some Take
+      → place (places_of mode image) (taken_label n) ≡ item_address mode n b i + at_taken
   pub ret_cell : (n i : ℕ) (b : Body) → slice_get image.bodies n ≡ Some b → item_at (Some b) i ≡ Some Ret
       → RetCell (code_table mode image) (item_address mode n b i) (other_exit mode)
   pub first_item : (n : ℕ) (b : Body) → item_address mode n b 0 ≡ body_code n

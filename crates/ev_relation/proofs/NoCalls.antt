@@ -16,7 +16,7 @@ use Rattle.ev_symbolic.specs.Agrees.{Env}
 use Rattle.ev_blocks.specs.Shapes.{Origin}
 use Rattle.ev_blocks.specs.Calls.{CallSpot, AtRecord, BehindWait, BehindBusy, AtFill, AtHead, AtLink, BehindFailure, BehindCall, AtTake, BehindTake, AtTurn, BehindTurn, AtTaken, AtFinish, BehindNext, AtOffset}
 use Rattle.ev_relation.specs.Filling.{Filling}
-use Rattle.ev_relation.specs.Active.{site_of, IsByHand, BehindExchange, BehindOldLink, AtFunction, BehindArgument, BehindCaller, BehindAddress, BehindFinish, InCallSpot}
+use Rattle.ev_relation.specs.Active.{site_of, IsByHand, BehindExchange, BehindOldLink, AtFunction, BehindArgument, BehindCaller, BehindAddress, BehindFinish, BehindComparison, AtQuiet, InCallSpot}
 use Rattle.ev_relation.proofs.Items.{which}
 
 module _ (image : Image) (built : IsBuilt image) (good : IsImage image) (k : ℕ) (body : Body) (is : slice_get image.bodies k ≡ Some body) where
@@ -52,6 +52,8 @@ module _ (image : Image) (built : IsBuilt image) (good : IsImage image) (k : ℕ
     never_by_hand offset edges (BehindCaller q x y z t u) = not_built z.n _ (there z.n _ z.code.0) refl
     never_by_hand offset edges (BehindAddress q x y z t u v) = not_built z.n _ (there z.n _ z.code.0) refl
     never_by_hand offset edges (BehindFinish q x y z t) = not_built z.n _ (there z.n _ z.code.0) refl
+    never_by_hand offset edges (BehindComparison q x to sends y z) = not_built b.place _ (there b.place _ y.item) refl
+    never_by_hand offset edges (AtQuiet q x to y) = not_built b.place _ (there b.place _ y.item) refl
 
     pub never_in_call : (s : CallSpot) → InCallSpot mode image o s e w b g words → ⊥
     unfolding is_built_item

@@ -21,7 +21,7 @@ use Rattle.ev_calls.proofs.Lists.{lists_stay}
 use Rattle.ev_call_law.specs.Calls.{times, is_id}
 use Rattle.ev_call_law.proofs.Counts.{times_same, times_other, times_append}
 use Rattle.ev_relation.specs.Filling.{Filling}
-use Rattle.ev_relation.specs.Active.{SavedOf, HoldsCalls, InCode, InItem, Answering, Taking, BeginsCall, Finishing, Turns, IsByHand, BehindExchange, BehindOldLink, AtFunction, BehindArgument, BehindCaller, BehindAddress, BehindFinish, InCallSpot, InSpot}
+use Rattle.ev_relation.specs.Active.{SavedOf, HoldsCalls, InCode, InItem, Kicking, Answering, Taking, BeginsCall, Finishing, Turns, IsByHand, BehindExchange, BehindOldLink, AtFunction, BehindArgument, BehindCaller, BehindAddress, BehindFinish, BehindComparison, AtQuiet, InCallSpot, InSpot}
 use Rattle.ev_relation.specs.Relation.{CallIs, HoldsCall}
 
 -- ---- the words of records
@@ -194,6 +194,9 @@ module _ (mode : Mode) (image : Image) (m n : NatMap ℕ) (o : Origin) (e : Env)
       by_list [] q l s = let clash : 0 ≡ suc left = q in absurd (omega arith)
       by_list (k ∷ ks) q l s = first_word m n a 0x18 (k ∷ ks) (omega arith) s k ks refl l.2
 
+  kicking_again : (to : ℕ) (sends : Bool) → Kicking mode image o e w b to sends m → Kicking mode image o e w b to sends n
+  kicking_again to sends h = record { code = code_again h.code; place = h.place; s = h.s; item = h.item; answer = h.answer }
+
   by_hand_again : (offset edges : ℕ) → IsByHand mode image o e w b m offset edges → IsByHand mode image o e w b n offset edges
   by_hand_again offset edges (BehindExchange q x s is_first y z t) = BehindExchange q x s is_first (answering_again s _ y) z t
   by_hand_again offset edges (BehindOldLink k q x y z t u) =
@@ -204,6 +207,8 @@ module _ (mode : Mode) (image : Image) (m n : NatMap ℕ) (o : Origin) (e : Env)
   by_hand_again offset edges (BehindCaller q x y z t u) = BehindCaller q x (taking_again true true y) z t (list_again (e.var 14) u)
   by_hand_again offset edges (BehindAddress q x y z t u v) = BehindAddress q x (taking_again true true y) z t (list_again (e.var 14) u) v
   by_hand_again offset edges (BehindFinish q x y z t) = BehindFinish q x (taking_again false false y) z (list_again (e.var 14) t)
+  by_hand_again offset edges (BehindComparison q x to sends y z) = BehindComparison q x to sends (kicking_again to sends y) z
+  by_hand_again offset edges (AtQuiet q x to y) = AtQuiet q x to (kicking_again to false y)
 
   finishing_again : Finishing mode image o e w b m → Finishing mode image o e w b n
   finishing_again h = record {
@@ -247,8 +252,8 @@ module _ (mode : Mode) (image : Image) (m n : NatMap ℕ) (o : Origin) (e : Env)
   spot_again (AtPageWord is_page) f h = (item_again h.0, h.1, h.2)
   spot_again BehindSti f h = (item_again h.0, h.1, h.2)
   spot_again (InCall s) f h = call_spot_again s f h
-  spot_again (AtKick to) f h = absurd h
-  spot_again BehindKick f h = absurd h
+  spot_again (AtKick to) f h = kicking_again to true h
+  spot_again BehindKick f h = (code_again h.0, h.1, h.2)
 
 -- ---- what gives back the processor to which it returns
 
@@ -261,6 +266,8 @@ by_hand_saved mode image o e w b words offset edges (BehindArgument q x y z t u)
 by_hand_saved mode image o e w b words offset edges (BehindCaller q x y z t u) = y.saved
 by_hand_saved mode image o e w b words offset edges (BehindAddress q x y z t u v) = y.saved
 by_hand_saved mode image o e w b words offset edges (BehindFinish q x y z t) = y.saved
+by_hand_saved mode image o e w b words offset edges (BehindComparison q x to sends y z) = y.code.saved
+by_hand_saved mode image o e w b words offset edges (AtQuiet q x to y) = y.code.saved
 
 call_saved : (mode : Mode) (image : Image) (o : Origin) (s : CallSpot) (e : Env) (w : Processor) (b : BodyContext) (f : Option Filling) (words : NatMap ℕ)
     → InCallSpot mode image o s e w b f words → SavedOf mode image o e w
@@ -294,5 +301,5 @@ spot_saved mode image o AtUserWord e w b f words h = h.0.saved
 spot_saved mode image o (AtPageWord is_page) e w b f words h = h.0.saved
 spot_saved mode image o BehindSti e w b f words h = h.0.saved
 spot_saved mode image o (InCall s) e w b f words h = call_saved mode image o s e w b f words h
-spot_saved mode image o (AtKick to) e w b f words h = absurd h
-spot_saved mode image o BehindKick e w b f words h = absurd h
+spot_saved mode image o (AtKick to) e w b f words h = h.code.saved
+spot_saved mode image o BehindKick e w b f words h = h.0.saved

@@ -44,7 +44,7 @@ use Rattle.ev_relation.specs.Named.{Named, UserRsp}
 use Rattle.ev_relation.specs.Relation.{body_edges}
 use Rattle.ev_activation.specs.Seat.{plain_room, Kind, SystemCall, FromTask, FromBody, NmiFromTask, NmiFromBody}
 use Rattle.ev_relation.specs.Filling.{Filling}
-use Rattle.ev_relation.specs.Active.{IsByHand, BehindExchange, BehindOldLink, AtFunction, BehindArgument, BehindCaller, BehindAddress, BehindFinish, InSpot, fills_record, OverTask, OverBody, Means}
+use Rattle.ev_relation.specs.Active.{IsByHand, BehindExchange, BehindOldLink, AtFunction, BehindArgument, BehindCaller, BehindAddress, BehindFinish, BehindComparison, AtQuiet, InSpot, fills_record, OverTask, OverBody, Means}
 use Rattle.ev_relation.proofs.ModeFacts.{is_fred}
 
 -- ---- spots of bodies
@@ -66,8 +66,6 @@ body mode s = InBody (layout_of mode) s
 
 -- the spots of bodies where activations stand that fill no call record
 abbrev pub is_body_spot : BodySpot → Bool
-is_body_spot (AtKick to) = false
-is_body_spot BehindKick = false
 is_body_spot (InCall (BehindBusy s)) = nat_le 6 s && nat_lt s 14
 is_body_spot (InCall (BehindCall s is_first)) = nat_le 6 s && nat_lt s 14
 is_body_spot (InCall (AtOffset offset edges)) = nat_lt offset 0x100
@@ -127,8 +125,6 @@ keeps_rsp spot = false
 -- what an activation means says where it is: in a body at a spot of bodies, unless it fills a record
 pub body_spot_is : (mode : Mode) (image : Image) (o : Origin) (s : BodySpot) (e : Env) (w : Processor) (b : BodyContext) (f : Option Filling) (m : NatMap ℕ)
     → InSpot mode image o s e w b f m → fills s ≡ false → is_body_spot s ≡ true
-body_spot_is mode image o (AtKick to) e w b f m h off = absurd h
-body_spot_is mode image o BehindKick e w b f m h off = absurd h
 body_spot_is mode image o (InCall (BehindBusy s)) e w b f m h off =
     ap (λ t. t && nat_lt s 14) (le-leb 6 s h.is_local.0) ∙ lt-ltb s 14 h.is_local.1
 body_spot_is mode image o (InCall (BehindCall s is_first)) e w b f m h off =
@@ -150,6 +146,8 @@ body_spot_is mode image o (InCall (AtOffset offset edges)) e w b f m h off = by_
     by_offset (BehindCaller q x y z t u) = near _ (omega arith) q
     by_offset (BehindAddress q x y z t u v) = near _ (omega arith) q
     by_offset (BehindFinish q x y z t) = near _ (omega arith) q
+    by_offset (BehindComparison q x to sends y z) = near _ (omega arith) q
+    by_offset (AtQuiet q x to y) = near _ (omega arith) q
 body_spot_is mode image o _ e w b f m h off = refl
 
 -- where the exit switches to no other task
@@ -468,11 +466,12 @@ body_end fred layout AtJump h = (_, refl)
 body_end fred layout AtItem h = (_, refl)
 body_end fred layout (AtNumber n) h = (_, ((body_ends fred layout).number n).runs)
 body_end fred layout (AtNumbers rcx rax rdx) h = (_, ((body_ends fred layout).numbers rcx rax rdx).runs)
+body_end fred layout (AtKick to) h = (_, ((body_ends fred layout).kick to).runs)
 body_end fred layout AtUserWord h = (_, (body_ends fred layout).user_word.runs)
 body_end fred layout (AtPageWord is_page) h = (_, ((body_ends fred layout).page_word is_page).runs)
 body_end fred layout BehindSti h = (_, (body_ends fred layout).behind_sti.runs)
+body_end fred layout BehindKick h = (_, (body_ends fred layout).behind_kick.runs)
 body_end fred layout (InCall s) h = call_end_of fred layout s h
-body_end fred layout _ h = let clash : false ≡ true = h in absurd (cc)
 
 pub runs_to_end : (mode : Mode) (spot : Spot) → is_spot mode spot ≡ true → (z : SS) × (brun (block mode spot) (block mode spot).steps ≡ Some z)
 runs_to_end Fred (InFred (FromUser way)) h = (_, (fred_enters.0 way).runs)
@@ -616,12 +615,12 @@ unfolding spelling four_bytes
 body_inside fred layout AtItem h i = refl
 body_inside fred layout (AtNumber n) h i = refl
 body_inside fred layout (AtNumbers rcx rax rdx) h i = refl
+body_inside fred layout (AtKick to) h i = refl
 body_inside fred layout AtUserWord h i = refl
 body_inside fred layout (AtPageWord true) h i = refl
 body_inside fred layout (AtPageWord false) h i = refl
 body_inside fred layout BehindSti h i = refl
+body_inside fred layout BehindKick h i = refl
 body_inside fred layout (InCall s) h i = call_inside fred layout s h
 body_inside fred layout AtTable h i = let clash : false ≡ true = i in absurd (cc)
 body_inside fred layout AtJump h i = let clash : false ≡ true = i in absurd (cc)
-body_inside fred layout (AtKick to) h i = let clash : false ≡ true = h in absurd (cc)
-body_inside fred layout BehindKick h i = let clash : false ≡ true = h in absurd (cc)

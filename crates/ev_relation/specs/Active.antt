@@ -5,7 +5,7 @@ use Rattle.ev_isa.specs.Flags.{Status, Flags, modelled}
 use Rattle.ev_isa.specs.declared.mode.Mode.{Mode}
 use Rattle.ev_isa.specs.declared.mode.Mode.TheVariants.{Idt, Fred}
 use Rattle.ev_body.specs.declared.item.Item.{Item}
-use Rattle.ev_body.specs.declared.item.Item.TheVariants.{SetCell, AddCell, SwapCell, Uget, Uput, SetRip, Eoi, Send, Map, Unmap, Ret, Resched, Call, Wait, Take, Finish}
+use Rattle.ev_body.specs.declared.item.Item.TheVariants.{SetCell, AddCell, SwapCell, Uget, Uput, SetRip, Eoi, Send, Map, Unmap, Ret, Resched, Call, Kick, Wait, Take, Finish}
 use Rattle.ev_body.specs.declared.key.Side.{Side}
 use Rattle.ev_body.specs.declared.key.Side.TheVariants.{User, Kernel}
 use Rattle.ev_body.specs.declared.body.Body.{Body}
@@ -34,7 +34,7 @@ use Rattle.ev_blocks.specs.Fred as fred
 use Rattle.ev_blocks.specs.Idt.{IdtReturn, BySysret, Stub, Sys, Common, IdtToKernel, IdtToTask, IdtToNext, table_of, stub_values, common_values, sys_values}
 use Rattle.ev_blocks.specs.Idt as idt
 use Rattle.ev_blocks.specs.Calls.{CallSpot, AtRecord, BehindWait, BehindBusy, AtFill, AtHead, AtLink, BehindFailure, BehindCall, AtTake, BehindTake, AtTurn, BehindTurn, AtTaken, AtFinish, BehindNext, AtOffset, behind_exchange, at_old_link, at_function, turn_edges, taken_edges}
-use Rattle.ev_blocks.specs.Items.{BodySpot, AtTable, AtJump, AtItem, AtNumber, AtNumbers, AtUserWord, AtPageWord, BehindSti, InCall}
+use Rattle.ev_blocks.specs.Items.{BodySpot, AtTable, AtJump, AtItem, AtNumber, AtNumbers, AtKick, AtUserWord, AtPageWord, BehindSti, BehindKick, InCall, behind_comparison, at_quiet, kick_end}
 use Rattle.ev_blocks.specs.Items as items
 use Rattle.ev_blocks.specs.Blocks.{Spot, InFred, InIdt, InBody, block, edges, item_edges}
 use Rattle.ev_blocks.specs.Blocks as blocks
@@ -393,6 +393,14 @@ module _ (mode : Mode) (image : Image) where
     pub list : IsTurning words left turned calls
     pub many : length list.ahead ≡ n
 
+  -- In the code of `kick`, whose local has the answer of the `call` before it: 2 where the target's queue was empty, and then it sends.
+  pub record Kicking (o : Origin) (e : Env) (w : Processor) (b : BodyContext) (to : ℕ) (sends : Bool) (words : NatMap ℕ) : Type 0 where
+    pub code : InCode o e w b words
+    pub place : HasPlace e b
+    pub s : ℕ
+    pub item : item_of b ≡ Some (Kick to s)
+    pub answer : (local b s == 2) ≡ sends
+
   -- what is made by hand: one instruction at a time
   pub data IsByHand (o : Origin) (e : Env) (w : Processor) (b : BodyContext) (words : NatMap ℕ) (offset edges : ℕ) : Type 0 where
     -- the branch behind the exchange of `call` that put the record into the queue, in whose place the old head is in RAX
@@ -413,6 +421,11 @@ module _ (mode : Mode) (image : Image) where
     -- the jump behind the visible store of `finish`
     BehindFinish : offset ≡ 27 → edges ≡ taken_edges item_edges + 1 → Taking o e w b false false words → InFinish e b
         → Linked words (e.var 14) b.calls → IsByHand o e w b words offset edges
+    -- the branch behind the comparison of `kick`
+    BehindComparison : offset ≡ behind_comparison → edges ≡ 4 → (to : ℕ) (sends : Bool) → Kicking o e w b to sends words → e.flags.status.zero ≡ sends
+        → IsByHand o e w b words offset edges
+    -- what is visible where it sends nothing
+    AtQuiet : offset ≡ at_quiet → edges ≡ 0 → (to : ℕ) → Kicking o e w b to false words → IsByHand o e w b words offset edges
 
   -- at the spots of call items; `f` is the record that the activation fills
   abbrev pub InCallSpot : Origin → CallSpot → Env → Processor → BodyContext → Option Filling → NatMap ℕ → Type 0
@@ -449,9 +462,10 @@ module _ (mode : Mode) (image : Image) where
   InSpot o (AtNumbers rcx rax rdx) e w b f words = InItem o e w b words × HasPlace e b × (numbers_of (item_of b) ≡ Some (rcx, rax, rdx))
   InSpot o AtUserWord e w b f words = InItem o e w b words × HasPlace e b × LocalInRax address_local e b
   InSpot o (AtPageWord is_page) e w b f words = InItem o e w b words × HasPlace e b × LocalInRax page_local e b
+  InSpot o (AtKick to) e w b f words = Kicking o e w b to true words
   InSpot o BehindSti e w b f words = InItem o e w b words × HasNextPlace 2 e b × HasRange e
+  InSpot o BehindKick e w b f words = InCode o e w b words × HasNextPlace kick_end e b × (b.flags ≡ None)
   InSpot o (InCall s) e w b f words = InCallSpot o s e w b f words
-  InSpot o s e w b f words = ⊥
 
   -- of an activation over a task, by its spot; in an entry the variables are told by those of the block behind it
   abbrev pub OverTask : Mode → Spot → Env → Processor → BodyContext → Option Filling → NatMap ℕ → Type 0

@@ -1,0 +1,148 @@
+-- Where the calls that a body has taken begin: the function's address in a call's record is that of the item at which the abstract machine puts the context.
+use Rattle.std.proofs.Common.{◌≡◌, ℕ, zero, suc, ◌+◌, ◌<◌, ◌≤◌, ◌^◌, Bool, true, false, not, ◌&&◌, ◌||◌, List, [], ◌∷◌, length, Some, refl, sym, ap, ◌∙◌, subst, arith}
+use Rattle.std.specs.Prelude.{slice_get, get_or, set, ◌==◌, if◌then◌else◌}
+use Rattle.std.specs.List.{list_all}
+use Rattle.std.proofs.lemmas.Bool.{and_parts, and_from, eqb-true, eq-eqb, false_from_ne_true}
+use Rattle.std.proofs.lemmas.Option.{slice_get-get_or, slice_get_within}
+use Rattle.ev_isa.specs.Word.{NatMap, is_canonical}
+use Rattle.ev_isa.specs.declared.mode.Mode.{Mode}
+use Rattle.ev_body.specs.declared.item.Item.TheVariants.{Take, Finish, Ret}
+use Rattle.ev_body.specs.declared.key.Side.TheVariants.{User}
+use Rattle.ev_body.specs.declared.body.Body.{Body}
+use Rattle.ev_body.specs.declared.image.Image.{Image}
+use Rattle.ev_body.specs.Bodies.{key_number, covers, body_items, first_body, function_start}
+use Rattle.ev_body.specs.WellFormed.{IsImage, is_apart, are_apart, is_ret, is_finish}
+use Rattle.ev_abstract.specs.Context.{CallId, BodyContext}
+use Rattle.ev_abstract.specs.Machine.{CallState, Free, Queued, Taken, CallRecord, Machine}
+use Rattle.ev_abstract.specs.CrossCall.{record_of, take_place, after_take, start_of, at_first_call}
+use Rattle.ev_abstract.specs.Rules.{is_call_handler}
+use Rattle.ev_abstract.specs.Run.{item_at}
+use Rattle.ev_built.specs.Built.{IsBuilt}
+use Rattle.ev_law.specs.Legal.{knows, runs_calls}
+use Rattle.ev_law.proofs.Items.{declared_at}
+use Rattle.ev_law.proofs.Lists.{all_at}
+use Rattle.ev_law.proofs.Ruled.{IsRuled, body_ruled, handler_serves_users}
+use Rattle.ev_call_law.specs.Calls.{is_free}
+use Rattle.ev_listing.specs.AddressMap.{record_address}
+use Rattle.ev_listing.specs.Expansion.{item_address, address_in, function_address}
+use Rattle.ev_relation.specs.Active.{item_place, address_of_item, Locals, LocalsBut, BeginsCall}
+use Rattle.ev_relation.specs.Relation.{IsContext, CallIs, HoldsCall}
+use Rattle.ev_relation.proofs.Facts.{Facts}
+
+-- ---- the body that takes calls
+
+-- bodies of one key that both serve user code aren't apart
+not_apart : (b c : Body) → key_number b.key ≡ key_number c.key → covers b.side User ≡ true → covers c.side User ≡ true → is_apart b c ≡ true → ⊥
+not_apart b c k u v h = no (key_number b.key == key_number c.key) (covers b.side User) (covers c.side User) _ (eq-eqb _ _ k) u v h
+  where
+    no : (same x y : Bool) (z : Bool) → same ≡ true → x ≡ true → y ≡ true → (not same || not ((x && y) || z)) ≡ true → ⊥
+    no true true true z k u v h = absurd (cc)
+    no true true false z k u v h = absurd (cc)
+    no true false y z k u v h = absurd (cc)
+    no false x y z k u v h = absurd (cc)
+
+-- so a body of the user side is the first one of its key
+first_of_key : (k key : ℕ) (bs : List Body) (n : ℕ) (b : Body) → slice_get bs n ≡ Some b → key_number b.key ≡ key → covers b.side User ≡ true
+    → are_apart bs ≡ true → first_body k bs key User ≡ Some (k + n)
+first_of_key k key [] n b e h u apart = absurd (cc)
+first_of_key k key (x ∷ xs) zero b e h u apart =
+    let same : x ≡ b = cc in
+    let found : (key_number x.key == key && covers x.side User) ≡ true
+    = and_from _ _ (eq-eqb (key_number x.key) key (ap (λ (y : Body). key_number y.key) same ∙ h)) (ap (λ (y : Body). covers y.side User) same ∙ u) in
+    ap (λ t. if t then Some k else first_body (suc k) xs key User) found ∙ ap Some (let z : k ≡ k + 0 = omega arith in z)
+first_of_key k key (x ∷ xs) (suc n) b e h u apart =
+    let a = and_parts (list_all (is_apart x) xs) _ apart in
+    let other : (key_number x.key == key && covers x.side User) ≡ false = false_from_ne_true _ (λ q. (let p = and_parts (key_number x.key == key) _ q in
+    not_apart x b (eqb-true _ _ p.0 ∙ sym h) p.1 u (all_at (is_apart x) xs n b a.0 e))) in
+    ap (λ t. if t then Some k else first_body (suc k) xs key User) other ∙ first_of_key (suc k) key xs n b e h u a.1
+    ∙ ap Some (let z : suc k + n ≡ k + suc n = omega arith in z)
+
+-- ---- what a call's record says
+
+-- of one that is under way, whether it waits or is taken
+under_way : (mode : Mode) (image : Image) (words : NatMap ℕ) (a : ℕ) (r : CallRecord) (st : CallState) → is_free st ≡ false → CallIs mode image words a r st
+    → (words (a + 8) ≡ function_address mode image r.func) × (words (a + 0x10) ≡ r.arg)
+under_way mode image words a r Free busy h = absurd (cc)
+under_way mode image words a r Queued busy h = (h.1, h.2)
+under_way mode image words a r Taken busy h = (h.1, h.2)
+
+-- ---- in an accepted image
+
+module _ (mode : Mode) (image : Image) (good : IsImage image) (built : IsBuilt image) (facts : Facts mode image) where
+  -- where a context goes on
+  pub record Begins (d : BodyContext) : Type 0 where
+    pub context : IsContext mode image d
+    pub canonical : is_canonical (item_place mode image d.body d.place) ≡ true
+    pub range : (0xffffffff82000000 ≤ item_place mode image d.body d.place) × (item_place mode image d.body d.place + 0x100 ≤ 2 ^ 64)
+
+  -- a body with a `take`
+  module _ (b : BodyContext) (body : Body) (is : slice_get image.bodies b.body ≡ Some body) (t : ℕ) (takes : item_at (Some body) t ≡ Some Take) where
+    ruled : IsRuled image body
+    ruled = body_ruled image good built.accepted.1.kept b.body body is
+
+    pub handler : is_call_handler body ≡ true
+    handler = (ruled.take t takes).2
+
+    -- its `take` is the one that the abstract machine finds
+    pub after_take_is : after_take (slice_get image.bodies b.body) ≡ suc t
+    after_take_is = ap after_take is ∙ ap suc (ruled.take t takes).0
+
+    begins : (d : BodyContext) (place : ℕ) → d.body ≡ b.body → d.place ≡ place → place < length (body_items body) → Begins d
+    begins d place same at within =
+        let body_is : slice_get image.bodies d.body ≡ Some body = ap (slice_get image.bodies) same ∙ is in
+        let there : item_place mode image d.body d.place ≡ item_address mode d.body body place
+        = ap (address_of_item mode d.body d.place) body_is ∙ ap (item_address mode d.body body) at in record {
+          context = record {
+            item = get_or (body_items body) place Ret;
+            is = ap (λ o. item_at o d.place) body_is ∙ ap (item_at (Some body)) at ∙ slice_get-get_or (body_items body) place Ret within;
+          };
+          canonical = ap is_canonical there ∙ (facts.item_small d.body place body body_is).0;
+          range = subst (λ a. (0xffffffff82000000 ≤ a) × (a + 0x100 ≤ 2 ^ 64)) (sym there) (facts.item_range d.body place body body_is);
+        }
+
+    -- behind it, where there is no call
+    pub behind_take : (m : Machine) → Begins (at_first_call image m b [])
+    unfolding is_ret is_finish
+    behind_take m = begins (at_first_call image m b []) (suc t) refl after_take_is (ruled.goes_on t Take takes refl refl).0
+
+    -- the address of a function is that of its first item here
+    pub function_is : (func : ℕ) → function_address mode image func ≡ item_place mode image b.body (start_of (slice_get image.bodies b.body) func)
+    function_is func =
+        let first : first_body 0 image.bodies 0xfb User ≡ Some b.body = first_of_key 0 0xfb image.bodies b.body body is (eqb-true _ _ handler)
+        (handler_serves_users image good built.accepted.1.kept b.body body is handler) good.bodies_given.2
+        ∙ ap Some (let z : 0 + b.body ≡ b.body = omega arith in z) in
+        ap (λ o. address_in mode image o func) first ∙ rw is refl
+
+    -- the first call begins
+    pub begins_function : (m : Machine) (k : CallId) (ks : List CallId) → knows image m k ≡ true → Begins (at_first_call image m b (k ∷ ks))
+    begins_function m k ks known =
+        let func : ℕ = (record_of m k).func in
+        begins (at_first_call image m b (k ∷ ks)) (function_start body func) refl (ap (λ o. start_of o func) is)
+        (ruled.func func (declared_at image b.body body func is handler known)).0
+
+    -- and the record has its item's address, the argument and the caller, which the context has in its locals
+    pub begins_call : (v : ℕ → ℕ) (words : NatMap ℕ) (m : Machine) (k : CallId) (ks : List CallId) → Locals mode image v b
+        → HoldsCall mode image words k.from k.site (record_of m k) → is_free (record_of m k).state ≡ false
+        → BeginsCall mode image words (at_first_call image m b (k ∷ ks)) (k ∷ ks)
+    begins_call v words m k ks locals holds busy =
+        let r : CallRecord = record_of m k in
+        let a : ℕ = record_address k.from k.site in
+        let call = under_way mode image words a r r.state busy holds.call in (
+          call.0 ∙ function_is r.func,
+          call.1 ∙ sym (ap (λ ls. get_or (set (set ls 3 r.arg) 4 k.from) 3 0) locals),
+          holds.from ∙ sym (ap (λ ls. get_or (set (set ls 3 r.arg) 4 k.from) 4 0) locals),
+        )
+
+  -- a body with a `finish` has one
+  pub finish_has_take : (n i : ℕ) (body : Body) → slice_get image.bodies n ≡ Some body → item_at (Some body) i ≡ Some Finish
+      → (t : ℕ) × (item_at (Some body) t ≡ Some Take)
+  finish_has_take n i body is finishes =
+      let ruled : IsRuled image body = body_ruled image good built.accepted.1.kept n body is in
+      (take_place 0 (body_items body), (ruled.part i (slice_get_within (body_items body) i Finish finishes) (ruled.finish i finishes)).1)
+
+  -- of the locals, R9 and R10 get theirs from the record, where there is a call
+  pub locals_but : (v : ℕ → ℕ) (m : Machine) (b : BodyContext) (ks : List CallId) → Locals mode image v b
+      → LocalsBut mode image (not (runs_calls ks) || false) (not (runs_calls ks) || false) v (at_first_call image m b ks)
+  locals_but v m b [] locals = locals
+  locals_but v m b (k ∷ ks) locals = let set_by : List ℕ → List ℕ = λ ls. set (set ls 3 (record_of m k).arg) 4 k.from in
+      ap set_by locals ∙ sym (ap (λ ls. v 6 ∷ v 7 ∷ v 8 ∷ get_or (set_by ls) 3 0 ∷ get_or (set_by ls) 4 0 ∷ v 11 ∷ v 12 ∷ v 13 ∷ []) locals)
