@@ -42,3 +42,4 @@ pub mod BodyFault
 pub mod CallSteps
 pub mod CallGoes
 pub mod CallFills
+pub mod CallFirst

@@ -3,14 +3,14 @@
 use Rattle.std.specs.Prelude.{◌≡◌, refl, ℕ, ◌<◌, ◌/◌, Bool, true, false, not, ◌&&◌, nat_le, ◌≤◌, List, [], ◌∷◌, take, Option, Some, None, slice_get}
 use Rattle.std.specs.List.{list_any, list_all}
 use Rattle.std.proofs.Common.{arith, ap, sym, ◌∙◌, subst, ⊎_elim}
-use Rattle.std.proofs.lemmas.Bool.{and_parts, or_parts, or_from, false_from_ne_true, eqb-true, ltb-true}
+use Rattle.std.proofs.lemmas.Bool.{and_parts, or_parts, or_from, not-false, false_from_ne_true, eqb-true, ltb-true}
 use Rattle.std.proofs.lemmas.Bool.Decides.{leb_tells}
 use Rattle.ev_body.specs.declared.key.Key.{Key}
 use Rattle.ev_body.specs.declared.key.Key.TheVariants.{Irq, Bp, Pf, Nmi}
 use Rattle.ev_body.specs.declared.key.Side.{Side}
 use Rattle.ev_body.specs.declared.key.Side.TheVariants.{Kernel}
 use Rattle.ev_body.specs.declared.item.Item.{Item}
-use Rattle.ev_body.specs.declared.item.Item.TheVariants.{Call}
+use Rattle.ev_body.specs.declared.item.Item.TheVariants.{Call, Wait}
 use Rattle.ev_body.specs.declared.body.Body.{Body}
 use Rattle.ev_body.specs.declared.image.Image.{Image}
 use Rattle.ev_body.specs.Bodies.{body_items, covers}
@@ -20,6 +20,7 @@ use Rattle.ev_abstract.specs.Chain.{is_legal, is_nmi, is_sti, is_below, has_item
 use Rattle.ev_abstract.specs.Rules.{rules, is_inner_key, is_inner, is_for_outer, is_call_at, is_function, breaks_calls}
 use Rattle.ev_abstract.specs.Run.{item_at}
 use Rattle.ev_law.specs.Legal.{AreLegal, IsLegalOn, numbers}
+use Rattle.ev_law.proofs.Delivery.{any_somewhere}
 use Rattle.ev_law.proofs.Lists.{any_at, any_before}
 use Rattle.ev_law.proofs.Ruled.{keeps_call_rule, keeps_nmi_rule}
 
@@ -128,17 +129,31 @@ module _ (image : Image) (is : IsImage image) (kept : rules image ≡ None) wher
         not_below_itself b.key v key (subst (λ (d : Body). is_below v d.key ≡ true) (sym one) (and_parts (is_below v l.0.body.key) _ k.0).0)))
         (none_beneath n b i site v x hb hi hx key cs l.1 k.1)
 
-    -- of contexts that stand on each other one at most stands at a call of a site
-    pub none_calls_beneath : (c : BodyContext) (below : List BodyContext) → AreLegal image known (c ∷ below) → (site : ℕ)
-        → stands_at_call image site c ≡ true → list_any (stands_at_call image site) below ≡ false
-    none_calls_beneath c [] l site h = refl
-    none_calls_beneath c (d ∷ below) l site h =
-        let x = item_there c (d ∷ below) l.0 site h in
+    -- below a body with a call of a site no context stands at one
+    pub none_calls_below : (c : BodyContext) (below : List BodyContext) (l : AreLegal image known (c ∷ below)) (site i : ℕ) (x : Item)
+        → slice_get (body_items l.0.body) i ≡ Some x → is_call_at site x ≡ true → list_any (stands_at_call image site) below ≡ false
+    none_calls_below c [] l site i x hi hx = refl
+    none_calls_below c (d ∷ below) l site i x hi hx =
         let here : bodies_of image (numbers (d ∷ below)) ≡ l.1.0.body ∷ bodies_of image (numbers below)
         = ap (λ (o : Option Body). cons_body o (bodies_of image (numbers below))) l.1.0.is_body in
         let parts = legal_parts l.0.body l.1.0.body (bodies_of image (numbers below))
         (subst (λ bs. is_legal (l.0.body ∷ bs) ≡ true) here l.0.over.legal) in
         let z = outer_starts l.0.body.key l.0.body.side l.1.0.body (bodies_of image (numbers below))
-        (callers_outer c.body l.0.body c.place site x.0 l.0.is_body x.1 x.2) parts.0 parts.1 in
-        none_beneath c.body l.0.body c.place site z.0 x.0 l.0.is_body x.1 x.2 z.1 (d ∷ below) l.1
+        (callers_outer c.body l.0.body i site x l.0.is_body hi hx) parts.0 parts.1 in
+        none_beneath c.body l.0.body i site z.0 x l.0.is_body hi hx z.1 (d ∷ below) l.1
         (subst (λ bs. list_all (λ (e : Body). is_below z.0 e.key && not (is_nmi e.key)) bs ≡ true) (sym here) z.2)
+
+    -- of contexts that stand on each other one at most stands at a call of a site
+    pub none_calls_beneath : (c : BodyContext) (below : List BodyContext) → AreLegal image known (c ∷ below) → (site : ℕ)
+        → stands_at_call image site c ≡ true → list_any (stands_at_call image site) below ≡ false
+    none_calls_beneath c below l site h = let x = item_there c below l.0 site h in none_calls_below c below l site c.place x.0 x.1 x.2
+
+    -- none below a `wait` for the site, whose body calls it
+    pub none_calls_below_wait : (c : BodyContext) (below : List BodyContext) (l : AreLegal image known (c ∷ below)) (site : ℕ)
+        → slice_get (body_items l.0.body) c.place ≡ Some (Wait site) → list_any (stands_at_call image site) below ≡ false
+    unfolding breaks_calls
+    none_calls_below_wait c below l site hi =
+        let some : has_item (is_call_at site) l.0.body ≡ true
+        = not-false _ (keeps_call_rule image is kept c.body l.0.body l.0.is_body c.place (Wait site) hi) in
+        let x = any_somewhere (is_call_at site) (body_items l.0.body) some in
+        none_calls_below c below l site x.0 x.1 x.2 x.3

@@ -4,7 +4,8 @@ use Rattle.std.specs.List.{list_any}
 use Rattle.std.proofs.lemmas.Bool.{eqb-true, eq-eqb, false_from_ne_true, or_left, or_right, or_cases}
 use Rattle.ev_isa.specs.declared.mode.Mode.{Mode}
 use Rattle.ev_body.specs.declared.item.Item.{Item}
-use Rattle.ev_body.specs.declared.item.Item.TheVariants.{Call}
+use Rattle.ev_body.specs.declared.item.Item.TheVariants.{Call, Wait}
+use Rattle.ev_body.specs.declared.body.Body.{Body}
 use Rattle.ev_body.specs.declared.image.Image.{Image}
 use Rattle.ev_body.specs.WellFormed.{IsImage}
 use Rattle.ev_effect.specs.Task.{Task}
@@ -14,9 +15,10 @@ use Rattle.ev_abstract.specs.Accepted.{IsAccepted}
 use Rattle.ev_abstract.specs.Context.{BodyContext}
 use Rattle.ev_abstract.specs.Machine.{Machine, processor}
 use Rattle.ev_abstract.specs.Rules.{is_call_at}
+use Rattle.ev_abstract.specs.Run.{item_at}
 use Rattle.ev_concrete.specs.ConcreteRun.{System, Activation}
 use Rattle.ev_law.specs.Legal.{AreLegal, Legal, knows}
-use Rattle.ev_law.proofs.Sites.{some_call_at, stands_at_call, none_calls_beneath}
+use Rattle.ev_law.proofs.Sites.{some_call_at, stands_at_call, none_calls_beneath, none_calls_below_wait}
 use Rattle.ev_activation.specs.Seat.{Kind, kind_of, Seat, seat_of}
 use Rattle.ev_relation.specs.Nmi.{Frame}
 use Rattle.ev_relation.specs.Filling.{Filling, rest_fills, is_of_site, is_filled}
@@ -65,15 +67,11 @@ module _ (mode : Mode) (image : Image) where
       (filled_stands p (body_edges mode image) r to t f (chained mode image sw below) fs below as' z.0 m site z.1 k))
       (or_cases (is_of_site site g) (is_filled site fs) e)
 
-  -- So none below a context at a `call` fills the record of its site.
-  pub never_filled_twice : IsImage image → IsAccepted image → (p left : ℕ) (s : System) (m : Machine) → Legal image m
-      → (on : StandsOn mode image p left s (processor m p)) → (b : BodyContext) (below : List BodyContext) → (processor m p).bodies ≡ b ∷ below
-      → (site to func s' : ℕ) → item_of mode image b ≡ Some (Call site to func s') → is_filled site (rest_fills on.fills) ≡ false
-  never_filled_twice given accepted p left s m legal on b below hb site to func s' item =
+  -- so where none of the contexts below stands at a call of it, none of them fills its record
+  none_filled : (p left : ℕ) (s : System) (m : Machine) (on : StandsOn mode image p left s (processor m p)) (b : BodyContext) (below : List BodyContext)
+      → (processor m p).bodies ≡ b ∷ below → (site : ℕ) → list_any (stands_at_call image site) below ≡ false → is_filled site (rest_fills on.fills) ≡ false
+  none_filled p left s m on b below hb site none =
       false_from_ne_true (is_filled site (rest_fills on.fills)) (λ e.
-      let l : AreLegal image (knows image m) (b ∷ below) = subst (AreLegal image (knows image m)) hb (legal.each p).bodies in
-      let none = none_calls_beneath image given accepted.1.kept (knows image m) b below l site
-      (ap (some_call_at site) item ∙ at_its_call site (Call site to func s') to func s' refl) in
       let chain = subst (λ bs. Chain mode image p on.own (processor m p).running on.returning ((processor m p).tasks on.returning) on.frame on.switching
       on.fills bs (s.activations p) (s.cpus p) s.memory) hb
       (as_chain mode image on.layer p on.own on.more (processor m p).running on.returning ((processor m p).tasks on.returning) on.frame on.switching on.fills
@@ -88,3 +86,21 @@ module _ (mode : Mode) (image : Image) where
           let z = some_beneath (keeps_cr2 mode image (kind_of image b below)) _ h.0 h.4 in
           filled_stands p (body_edges mode image) (processor m p).running on.returning ((processor m p).tasks on.returning) on.frame
           (chained mode image sw below) (rest_fills fs) below as' z.0 s.memory site z.1 e
+
+  -- So none below a context at a `call` fills the record of its site.
+  pub never_filled_twice : IsImage image → IsAccepted image → (p left : ℕ) (s : System) (m : Machine) → Legal image m
+      → (on : StandsOn mode image p left s (processor m p)) → (b : BodyContext) (below : List BodyContext) → (processor m p).bodies ≡ b ∷ below
+      → (site to func s' : ℕ) → item_of mode image b ≡ Some (Call site to func s') → is_filled site (rest_fills on.fills) ≡ false
+  never_filled_twice given accepted p left s m legal on b below hb site to func s' item =
+      let l : AreLegal image (knows image m) (b ∷ below) = subst (AreLegal image (knows image m)) hb (legal.each p).bodies in
+      none_filled p left s m on b below hb site (none_calls_beneath image given accepted.1.kept (knows image m) b below l site
+      (ap (some_call_at site) item ∙ at_its_call site (Call site to func s') to func s' refl))
+
+  -- And none below one at a `wait` for the site.
+  pub never_filled_at_wait : IsImage image → IsAccepted image → (p left : ℕ) (s : System) (m : Machine) → Legal image m
+      → (on : StandsOn mode image p left s (processor m p)) → (b : BodyContext) (below : List BodyContext) → (processor m p).bodies ≡ b ∷ below
+      → (site : ℕ) → item_of mode image b ≡ Some (Wait site) → is_filled site (rest_fills on.fills) ≡ false
+  never_filled_at_wait given accepted p left s m legal on b below hb site item =
+      let l : AreLegal image (knows image m) (b ∷ below) = subst (AreLegal image (knows image m)) hb (legal.each p).bodies in
+      none_filled p left s m on b below hb site (none_calls_below_wait image given accepted.1.kept (knows image m) b below l site
+      (ap (λ (o : Option Body). item_at o b.place) (sym l.0.is_body) ∙ item))
