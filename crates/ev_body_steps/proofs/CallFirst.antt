@@ -117,7 +117,8 @@ module _ (mode : Mode) (image : Image) (built : IsBuilt image) (good : IsImage i
       → InCode mode image (origin_of o.κ) (env ss extra (with_registers regs v) g) o.w b' s.memory.words
   in_code ss extra v f g regs kept range b' same_locals same_calls saved locals calls = record {
     range = range;
-    saved = saved_again mode image (origin_of o.κ) (env ss extra v f) (env ss extra (with_registers regs v) g) o.w (beyond_registers regs v) refl refl refl saved;
+    saved = saved_again mode image (origin_of o.κ) (env ss extra v f) (env ss extra (with_registers regs v) g) o.w (beyond_registers regs v) refl refl refl
+        saved;
     locals = same_locals ∙ locals ∙ sym kept.locals;
     calls = subst (λ ks. HoldsCalls mode image s.memory.words (get_or regs 14 0) ks) (sym same_calls)
         (subst (λ a. HoldsCalls mode image s.memory.words a b.calls) (sym kept.calls) calls);
@@ -167,7 +168,8 @@ module _ (mode : Mode) (image : Image) (built : IsBuilt image) (good : IsImage i
         let next : ℕ = item + behind_first in
         let g : Flags = a.flags in
         let u : Env = env ss extra (with_registers regs v) g in
-        let here_is : c.rip ≡ item = goes.rip_is mode image built good facts left s m h p hp o ss extra v f 0 a ∙ (let q : extra 20 + 0 ≡ item = omega arith in q) in
+        let here_is : c.rip ≡ item = goes.rip_is mode image built good facts left s m h p hp o ss extra v f 0 a
+        ∙ (let q : extra 20 + 0 ≡ item = omega arith in q) in
         let cell : code c.rip ≡ Some (edge_cell (GsLoad 3 (pos 0x38)) next) = ap code here_is ∙ cells.first in
         let word : s.memory.words (pcpu p + 0x38) ≡ first = h.fixed (pcpu p + 0x38) (InArea p 0x38 small (inr refl) refl)
         ∙ opening_area _ mode image p 0x38 hp few (omega arith) refl ∙ (let q : record_address p 0 ≡ first = omega arith in q) in

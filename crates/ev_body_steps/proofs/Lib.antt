@@ -43,3 +43,4 @@ pub mod CallSteps
 pub mod CallGoes
 pub mod CallFills
 pub mod CallFirst
+pub mod ItemWaitLoad

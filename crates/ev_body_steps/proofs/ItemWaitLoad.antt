@@ -1,0 +1,326 @@
+-- `wait` at its visible load, which reads whether the site's call is done: what it reads, and where the abstract machine's context goes on.
+use Rattle.std.proofs.Common.{◌≡◌, ℕ, suc, ◌+◌, ◌*◌, ◌%◌, ◌^◌, ◌<◌, ◌≤◌, Bool, true, false, List, [], ◌∷◌, get_or, set, map, length, Option, None, Some, refl, sym, ap, ◌∙◌, subst, arith}
+use Rattle.std.specs.Prelude.{pos, slice_get, is_some, not, ◌&&◌, ◌||◌, ◌==◌, nat_le, nat_lt, if◌then◌else◌}
+use Rattle.std.specs.List.{list_any}
+use Rattle.std.proofs.lemmas.Bool.{ltb-true, not-false}
+use Rattle.std.proofs.lemmas.List.{get_or-set_same, get_or-set_other, length-set}
+use Rattle.ev_isa.specs.Word.{NatMap, displaced, wrap}
+use Rattle.ev_isa.specs.Flags.{Flags}
+use Rattle.ev_isa.specs.Spelling.{spelling, four_bytes}
+use Rattle.ev_isa.specs.declared.instruction.Ins.{Ins}
+use Rattle.ev_isa.specs.declared.instruction.Ins.TheVariants.{Load}
+use Rattle.ev_isa.specs.declared.mode.Mode.{Mode}
+use Rattle.ev_isa.specs.declared.mode.Mode.TheVariants.{Idt, Fred}
+use Rattle.ev_body.specs.declared.item.Item.TheVariants.{Wait}
+use Rattle.ev_body.specs.declared.body.Body.{Body}
+use Rattle.ev_body.specs.declared.image.Image.{Image}
+use Rattle.ev_body.specs.WellFormed.{IsImage}
+use Rattle.ev_listing.specs.AddressMap.{pcpu, record_address, nmi_entry, repeat_entry}
+use Rattle.ev_listing.specs.Expansion.{item_address}
+use Rattle.ev_listing.specs.Marks.{Always}
+use Rattle.ev_state.specs.Processor.{Processor, is_user, register}
+use Rattle.ev_mem.specs.Memory.{Memory}
+use Rattle.ev_proc.specs.declared.stepped.Stepped.{Stepped}
+use Rattle.ev_abstract.specs.Context.{CallId, BodyContext, onward as onward_of}
+use Rattle.ev_abstract.specs.ItemMeaning.{item_step, waited, with_context, unknown_flags}
+use Rattle.ev_abstract.specs.Machine.{CallState, Free, Queued, Taken, CallRecord, Machine, processor}
+use Rattle.ev_abstract.specs.Machine as abstract
+use Rattle.ev_abstract.specs.Rules.{breaks_slots}
+use Rattle.ev_abstract.specs.Run.{item_at, turn}
+use Rattle.ev_abstract.specs.declared.entry.Entry.{Entry}
+use Rattle.ev_concrete.specs.ConcreteRun.{System, activations_by, is_return}
+use Rattle.ev_concrete.specs.Depth.{is_in_repeat, is_jump, bodies_on}
+use Rattle.ev_concrete.specs.Shown.{shown_always, record_word}
+use Rattle.ev_built.specs.Built.{IsBuilt}
+use Rattle.ev_law.specs.Legal.{AreLegal, knows}
+use Rattle.ev_law.proofs.Ruled.{IsRuled, body_ruled}
+use Rattle.ev_symbolic.specs.Value.{M, V, K, X, B, OAdd}
+use Rattle.ev_symbolic.specs.State.{Block}
+use Rattle.ev_symbolic.specs.Names.{item_tag, top_less}
+use Rattle.ev_symbolic.specs.Single.{Leads, onward}
+use Rattle.ev_symbolic.specs.Agrees.{Env, Code, Cell, Stands as Lines, eval, FactsHold, IsOpen, At, with_words}
+use Rattle.ev_symbolic.proofs.Single.{singles}
+use Rattle.ev_blocks.specs.Shapes.{body_bytes}
+use Rattle.ev_blocks.specs.Calls.{AtRecord, BehindWait, behind_first, behind_state, state_word}
+use Rattle.ev_blocks.specs.Calls as calls
+use Rattle.ev_blocks.specs.Items.{InCall}
+use Rattle.ev_blocks.specs.Blocks.{block, edges}
+use Rattle.ev_blocks.specs.Blocks as blocks
+use Rattle.ev_activation.specs.Seat.{kind_of}
+use Rattle.ev_paths.specs.CallEnds.{item_regs}
+use Rattle.ev_table.specs.Table.{code_table}
+use Rattle.ev_relation.specs.Filling.{Filling, first_fill, rest_fills, is_of_site, is_filled}
+use Rattle.ev_relation.specs.Active.{item_place, address_of_item, item_of, here, IsKernelSs, InCode, InCallSpot, Active}
+use Rattle.ev_relation.specs.Relation.{IsContext, HoldsCall, CallIs, Chain, StandsOn, Stands, switches_at, serves, body_edges}
+use Rattle.ev_relation.specs.Step.{Simulated}
+use Rattle.ev_relation.proofs.After.{none_spares}
+use Rattle.ev_relation.proofs.CallKinds.{origin_of, plain_knows}
+use Rattle.ev_relation.proofs.Depth.{goes_on_inside}
+use Rattle.ev_relation.proofs.Facts.{Facts}
+use Rattle.ev_relation.proofs.FilledOnce.{never_filled_at_wait}
+use Rattle.ev_relation.proofs.Legality.{turn_legal}
+use Rattle.ev_relation.proofs.Spots.{is_spot}
+use Rattle.ev_relation.proofs.Standing.{went_stays}
+use Rattle.ev_body_steps.proofs.Bodies.{body, layout_of, means_at}
+use Rattle.ev_body_steps.proofs.CallCells.{WaitCells, wait_code}
+use Rattle.ev_body_steps.proofs.CallFirst.{AreKept, in_code}
+use Rattle.ev_body_steps.proofs.CallGoes.{block_is, ends_of}
+use Rattle.ev_body_steps.proofs.CallGoes as goes
+use Rattle.ev_body_steps.proofs.CallPlaces.{rax_regs_are, same_rsp}
+use Rattle.ev_body_steps.proofs.ItemAddresses.{area_open}
+use Rattle.ev_body_steps.proofs.ItemCells.{edges_stand}
+use Rattle.ev_body_steps.proofs.ItemState.{with_registers, any_known, gone}
+use Rattle.ev_body_steps.proofs.ItemVisible.{goes_onward, legal_context}
+use Rattle.ev_body_steps.proofs.ItemWords as words
+use Rattle.ev_body_steps.proofs.KernelStep as step
+
+-- ---- the blocks before and behind the load
+
+-- the registers behind the sum, and with what the load reads
+record_regs : Mode → ℕ → List V
+record_regs mode site = set (item_regs (layout_of mode)) 3 (B OAdd (X 3) (K (0x40 * site)))
+
+record_rsp : (mode : Mode) (e : Env) (site : ℕ)
+    → get_or (map (eval e) (record_regs mode site)) 4 0 ≡ eval e (top_less (body_bytes (layout_of mode)))
+unfolding record_regs
+record_rsp mode e site = refl
+
+record_kept : (mode : Mode) (e : Env) (site n : ℕ) → AreKept e.var (set (map (eval e) (record_regs mode site)) 0 n)
+unfolding record_regs eval
+record_kept mode e site n = record { locals = refl; calls = refl }
+
+wait_spot : (mode : Mode) (d : Bool) → is_spot mode (body mode (InCall (BehindWait d))) ≡ true
+wait_spot Fred d = refl
+wait_spot Idt d = refl
+
+wait_few : (mode : Mode) (d : Bool) → edges mode (body mode (InCall (BehindWait d))) 0 ≤ 100
+wait_few Fred d = omega arith
+wait_few Idt d = omega arith
+
+-- none fills a record where the first doesn't, and none below
+none_fills : (site : ℕ) (fs : List (Option Filling)) → first_fill fs ≡ None → is_filled site (rest_fills fs) ≡ false → is_filled site fs ≡ false
+none_fills site [] first rest = refl
+none_fills site (f ∷ fs) first rest = ap (λ g. is_of_site site g || is_filled site fs) first ∙ rest
+
+module _ (mode : Mode) (image : Image) (built : IsBuilt image) (good : IsImage image) (facts : Facts mode image)
+    (left : NatMap ℕ) (s : System) (m : Machine) (h : Stands mode image left s m) (p : ℕ) (hp : p < image.processors)
+    (o : step.Top mode image built good facts left s m h p hp) (body' : Body) (is : slice_get image.bodies o.b.body ≡ Some body') where
+  abbrev code : Code
+  code = code_table mode image
+
+  abbrev c : Processor
+  c = s.cpus p
+
+  abbrev b : BodyContext
+  b = o.b
+
+  abbrev x : abstract.Processor
+  x = processor m p
+
+  abbrev on : StandsOn mode image p (left p) s x
+  on = step.on mode image built good facts left s m h p hp
+
+  abbrev env : ℕ → (extra v : ℕ → ℕ) → Flags → Env
+  env ss extra v f = here mode p o.κ o.σ ss o.w extra v f
+
+  abbrev Stood : ℕ → BodyContext → Processor → Memory → Type 0
+  Stood now b cpu mem = Active mode image p now o.κ o.σ on.frame (switches_at mode image on.switching o.below) (first_fill on.fills) o.w b cpu mem
+
+  -- the context behind the load, at this item
+  abbrev behind : ℕ → BodyContext
+  behind place = record b { place = place; flags = None }
+
+  module _ (unfilled : first_fill on.fills ≡ None) (act : Stood on.own b c s.memory) (ss : ℕ) (ss_is : IsKernelSs mode ss) (extra v : ℕ → ℕ) (f : Flags)
+      (site : ℕ) (at : At code (block mode (body mode (InCall (AtRecord site)))) (block mode (body mode (InCall (AtRecord site)))).steps (env ss extra v f) c
+      s.memory)
+      (means : InCallSpot mode image (origin_of o.κ) (AtRecord site) (env ss extra v f) o.w b (first_fill on.fills) s.memory.words)
+      (hi : item_at (Some body') b.place ≡ Some (Wait site)) where
+    abbrev e : Env
+    e = env ss extra v f
+
+    abbrev a : ℕ
+    a = item_address mode b.body body' b.place
+
+    abbrev there : ℕ
+    there = record_address p site
+
+    abbrev AtLoad : Type 0
+    AtLoad = goes.AtPlace mode image built good facts left s m h p hp o ss extra v f 16
+
+    at_load : AtLoad × (c.regs ≡ map (eval e) (record_regs mode site))
+    unfolding record_regs
+    at_load = goes.behind_block mode image built good facts left s m h p hp o (AtRecord site) refl unfilled act ss ss_is extra v f means.0.range at 16
+        (omega arith) (record_regs mode site) ((ends_of mode).site site) refl (record_rsp mode e site)
+
+    small_site : site < 8
+    unfolding breaks_slots
+    small_site = ltb-true site 8 (not-false _ ((body_ruled image good built.accepted.1.kept b.body body' is).slots b.place (Wait site) hi))
+
+    small : p < 32
+    small = step.small mode image built good facts left s m h p hp
+
+    -- RBX is the record
+    rbx : register c 3 ≡ there
+    unfolding record_regs eval
+    rbx = let low = small_site in let near = small in ap (λ (xs : List ℕ). get_or xs 3 0) at_load.1 ∙ ap (λ n. (n + 0x40 * site) % M) means.3
+        ∙ (let q : (pcpu p + 0x800 + 0x40 * site) % M ≡ record_address p site = omega arith in q)
+
+    -- which holds what the abstract machine has of it
+    held : HoldsCall mode image s.memory.words p site (x.records site)
+    held = on.records site small_site (none_fills site on.fills unfilled
+        (never_filled_at_wait mode image good built.accepted p (left p) s m h.legal on b o.below o.bodies site (ap (λ y. item_at y b.place) is ∙ hi)))
+
+    -- a word of the record
+    word_is : (n : ℕ) → n < 0x40 → record_word c s.memory.words n ≡ s.memory.words (there + n)
+    word_is n l = let low = small_site in let near = small in
+        ap (λ y. s.memory.words (wrap (y + n))) rbx
+        ∙ ap s.memory.words (let q : (record_address p site + n) % 2 ^ 64 ≡ record_address p site + n = omega arith in q)
+
+    cells : WaitCells code a (item_address mode b.body body' (suc b.place)) site
+    cells = wait_code mode image facts b.body body' is b.place site hi
+
+    base : extra 20 ≡ a
+    base = means.1 ∙ ap (address_of_item mode b.body b.place) is
+
+    abbrev ins : Ins
+    ins = Load 0 3 (pos 0)
+
+    abbrev next : ℕ
+    next = a + behind_state
+
+    -- Where it reads this, the processor stands behind it, for the machine in which the context is there.
+    goes_on : (d : Bool) → s.memory.words there ≡ state_word d → (place : ℕ) (es : List Entry) → turn image m p ≡ (with_context m p (behind place), es)
+        → ((u : Env) → u.base ≡ e.base → InCode mode image (origin_of o.κ) u o.w (behind place) s.memory.words
+        → InCallSpot mode image (origin_of o.κ) (BehindWait d) u o.w (behind place) (first_fill on.fills) s.memory.words)
+        → shown_always p (bodies_on s p) c s.memory.words (Some ins) ≡ es → Simulated mode image left s m p
+    unfolding record_regs eval spelling four_bytes is_return
+    goes_on d reads place es turns spot shows =
+        let z : AtLoad × (c.regs ≡ map (eval e) (record_regs mode site)) = at_load in
+        let y : AtLoad = z.0 in
+        let low = small_site in let near = small in
+        let few = good.count.1 in
+        let range = y.range in
+        let high = range.1 in
+        let base_is = base in
+        let n : ℕ = state_word d in
+        let regs : List ℕ = set c.regs 0 n in
+        let g : Flags = y.flags in
+        let cpu : Processor = gone c regs g next in
+        let u : Env = env ss extra (with_registers regs v) g in
+        let cell : Cell = record { ins = ins; next = next; mark = Always } in
+        let here_is : c.rip ≡ a + 16 = goes.rip_is mode image built good facts left s m h p hp o ss extra v f 16 y ∙ ap (λ k. k + 16) base_is in
+        let found : code c.rip ≡ Some cell = ap code here_is ∙ cells.seen in
+        let from : displaced (register c 3) (pos 0) ≡ there = ap (λ k. displaced k (pos 0)) rbx
+        ∙ (let q : (record_address p site + 0) % 2 ^ 64 ≡ record_address p site = omega arith in q) in
+        let at_ins = goes.at_instruction mode image built good facts left s m h p hp o ss extra v f 16 y ins next (omega arith) in
+        let opened : IsOpen s.memory.regions there = subst (IsOpen s.memory.regions)
+        (let q : pcpu p + (0x800 + 0x40 * site) ≡ record_address p site = omega arith in q)
+        (area_open image s.memory.regions h.regions_are p (0x800 + 0x40 * site) hp few (omega arith) (omega arith)) in
+        let leads : Leads c s.memory ins cpu s.memory.words = goes_onward c s.memory ins g regs next s.memory.words y.state.flags
+        (subst (λ k. Leads c s.memory ins (onward c (set c.regs 0 k) next) s.memory.words) reads
+        ((singles c s.memory next).loads 0 3 (pos 0) there at_ins from opened)) in
+        let rsp : get_or regs 4 0 ≡ get_or c.regs 4 0 = get_or-set_other c.regs 0 4 n 0 (λ e. omega arith) in
+        let stack : get_or regs 4 0 ≡ eval u (top_less (body_bytes (layout_of mode)))
+        = rsp ∙ same_rsp mode p o.κ o.σ ss o.w extra v f c s.memory 16 g y.state extra v refl refl refl in
+        let wide : length regs ≡ 16 = length-set c.regs 0 n ∙ y.state.long in
+        let long = y.state.long in
+        let lines : Lines code u (block mode (body mode (InCall (BehindWait d)))).lines = subst (λ (B : Block). Lines code u B.lines)
+        (sym (block_is mode (BehindWait d))) (edges_stand code u a behind_state calls.wait_code base_is (omega arith) cells.test) in
+        let stands = goes.call_stands mode image built good facts left s m h p hp o ss extra v f 16 y (BehindWait d) refl (wait_spot mode d) extra v
+        refl refl refl refl regs g next behind_state s.memory.words wide rsp (omega arith) refl
+        (rax_regs_are mode u regs v (K n) refl wide stack (get_or-set_same c.regs 0 n 0 (omega arith))) y.state.words
+        (any_known mode p o.κ o.σ ss o.w extra extra v f g regs s.memory.words y.state.words)
+        (subst (λ (B : Block). FactsHold u B.ground.facts) (sym (block_is mode (BehindWait d))) tt) lines in
+        let kept : AreKept v regs = subst (λ (xs : List ℕ). AreKept v (set xs 0 n)) (sym z.1) (record_kept mode e site n) in
+        let b' : BodyContext = behind place in
+        let in_wait = in_code mode image built good facts left s m h p hp o ss extra v f g regs kept range b' refl refl means.0.saved means.0.locals
+        means.0.calls in
+        let plain = step.plain_kind mode image built good facts left s m h p hp o in
+        let now : ℕ = edges mode (body mode (InCall (BehindWait d))) 0 in
+        let bounded = wait_few mode d in
+        let act' : Stood now b' cpu s.memory = record {
+          stands = record {
+            spot = body mode (InCall (BehindWait d));
+            k = 0;
+            extra = extra;
+            var = with_registers regs v;
+            flags = g;
+            ss = ss;
+            ss_is = ss_is;
+            masked = step.masks_flags mode image built good facts left s m h p hp o g y.state.flags;
+            within = omega arith;
+            enough = omega arith;
+            at = stands;
+            long = wide;
+          };
+          switches = sym o.off;
+          fills = sym (ap is_some unfilled);
+          knows = plain_knows mode o.κ on.frame plain (blocks.holds (body mode (InCall (BehindWait d))));
+          means = means_at mode image o.κ plain (InCall (BehindWait d)) u o.w b' (first_fill on.fills) s.memory.words (spot u refl in_wait);
+        } in
+        let m' : Machine = with_context m p b' in
+        let makes = words.makes_context mode image built good facts left s m h p hp o m m s.memory.words x.tasks x.slots b'
+        (words.makes_nothing mode image built good facts left s m h p hp o [] (none_spares p).free s.memory.words (λ k off far. refl)
+        refl refl refl refl refl) in
+        let ctx : IsContext mode image b' = legal_context image (knows image m') b' o.below mode
+        (subst (λ (q : abstract.Processor). AreLegal image (knows image m') q.bodies) makes.own
+        ((turn_legal image good built.accepted m p hp h.legal (m', es) turns).each p).bodies) in
+        let inner : is_return (Some ins) ≡ false = refl in
+        let outside = step.outside mode image built good facts left s m h p hp o act in
+        let still_there : activations_by s p (s.activations p) cpu Stepped.Ran ≡ o.last ∷ o.others
+        = went_stays image.processors s p cpu None ins (step.fetches mode image built good facts left s m h p hp c.rip cell found).1 inner ∙ o.acts in
+        step.visible mode image built good facts left s m h p hp o (λ i. y.state.blocked) cell found refl y.kernel cpu s.memory.words leads
+        (step.blocked mode image built good facts left s m h p hp) [] (none_spares p).free (λ k far off. refl) m' es turns x.tasks x.slots on.fills on.free
+        (λ k. refl) (b' ∷ o.below) makes
+        (λ class. sym (ap (list_any (λ (q : BodyContext). serves mode image class q.service)) o.bodies))
+        (goes_on_inside (is_return (Some ins)) (not (is_user c)) (not (nat_le nmi_entry c.rip && nat_lt c.rip repeat_entry)) (is_jump (Some ins))
+        (is_in_repeat c.rip) (length x.bodies) inner outside ∙ ap length o.bodies)
+        now (omega arith)
+        (subst (λ as'. Chain mode image p now x.running on.returning (x.tasks on.returning) on.frame on.switching on.fills (b' ∷ o.below) as' cpu s.memory)
+        (sym still_there)
+        (step.with_last mode image built good facts left s m h p hp o b' o.kind ctx now cpu s.memory.words [] (none_spares p).free
+        (step.unknown_none o.below) (λ k far off. refl) act'))
+        shows
+
+    -- At the load: a turn. The entry tells the number of calls that the site has queued, and memory has it modulo 2^64.
+    pub by_load : (x.records site).number < M → Simulated mode image left s m p
+    unfolding item_step shown_always
+    by_load counted = by_state (x.records site).state refl
+      where
+        key : CallId
+        key = record { from = p; site = site }
+
+        item : item_of mode image b ≡ Some (Wait site)
+        item = ap (λ y. item_at y b.place) is ∙ hi
+
+        turned : (st : CallState) → (x.records site).state ≡ st → turn image m p ≡ waited m p b key st
+        turned st e = step.turns mode image built good facts left s m h p hp o (λ i. at_load.0.state.blocked) (Wait site) item ∙ ap (waited m p b key) e
+
+        call : (st : CallState) → (x.records site).state ≡ st → CallIs mode image s.memory.words there (x.records site) st
+        call st e = subst (CallIs mode image s.memory.words there (x.records site)) e held.call
+
+        state_is : record_word c s.memory.words 0 ≡ s.memory.words there
+        state_is = word_is 0 (omega arith) ∙ ap s.memory.words (let q : record_address p site + 0 ≡ record_address p site = omega arith in q)
+
+        site_is : record_word c s.memory.words 0x30 % 2 ^ 8 ≡ site
+        site_is = let low = small_site in ap (λ n. n % 2 ^ 8) (word_is 0x30 (omega arith) ∙ held.site) ∙ (let q : site % 2 ^ 8 ≡ site = omega arith in q)
+
+        number_is : record_word c s.memory.words 0x28 ≡ (x.records site).number
+        number_is = word_is 0x28 (omega arith) ∙ held.number ∙ (let q : (x.records site).number % M ≡ (x.records site).number = omega arith in q)
+
+        -- where the call is under way it stays
+        stays : s.memory.words there ≡ 1 → turn image m p ≡ (with_context m p (behind b.place), []) → Simulated mode image left s m p
+        stays used t = goes_on false used b.place [] t (λ u same k. (k, ap (λ B. B item_tag) same ∙ means.1, refl, site, item))
+            (ap (λ n. if n == 0 then Entry.Done p (record_word c s.memory.words 0x30 % 2 ^ 8) (record_word c s.memory.words 0x28) ∷ [] else [])
+            (state_is ∙ used))
+
+        by_state : (st : CallState) → (x.records site).state ≡ st → Simulated mode image left s m p
+        by_state Free e = goes_on true (call Free e) (suc b.place) (Entry.Done p site (x.records site).number ∷ []) (turned Free e)
+            (λ u same k. (
+              k,
+              record { site = site; n = b.place; code = (item, ap (λ B. B item_tag) same ∙ means.1); next = refl },
+              refl,
+            ))
+            (λ i. if (state_is ∙ call Free e) i == 0 then Entry.Done p (site_is i) (number_is i) ∷ [] else [])
+        by_state Queued e = stays (call Queued e).0 (turned Queued e)
+        by_state Taken e = stays (call Taken e).0 (turned Taken e)
