@@ -264,7 +264,7 @@ module _ (mode : Mode) (image : Image) (built : IsBuilt image) (good : IsImage i
       its_own f first q k mine unfilled =
           let same : record { from = q; site = k } ≡ record { from = p; site = f.site }
           = same_call (record { from = q; site = k }) (record { from = p; site = f.site }) mine in
-          let there = ap (λ (i : CallId). i.site) same in
+          let there : k ≡ f.site = ap (λ (i : CallId). i.site) same in
           let clash : true ≡ false = sym (subst (λ i. is_filled i on.fills ≡ true) (sym there) (first_is_filled on.fills f first))
           ∙ unfilled (ap (λ (i : CallId). i.from) same) in cc
 

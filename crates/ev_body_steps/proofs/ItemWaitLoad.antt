@@ -62,7 +62,7 @@ use Rattle.ev_relation.proofs.Legality.{turn_legal}
 use Rattle.ev_relation.proofs.Spots.{is_spot}
 use Rattle.ev_relation.proofs.Standing.{went_stays}
 use Rattle.ev_body_steps.proofs.Bodies.{body, layout_of, means_at}
-use Rattle.ev_body_steps.proofs.CallCells.{WaitCells, wait_code}
+use Rattle.ev_body_steps.proofs.CallCells.{WaitCode, wait_code}
 use Rattle.ev_body_steps.proofs.CallFirst.{AreKept, in_code}
 use Rattle.ev_body_steps.proofs.CallGoes.{block_is, ends_of}
 use Rattle.ev_body_steps.proofs.CallGoes as goes
@@ -176,7 +176,7 @@ module _ (mode : Mode) (image : Image) (built : IsBuilt image) (good : IsImage i
         ap (λ y. s.memory.words (wrap (y + n))) rbx
         ∙ ap s.memory.words (let q : (record_address p site + n) % 2 ^ 64 ≡ record_address p site + n = omega arith in q)
 
-    cells : WaitCells code a (item_address mode b.body body' (suc b.place)) site
+    cells : WaitCode code a (item_address mode b.body body' (suc b.place)) site
     cells = wait_code mode image facts b.body body' is b.place site hi
 
     base : extra 20 ≡ a

@@ -444,8 +444,8 @@ module _ (mode : Mode) (image : Image) (built : IsBuilt image) (good : IsImage i
           ctx.item (which image built good b.body body' is b.place ctx.item hi) hi
       at_body act (InCall s') unfilled k ss ss_is extra v f n at means long enough hi = absurd (never_in_call image built good b.body body' is mode (origin_of κ)
           (env ss extra v f) w b refl (first_fill on.fills) s.memory.words s' means)
-      at_body act (AtKick to) unfilled k ss ss_is extra v f n at means long enough hi =
-          absurd (not_built image built good b.body body' is b.place (Kick to means.s) means.item refl)
+      at_body act (AtKick target) unfilled k ss ss_is extra v f n at means long enough hi =
+          absurd (not_built image built good b.body body' is b.place (Kick target means.s) means.item refl)
       at_body act BehindKick unfilled k ss ss_is extra v f n at means long enough hi =
           let last : k ≡ 1 = n ∙ kick.jump_steps mode in
           let z : wait.Opens mode image built good facts left s m h p hp o body' is ss v
