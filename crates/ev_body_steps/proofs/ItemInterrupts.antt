@@ -460,4 +460,4 @@ module _ (mode : Mode) (image : Image) (built : IsBuilt image) (good : IsImage i
         (sym still_there)
         (step.with_last mode image built good facts left s m h p hp o b' o.kind ctx now cpu s.memory.words [] (none_spares p).free
         (step.unknown_none o.below) (λ y far near. refl) act))
-        refl
+        (λ counted. refl)

@@ -280,4 +280,4 @@ module _ (mode : Mode) (image : Image) (built : IsBuilt image) (good : IsImage i
       (subst (λ as'. Chain mode image p (edges mode (body mode AtItem) 0) x.running on.returning (d.tasks on.returning) on.frame on.switching on.fills
       (b' ∷ o.below) as' cpu
       mem) (sym still_there) (d.over.chains b' o.kind ctx (edges mode (body mode AtItem) 0) cpu act'))
-      d.shows
+      (λ counted. d.shows)

@@ -52,9 +52,10 @@ use Rattle.ev_table.specs.Table.{code_table}
 use Rattle.ev_relation.specs.Filling.{Filling, first_fill, rest_fills, is_of_site, is_filled}
 use Rattle.ev_relation.specs.Active.{item_place, address_of_item, item_of, here, IsKernelSs, InCode, InCallSpot, Active}
 use Rattle.ev_relation.specs.Relation.{IsContext, HoldsCall, CallIs, Chain, StandsOn, Stands, switches_at, serves, body_edges}
-use Rattle.ev_relation.specs.Step.{Simulated}
+use Rattle.ev_relation.specs.Step.{IsCounted, Simulated}
 use Rattle.ev_relation.proofs.After.{none_spares}
 use Rattle.ev_relation.proofs.CallKinds.{origin_of, plain_knows}
+use Rattle.ev_relation.proofs.Counted.{number_kept}
 use Rattle.ev_relation.proofs.Depth.{goes_on_inside}
 use Rattle.ev_relation.proofs.Facts.{Facts}
 use Rattle.ev_relation.proofs.FilledOnce.{never_filled_at_wait}
@@ -192,7 +193,7 @@ module _ (mode : Mode) (image : Image) (built : IsBuilt image) (good : IsImage i
     goes_on : (d : Bool) → s.memory.words there ≡ state_word d → (place : ℕ) (es : List Entry) → turn image m p ≡ (with_context m p (behind place), es)
         → ((u : Env) → u.base ≡ e.base → InCode mode image (origin_of o.κ) u o.w (behind place) s.memory.words
         → InCallSpot mode image (origin_of o.κ) (BehindWait d) u o.w (behind place) (first_fill on.fills) s.memory.words)
-        → shown_always p (bodies_on s p) c s.memory.words (Some ins) ≡ es → Simulated mode image left s m p
+        → (IsCounted s → shown_always p (bodies_on s p) c s.memory.words (Some ins) ≡ es) → Simulated mode image left s m p
     unfolding record_regs eval spelling four_bytes is_return
     goes_on d reads place es turns spot shows =
         let z : AtLoad × (c.regs ≡ map (eval e) (record_regs mode site)) = at_load in
@@ -282,10 +283,10 @@ module _ (mode : Mode) (image : Image) (built : IsBuilt image) (good : IsImage i
         (step.unknown_none o.below) (λ k far off. refl) act'))
         shows
 
-    -- At the load: a turn. The entry tells the number of calls that the site has queued, and memory has it modulo 2^64.
-    pub by_load : (x.records site).number < M → Simulated mode image left s m p
+    -- At the load: a turn.
+    pub by_load : Simulated mode image left s m p
     unfolding item_step shown_always
-    by_load counted = by_state (x.records site).state refl
+    by_load = by_state (x.records site).state refl
       where
         key : CallId
         key = record { from = p; site = site }
@@ -305,13 +306,14 @@ module _ (mode : Mode) (image : Image) (built : IsBuilt image) (good : IsImage i
         site_is : record_word c s.memory.words 0x30 % 2 ^ 8 ≡ site
         site_is = let low = small_site in ap (λ n. n % 2 ^ 8) (word_is 0x30 (omega arith) ∙ held.site) ∙ (let q : site % 2 ^ 8 ≡ site = omega arith in q)
 
-        number_is : record_word c s.memory.words 0x28 ≡ (x.records site).number
-        number_is = word_is 0x28 (omega arith) ∙ held.number ∙ (let q : (x.records site).number % M ≡ (x.records site).number = omega arith in q)
+        -- the entry tells the number of calls that the site has queued
+        number_is : IsCounted s → record_word c s.memory.words 0x28 ≡ (x.records site).number
+        number_is counted = word_is 0x28 (omega arith) ∙ held.number ∙ number_kept mode image left s m h counted key
 
         -- where the call is under way it stays
         stays : s.memory.words there ≡ 1 → turn image m p ≡ (with_context m p (behind b.place), []) → Simulated mode image left s m p
         stays used t = goes_on false used b.place [] t (λ u same k. (k, ap (λ B. B item_tag) same ∙ means.1, refl, site, item))
-            (ap (λ n. if n == 0 then Entry.Done p (record_word c s.memory.words 0x30 % 2 ^ 8) (record_word c s.memory.words 0x28) ∷ [] else [])
+            (λ counted. ap (λ n. if n == 0 then Entry.Done p (record_word c s.memory.words 0x30 % 2 ^ 8) (record_word c s.memory.words 0x28) ∷ [] else [])
             (state_is ∙ used))
 
         by_state : (st : CallState) → (x.records site).state ≡ st → Simulated mode image left s m p
@@ -321,6 +323,6 @@ module _ (mode : Mode) (image : Image) (built : IsBuilt image) (good : IsImage i
               record { site = site; n = b.place; code = (item, ap (λ B. B item_tag) same ∙ means.1); next = refl },
               refl,
             ))
-            (λ i. if (state_is ∙ call Free e) i == 0 then Entry.Done p (site_is i) (number_is i) ∷ [] else [])
+            (λ counted i. if (state_is ∙ call Free e) i == 0 then Entry.Done p (site_is i) (number_is counted i) ∷ [] else [])
         by_state Queued e = stays (call Queued e).0 (turned Queued e)
         by_state Taken e = stays (call Taken e).0 (turned Taken e)

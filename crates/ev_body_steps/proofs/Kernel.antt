@@ -326,7 +326,7 @@ module _ (mode : Mode) (image : Image) (built : IsBuilt image) (good : IsImage i
           (ends_a_body (Some cell.ins) c x.place x.rip x.outside hu x.is) ∙ ap (λ (bs : List BodyContext). length bs - 1) o.bodies
           ∙ one_less (length below)) (body_edges mode image) (omega arith)
           (subst (λ as'. Chain mode image p (body_edges mode image) r to t on.frame on.switching (rest_fills on.fills) below as' back s.memory) (sym gone)
-          (step.returns_to_below mode image built good facts left s m h p hp o c.cr2)) (x.silent p (bodies_on s p) c s.memory.words)
+          (step.returns_to_below mode image built good facts left s m h p hp o c.cr2)) (λ counted. x.silent p (bodies_on s p) c s.memory.words)
         where
           one_less : (n : ℕ) → suc n - 1 ≡ n
           one_less n = omega arith

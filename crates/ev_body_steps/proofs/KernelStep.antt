@@ -301,7 +301,7 @@ module _ (mode : Mode) (image : Image) (built : IsBuilt image) (good : IsImage i
         → HoldsNumbers m' → IsInDomain x'
         → bodies_behind (length x.bodies) c cell.ins sent ≡ length x'.bodies
         → (now : ℕ) → StandsOn mode image p (now + inner_edges (s.latches p)) (Behind a cpu words sent) x'
-        → went_shows p s Always cell.ins cpu words sent ≡ es → Result
+        → (IsCounted s → went_shows p s Always cell.ins cpu words sent ≡ es) → Result
     turn_to cell hc hm hu a cpu words sent z he σ narrow names free changes m' es ht x' becomes numbers inside told now there hes =
         turn_with cell hc Always hm refl hu a cpu words sent he m' es ht x' told now there
         (stands_alike mode image left (Posted sent) (Behind a cpu words sent) z.machine m' p (now + inner_edges (s.latches p)) x' σ cpu _ words
@@ -309,7 +309,7 @@ module _ (mode : Mode) (image : Image) (built : IsBuilt image) (good : IsImage i
         (turn_legal image good built.accepted m p hp h.legal (m', es) ht) (turn_bases image m p h.bases (m', es) ht) numbers
         (h.told ++ es) (turn_few image good built.accepted m p hp h.legal h.told h.calls s.totals.steps h.few (m', es) ht)
         (turn_calls image good built.accepted m p hp h.legal h.told h.calls (m', es) ht) inside there)
-        (λ counted. hes)
+        hes
 
   -- ---- what the abstract machine does at the item of its last context, where nothing comes before it
 
@@ -615,7 +615,7 @@ module _ (mode : Mode) (image : Image) (built : IsBuilt image) (good : IsImage i
         → bodies_behind (length x.bodies) c cell.ins sent ≡ length bs
         → (now : ℕ) → now ≤ body_edges mode image
         → Chain mode image p now r to (tasks to) on.frame on.switching fs bs (went_activations image.processors s p cpu sent) cpu (with_words s.memory words)
-        → went_shows p s Always cell.ins cpu words sent ≡ es → Result
+        → (IsCounted s → went_shows p s Always cell.ins cpu words sent ≡ es) → Result
     unfolding comes_to
     visible_with unblocked cell hc hm hu a cpu words sent z he hb names free changes m' es ht tasks slots fs fills filled bs y apic told now few
         goes_on hes =
@@ -663,7 +663,7 @@ module _ (mode : Mode) (image : Image) (built : IsBuilt image) (good : IsImage i
         → (now : ℕ) → now ≤ body_edges mode image
         → Chain mode image p now r to (tasks to) on.frame on.switching fs bs (activations_by s p (s.activations p) cpu Stepped.Ran) cpu
         (with_words s.memory words)
-        → shown_always p (bodies_on s p) c s.memory.words (Some cell.ins) ≡ es → Result
+        → (IsCounted s → shown_always p (bodies_on s p) c s.memory.words (Some cell.ins) ≡ es) → Result
     visible unblocked cell hc hm hu cpu words he hb names free changes m' es ht tasks slots fs fills filled bs y serving told now few goes_on hes =
         visible_with unblocked cell hc hm hu (s.apics p) cpu words None sends_nothing (he (s.apics p) (s.latches p)) hb
         names free changes m' es ht tasks slots fs fills filled

@@ -30,6 +30,10 @@ pub mod ItemUser
 pub mod ItemPage
 pub mod ItemPages
 pub mod KernelItems
+pub mod CallGoes
+pub mod CallFirst
+pub mod ItemWaitLoad
+pub mod WaitSteps
 pub mod Kernel
 pub mod BodyRaising
 pub mod BodyRaisingFred
@@ -40,7 +44,4 @@ pub mod BodyInterrupt
 pub mod BodyBreak
 pub mod BodyFault
 pub mod CallSteps
-pub mod CallGoes
 pub mod CallFills
-pub mod CallFirst
-pub mod ItemWaitLoad

@@ -460,7 +460,7 @@ module _ (mode : Mode) (image : Image) (built : IsBuilt image) (good : IsImage i
         (record { nmi = domain.nmi; mail_nmi = domain.mail_nmi })
         (ap (λ t. if t then length x.bodies - 1 else (if begins_body c (Some cell.ins) then suc (length x.bodies) else length x.bodies))
         (ends_a_body (Some cell.ins) c y.place y.rip y.outside kernel y.is) ∙ ap (λ (bs : List BodyContext). length bs - 1) bodies)
-        (body_edges mode image) there (y.silent p (bodies_on s p) c s.memory.words)
+        (body_edges mode image) there (λ counted. y.silent p (bodies_on s p) c s.memory.words)
 
     -- at the end of each exit
     at_end : (k : Mode) → k ≡ mode → (spot : Spot) (ss : ℕ) (extra v : ℕ → ℕ) (f : Flags) → NamesTasks p extra meant.1.task next

@@ -1,0 +1,98 @@
+-- Steps of an activation in `wait`: at its item, at its load, and where its code ends and an item opens, the next one or itself.
+use Rattle.std.proofs.Common.{◌≡◌, ℕ, ◌<◌, ◌≤◌, Bool, true, length, None, Some, sym, ap, ◌∙◌, subst}
+use Rattle.std.specs.Prelude.{slice_get}
+use Rattle.ev_isa.specs.Word.{NatMap}
+use Rattle.ev_isa.specs.Flags.{Flags}
+use Rattle.ev_isa.specs.declared.mode.Mode.{Mode}
+use Rattle.ev_body.specs.declared.item.Item.{Item}
+use Rattle.ev_body.specs.declared.item.Item.TheVariants.{Wait}
+use Rattle.ev_body.specs.declared.body.Body.{Body}
+use Rattle.ev_body.specs.declared.image.Image.{Image}
+use Rattle.ev_body.specs.WellFormed.{IsImage}
+use Rattle.ev_state.specs.Processor.{Processor}
+use Rattle.ev_mem.specs.Memory.{Memory}
+use Rattle.ev_abstract.specs.Context.{BodyContext}
+use Rattle.ev_abstract.specs.Machine.{Machine, processor}
+use Rattle.ev_abstract.specs.Run.{item_at}
+use Rattle.ev_concrete.specs.ConcreteRun.{System}
+use Rattle.ev_built.specs.Built.{IsBuilt, is_built_item}
+use Rattle.ev_symbolic.specs.Agrees.{Env, Code, At}
+use Rattle.ev_symbolic.proofs.Blocks.{unsome}
+use Rattle.ev_blocks.specs.Calls.{AtRecord, BehindWait}
+use Rattle.ev_blocks.specs.Items.{AtItem, InCall}
+use Rattle.ev_blocks.specs.Blocks.{block, edges}
+use Rattle.ev_table.specs.Table.{code_table}
+use Rattle.ev_relation.specs.Filling.{first_fill}
+use Rattle.ev_relation.specs.Active.{item_place, site_of, here, IsKernelSs, InItem, InCallSpot, Active}
+use Rattle.ev_relation.specs.Relation.{StandsOn, Stands, switches_at}
+use Rattle.ev_relation.specs.Step.{Simulated}
+use Rattle.ev_relation.proofs.CallKinds.{origin_of}
+use Rattle.ev_relation.proofs.Facts.{Facts}
+use Rattle.ev_body_steps.proofs.Bodies.{body}
+use Rattle.ev_body_steps.proofs.CallCells.{wait_code}
+use Rattle.ev_body_steps.proofs.CallFirst.{to_record}
+use Rattle.ev_body_steps.proofs.ItemWait.{wait_steps, behind_wait_opens}
+use Rattle.ev_body_steps.proofs.ItemWaitLoad.{by_load}
+use Rattle.ev_body_steps.proofs.KernelItems as items
+use Rattle.ev_body_steps.proofs.KernelStep as step
+
+module _ (mode : Mode) (image : Image) (built : IsBuilt image) (good : IsImage image) (facts : Facts mode image)
+    (left : NatMap ℕ) (s : System) (m : Machine) (h : Stands mode image left s m) (p : ℕ) (hp : p < image.processors)
+    (o : step.Top mode image built good facts left s m h p hp) (body' : Body) (is : slice_get image.bodies o.b.body ≡ Some body') where
+  abbrev code : Code
+  code = code_table mode image
+
+  abbrev c : Processor
+  c = s.cpus p
+
+  abbrev b : BodyContext
+  b = o.b
+
+  abbrev on : StandsOn mode image p (left p) s (processor m p)
+  on = step.on mode image built good facts left s m h p hp
+
+  abbrev env : ℕ → (extra v : ℕ → ℕ) → Flags → Env
+  env ss extra v f = here mode p o.κ o.σ ss o.w extra v f
+
+  abbrev Stood : ℕ → BodyContext → Processor → Memory → Type 0
+  Stood now b cpu mem = Active mode image p now o.κ o.σ on.frame (switches_at mode image on.switching o.below) (first_fill on.fills) o.w b cpu mem
+
+  -- at the item
+  pub at_wait : first_fill on.fills ≡ None → (act : Stood on.own b c s.memory) (ss : ℕ) → IsKernelSs mode ss → (extra v : ℕ → ℕ) (f : Flags)
+      → At code (block mode (body mode AtItem)) 0 (env ss extra v f) c s.memory → InItem mode image (origin_of o.κ) (env ss extra v f) o.w b s.memory.words
+      → extra 20 ≡ item_place mode image b.body b.place → length c.regs ≡ 16 → edges mode (body mode AtItem) 0 ≤ on.own → (site : ℕ)
+      → item_at (Some body') b.place ≡ Some (Wait site) → Simulated mode image left s m p
+  unfolding site_of
+  at_wait unfilled act ss ss_is extra v f at means place long enough site hi =
+      let cells = wait_code mode image facts b.body body' is b.place site hi in
+      to_record mode image built good facts left s m h p hp o body' is unfilled act ss ss_is extra v f at means place long enough site
+      (ap (λ y. site_of (item_at y b.place)) is ∙ ap site_of hi) (record { first = cells.first; sum = cells.sum })
+
+  -- at the visible load, where the block of the sum has ended
+  pub at_wait_record : first_fill on.fills ≡ None → (act : Stood on.own b c s.memory) (k ss : ℕ) → IsKernelSs mode ss → (extra v : ℕ → ℕ) (f : Flags)
+      (site : ℕ) → k ≡ (block mode (body mode (InCall (AtRecord site)))).steps
+      → At code (block mode (body mode (InCall (AtRecord site)))) k (env ss extra v f) c s.memory
+      → InCallSpot mode image (origin_of o.κ) (AtRecord site) (env ss extra v f) o.w b (first_fill on.fills) s.memory.words
+      → (site' : ℕ) → item_at (Some body') b.place ≡ Some (Wait site') → Simulated mode image left s m p
+  unfolding site_of
+  at_wait_record unfilled act k ss ss_is extra v f site n at means site' hi =
+      let same : site' ≡ site = unsome _ _ (sym (ap site_of hi) ∙ ap (λ y. site_of (item_at y b.place)) (sym is) ∙ means.2) in
+      by_load mode image built good facts left s m h p hp o body' is unfilled act ss ss_is extra v f site
+      (subst (λ j. At code (block mode (body mode (InCall (AtRecord site)))) j (env ss extra v f) c s.memory) n at) means
+      (hi ∙ ap (λ j. Some (Wait j)) same)
+
+  -- where its code ends
+  pub at_wait_end : first_fill on.fills ≡ None → (d : Bool) (k ss : ℕ) → IsKernelSs mode ss → (extra v : ℕ → ℕ) (f : Flags)
+      → k ≡ (block mode (body mode (InCall (BehindWait d)))).steps
+      → At code (block mode (body mode (InCall (BehindWait d)))) k (env ss extra v f) c s.memory
+      → InCallSpot mode image (origin_of o.κ) (BehindWait d) (env ss extra v f) o.w b (first_fill on.fills) s.memory.words → length c.regs ≡ 16
+      → edges mode (body mode (InCall (BehindWait d))) k ≤ on.own → (i : Item) → is_built_item i ≡ true → item_at (Some body') b.place ≡ Some i
+      → Simulated mode image left s m p
+  at_wait_end unfilled d k ss ss_is extra v f n at means long enough i today hi =
+      let last : k ≡ 2 = n ∙ wait_steps mode d in
+      let y = behind_wait_opens mode image built good facts left s m h p hp o body' is unfilled d ss ss_is extra v f
+      (subst (λ j. At code (block mode (body mode (InCall (BehindWait d)))) j (env ss extra v f) c s.memory) last at) (first_fill on.fills) means long
+      (subst (λ j. edges mode (body mode (InCall (BehindWait d))) j ≤ on.own) last enough) in
+      let z = y.next in
+      items.by_item mode image built good facts left s m h p hp o body' is unfilled z.act ss ss_is z.extra _ y.flags z.at z.means z.place long z.enough
+      i today hi
