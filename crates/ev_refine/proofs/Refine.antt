@@ -1,5 +1,5 @@
 -- The step theorem, put together: a processor runs its task or a body.
-use Rattle.std.proofs.Common.{◌≡◌, ℕ, ◌<◌, List, [], ◌∷◌, true, refl}
+use Rattle.std.proofs.Common.{◌≡◌, ◌⊎◌, inl, inr, ℕ, ◌<◌, List, [], ◌∷◌, true, false, refl, sym, ◌∙◌, ne_eqb}
 use Rattle.ev_isa.specs.Word.{NatMap}
 use Rattle.ev_isa.specs.declared.mode.Mode.{Mode}
 use Rattle.ev_body.specs.declared.key.Key.TheVariants.{Irq}
@@ -10,16 +10,16 @@ use Rattle.ev_abstract.specs.Machine.{Machine, processor}
 use Rattle.ev_abstract.specs.Run.{line_step}
 use Rattle.ev_abstract.specs.Script.{is_line}
 use Rattle.ev_abstract.specs.declared.script_line.Line.TheVariants.{Arrive, Accept}
-use Rattle.ev_concrete.specs.ConcreteRun.{System, arrived_at, accept_mail}
+use Rattle.ev_concrete.specs.ConcreteRun.{System, marks_of, is_visible, concrete_step, arrived_at, accept_mail}
 use Rattle.ev_built.specs.Built.{IsBuilt}
 use Rattle.ev_relation.specs.Relation.{Stands}
-use Rattle.ev_relation.specs.Step.{Simulated}
-use Rattle.ev_refine.specs.Claims.{Refines, Opens, AllSettle, TurnsFollow, RunsFollow, EndsFollow, RunsAreSafe}
+use Rattle.ev_relation.specs.Step.{MakesEdge, MakesTurn, Simulated}
+use Rattle.ev_refine.specs.Claims.{Refines, KeepsSettled, Opens, AllSettle, TurnsFollow, RunsFollow, EndsFollow, RunsAreSafe}
 use Rattle.ev_relation.proofs.Facts.{Facts}
 use Rattle.ev_relation.proofs.CodeFacts.{facts}
 use Rattle.ev_task_steps.proofs.User.{user_turn}
 use Rattle.ev_body_steps.proofs.Kernel.{kernel_step}
-use Rattle.ev_relation.proofs.Laws.{keeps_settled}
+use Rattle.ev_relation.proofs.Settled.{settled_by_marks}
 use Rattle.ev_refine.proofs.Runs as runs
 use Rattle.ev_relation.proofs.Arrivals.{arrival_stands, acceptance_stands}
 use Rattle.ev_refine.proofs.Opens as opening
@@ -37,6 +37,16 @@ module _ (mode : Mode) (image : Image) (built : IsBuilt image) (given : IsImage 
 
 pub refines : Refines
 refines mode image built given left s m r p lt = simulates mode image built given left s m r p lt
+
+-- the state behind an edge stands for the same abstract machine
+pub keeps_settled : KeepsSettled
+keeps_settled mode image built given left s m r p q lt lt' differ hidden = by_step (refines mode image built given left s m r p lt).how
+  where
+    by_step : MakesEdge mode image left s m p ⊎ MakesTurn mode image left s m p
+        → is_visible (marks_of mode image) (concrete_step image.processors s p).0 q ≡ is_visible (marks_of mode image) s q
+    by_step (inl e) = settled_by_marks mode image given built.accepted (facts mode image given built) left e.now s m image.processors p q r e.stands lt'
+        (ne_eqb q p (λ e. differ (sym e)))
+    by_step (inr t) = let clash : true ≡ false = sym t.seen ∙ hidden in absurd (cc)
 
 pub opens : Opens
 opens mode image built given = opening.opens mode image given

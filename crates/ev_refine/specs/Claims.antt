@@ -1,5 +1,5 @@
 -- What is proved of the machines, as the contract of this crate states it.
-use Rattle.std.specs.Prelude.{◌≡◌, ◌≢◌, ℕ, ◌^◌, ◌<◌, ◌≤◌, true, List, length}
+use Rattle.std.specs.Prelude.{◌≡◌, ◌≢◌, ℕ, ◌^◌, ◌<◌, ◌≤◌, true, false, List, length}
 use Rattle.std.specs.List.{list_all}
 use Rattle.ev_isa.specs.Word.{NatMap, numbers_from}
 use Rattle.ev_isa.specs.declared.mode.Mode.{Mode}
@@ -24,6 +24,12 @@ abbrev pub Refines : Type 0
 Refines = (mode : Mode) (image : Image) → IsBuilt image → IsImage image → (left : NatMap ℕ) (s : System) (m : Machine)
     → Stands mode image left s m
     → (p : ℕ) → p < image.processors → Simulated mode image left s m p
+
+-- an edge of one processor leaves it as it is whether the next step of another is visible
+abbrev pub KeepsSettled : Type 0
+KeepsSettled = (mode : Mode) (image : Image) → IsBuilt image → IsImage image → (left : NatMap ℕ) (s : System) (m : Machine)
+    → Stands mode image left s m → (p q : ℕ) → p < image.processors → q < image.processors → p ≢ q → is_visible (marks_of mode image) s p ≡ false
+    → is_visible (marks_of mode image) (concrete_step image.processors s p).0 q ≡ is_visible (marks_of mode image) s q
 
 -- the opening of the one stands for that of the other
 abbrev pub Opens : Type 0

@@ -1,5 +1,5 @@
--- Where a mark looks at memory: inside a block no instruction has a mark, and before `call`'s load of its record's state and its exchange the registers say
--- which word it is.
+-- Where a mark looks at memory: inside a block no instruction has a mark, where one ends none looks at memory but before `call`'s load of its record's state
+-- and its exchange, and there the registers say which word it is.
 use Rattle.std.proofs.Common.{◌≡◌, ◌⊎◌, inl, inr, ⊎_elim, ℕ, suc, ◌+◌, ◌*◌, ◌-◌, ◌<◌, ◌≤◌, Bool, true, false, ◌&&◌, List, [], ◌∷◌, Option, Some, None, refl, sym, ap, ◌∙◌, subst, arith, map, get_or}
 use Rattle.std.specs.Prelude.{◌%◌, is_some, nat_lt, nat_le}
 use Rattle.std.proofs.lemmas.Bool.{ltb-true, not-false}
@@ -7,7 +7,6 @@ use Rattle.ev_isa.specs.Spelling.{spelling, four_bytes}
 use Rattle.ev_isa.specs.Flags.{Flags}
 use Rattle.ev_isa.specs.Word.{NatMap}
 use Rattle.ev_isa.specs.declared.mode.Mode.{Mode}
-use Rattle.ev_isa.specs.declared.mode.Mode.TheVariants.{Idt, Fred}
 use Rattle.ev_body.specs.declared.item.Item.{Item}
 use Rattle.ev_body.specs.declared.item.Item.TheVariants.{Call, Wait}
 use Rattle.ev_body.specs.declared.body.Body.{Body}
@@ -24,11 +23,11 @@ use Rattle.ev_abstract.specs.Machine.{Machine, processor}
 use Rattle.ev_concrete.specs.ConcreteRun.{System, Activation, marks_of, mark_at}
 use Rattle.ev_symbolic.specs.Value.{M}
 use Rattle.ev_symbolic.specs.State.{SS, Block}
-use Rattle.ev_symbolic.specs.Run.{brun, every}
+use Rattle.ev_symbolic.specs.Run.{brun}
 use Rattle.ev_symbolic.specs.Listed.{cells_from, AllFound}
 use Rattle.ev_symbolic.specs.Agrees.{Env, eval, addr, Cell, edge_cell, At}
-use Rattle.ev_symbolic.proofs.Blocks.{unsome, inside, earlier}
-use Rattle.ev_blocks.specs.Shapes.{Layout, Origin, UserCode, KernelCode, FredFrame, IdtFrame, NmiFrame}
+use Rattle.ev_symbolic.proofs.Blocks.{inside, earlier, at_end}
+use Rattle.ev_blocks.specs.Shapes.{Layout, Origin}
 use Rattle.ev_blocks.specs.Calls.{AtRecord, AtLink}
 use Rattle.ev_symbolic.specs.Names.{item_tag}
 use Rattle.ev_symbolic.specs.Openings.{gs_tag}
@@ -40,19 +39,20 @@ use Rattle.ev_abstract.specs.Run.{item_at}
 use Rattle.ev_law.specs.Legal.{AreLegal, IsLegalOn, knows}
 use Rattle.ev_law.proofs.Ruled.{body_ruled}
 use Rattle.ev_paths.proofs.CallEnds.{call_ends}
-use Rattle.ev_blocks.specs.Items.{BodySpot, InCall, body_block}
+use Rattle.ev_blocks.specs.Items.{BodySpot, InCall, fills, body_block}
 use Rattle.ev_blocks.specs.Blocks.{Spot, InFred, InIdt, InNmi, InBody, block}
 use Rattle.ev_blocks.specs.Blocks as blocks
-use Rattle.ev_activation.specs.Seat.{Kind, SystemCall, FromTask, FromBody, NmiFromTask, NmiFromBody, Seat, kind_of, seat_of}
+use Rattle.ev_activation.specs.Seat.{Kind, Seat, kind_of, seat_of}
 use Rattle.ev_table.specs.Table.{code_table, places_of, reads_no_memory}
 use Rattle.ev_relation.specs.Nmi.{Frame}
 use Rattle.ev_relation.specs.Filling.{Filling, first_fill, is_filled}
-use Rattle.ev_relation.specs.Active.{site_of, item_of, address_of_item, HasPlace, here, fills_record, InSpot, OverTask, OverBody, Means, InCallSpot, Active}
-use Rattle.ev_relation.specs.Relation.{Chain, StandsOn, Stands, switches_at}
+use Rattle.ev_relation.specs.Active.{site_of, item_of, address_of_item, HasPlace, here, fills_record, InSpot, Active}
+use Rattle.ev_relation.specs.Relation.{IsContext, Chain, StandsOn, Stands, switches_at}
 use Rattle.ev_relation.proofs.Facts.{Facts}
-use Rattle.ev_symbolic.proofs.Blocks.{every_ok}
 use Rattle.ev_table.proofs.Whole.{kernel_marks_plain}
-use Rattle.ev_relation.proofs.Spots.{is_elsewhere, below_bodies, layout_of, means_over, runs_to_end}
+use Rattle.ev_relation.proofs.Spots.{is_in_code, means_over, runs_to_end}
+use Rattle.ev_relation.proofs.Depth.{block_is, RunsIn, OwnCode, ItemCode, runs_in}
+use Rattle.ev_relation.proofs.PlainEnds.{spot_plain}
 use Rattle.ev_relation.proofs.ModeFacts.{is_fred}
 use Rattle.std.proofs.lemmas.Bool.Decides.{leb_tells}
 use Rattle.ev_relation.proofs.Switch.{means_switch, switch_ends}
@@ -97,7 +97,7 @@ module _ (mode : Mode) (image : Image) where
   pub data NowRuns (q : ℕ) (c : Processor) (m : Memory) (bs : List BodyContext) (fs : List (Option Filling)) : Type 0 where
     OfTask : is_user c ≡ true → NowRuns q c m bs fs
     OfBody : (left : ℕ) (κ : Kind) (σ : Seat) (f : Frame) (sw : Bool) (w : Processor) (b : BodyContext) (below : List BodyContext) → bs ≡ b ∷ below
-        → Active mode image q left κ σ f sw (first_fill fs) w b c m → NowRuns q c m bs fs
+        → IsContext mode image b → Active mode image q left κ σ f sw (first_fill fs) w b c m → NowRuns q c m bs fs
 
   pub which_runs : (q left : ℕ) (s : System) (m : Machine) → (on : StandsOn mode image q left s (processor m q))
       → NowRuns q (s.cpus q) s.memory (processor m q).bodies on.fills
@@ -111,7 +111,7 @@ module _ (mode : Mode) (image : Image) where
       by_list [] as' sw h = OfTask (ap is_user h.0.is)
       by_list (b ∷ below) [] sw h = absurd h
       by_list (b ∷ below) (a ∷ as') sw h = OfBody on.own (kind_of image b below) (seat_of mode image (processor m q).running (b ∷ below)) on.frame
-          (switches_at mode image sw below) h.0 b below refl h.6
+          (switches_at mode image sw below) h.0 b below refl h.1 h.6
 
   -- ---- at the load of a record's state
 
@@ -137,39 +137,7 @@ module _ (mode : Mode) (image : Image) where
   exchange_marks n i key site to func s a f =
       (_, ap (code_table mode image) (omega arith) ∙ f.1.1.1.1.1.1.1.1.1.1.1.1.1.1.1.1.1.1.1.1.0, refl)
 
-  -- ---- an activation in a body
-
-  -- what one at a spot of a body means
-  in_spot : (m : Mode) (κ : Kind) (layout : Layout) (spot : BodySpot) (e : Env) (w : Processor) (b : BodyContext) (g : Option Filling) (words : NatMap ℕ)
-      → m ≡ mode → Means mode image κ (InBody layout spot) e w b g words
-      → (layout ≡ layout_of mode) × (o : Origin) × InSpot mode image o spot e w b g words
-  in_spot m κ layout spot e w b g words same h = by_kind κ h
-    where
-      over_task : (m : Mode) (layout : Layout) → m ≡ mode → OverTask mode image m (InBody layout spot) e w b g words
-          → (layout ≡ layout_of mode) × (o : Origin) × InSpot mode image o spot e w b g words
-      over_task Fred FredFrame q h = (ap layout_of q, UserCode, h)
-      over_task Idt IdtFrame q h = (ap layout_of q, UserCode, h)
-      over_task Fred IdtFrame q h = absurd h
-      over_task Fred NmiFrame q h = absurd h
-      over_task Idt FredFrame q h = absurd h
-      over_task Idt NmiFrame q h = absurd h
-
-      over_body : (m : Mode) (layout : Layout) → m ≡ mode → OverBody mode image m (InBody layout spot) e w b g words
-          → (layout ≡ layout_of mode) × (o : Origin) × InSpot mode image o spot e w b g words
-      over_body Fred FredFrame q h = (ap layout_of q, KernelCode, h)
-      over_body Idt IdtFrame q h = (ap layout_of q, KernelCode, h)
-      over_body Fred IdtFrame q h = absurd h
-      over_body Fred NmiFrame q h = absurd h
-      over_body Idt FredFrame q h = absurd h
-      over_body Idt NmiFrame q h = absurd h
-
-      by_kind : (κ : Kind) → Means mode image κ (InBody layout spot) e w b g words
-          → (layout ≡ layout_of mode) × (o : Origin) × InSpot mode image o spot e w b g words
-      by_kind SystemCall h = over_task mode layout refl h
-      by_kind FromTask h = over_task mode layout refl h
-      by_kind FromBody h = over_body mode layout refl h
-      by_kind NmiFromTask h = absurd h
-      by_kind NmiFromBody h = absurd h
+  -- ---- where the two blocks end
 
   -- where the blocks before the two end, and the register that says which word comes
   record_end : (fred : Bool) (layout : Layout) (site k : ℕ) (e : Env) (c : Processor) (m : Memory)
@@ -179,12 +147,10 @@ module _ (mode : Mode) (image : Image) where
   unfolding eval
   record_end fred layout site k e c m at last =
       let z = (call_ends fred layout).site site in
-      let there : at.state ≡ z.z
-      = unsome at.state z.z (sym at.is ∙ ap (brun (body_block fred layout (InCall (AtRecord site)))) last ∙ z.runs) in
-      let rip = ap (λ (t : SS). t.rip) there ∙ ap (λ (t : SS). t.rip) z.is in
-      let regs = ap (λ (t : SS). t.regs) there ∙ ap (λ (t : SS). t.regs) z.is in (
-        at.agrees.rip ∙ ap (addr e) rip,
-        ap (λ rs. get_or rs 3 0) (at.agrees.regs ∙ ap (map (eval e)) regs),
+      let B : Block = body_block fred layout (InCall (AtRecord site)) in
+      let a = at_end (code_table mode image) B k z.z (ap (brun B) last ∙ z.runs) e c m at in (
+        a.rip ∙ ap (λ (t : SS). addr e t.rip) z.is,
+        ap (λ rs. get_or rs 3 0) (a.regs ∙ ap (λ (t : SS). map (eval e) t.regs) z.is),
       )
 
   link_end : (fred : Bool) (layout : Layout) (address func to : ℕ) (is_stale : Bool) (k : ℕ) (e : Env) (c : Processor) (m : Memory)
@@ -194,30 +160,11 @@ module _ (mode : Mode) (image : Image) where
   unfolding eval
   link_end fred layout address func to is_stale k e c m at last =
       let z = (call_ends fred layout).links address func to is_stale in
-      let there : at.state ≡ z.z
-      = unsome at.state z.z (sym at.is ∙ ap (brun (body_block fred layout (InCall (AtLink address func to is_stale)))) last ∙ z.runs) in
-      let rip = ap (λ (t : SS). t.rip) there ∙ ap (λ (t : SS). t.rip) z.is in
-      let regs = ap (λ (t : SS). t.regs) there ∙ ap (λ (t : SS). t.regs) z.is in (
-        at.agrees.rip ∙ ap (addr e) rip,
-        ap (λ rs. get_or rs 2 0) (at.agrees.regs ∙ ap (map (eval e)) regs),
+      let B : Block = body_block fred layout (InCall (AtLink address func to is_stale)) in
+      let a = at_end (code_table mode image) B k z.z (ap (brun B) last ∙ z.runs) e c m at in (
+        a.rip ∙ ap (λ (t : SS). addr e t.rip) z.is,
+        ap (λ rs. get_or rs 2 0) (a.regs ∙ ap (λ (t : SS). map (eval e) t.regs) z.is),
       )
-
--- whether what comes behind a spot's block may be marked by memory
-abbrev pub ends_at_call : Spot → Bool
-ends_at_call (InBody layout (InCall (AtRecord site))) = true
-ends_at_call (InBody layout (InCall (AtLink address func to is_stale))) = true
-ends_at_call spot = false
-
--- in a body
-block_is : (m : Mode) (layout : Layout) (s : BodySpot) → block m (InBody layout s) ≡ body_block (is_fred m) layout s
-block_is Fred layout s = refl
-block_is Idt layout s = refl
-
--- What is asked of the code behind all other blocks: no mark there looks at memory.
-abbrev pub EndsPlain : Mode → Image → Type 0
-EndsPlain mode image = (p left : ℕ) (κ : Kind) (σ : Seat) (f : Frame) (sw : Bool) (g : Option Filling) (w : Processor) (b : BodyContext) (c : Processor)
-    (m : Memory) → (a : Active mode image p left κ σ f sw g w b c m) → a.stands.k ≡ (block mode a.stands.spot).steps → ends_at_call a.stands.spot ≡ false
-    → reads_no_memory (mark_of mode image c) ≡ true
 
 module _ (mode : Mode) (image : Image) (given : IsImage image) (accepted : IsAccepted image) (facts : Facts mode image) (left : NatMap ℕ) (s : System)
     (m : Machine) (h : Stands mode image left s m) (q : ℕ) (lq : q < image.processors) where
@@ -298,49 +245,48 @@ module _ (mode : Mode) (image : Image) (given : IsImage image) (accepted : IsAcc
         Queue (facts.marks (s.cpus q).rip x.0 (ap (code_table mode image) (far 154 (s.cpus q).rip (omega arith) ends.0 here_is) ∙ x.1) ∙ x.2) to
         (call_numbers (Call site to func r) site to func r refl (rules (Call site to func r) here)).1 ends.1
 
-    -- so at any spot, where what comes behind the blocks of others is marked by no memory
-    spot_looks : (spot : Spot) → At (code_table mode image) (block mode spot) k env (s.cpus q) s.memory → k ≡ (block mode spot).steps
-        → Means mode image κ spot env w b (first_fill (h.each q lq).fills) s.memory.words → fills_record spot ≡ is_some (first_fill (h.each q lq).fills)
-        → (ends_at_call spot ≡ false → reads_no_memory (mark_of mode image (s.cpus q)) ≡ true)
+    -- so where any spot's block in an item's code ends
+    spot_looks : (fred : Bool) (layout : Layout) (o : Origin) (spot : BodySpot) → IsContext mode image b
+        → At (code_table mode image) (body_block fred layout spot) k env (s.cpus q) s.memory → k ≡ (body_block fred layout spot).steps
+        → is_in_code spot ≡ true → InSpot mode image o spot env w b (first_fill (h.each q lq).fills) s.memory.words
+        → fills spot ≡ is_some (first_fill (h.each q lq).fills)
         → LooksAt mode image q (h.each q lq).fills (s.cpus q) (mark_of mode image (s.cpus q))
-    spot_looks (InBody layout (InCall (AtRecord site))) at last means fills plain =
-        let i = in_spot mode image mode κ layout (InCall (AtRecord site)) env w b (first_fill (h.each q lq).fills) s.memory.words refl means in
-        let z : InCallSpot mode image i.1 (AtRecord site) env w b (first_fill (h.each q lq).fills) s.memory.words = i.2 in
-        let same = block_is mode layout (InCall (AtRecord site)) in
-        record_looks (is_fred mode) layout site (subst (λ B. At (code_table mode image) B k env (s.cpus q) s.memory) same at)
-        (last ∙ ap (λ (B : Block). B.steps) same) z.1 z.2 z.3 (none_of (first_fill (h.each q lq).fills) (sym fills))
+    spot_looks fred layout o (InCall (AtRecord site)) ctx at last i means filled =
+        record_looks fred layout site at last means.1 means.2 means.3 (none_of (first_fill (h.each q lq).fills) (sym filled))
       where
         none_of : (g : Option Filling) → is_some g ≡ false → g ≡ None
         none_of None e = refl
         none_of (Some f) e = let clash : true ≡ false = e in absurd (cc)
-    spot_looks (InBody layout (InCall (AtLink address func to is_stale))) at last means fills plain =
-        let i = in_spot mode image mode κ layout (InCall (AtLink address func to is_stale)) env w b (first_fill (h.each q lq).fills) s.memory.words refl means
-        in
-        let z : InCallSpot mode image i.1 (AtLink address func to is_stale) env w b (first_fill (h.each q lq).fills) s.memory.words = i.2 in
-        let same = block_is mode layout (InCall (AtLink address func to is_stale)) in
-        link_looks (is_fred mode) layout address func to is_stale (subst (λ B. At (code_table mode image) B k env (s.cpus q) s.memory) same at)
-        (last ∙ ap (λ (B : Block). B.steps) same) z.1 z.2.fills.site z.2.s z.2.fills.item
-    spot_looks _ at last means fills plain = Nothing (plain refl)
+    spot_looks fred layout o (InCall (AtLink address func to is_stale)) ctx at last i means filled =
+        link_looks fred layout address func to is_stale at last means.1 means.2.fills.site means.2.s means.2.fills.item
+    spot_looks fred layout o spot ctx at last i means filled = Nothing
+        (spot_plain mode image facts env (s.cpus q) b fred layout o k w (first_fill (h.each q lq).fills) s.memory ctx spot at last i refl means)
+
+    -- and where that of any spot does
+    end_looks : (spot : Spot) → IsContext mode image b → At (code_table mode image) (block mode spot) k env (s.cpus q) s.memory → k ≡ (block mode spot).steps
+        → fills_record spot ≡ is_some (first_fill (h.each q lq).fills)
+        → RunsIn mode image facts env refl w (s.cpus q) s.memory b (first_fill (h.each q lq).fills) spot
+        → LooksAt mode image q (h.each q lq).fills (s.cpus q) (mark_of mode image (s.cpus q))
+    end_looks spot ctx at last filled (OwnCode runs) =
+        let low = runs.0 in Nothing (kernel_marks_plain mode image given (s.cpus q).rip (omega (arith, low)))
+    end_looks spot ctx at last filled (ItemCode layout o place is i means) =
+        let same : block mode spot ≡ body_block (is_fred mode) layout place = ap (block mode) is ∙ block_is mode layout place in
+        spot_looks (is_fred mode) layout o place ctx (subst (λ (B : Block). At (code_table mode image) B k env (s.cpus q) s.memory) same at)
+        (last ∙ ap (λ (B : Block). B.steps) same) i means (sym (ap fills_record is) ∙ filled)
 
   -- Of kernel code a processor's next mark looks at what the abstract machine tells.
-  pub looks : EndsPlain mode image → is_user (s.cpus q) ≡ false → LooksAt mode image q (h.each q lq).fills (s.cpus q) (mark_of mode image (s.cpus q))
-  looks plain kernel = by_run (which_runs mode image q (left q) s m (h.each q lq))
+  pub looks : is_user (s.cpus q) ≡ false → LooksAt mode image q (h.each q lq).fills (s.cpus q) (mark_of mode image (s.cpus q))
+  looks kernel = by_run (which_runs mode image q (left q) s m (h.each q lq))
     where
       by_run : NowRuns mode image q (s.cpus q) s.memory (processor m q).bodies (h.each q lq).fills
           → LooksAt mode image q (h.each q lq).fills (s.cpus q) (mark_of mode image (s.cpus q))
       by_run (OfTask user) = let clash : true ≡ false = sym user ∙ kernel in absurd (cc)
-      by_run (OfBody own κ σ f sw w b below hb a) = ⊎_elim
+      by_run (OfBody own κ σ f sw w b below hb ctx a) = ⊎_elim
           (λ (l : (nat_le (block mode a.stands.spot).steps a.stands.k ≡ true) × ((block mode a.stands.spot).steps ≤ a.stands.k)).
           let e : a.stands.k ≡ (block mode a.stands.spot).steps = let within = a.stands.within in let here = l.1 in omega (arith, within, here) in
-          spot_looks κ σ a.stands.ss w a.stands.extra a.stands.var a.stands.flags b below hb a.stands.k a.stands.spot a.stands.at e a.means a.fills
-          (plain q own κ σ f sw (first_fill (h.each q lq).fills) w b (s.cpus q) s.memory a e))
+          end_looks κ σ a.stands.ss w a.stands.extra a.stands.var a.stands.flags b below hb a.stands.k a.stands.spot ctx a.stands.at e a.fills
+          (runs_in mode image facts (here mode q κ σ a.stands.ss w a.stands.extra a.stands.var a.stands.flags) refl w (s.cpus q) s.memory b
+          (first_fill (h.each q lq).fills) κ a.stands.spot a.stands.k a.stands.within a.stands.at a.means))
           (λ l. Nothing (ap reads_no_memory
           (inside_unmarked mode image facts q own κ σ f sw (first_fill (h.each q lq).fills) w b (s.cpus q) s.memory a l.1)))
           (leb_tells (block mode a.stands.spot).steps a.stands.k)
-
-  -- So no mark in the kernel's own code looks at memory: of `EndsPlain` this is the half of blocks outside the bodies' code.
-  pub elsewhere_plain : (b : Block) (k : ℕ) (e : Env) (c : Processor) (n : Memory) → At (code_table mode image) b k e c n → e.base 1000 ≡ 0 → k ≤ b.steps
-      → every is_elsewhere b ≡ true → reads_no_memory (mark_of mode image c) ≡ true
-  elsewhere_plain b k e c n at zero within all =
-      let low = below_bodies e zero at.state (every_ok is_elsewhere b all k within at.state at.is) in
-      let rip = at.agrees.rip in kernel_marks_plain mode image given c.rip (omega (arith, low, rip))

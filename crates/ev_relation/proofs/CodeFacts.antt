@@ -1,27 +1,24 @@
 -- The facts on an image's code hold for the images of today.
-use Rattle.std.proofs.Common.{◌≡◌, ℕ, true, not, ◌&&◌, List, [], ◌∷◌, Some, refl, ap, ◌∙◌, ◌≤◌, ◌+◌, ◌^◌, arith, leb-true}
-use Rattle.std.specs.Prelude.{slice_get, flat_map, ◌++◌, nat_le}
-use Rattle.std.proofs.lemmas.List.{append-nil}
+use Rattle.std.proofs.Common.{◌≡◌, ℕ, true, List, Some, ◌∙◌, ◌≤◌, ◌+◌, ◌^◌, arith, leb-true}
+use Rattle.std.specs.Prelude.{slice_get, nat_le}
 use Rattle.std.specs.List.{list_all}
-use Rattle.ev_body.specs.declared.item.Item.{Item}
 use Rattle.ev_body.specs.declared.body.Body.{Body}
-use Rattle.ev_body.specs.declared.body.Part.{Part}
 use Rattle.ev_body.specs.declared.image.Image.{Image}
-use Rattle.ev_body.specs.WellFormed.{IsImage, is_key, has_no_parts}
-use Rattle.ev_body.specs.Bodies.{key_number, body_items}
+use Rattle.ev_body.specs.WellFormed.{IsImage, is_key}
+use Rattle.ev_body.specs.Bodies.{key_number}
 use Rattle.ev_body.specs.declared.key.Key.{Key}
 use Rattle.ev_body.specs.declared.key.Key.TheVariants.{Sys, Db, Nmi, Bp, Ud, Ss, Gp, Pf, Ac, Irq}
-use Rattle.ev_body.specs.declared.item.Item.TheVariants.{Call, Take, Ret}
+use Rattle.ev_body.specs.declared.item.Item.TheVariants.{Take, Ret}
 use Rattle.ev_isa.specs.declared.mode.Mode.{Mode}
-use Rattle.ev_built.specs.Built.{IsBuilt, is_built_item, is_built_body, is_built_key}
+use Rattle.ev_built.specs.Built.{IsBuilt, is_built_key}
 use Rattle.ev_abstract.specs.Run.{item_at}
 use Rattle.ev_asm.specs.Assembly.{place}
 use Rattle.ev_listing.specs.Expansion.{taken_label, item_address}
 use Rattle.ev_listing.specs.Marks.{all_places}
 use Rattle.ev_concrete.specs.Opening.{listings}
 use Rattle.ev_symbolic.proofs.Listed.{spaced_in}
-use Rattle.ev_symbolic.proofs.Values.{and_left, and_right}
-use Rattle.ev_table.specs.Table.{code_table, places_of, other_exit, exit_address, RetCell, is_call}
+use Rattle.ev_symbolic.proofs.Values.{and_left}
+use Rattle.ev_table.specs.Table.{code_table, places_of, other_exit, exit_address, RetCell}
 use Rattle.ev_table.proofs.Kernel as kernel
 use Rattle.ev_paths.specs.Lines.{HasKernel}
 use Rattle.ev_table.proofs.Whole as whole
@@ -57,33 +54,6 @@ not_nmi bs n b h k i q = other b.key (all_at (λ (b : Body). is_built_key b.key)
     other Pf h i q = absurd (cc)
     other Ac h i q = absurd (cc)
     other (Irq v) h i q = let l : 32 ≤ v = leb-true 32 v (and_left (nat_le 32 v) _ i) in absurd (omega arith)
-
-body_parts : (b : Body) → is_built_body b ≡ true → (has_no_parts b.parts ≡ true) × (list_all is_built_item b.items ≡ true)
-body_parts b h = (and_left (has_no_parts b.parts) _ h, and_right (has_no_parts b.parts) _ h)
-
--- images of today have no `call`
-no_call : (item : Item) → is_built_item item ≡ true → not (is_call item) ≡ true
-unfolding is_built_item is_call
-no_call (Call site to func s) h = absurd (cc)
-no_call _ h = refl
-
-no_calls : (items : List Item) → list_all is_built_item items ≡ true → list_all (λ item. not (is_call item)) items ≡ true
-no_calls [] h = refl
-no_calls (item ∷ items) h = ap (λ t. t && list_all (λ item. not (is_call item)) items) (no_call item (and_left _ _ h))
-    ∙ no_calls items (and_right (is_built_item item) _ h)
-
--- the items of a body without parts
-without_parts : (items : List Item) (parts : List Part) → has_no_parts parts ≡ true → list_all is_built_item items ≡ true
-    → list_all is_built_item (items ++ flat_map (λ (part : Part). part.items) parts) ≡ true
-without_parts items [] p h = ap (list_all is_built_item) (append-nil items) ∙ h
-without_parts items (part ∷ parts) p h = absurd (cc)
-
-never_call : (bs : List Body) → list_all is_built_body bs ≡ true → list_all (λ (b : Body). list_all (λ item. not (is_call item)) (body_items b)) bs ≡ true
-never_call [] h = refl
-never_call (b ∷ bs) h =
-    let k = body_parts b (and_left _ _ h) in
-    ap (λ t. t && list_all (λ (b : Body). list_all (λ item. not (is_call item)) (body_items b)) bs)
-    (no_calls (body_items b) (without_parts b.items b.parts k.0 k.1)) ∙ never_call bs (and_right (is_built_body b) _ h)
 
 module _ (mode : Mode) (image : Image) (given : IsImage image) (built : IsBuilt image) where
   spells : AreSpelled (kernel_cells mode image)
@@ -134,7 +104,6 @@ module _ (mode : Mode) (image : Image) (given : IsImage image) (built : IsBuilt 
     first_item = λ n b. whole.first_item mode n b;
     item_small = λ n i b h. whole.canonical_items mode image given n i b h;
     marks = λ a x h. whole.cell_marked mode image given a x h;
-    no_memory = λ a. whole.marks_plain mode image given (never_call image.bodies built.bodies) a;
     fetches = λ m e f. kernel_fetches mode image m given spells e (holds_code mode image m.words (λ a l. f a (InCode l)));
     holds = λ m f. holds_text mode image m.words (λ a l k. f a (InText l k));
     in_code = λ m e c. stays_in_code image m c given e;

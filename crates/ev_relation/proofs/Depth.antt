@@ -42,10 +42,11 @@ use Rattle.ev_blocks.specs.Blocks.{Spot, InFred, InIdt, InBody, block}
 use Rattle.ev_table.specs.Table.{code_table}
 use Rattle.ev_relation.specs.Nmi.{Frame}
 use Rattle.ev_relation.specs.Filling.{Filling, first_fill, rest_fills}
-use Rattle.ev_relation.specs.Active.{address_of_item, HasPlace, HasRange, IsByHand, BehindExchange, BehindOldLink, AtFunction, BehindArgument, BehindCaller, BehindAddress, BehindFinish, BehindComparison, AtQuiet, InCallSpot, InSpot, OverTask, OverBody, Active}
+use Rattle.ev_relation.specs.Active.{address_of_item, HasPlace, HasRange, IsByHand, BehindExchange, BehindOldLink, AtFunction, BehindArgument, BehindCaller, BehindAddress, BehindFinish, BehindComparison, AtQuiet, InCallSpot, here, InSpot, OverTask, OverBody, Means, Active}
 use Rattle.ev_relation.specs.Relation.{IsContext, body_edges, chained, Interrupted, Chain, StandsOn}
 use Rattle.ev_relation.proofs.Facts.{Facts}
-use Rattle.ev_relation.proofs.Spots.{is_elsewhere, entry_elsewhere, kernel_entry_elsewhere, kernel_exit_elsewhere, fred_exit_elsewhere, sys_elsewhere, common_elsewhere, idt_exit_elsewhere, idt_kernel_exit_elsewhere, is_in_stub, stub_inside, is_in_item, is_in_code, body_spot_is, body_inside, fred_switch_elsewhere, idt_switch_elsewhere}
+use Rattle.ev_relation.proofs.ModeFacts.{is_fred}
+use Rattle.ev_relation.proofs.Spots.{is_elsewhere, below_bodies, entry_elsewhere, kernel_entry_elsewhere, kernel_exit_elsewhere, fred_exit_elsewhere, sys_elsewhere, common_elsewhere, idt_exit_elsewhere, idt_kernel_exit_elsewhere, is_in_stub, stub_inside, is_in_item, is_in_code, body_spot_is, body_inside, fred_switch_elsewhere, idt_switch_elsewhere}
 use Rattle.ev_relation.proofs.Standing.{sends, after_went, Went, went_step}
 use Rattle.ev_relation.proofs.CallKinds.{over_any}
 use Rattle.ev_relation.proofs.Fills.{spot_fills, fill_inside}
@@ -79,11 +80,12 @@ elsewhere e z s h =
     ∙ (let q : (e.base 1000 + s.rip.off) % M ≡ s.rip.off = omega arith in q) in
     ap is_in_repeat is ∙ not_true (is_in_repeat s.rip.off) (and_right (nat_lt s.rip.off code_end) _ rest)
 
-module _ (mode : Mode) (image : Image) (facts : Facts mode image) where
-  at_elsewhere : (b : Block) (k : ℕ) (e : Env) (c : Processor) (m : Memory) → At (code_table mode image) b k e c m → e.base 1000 ≡ 0 → k ≤ b.steps
-      → every is_elsewhere b ≡ true → is_in_repeat c.rip ≡ false
-  at_elsewhere b k e c m at z l h = ap is_in_repeat at.agrees.rip ∙ elsewhere e z at.state (every_ok is_elsewhere b h k l at.state at.is)
+-- a block in the mode's setting
+pub block_is : (m : Mode) (layout : Layout) (s : BodySpot) → block m (InBody layout s) ≡ body_block (is_fred m) layout s
+block_is Fred layout s = refl
+block_is Idt layout s = refl
 
+module _ (mode : Mode) (image : Image) (facts : Facts mode image) where
   -- an instruction of an item
   in_item_outside : (B : Block) (k : ℕ) (e : Env) (c : Processor) (m : Memory) → At (code_table mode image) B k e c m → k ≤ B.steps
       → every is_in_item B ≡ true → HasRange mode image e → is_in_repeat c.rip ≡ false
@@ -149,17 +151,6 @@ module _ (mode : Mode) (image : Image) (facts : Facts mode image) where
   spot_range o (AtKick to) e w b g words ctx h i = h.code.range
   spot_range o BehindKick e w b g words ctx h i = h.0.range
 
-  -- the entries of vectors stand before it
-  at_stub_outside : (o : Origin) (has : Bool) (v k : ℕ) (e : Env) (c : Processor) (m : Memory) → At (code_table mode image) (idt_block (Stub o has v)) k e c m
-      → v < 256 → e.base stub_tag ≡ vector_stub v → k ≤ (idt_block (Stub o has v)).steps → is_in_repeat c.rip ≡ false
-  at_stub_outside o has v k e c m at small base l =
-      let inside = every_ok is_in_stub (idt_block (Stub o has v)) (stub_inside o has v) k l at.state at.is in
-      let n : ℕ = at.state.rip.off in
-      let tag : at.state.rip.tag ≡ stub_tag = eqb-true at.state.rip.tag stub_tag (and_left _ _ inside) in
-      let near : n < 0x10 = ltb-true n 0x10 (and_right (at.state.rip.tag == stub_tag) _ inside) in
-      let is : c.rip ≡ (vector_stub v + n) % M = at.agrees.rip ∙ ap (λ t. (e.base t + n) % M) tag ∙ ap (λ y. (y + n) % M) base in
-      ap (λ b. b && nat_lt c.rip nbody_entry) (lt-leb repeat_entry c.rip (let below : c.rip < repeat_entry = omega arith in below))
-
   in_code : (fred : Bool) (layout : Layout) (o : Origin) (s : BodySpot) (k : ℕ) (e : Env) (w c : Processor) (mem : Memory) (b : BodyContext)
       (g : Option Filling) (words : NatMap ℕ) → IsContext mode image b → k ≤ (body_block fred layout s).steps
       → At (code_table mode image) (body_block fred layout s) k e c mem → InSpot mode image o s e w b g words → is_in_code s ≡ true
@@ -172,81 +163,103 @@ module _ (mode : Mode) (image : Image) (facts : Facts mode image) where
       by_fill false off = in_item_outside (body_block fred layout s) k e c mem at l
           (body_inside fred layout s (body_spot_is mode image o s e w b g words h off) i) (spot_range o s e w b g words ctx h i)
 
-  -- in a body
-  body_outside : (fred : Bool) (layout : Layout) (o : Origin) (s : BodySpot) (k : ℕ) (e : Env) (w c : Processor) (mem : Memory) (b : BodyContext)
-      (g : Option Filling) (words : NatMap ℕ) → IsContext mode image b → e.base 1000 ≡ 0 → k ≤ (body_block fred layout s).steps
-      → At (code_table mode image) (body_block fred layout s) k e c mem → InSpot mode image o s e w b g words
-      → every is_elsewhere (body_block fred layout AtTable) ≡ true → every is_elsewhere (body_block fred layout AtJump) ≡ true
-      → is_in_repeat c.rip ≡ false
-  body_outside fred layout o AtTable k e w c mem b g words ctx z l at h t j = at_elsewhere (body_block fred layout AtTable) k e c mem at z l t
-  body_outside fred layout o AtJump k e w c mem b g words ctx z l at h t j = at_elsewhere (body_block fred layout AtJump) k e c mem at z l j
-  body_outside fred layout o (AtKick to) k e w c mem b g words ctx z l at h t j = in_code fred layout o (AtKick to) k e w c mem b g words ctx l at h refl
-  body_outside fred layout o BehindKick k e w c mem b g words ctx z l at h t j = in_code fred layout o BehindKick k e w c mem b g words ctx l at h refl
-  body_outside fred layout o AtItem k e w c mem b g words ctx z l at h t j = in_code fred layout o AtItem k e w c mem b g words ctx l at h refl
-  body_outside fred layout o (AtNumber n) k e w c mem b g words ctx z l at h t j = in_code fred layout o (AtNumber n) k e w c mem b g words ctx l at h refl
-  body_outside fred layout o (AtNumbers rcx rax rdx) k e w c mem b g words ctx z l at h t j =
-      in_code fred layout o (AtNumbers rcx rax rdx) k e w c mem b g words ctx l at h refl
-  body_outside fred layout o AtUserWord k e w c mem b g words ctx z l at h t j = in_code fred layout o AtUserWord k e w c mem b g words ctx l at h refl
-  body_outside fred layout o (AtPageWord is_page) k e w c mem b g words ctx z l at h t j =
-      in_code fred layout o (AtPageWord is_page) k e w c mem b g words ctx l at h refl
-  body_outside fred layout o BehindSti k e w c mem b g words ctx z l at h t j = in_code fred layout o BehindSti k e w c mem b g words ctx l at h refl
-  body_outside fred layout o (InCall s) k e w c mem b g words ctx z l at h t j = in_code fred layout o (InCall s) k e w c mem b g words ctx l at h refl
+  -- ---- where an activation runs
 
-  over_task_outside : (m : Mode) (spot : Spot) (k : ℕ) (e : Env) (w c : Processor) (mem : Memory) (b : BodyContext) (g : Option Filling) (words : NatMap ℕ)
-      → IsContext mode image b → e.base 1000 ≡ 0 → k ≤ (block m spot).steps → At (code_table mode image) (block m spot) k e c mem
-      → OverTask mode image m spot e w b g words → is_in_repeat c.rip ≡ false
-  over_task_outside Fred (InFred (FromUser way)) k e w c mem b g words ctx z l at h =
-      at_elsewhere (fred_block (FromUser way)) k e c mem at z l (entry_elsewhere way)
-  over_task_outside Fred (InFred (fred.Leaves FredToTask)) k e w c mem b g words ctx z l at h =
-      at_elsewhere (fred_block (fred.Leaves FredToTask)) k e c mem at z l fred_exit_elsewhere
-  over_task_outside Fred (InFred (fred.Leaves FredToNext)) k e w c mem b g words ctx z l at h =
-      at_elsewhere (fred_block (fred.Leaves FredToNext)) k e c mem at z l fred_switch_elsewhere
-  over_task_outside Fred (InBody FredFrame s) k e w c mem b g words ctx z l at h =
-      body_outside true FredFrame UserCode s k e w c mem b g words ctx z l at h refl refl
-  over_task_outside Idt (InIdt Sys) k e w c mem b g words ctx z l at h = at_elsewhere (idt_block Sys) k e c mem at z l sys_elsewhere
-  over_task_outside Idt (InIdt (Stub UserCode has v)) k e w c mem b g words ctx z l at h = at_stub_outside UserCode has v k e c mem at h.0.0 h.0.2 l
-  over_task_outside Idt (InIdt (Common UserCode pf)) k e w c mem b g words ctx z l at h =
-      at_elsewhere (idt_block (Common UserCode pf)) k e c mem at z l (common_elsewhere UserCode pf)
-  over_task_outside Idt (InIdt (idt.Leaves (IdtToTask by))) k e w c mem b g words ctx z l at h =
-      at_elsewhere (idt_block (idt.Leaves (IdtToTask by))) k e c mem at z l (idt_exit_elsewhere by)
-  over_task_outside Idt (InIdt (idt.Leaves (IdtToNext by))) k e w c mem b g words ctx z l at h =
-      at_elsewhere (idt_block (idt.Leaves (IdtToNext by))) k e c mem at z l (idt_switch_elsewhere by)
-  over_task_outside Idt (InBody IdtFrame s) k e w c mem b g words ctx z l at h =
-      body_outside false IdtFrame UserCode s k e w c mem b g words ctx z l at h refl refl
-  over_task_outside m _ k e w c mem b g words ctx z l at h = absurd h
+  module _ (e : Env) (zero : e.base 1000 ≡ 0) (w c : Processor) (mem : Memory) (b : BodyContext) (g : Option Filling) where
+    -- below the bodies' code, and not in REPEAT
+    abbrev pub RunsKernel : Type 0
+    RunsKernel = (c.rip < code_end) × (is_in_repeat c.rip ≡ false)
 
-  over_body_outside : (m : Mode) (spot : Spot) (k : ℕ) (e : Env) (w c : Processor) (mem : Memory) (b : BodyContext) (g : Option Filling) (words : NatMap ℕ)
-      → IsContext mode image b → e.base 1000 ≡ 0 → k ≤ (block m spot).steps → At (code_table mode image) (block m spot) k e c mem
-      → OverBody mode image m spot e w b g words → is_in_repeat c.rip ≡ false
-  over_body_outside Fred (InFred FromKernel) k e w c mem b g words ctx z l at h =
-      at_elsewhere (fred_block FromKernel) k e c mem at z l kernel_entry_elsewhere
-  over_body_outside Fred (InFred (fred.Leaves FredToKernel)) k e w c mem b g words ctx z l at h =
-      at_elsewhere (fred_block (fred.Leaves FredToKernel)) k e c mem at z l kernel_exit_elsewhere
-  over_body_outside Fred (InBody FredFrame s) k e w c mem b g words ctx z l at h =
-      body_outside true FredFrame KernelCode s k e w c mem b g words ctx z l at h refl refl
-  over_body_outside Idt (InIdt (Stub KernelCode has v)) k e w c mem b g words ctx z l at h = at_stub_outside KernelCode has v k e c mem at h.0.0 h.0.2 l
-  over_body_outside Idt (InIdt (Common KernelCode pf)) k e w c mem b g words ctx z l at h =
-      at_elsewhere (idt_block (Common KernelCode pf)) k e c mem at z l (common_elsewhere KernelCode pf)
-  over_body_outside Idt (InIdt (idt.Leaves IdtToKernel)) k e w c mem b g words ctx z l at h =
-      at_elsewhere (idt_block (idt.Leaves IdtToKernel)) k e c mem at z l idt_kernel_exit_elsewhere
-  over_body_outside Idt (InBody IdtFrame s) k e w c mem b g words ctx z l at h =
-      body_outside false IdtFrame KernelCode s k e w c mem b g words ctx z l at h refl refl
-  over_body_outside m _ k e w c mem b g words ctx z l at h = absurd h
+    -- in the kernel's own code, or in that of an item
+    pub data RunsIn (spot : Spot) : Type 0 where
+      OwnCode : RunsKernel → RunsIn spot
+      ItemCode : (layout : Layout) (o : Origin) (s : BodySpot) → spot ≡ InBody layout s → is_in_code s ≡ true → InSpot mode image o s e w b g mem.words
+          → RunsIn spot
+
+    at_elsewhere : (B : Block) (k : ℕ) → k ≤ B.steps → At (code_table mode image) B k e c mem → every is_elsewhere B ≡ true → RunsKernel
+    at_elsewhere B k l at all =
+        let test = every_ok is_elsewhere B all k l at.state at.is in (
+          subst (λ a. a < code_end) (sym at.agrees.rip) (below_bodies e zero at.state test),
+          ap is_in_repeat at.agrees.rip ∙ elsewhere e zero at.state test,
+        )
+
+    -- the entries of vectors stand before it
+    at_stub : (o : Origin) (has : Bool) (v k : ℕ) → k ≤ (idt_block (Stub o has v)).steps → At (code_table mode image) (idt_block (Stub o has v)) k e c mem
+        → v < 256 → e.base stub_tag ≡ vector_stub v → RunsKernel
+    at_stub o has v k l at small base =
+        let inside = every_ok is_in_stub (idt_block (Stub o has v)) (stub_inside o has v) k l at.state at.is in
+        let n : ℕ = at.state.rip.off in
+        let tag : at.state.rip.tag ≡ stub_tag = eqb-true at.state.rip.tag stub_tag (and_left _ _ inside) in
+        let near : n < 0x10 = ltb-true n 0x10 (and_right (at.state.rip.tag == stub_tag) _ inside) in
+        let is : c.rip ≡ (vector_stub v + n) % M = at.agrees.rip ∙ ap (λ t. (e.base t + n) % M) tag ∙ ap (λ y. (y + n) % M) base in (
+          omega (arith, is, near, small),
+          ap (λ b. b && nat_lt c.rip nbody_entry) (lt-leb repeat_entry c.rip (let below : c.rip < repeat_entry = omega arith in below)),
+        )
+
+    at_body : (fred : Bool) (layout : Layout) (o : Origin) (s : BodySpot) (k : ℕ) → k ≤ (body_block fred layout s).steps
+        → At (code_table mode image) (body_block fred layout s) k e c mem → InSpot mode image o s e w b g mem.words
+        → every is_elsewhere (body_block fred layout AtTable) ≡ true → every is_elsewhere (body_block fred layout AtJump) ≡ true
+        → RunsIn (InBody layout s)
+    at_body fred layout o AtTable k l at h t j = OwnCode (at_elsewhere (body_block fred layout AtTable) k l at t)
+    at_body fred layout o AtJump k l at h t j = OwnCode (at_elsewhere (body_block fred layout AtJump) k l at j)
+    at_body fred layout o s k l at h t j = ItemCode layout o s refl refl h
+
+    over_task_outside : (m : Mode) (spot : Spot) (k : ℕ) → k ≤ (block m spot).steps → At (code_table mode image) (block m spot) k e c mem
+        → OverTask mode image m spot e w b g mem.words → RunsIn spot
+    over_task_outside Fred (InFred (FromUser way)) k l at h = OwnCode (at_elsewhere (fred_block (FromUser way)) k l at (entry_elsewhere way))
+    over_task_outside Fred (InFred (fred.Leaves FredToTask)) k l at h =
+        OwnCode (at_elsewhere (fred_block (fred.Leaves FredToTask)) k l at fred_exit_elsewhere)
+    over_task_outside Fred (InFred (fred.Leaves FredToNext)) k l at h =
+        OwnCode (at_elsewhere (fred_block (fred.Leaves FredToNext)) k l at fred_switch_elsewhere)
+    over_task_outside Fred (InBody FredFrame s) k l at h = at_body true FredFrame UserCode s k l at h refl refl
+    over_task_outside Idt (InIdt Sys) k l at h = OwnCode (at_elsewhere (idt_block Sys) k l at sys_elsewhere)
+    over_task_outside Idt (InIdt (Stub UserCode has v)) k l at h = OwnCode (at_stub UserCode has v k l at h.0.0 h.0.2)
+    over_task_outside Idt (InIdt (Common UserCode pf)) k l at h =
+        OwnCode (at_elsewhere (idt_block (Common UserCode pf)) k l at (common_elsewhere UserCode pf))
+    over_task_outside Idt (InIdt (idt.Leaves (IdtToTask by))) k l at h =
+        OwnCode (at_elsewhere (idt_block (idt.Leaves (IdtToTask by))) k l at (idt_exit_elsewhere by))
+    over_task_outside Idt (InIdt (idt.Leaves (IdtToNext by))) k l at h =
+        OwnCode (at_elsewhere (idt_block (idt.Leaves (IdtToNext by))) k l at (idt_switch_elsewhere by))
+    over_task_outside Idt (InBody IdtFrame s) k l at h = at_body false IdtFrame UserCode s k l at h refl refl
+    over_task_outside m _ k l at h = absurd h
+
+    over_body_outside : (m : Mode) (spot : Spot) (k : ℕ) → k ≤ (block m spot).steps → At (code_table mode image) (block m spot) k e c mem
+        → OverBody mode image m spot e w b g mem.words → RunsIn spot
+    over_body_outside Fred (InFred FromKernel) k l at h = OwnCode (at_elsewhere (fred_block FromKernel) k l at kernel_entry_elsewhere)
+    over_body_outside Fred (InFred (fred.Leaves FredToKernel)) k l at h =
+        OwnCode (at_elsewhere (fred_block (fred.Leaves FredToKernel)) k l at kernel_exit_elsewhere)
+    over_body_outside Fred (InBody FredFrame s) k l at h = at_body true FredFrame KernelCode s k l at h refl refl
+    over_body_outside Idt (InIdt (Stub KernelCode has v)) k l at h = OwnCode (at_stub KernelCode has v k l at h.0.0 h.0.2)
+    over_body_outside Idt (InIdt (Common KernelCode pf)) k l at h =
+        OwnCode (at_elsewhere (idt_block (Common KernelCode pf)) k l at (common_elsewhere KernelCode pf))
+    over_body_outside Idt (InIdt (idt.Leaves IdtToKernel)) k l at h =
+        OwnCode (at_elsewhere (idt_block (idt.Leaves IdtToKernel)) k l at idt_kernel_exit_elsewhere)
+    over_body_outside Idt (InBody IdtFrame s) k l at h = at_body false IdtFrame KernelCode s k l at h refl refl
+    over_body_outside m _ k l at h = absurd h
+
+    pub runs_in : (κ : Kind) (spot : Spot) (k : ℕ) → k ≤ (block mode spot).steps → At (code_table mode image) (block mode spot) k e c mem
+        → Means mode image κ spot e w b g mem.words → RunsIn spot
+    runs_in SystemCall spot k l at h = over_task_outside mode spot k l at h
+    runs_in FromTask spot k l at h = over_task_outside mode spot k l at h
+    runs_in FromBody spot k l at h = over_body_outside mode spot k l at h
+    runs_in NmiFromTask spot k l at h = absurd h
+    runs_in NmiFromBody spot k l at h = absurd h
+
+    runs_outside : IsContext mode image b → (spot : Spot) (k : ℕ) → k ≤ (block mode spot).steps → At (code_table mode image) (block mode spot) k e c mem
+        → RunsIn spot → is_in_repeat c.rip ≡ false
+    runs_outside ctx spot k l at (OwnCode out) = out.1
+    runs_outside ctx spot k l at (ItemCode layout o s is i h) =
+        let same : block mode spot ≡ body_block (is_fred mode) layout s = ap (block mode) is ∙ block_is mode layout s in
+        in_code (is_fred mode) layout o s k e w c mem b g mem.words ctx (subst (λ (B : Block). k ≤ B.steps) same l)
+        (subst (λ (B : Block). At (code_table mode image) B k e c mem) same at) h i
 
   pub active_outside : (p left : ℕ) (κ : Kind) (σ : Seat) (f : Frame) (sw : Bool) (g : Option Filling) (w : Processor) (b : BodyContext) (c : Processor)
       (m : Memory)
       → IsContext mode image b → Active mode image p left κ σ f sw g w b c m → is_in_repeat c.rip ≡ false
-  active_outside p left SystemCall σ f sw g w b c m ctx a = over_task_outside mode a.stands.spot a.stands.k _ w c m b g m.words ctx refl a.stands.within
-      a.stands.at
-      a.means
-  active_outside p left FromTask σ f sw g w b c m ctx a = over_task_outside mode a.stands.spot a.stands.k _ w c m b g m.words ctx refl a.stands.within
-      a.stands.at
-      a.means
-  active_outside p left FromBody σ f sw g w b c m ctx a = over_body_outside mode a.stands.spot a.stands.k _ w c m b g m.words ctx refl a.stands.within
-      a.stands.at
-      a.means
-  active_outside p left NmiFromTask σ f sw g w b c m ctx a = absurd a.means
-  active_outside p left NmiFromBody σ f sw g w b c m ctx a = absurd a.means
+  active_outside p left κ σ f sw g w b c m ctx a =
+      let e : Env = here mode p κ σ a.stands.ss w a.stands.extra a.stands.var a.stands.flags in
+      runs_outside e refl w c m b g ctx a.stands.spot a.stands.k a.stands.within a.stands.at
+      (runs_in e refl w c m b g κ a.stands.spot a.stands.k a.stands.within a.stands.at a.means)
 
   -- as many bodies as contexts
   counted : (p left r to : ℕ) (t : Task) (f : Frame) (sw : Bool) (fs : List (Option Filling)) (bs : List BodyContext) (as' : List Activation)

@@ -25,7 +25,7 @@ use Rattle.ev_symbolic.specs.Machine.{Fetches}
 pub use Rattle.ev_user.proofs.KeepsNumbers.{word_of_canonical}
 use Rattle.ev_blocks.specs.Calls.{at_taken}
 use Rattle.ev_paths.specs.Lines.{HasKernel}
-use Rattle.ev_table.specs.Table.{code_table, other_exit, RetCell, places_of, item_lines, item_cells, IsPlacedIn, reads_no_memory}
+use Rattle.ev_table.specs.Table.{code_table, other_exit, RetCell, places_of, item_lines, item_cells, IsPlacedIn}
 use Rattle.ev_fetch.specs.Claims.{HoldsText}
 use Rattle.ev_relation.specs.Relation.{first_word, IsFixed}
 
@@ -55,7 +55,6 @@ pub record Facts (mode : Mode) (image : Image) : Type 0 where
   pub item_range : (n i : ℕ) (b : Body) → slice_get image.bodies n ≡ Some b → (0xffffffff82000000 ≤ item_address mode n b i)
       × (item_address mode n b i + 0x100 ≤ 2 ^ 64)
   pub marks : (a : ℕ) (x : Cell) → code_table mode image a ≡ Some x → mark_at (marks_of mode image) a ≡ x.mark
-  pub no_memory : (a : ℕ) → reads_no_memory (mark_at (marks_of mode image) a) ≡ true
   pub fetches : (m : Memory) → m.regions ≡ regions image → HasFixed mode image m → Fetches (code_table mode image) m
   pub holds : (m : Memory) → HasFixed mode image m → HoldsText image.text m.words
   pub in_code : (m : Memory) → m.regions ≡ regions image → (c : Processor) → IsInCode c m

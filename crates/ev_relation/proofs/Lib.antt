@@ -33,6 +33,8 @@ pub mod CodeFacts
 pub mod Saved
 pub mod Visible
 pub mod Looks
+pub mod ItemMarks
+pub mod PlainEnds
 pub mod CallMarks
 pub mod Settled
 pub mod Laws

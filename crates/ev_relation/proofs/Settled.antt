@@ -14,19 +14,15 @@ use Rattle.ev_relation.specs.Relation.{Stands}
 use Rattle.ev_relation.proofs.Facts.{Facts}
 use Rattle.ev_relation.proofs.Visible.{SameOn, step_leaves}
 use Rattle.ev_relation.proofs.Looks.{LooksAt, visible_alike}
-use Rattle.ev_relation.proofs.CallMarks.{EndsPlain, mark_of, looks}
+use Rattle.ev_relation.proofs.CallMarks.{mark_of, looks}
 
 module _ (mode : Mode) (image : Image) (given : IsImage image) (accepted : IsAccepted image) (facts : Facts mode image) where
-  -- where no mark looks at memory, none behind a block does
-  pub plain_today : EndsPlain mode image
-  plain_today p left κ σ f sw g w b c m a last other = facts.no_memory c.rip
-
-  pub settled_by_marks : EndsPlain mode image → (left left' : NatMap ℕ) (s : System) (m : Machine) (n p q : ℕ) → Stands mode image left s m
+  pub settled_by_marks : (left left' : NatMap ℕ) (s : System) (m : Machine) (n p q : ℕ) → Stands mode image left s m
       → Stands mode image left' (concrete_step n s p).0 m → q < image.processors → (q == p) ≡ false
       → is_visible (marks_of mode image) (concrete_step n s p).0 q ≡ is_visible (marks_of mode image) s q
-  settled_by_marks plain left left' s m n p q h h' lq differ =
+  settled_by_marks left left' s m n p q h h' lq differ =
       let s' : System = (concrete_step n s p).0 in
       let same : SameOn s s' q = step_leaves n s p q differ in
-      visible_alike mode image left left' s s' m h h' q lq facts same (looks mode image given accepted facts left s m h q lq plain)
+      visible_alike mode image left left' s s' m h h' q lq facts same (looks mode image given accepted facts left s m h q lq)
       (subst (λ (c : Processor). is_user c ≡ false → LooksAt mode image q (h'.each q lq).fills c (mark_of mode image c)) same.cpu
-      (looks mode image given accepted facts left' s' m h' q lq plain))
+      (looks mode image given accepted facts left' s' m h' q lq))

@@ -1,6 +1,5 @@
--- A step of one processor leaves it as it is whether the next step of another is visible: that is told by the other one's own state, and by marks that
--- depend on no memory.
-use Rattle.std.proofs.Common.{◌≡◌, ℕ, ◌<◌, true, false, ◌||◌, List, [], ◌∷◌, Some, None, refl, sym, ap, ◌∙◌, Bool, not, ◌&&◌, if◌then◌else◌, Option}
+-- Whether the next step of a processor is visible: its own state, which a step of another leaves, and the mark of its instruction say so, and no NMI is next.
+use Rattle.std.proofs.Common.{◌≡◌, ℕ, ◌<◌, true, false, List, [], ◌∷◌, Some, None, refl, sym, ◌∙◌, not, ◌&&◌, if◌then◌else◌}
 use Rattle.std.specs.Prelude.{◌==◌}
 use Rattle.ev_event.specs.Boundary.{interrupt_or_instruction}
 use Rattle.ev_apic.specs.Apic.{next_vector}
@@ -8,14 +7,14 @@ use Rattle.ev_isa.specs.Word.{NatMap, put_at}
 use Rattle.ev_isa.specs.declared.mode.Mode.{Mode}
 use Rattle.ev_event.specs.declared.boundary.Next.{Next}
 use Rattle.ev_body.specs.declared.image.Image.{Image}
-use Rattle.ev_state.specs.Processor.{Processor, is_user, interrupts_on}
+use Rattle.ev_state.specs.Processor.{Processor, interrupts_on}
 use Rattle.ev_apic.specs.declared.send.SendKey.{SendKey}
 use Rattle.ev_apic.specs.Inbox.{mailed}
 use Rattle.ev_proc.specs.declared.stepped.Stepped.{Stepped}
 use Rattle.ev_proc.specs.ProcessorStep.{After, next_of, step}
 use Rattle.ev_abstract.specs.Machine.{Machine, processor}
 use Rattle.ev_listing.specs.Marks.{Mark, Never, Always, IfNonzero, IfEqual}
-use Rattle.ev_concrete.specs.ConcreteRun.{System, Marks, marks_of, mark_at, is_seen, is_visible, is_visible_by, posted, targets, acted, after_step, concrete_step}
+use Rattle.ev_concrete.specs.ConcreteRun.{System, is_seen, posted, targets, acted, after_step, concrete_step}
 use Rattle.ev_table.specs.Table.{reads_no_memory}
 use Rattle.ev_relation.specs.Relation.{Stands, StandsOn}
 use Rattle.ev_relation.specs.Domain.{IsInDomain}
@@ -71,25 +70,3 @@ module _ (mode : Mode) (image : Image) (facts : Facts mode image) (left : NatMap
       let domain : IsInDomain (processor m q) = h.domain q lt in
       open_first (s.cpus q) (s.apics q) (s.latches q)
       (sym (latch_parts on.layer on.frame _ (s.latches q) (s.cpus q).nmi_blocked (processor m q).nmi on.latch).0 ∙ domain.nmi)
-
-  pub stays_visible : (n p q : ℕ) → q < image.processors → (q == p) ≡ false
-      → is_visible (marks_of mode image) (concrete_step n s p).0 q ≡ is_visible (marks_of mode image) s q
-  unfolding is_visible
-  stays_visible n p q lt d =
-      let s' : System = (concrete_step n s p).0 in
-      let same : SameOn s s' q = step_leaves n s p q d in
-      let marks : Marks = marks_of mode image in
-      let c : Processor = s.cpus q in
-      let next = next_is q lt in
-      (λ i. is_visible_by marks s' q (same.cpu i) (next_of (same.cpu i) (same.apic i) (same.latch i)))
-      ∙ ap (is_visible_by marks s' q c) next
-      ∙ pick marks s' q c (interrupts_on c && not c.sti_blocked) (next_vector (s.apics q)) (plain_seen (mark_at marks c.rip) s s' c (facts.no_memory c.rip))
-      ∙ sym (ap (is_visible_by marks s q c) next)
-    where
-      pick : (marks : Marks) (s' : System) (q : ℕ) (c : Processor) (b : Bool) (o : Option ℕ)
-          → is_seen (mark_at marks c.rip) s' c ≡ is_seen (mark_at marks c.rip) s c
-          → is_visible_by marks s' q c (if b then interrupt_or_instruction o else Next.Instruction)
-          ≡ is_visible_by marks s q c (if b then interrupt_or_instruction o else Next.Instruction)
-      pick marks s' q c true None e = ap (λ b. is_user c || b) e
-      pick marks s' q c true (Some v) e = refl
-      pick marks s' q c false o e = ap (λ b. is_user c || b) e

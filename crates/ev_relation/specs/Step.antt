@@ -1,16 +1,14 @@
 -- One step of the concrete machine from a state that stands for one of the abstract machine: an edge or visible.
-use Rattle.std.specs.Prelude.{◌≡◌, ◌≢◌, ◌⊎◌, ℕ, ◌^◌, ◌<◌, Bool, true, false, List, [], length}
+use Rattle.std.specs.Prelude.{◌≡◌, ◌⊎◌, ℕ, ◌^◌, ◌<◌, Bool, true, false, List, [], length}
 use Rattle.ev_isa.specs.Word.{NatMap}
 use Rattle.ev_isa.specs.declared.mode.Mode.{Mode}
 use Rattle.ev_event.specs.declared.frame_note.FrameNote.{FrameNote}
 use Rattle.ev_body.specs.declared.image.Image.{Image}
-use Rattle.ev_body.specs.WellFormed.{IsImage}
 use Rattle.ev_abstract.specs.Machine.{Machine}
 use Rattle.ev_abstract.specs.Run.{turn}
 use Rattle.ev_concrete.specs.ConcreteRun.{System, marks_of, is_visible, concrete_step}
 use Rattle.ev_concrete.specs.Depth.{bodies_on, told_bodies}
 use Rattle.ev_concrete.specs.LiveWords.{IsSafeStep}
-use Rattle.ev_built.specs.Built.{IsBuilt}
 use Rattle.ev_relation.specs.Relation.{Stands}
 use Rattle.ev_concrete.specs.Shown.{shown}
 
@@ -43,9 +41,3 @@ module _ (mode : Mode) (image : Image) where
     pub safe : IsSafeStep mode image s p
     pub counts : bodies_on (concrete_step image.processors s p).0 p ≡ told_bodies s p
     pub how : MakesEdge left s m p ⊎ MakesTurn left s m p
-
--- an edge of one processor leaves it as it is whether the next step of another is visible
-abbrev pub KeepsSettled : Type 0
-KeepsSettled = (mode : Mode) (image : Image) → IsBuilt image → IsImage image → (left : NatMap ℕ) (s : System) (m : Machine)
-    → Stands mode image left s m → (p q : ℕ) → p < image.processors → q < image.processors → p ≢ q → is_visible (marks_of mode image) s p ≡ false
-    → is_visible (marks_of mode image) (concrete_step image.processors s p).0 q ≡ is_visible (marks_of mode image) s q

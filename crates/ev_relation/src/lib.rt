@@ -2,13 +2,10 @@
 //! those who make the steps, and what leaves it as it is.
 #![tactic(auto)]
 
-ghost use Rattle.ev_relation.specs.Step.{KeepsSettled};
 ghost use Rattle.ev_relation.specs.Told.{StandsTells};
 
 /// From related states the conditions of a processor step hold, and it is told how many bodies stand
-/// and, where none does, where the tasks are. An edge of one processor leaves it as it is whether the
-/// next step of another is visible. Own.
+/// and, where none does, where the tasks are. Own.
 pub fn relation()
     ensures tells { StandsTells }
-    ensures others { KeepsSettled }
 {}

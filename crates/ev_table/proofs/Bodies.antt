@@ -1,7 +1,6 @@
 -- The listings of an image's bodies: their labels and marks, and each body's own part.
 use Rattle.std.proofs.Common.{◌≡◌, ℕ, zero, suc, ◌+◌, true, ◌&&◌, List, [], ◌∷◌, Some, refl, ap, ◌∙◌, subst, arith}
-use Rattle.std.specs.Prelude.{not, slice_get}
-use Rattle.std.specs.List.{list_all}
+use Rattle.std.specs.Prelude.{slice_get}
 use Rattle.ev_isa.specs.declared.mode.Mode.{Mode}
 use Rattle.ev_body.specs.declared.body.Body.{Body}
 use Rattle.ev_body.specs.declared.image.Image.{Image}
@@ -14,11 +13,10 @@ use Rattle.ev_concrete.specs.Opening.{body_listings}
 use Rattle.ev_concrete.specs.ConcreteRun.{Marks}
 use Rattle.ev_symbolic.specs.Agrees.{Code}
 use Rattle.ev_symbolic.specs.Listed.{cells_from, cells_in, AllFound}
-use Rattle.ev_symbolic.proofs.Values.{and_left, and_right}
-use Rattle.ev_table.specs.Table.{AreMarked, is_call}
+use Rattle.ev_table.specs.Table.{AreMarked}
 use Rattle.ev_table.proofs.Cells.{found_first, found_rest}
 use Rattle.ev_table.proofs.Labels.{AllOfBodies, all_append, lines_of_bodies}
-use Rattle.ev_table.proofs.Expanded.{all_unmarked, all_of_body, all_plain}
+use Rattle.ev_table.proofs.Expanded.{all_unmarked, all_of_body}
 use Rattle.ev_table.proofs.Marked as marked
 use Rattle.ev_table.proofs.Marked.{EachMarked}
 
@@ -35,14 +33,6 @@ module _ (mode : Mode) (image : Image) where
   unmarked n [] = refl
   unmarked n (b ∷ bs) = ap (λ t. t && marked.all_unmarked (body_listings mode image (suc n) bs))
       (all_unmarked mode n b.key (function_address mode image) 0 (body_items b)) ∙ unmarked (suc n) bs
-
-  pub plain : (n : ℕ) (bs : List Body) → list_all (λ (b : Body). list_all (λ item. not (is_call item)) (body_items b)) bs ≡ true
-      → marked.all_plain (body_listings mode image n bs) ≡ true
-  unfolding body_stmts
-  plain n [] h = refl
-  plain n (b ∷ bs) h = ap (λ t. t && marked.all_plain (body_listings mode image (suc n) bs))
-      (all_plain mode n b.key (function_address mode image) 0 (body_items b) (and_left _ _ h))
-      ∙ plain (suc n) bs (and_right (list_all (λ item. not (is_call item)) (body_items b)) _ h)
 
   -- the cells and marks of one body, where all are known
   pub body_found : (code : Code) (env : Places) (n : ℕ) (bs : List Body) → AllFound code (cells_in env (body_listings mode image n bs)) → (j : ℕ) (b : Body)

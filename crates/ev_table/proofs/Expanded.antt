@@ -1,8 +1,7 @@
--- What items become, whatever they are: their labels begin with "b" and bear no mark, their sizes don't depend on functions, and only `call` has marks that
--- depend on memory.
+-- What items become, whatever they are: their labels begin with "b" and bear no mark, and their sizes don't depend on functions.
 use Rattle.std.proofs.Common.{◌≡◌, ℕ, suc, ◌+◌, Bool, true, false, ◌&&◌, List, [], ◌∷◌, ◌++◌, refl, ap, ◌∙◌, arith}
 use Rattle.std.specs.List.{list_all}
-use Rattle.std.specs.Prelude.{not, ◌==◌}
+use Rattle.std.specs.Prelude.{◌==◌}
 use Rattle.std.proofs.lemmas.List.{map-append}
 use Rattle.ev_isa.specs.Spelling.{spelling, four_bytes}
 use Rattle.ev_isa.specs.declared.mode.Mode.{Mode}
@@ -15,7 +14,6 @@ use Rattle.ev_asm.specs.Assembly.{Name, size, total_size}
 use Rattle.ev_listing.specs.Expansion.{expansion, expansions}
 use Rattle.ev_listing.specs.Marks.{Mark, Never, Marked, stmts_of}
 use Rattle.ev_symbolic.proofs.Values.{and_left, and_right}
-use Rattle.ev_table.specs.Table.{is_call, reads_no_memory}
 
 -- a name that begins with "b"
 abbrev pub is_of_body : Name → Bool
@@ -41,10 +39,6 @@ names_body s = true
 
 abbrev pub name_bodies : List Marked → Bool
 name_bodies ls = list_all (λ (l : Marked). names_body l.stmt) ls
-
--- no mark of these lines does
-abbrev pub read_no_memory : List Marked → Bool
-read_no_memory ls = list_all (λ (l : Marked). reads_no_memory l.mark) ls
 
 unmarked : (mode : Mode) (b : ℕ) (key : Key) (f : ℕ → ℕ) (n : ℕ) (item : Item) → are_unmarked (expansion mode b key f n item) ≡ true
 unfolding expansion
@@ -118,42 +112,6 @@ of_body mode b key f n Take = refl
 of_body mode b key f n Finish = refl
 of_body mode b key f n Ret = refl
 
-plain : (mode : Mode) (b : ℕ) (key : Key) (f : ℕ → ℕ) (n : ℕ) (item : Item) → is_call item ≡ false → read_no_memory (expansion mode b key f n item) ≡ true
-unfolding expansion is_call
-plain mode b key f n (Set d v) h = refl
-plain mode b key f n (Copy d s) h = refl
-plain mode b key f n (Alu o d s) h = refl
-plain mode b key f n (Jcc c i) h = refl
-plain mode b key f n (Goto i) h = refl
-plain mode b key f n Nop h = refl
-plain mode b key f n (Log s) h = refl
-plain mode b key f n (Cpu d) h = refl
-plain mode b key f n (Slot d k) h = refl
-plain mode b key f n (Put k s) h = refl
-plain mode b key f n (Cell d k) h = refl
-plain mode b key f n (SetCell k s) h = refl
-plain mode b key f n (AddCell k d) h = refl
-plain mode b key f n (SwapCell k d) h = refl
-plain mode b key f n (Uget d s) h = refl
-plain mode b key f n (Uput s t) h = refl
-plain mode b key f n (GetReg d r) h = refl
-plain mode b key f n (SetReg r s) h = refl
-plain mode b key f n (SetRip a) h = refl
-plain mode b key f n (Map s) h = refl
-plain mode b key f n (Unmap s) h = refl
-plain mode b key f n Resched h = refl
-plain mode b key f n Sti h = refl
-plain mode b key f n Cli h = refl
-plain mode b key f n Eoi h = refl
-plain mode b key f n (Send to k) h = refl
-plain mode b key f n Item.Bp h = refl
-plain mode b key f n (Kick to s) h = refl
-plain mode b key f n (Wait site) h = refl
-plain mode b key f n Take h = refl
-plain mode b key f n Finish h = refl
-plain mode b key f n Ret h = refl
-plain mode b key f n (Call site to func s) h = absurd (cc)
-
 same_size : (mode : Mode) (b : ℕ) (key : Key) (f g : ℕ → ℕ) (n : ℕ) (item : Item)
     → total_size (stmts_of (expansion mode b key f n item)) ≡ total_size (stmts_of (expansion mode b key g n item))
 unfolding expansion size spelling four_bytes
@@ -197,10 +155,6 @@ all_append : {X : Type 0} (t : X → Bool) (xs ys : List X) → list_all t xs �
 all_append t [] ys h k = k
 all_append t (x ∷ xs) ys h k = ap (λ b. b && list_all t (xs ++ ys)) (and_left (t x) (list_all t xs) h) ∙ all_append t xs ys (and_right (t x) _ h) k
 
-not_call : (b : Bool) → not b ≡ true → b ≡ false
-not_call true h = absurd (cc)
-not_call false h = refl
-
 module _ (mode : Mode) (b : ℕ) (key : Key) where
   pub all_unmarked : (f : ℕ → ℕ) (n : ℕ) (items : List Item) → are_unmarked (expansions mode b key f n items) ≡ true
   all_unmarked f n [] = refl
@@ -211,12 +165,6 @@ module _ (mode : Mode) (b : ℕ) (key : Key) where
   all_of_body f n [] = refl
   all_of_body f n (item ∷ items) = all_append (λ (l : Marked). names_body l.stmt) (expansion mode b key f n item)
       (expansions mode b key f (suc n) items) (of_body mode b key f n item) (all_of_body f (suc n) items)
-
-  pub all_plain : (f : ℕ → ℕ) (n : ℕ) (items : List Item) → list_all (λ item. not (is_call item)) items ≡ true
-      → read_no_memory (expansions mode b key f n items) ≡ true
-  all_plain f n [] h = refl
-  all_plain f n (item ∷ items) h = all_append (λ (l : Marked). reads_no_memory l.mark) (expansion mode b key f n item) (expansions mode b key f (suc n) items)
-      (plain mode b key f n item (not_call (is_call item) (and_left _ _ h))) (all_plain f (suc n) items (and_right (not (is_call item)) _ h))
 
   total_append : (xs ys : List Stmt) → total_size (xs ++ ys) ≡ total_size xs + total_size ys
   total_append [] ys = omega arith

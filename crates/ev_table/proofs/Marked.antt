@@ -1,5 +1,6 @@
 -- The mark of each line of listings that have no address in common and whose labels bear no mark is the mark at the line's address.
 use Rattle.std.proofs.Common.{◌≡◌, ℕ, ◌+◌, ◌<◌, ◌≤◌, ◌⊎◌, ⊎_elim, inl, inr, Bool, true, false, List, [], ◌∷◌, ◌++◌, Some, refl, sym, ap, ◌∙◌, arith, ne_eqb, eq-eqb, eqb-true, subst}
+use Rattle.std.specs.List.{list_all}
 use Rattle.std.specs.Prelude.{◌==◌, ◌&&◌, nat_lt, nat_le, if◌then◌else◌, None}
 use Rattle.std.proofs.lemmas.Bool.{leb-true, leb-false, ltb-true, ltb-false}
 use Rattle.ev_asm.specs.declared.statement.Stmt.{Stmt}
@@ -15,7 +16,7 @@ use Rattle.ev_fetch.proofs.Regions.{Each, each_append}
 use Rattle.ev_fetch.proofs.Placed.{end_of, IsWithin, Inside, Disjoint}
 use Rattle.ev_fetch.proofs.Spellings.{spelling_some}
 use Rattle.ev_table.specs.Table.{MarkedAt, AreMarked, reads_no_memory}
-use Rattle.ev_table.proofs.Expanded.{is_never, is_unmarked, are_unmarked, read_no_memory}
+use Rattle.ev_table.proofs.Expanded.{is_never, is_unmarked, are_unmarked}
 
 -- ---- entries of other addresses
 
@@ -191,6 +192,9 @@ cell_mark env bs d u a x q = found_marked (all_marks bs) (cells_in env bs) a x (
 
 -- ---- marks that depend on no memory
 
+abbrev pub read_no_memory : List Marked → Bool
+read_no_memory ls = list_all (λ (l : Marked). reads_no_memory l.mark) ls
+
 abbrev pub all_plain : List Listing → Bool
 all_plain [] = true
 all_plain (b ∷ bs) = read_no_memory b.lines && all_plain bs
@@ -212,7 +216,8 @@ plain_lines : (a q : ℕ) (ls : List Marked) (ys : Marks) → read_no_memory ls 
 unfolding marks
 plain_lines a q [] ys h k = k
 plain_lines a q (l ∷ ls) ys h k = subst (λ (ms : Marks). PlainAt ms q) (sym (with_append l.mark a (marks (a + size l.stmt) ls) ys))
-    (plain_with l.mark a q (marks (a + size l.stmt) ls ++ ys) (and_left _ _ h) (plain_lines (a + size l.stmt) q ls ys (and_right (reads_no_memory l.mark) _ h) k))
+    (plain_with l.mark a q (marks (a + size l.stmt) ls ++ ys) (and_left _ _ h)
+    (plain_lines (a + size l.stmt) q ls ys (and_right (reads_no_memory l.mark) _ h) k))
 
 pub plain_at : (bs : List Listing) (q : ℕ) → all_plain bs ≡ true → reads_no_memory (mark_at (all_marks bs) q) ≡ true
 plain_at [] q h = refl

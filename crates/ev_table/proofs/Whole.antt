@@ -1,6 +1,6 @@
 -- The whole table of an image: the cells of bodies, then the kernel's, at distinct addresses.
 use Rattle.std.proofs.Common.{◌≡◌, ℕ, zero, suc, pos, negsuc, ◌+◌, ◌-◌, ◌/◌, ◌%◌, ◌^◌, ◌<◌, ◌≤◌, Bool, true, false, ◌&&◌, List, [], ◌∷◌, ◌++◌, length, take, Some, refl, sym, ap, ◌∙◌, subst, arith, eq-eqb}
-use Rattle.std.specs.Prelude.{◌==◌, ◌||◌, not, nat_le, slice_get, if◌then◌else◌}
+use Rattle.std.specs.Prelude.{◌==◌, ◌||◌, nat_le, slice_get, if◌then◌else◌}
 use Rattle.std.specs.List.{list_all}
 use Rattle.std.proofs.lemmas.Bool.{leb-true, leb-false}
 use Rattle.std.proofs.lemmas.List.{length-take}
@@ -30,15 +30,15 @@ use Rattle.ev_symbolic.proofs.Values.{and_left, and_right}
 use Rattle.ev_fetch.proofs.Regions.{Each}
 use Rattle.ev_fetch.proofs.Placed.{Disjoint}
 use Rattle.ev_fetch.proofs.Sizes.{items_size, few_items, listings_disjoint}
-use Rattle.ev_table.specs.Table.{code_table, other_exit, exit_address, RetCell, places_of, item_lines, item_cells, AreMarked, is_call, reads_no_memory}
+use Rattle.ev_table.specs.Table.{code_table, other_exit, exit_address, RetCell, places_of, item_lines, item_cells, AreMarked, reads_no_memory}
 use Rattle.ev_table.proofs.Cells.{found_first, found_rest}
 use Rattle.ev_table.proofs.Distinct.{listings_distinct}
 use Rattle.ev_table.proofs.Expanded.{is_of_body, same_sizes}
 use Rattle.ev_table.proofs.Items.{item_found, item_marked, next_size}
 use Rattle.ev_table.proofs.Labels.{place_behind, cells_in_same, exit_inner, all_places_append, cells_in_append}
 use Rattle.ev_table.proofs.Kernel.{kernel_cells, kernel_inner, kernel_unmarked, kernel_plain, exit_is}
-use Rattle.ev_table.proofs.Bodies.{labels, unmarked, plain, body_found, body_marked}
-use Rattle.ev_table.proofs.Marked.{all_unmarked, all_plain, EachMarked, each_marked, cell_mark, plain_at, skipped_all}
+use Rattle.ev_table.proofs.Bodies.{labels, unmarked, body_found, body_marked}
+use Rattle.ev_table.proofs.Marked.{all_unmarked, EachMarked, each_marked, cell_mark, plain_at, skipped_all}
 
 -- a jump leads to the target of its distance
 pub leads_to : (target next : ℕ) → target < 2 ^ 64 → next < 2 ^ 64 → displaced next (distance target next) ≡ target
@@ -76,10 +76,6 @@ unmarked_append : (xs ys : List Listing) → all_unmarked xs ≡ true → all_un
 unmarked_append [] ys h k = k
 unmarked_append (x ∷ xs) ys h k = ap (λ t. t && all_unmarked (xs ++ ys)) (and_left _ (all_unmarked xs) h)
     ∙ unmarked_append xs ys (and_right _ (all_unmarked xs) h) k
-
-plain_append : (xs ys : List Listing) → all_plain xs ≡ true → all_plain ys ≡ true → all_plain (xs ++ ys) ≡ true
-plain_append [] ys h k = k
-plain_append (x ∷ xs) ys h k = ap (λ t. t && all_plain (xs ++ ys)) (and_left _ (all_plain xs) h) ∙ plain_append xs ys (and_right _ (all_plain xs) h) k
 
 pub first_each : {X : Type 0} (P : X → Type 0) (xs ys : List X) → Each P (xs ++ ys) → Each P xs
 first_each P [] ys h = tt
@@ -215,14 +211,7 @@ module _ (mode : Mode) (image : Image) where
     pub cell_marked : (a : ℕ) (x : Cell) → code_table mode image a ≡ Some x → mark_at (marks_of mode image) a ≡ x.mark
     cell_marked a x q = cell_mark env (listings mode image) apart no_marks a x q
 
-    -- no mark reads memory
-    pub marks_plain : list_all (λ (b : Body). list_all (λ item. not (is_call item)) (body_items b)) image.bodies ≡ true → (a : ℕ)
-        → reads_no_memory (mark_at (marks_of mode image) a) ≡ true
-    unfolding listings
-    marks_plain none a =
-        plain_at (listings mode image) a (plain_append bodies (kernel_listings mode) (plain mode image 0 image.bodies none) (kernel_plain mode))
-
-    -- none of the kernel's own code does
+    -- no mark of the kernel's own code reads memory
     pub kernel_marks_plain : (a : ℕ) → a < 0xffffffff82000000 → reads_no_memory (mark_at (marks_of mode image) a) ≡ true
     unfolding listings
     kernel_marks_plain a l = ap reads_no_memory

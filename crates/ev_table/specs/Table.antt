@@ -1,6 +1,6 @@
 -- The code of an image in a mode as a table.
-use Rattle.std.specs.Prelude.{◌≡◌, ℤ, ℕ, suc, ◌+◌, ◌^◌, ◌≤◌, ◌<◌, Bool, true, false, not, List, [], ◌∷◌, ◌++◌, length, take, Some, slice_get}
-use Rattle.std.specs.List.{list_all, list_any}
+use Rattle.std.specs.Prelude.{◌≡◌, ℤ, ℕ, suc, ◌+◌, ◌^◌, ◌≤◌, ◌<◌, Bool, true, false, List, [], ◌∷◌, ◌++◌, length, take, Some, slice_get}
+use Rattle.std.specs.List.{list_any}
 use Rattle.ev_isa.specs.Word.{displaced, is_canonical}
 use Rattle.ev_isa.specs.declared.instruction.Ins.TheVariants.{Jmp}
 use Rattle.ev_isa.specs.declared.mode.Mode.{Mode}
@@ -8,7 +8,7 @@ use Rattle.ev_isa.specs.declared.mode.Mode.TheVariants.{Idt, Fred}
 use Rattle.ev_body.specs.declared.key.Key.{Key}
 use Rattle.ev_body.specs.declared.key.Key.TheVariants.{Nmi}
 use Rattle.ev_body.specs.declared.item.Item.{Item}
-use Rattle.ev_body.specs.declared.item.Item.TheVariants.{Call, Take, Ret}
+use Rattle.ev_body.specs.declared.item.Item.TheVariants.{Take, Ret}
 use Rattle.ev_body.specs.declared.body.Body.{Body}
 use Rattle.ev_body.specs.declared.image.Image.{Image}
 use Rattle.ev_body.specs.Bodies.{key_number, body_items}
@@ -73,11 +73,6 @@ MarkedAt ms a mark s = mark_at ms a ≡ mark
 abbrev pub AreMarked : Marks → ℕ → List Marked → Type 0
 AreMarked ms a [] = Unit {0}
 AreMarked ms a (l ∷ ls) = MarkedAt ms a l.mark l.stmt × AreMarked ms (a + size l.stmt) ls
-
--- whether an item's marks depend on memory
-unfoldable pub is_call : Item → Bool
-is_call (Call site to func s) = true
-is_call _ = false
 
 -- the kernel's cells stand in the table
 abbrev pub KernelStands : Type 0
@@ -157,11 +152,10 @@ reads_no_memory Never = true
 reads_no_memory Always = true
 reads_no_memory _ = false
 
--- so is each mark where no body has a `call`
-abbrev pub MarksReadNoMemory : Type 0
-MarksReadNoMemory = (mode : Mode) (image : Image) → IsImage image
-    → list_all (λ (b : Body). list_all (λ item. not (is_call item)) (body_items b)) image.bodies ≡ true
-    → (a : ℕ) → reads_no_memory (mark_at (marks_of mode image) a) ≡ true
+-- so is each mark in the kernel's own code, below that of bodies
+abbrev pub KernelMarksReadNoMemory : Type 0
+KernelMarksReadNoMemory = (mode : Mode) (image : Image) → IsImage image → (a : ℕ) → a < 0xffffffff82000000
+    → reads_no_memory (mark_at (marks_of mode image) a) ≡ true
 
 -- keys other than that of NMIs have one exit
 abbrev pub OthersHaveOneExit : Type 0

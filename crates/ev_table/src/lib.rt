@@ -2,11 +2,11 @@
 //! the items of bodies, and which cells the abstract machine sees.
 #![tactic(auto)]
 
-ghost use Rattle.ev_table.specs.Table.{KernelStands, CellsAreSpaced, ItemsStand, ItemsAreMarked, ItemsFollow, ItemLabelsArePlaced, OwnLabelsArePlaced, TakenLabelsArePlaced, ExitsArePlaced, RetStands, OthersHaveOneExit, BodiesBeginWithItems, ItemsAreCanonical, CellsAreMarked, MarksReadNoMemory};
+ghost use Rattle.ev_table.specs.Table.{KernelStands, CellsAreSpaced, ItemsStand, ItemsAreMarked, ItemsFollow, ItemLabelsArePlaced, OwnLabelsArePlaced, TakenLabelsArePlaced, ExitsArePlaced, RetStands, OthersHaveOneExit, BodiesBeginWithItems, ItemsAreCanonical, CellsAreMarked, KernelMarksReadNoMemory};
 
 /// In both modes, for every image: the kernel's cells stand in the table, the cells of each item
-/// stand at its address with its marks, and an address has the mark of its cell; marks read memory
-/// only where a body has a `call`. Own.
+/// stand at its address with its marks, and an address has the mark of its cell; no mark in the
+/// kernel's own code reads memory. Own.
 pub fn table()
     ensures kernel { KernelStands }
     ensures spaced { CellsAreSpaced }
@@ -22,5 +22,5 @@ pub fn table()
     ensures first_items { BodiesBeginWithItems }
     ensures canonical { ItemsAreCanonical }
     ensures marks { CellsAreMarked }
-    ensures memory { MarksReadNoMemory }
+    ensures memory { KernelMarksReadNoMemory }
 {}

@@ -1,8 +1,5 @@
-use Rattle.ev_relation.proofs.Laws.{keeps_settled, tells}
+use Rattle.ev_relation.proofs.Laws.{tells}
 use Rattle.ev_relation.proofs.relation.Goals as goal
 
 pub returns : goal.returns
-returns c = record {
-  tells = tells;
-  others = keeps_settled;
-}
+returns c = record { tells = tells }

@@ -29,5 +29,5 @@ returns c = record {
   first_items = λ mode n b. whole.first_item mode n b;
   canonical = λ mode image given n i b h. whole.canonical_items mode image given n i b h;
   marks = λ mode image given a x h. whole.cell_marked mode image given a x h;
-  memory = λ mode image given none a. whole.marks_plain mode image given none a;
+  memory = λ mode image given a l. whole.kernel_marks_plain mode image given a l;
 }
