@@ -41,4 +41,5 @@ pub mod BodyBreak
 pub mod BodyFault
 pub mod CallSteps
 pub mod CallGoes
+pub mod KickGoes
 pub mod CallFills
