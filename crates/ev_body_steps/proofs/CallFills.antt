@@ -262,11 +262,12 @@ module _ (mode : Mode) (image : Image) (built : IsBuilt image) (good : IsImage i
       its_own : (f : Filling) → first_fill on.fills ≡ Some f → (q k : ℕ) → is_of mode image left s m h p hp b o.below o.bodies f.site
           (record { from = q; site = k }) ≡ true → (q ≡ p → is_filled k on.fills ≡ false) → ⊥
       its_own f first q k mine unfilled =
-          let same : record { from = q; site = k } ≡ record { from = p; site = f.site }
-          = same_call (record { from = q; site = k }) (record { from = p; site = f.site }) mine in
+          let here : CallId = record { from = q; site = k } in
+          let own : CallId = record { from = p; site = f.site } in
+          let same : here ≡ own = same_call here own mine in
           let there : k ≡ f.site = ap (λ (i : CallId). i.site) same in
-          let clash : true ≡ false = sym (subst (λ i. is_filled i on.fills ≡ true) (sym there) (first_is_filled on.fills f first))
-          ∙ unfilled (ap (λ (i : CallId). i.from) same) in cc
+          let filled : is_filled k on.fills ≡ true = subst (λ i. is_filled i on.fills ≡ true) (sym there) (first_is_filled on.fills f first) in
+          let clash : true ≡ false = sym filled ∙ unfilled (ap (λ (i : CallId). i.from) same) in cc
 
       head_stays : (f : Filling) → first_fill on.fills ≡ Some f → (to : ℕ) → to < 32 → (words : NatMap ℕ)
           → Changes p o.σ (record_names p f.site) s.memory.words words → StaysHead to s.memory.words words

@@ -35,7 +35,7 @@ use Rattle.ev_relation.proofs.Fits.{InBodies, fits_with, opens_at}
 use Rattle.ev_blocks.specs.Blocks.{Spot, block, edges}
 use Rattle.ev_blocks.specs.Blocks as blocks
 use Rattle.ev_blocks.specs.Calls.{CallSpot, AtRecord, BehindWait, BehindBusy, AtFill, AtHead, AtLink, BehindFailure, BehindCall, AtTake, BehindTake, AtTurn, BehindTurn, AtTaken, AtFinish, BehindNext, AtOffset, fills_record, block_of_call, item_opening}
-use Rattle.ev_blocks.specs.Items.{InCall}
+use Rattle.ev_blocks.specs.Items.{BodySpot, InCall, fills}
 use Rattle.ev_table.specs.Table.{code_table}
 use Rattle.ev_relation.specs.Active.{here, IsKernelSs, InSpot, Active}
 use Rattle.ev_relation.specs.Filling.{first_fill}
@@ -208,7 +208,35 @@ module _ (mode : Mode) (image : Image) (built : IsBuilt image) (good : IsImage i
       ends = ap (λ y. y + length (spelling i)) rip_is ∙ sym e;
     }
 
-    -- where a block of call items opens, whose variables are these registers, and those beyond are as they were but for what no item's opening tells
+    -- where a block of an item opens, whose variables are these registers, and those beyond are as they were but for what no item's opening tells
+    pub spot_stands : (s' : BodySpot) → CallOpens mode (block mode (body mode s')) → is_spot mode (body mode s') ≡ true → (extra' v' : ℕ → ℕ) → v 60 ≡ v' 60
+        → v 61 ≡ v' 61 → v 63 ≡ v' 63 → extra' 20 ≡ extra 20 → (regs : List ℕ) (g : Flags) (next onto : ℕ) (words : NatMap ℕ) → length regs ≡ 16
+        → get_or regs 4 0 ≡ get_or c.regs 4 0 → next ≡ (extra 20 + onto) % M → (block mode (body mode s')).opening.rip ≡ at_base item_tag onto
+        → regs ≡ map (eval (env ss extra' (with_registers regs v') g)) (block mode (body mode s')).opening.regs
+        → Known (env ss extra v f) (known_of mode) words (opening_of mode).words
+        → Known (env ss extra' (with_registers regs v') g) (known_of mode) words (opening_of mode).words
+        → FactsHold (env ss extra' (with_registers regs v') g) (block mode (body mode s')).ground.facts
+        → Lines code (env ss extra' (with_registers regs v') g) (block mode (body mode s')).lines
+        → At code (block mode (body mode s')) 0 (env ss extra' (with_registers regs v') g) (gone c regs g next) (with_words s.memory words)
+    spot_stands s' y over extra' v' other_gs chosen level base regs g next onto words long rsp rip opens registers known known' told lines =
+        let B : Block = block mode (body mode s') in
+        let u : Env = env ss extra' (with_registers regs v') g in
+        let mem : Memory = with_words s.memory words in
+        let d : Processor = gone c regs g next in
+        let there : IsAtOffset mode (env ss extra v f) d mem onto g = place_behind mode p o.κ o.σ ss o.w extra v f c s.memory offset a.flags a.state regs g next
+        words onto long rsp rip known in
+        let seat = step.in_seat mode image built good facts left s m h p hp o in
+        let windows : Open u B.ground.known mem.regions
+        = opens_at mode image p o.σ seat hp good.count.1 o.κ ss o.w extra' (with_registers regs v') g (body mode s') over mem h.regions_are in
+        let fit : Fits code u B = fits_with mode image p o.σ seat hp good.count.1 o.κ ss o.w extra' (with_registers regs v') g facts (body mode s') over
+        (step.fred_is mode image built good facts left s m h p hp o)
+        (subst (λ n. (0xffffffff82000000 ≤ n) × (n + 0x100 ≤ M)) (sym base) a.range) told lines in
+        begins code B u d mem fit
+        (opens_from mode p o.κ o.σ ss o.w extra v f d mem onto g there extra' v' other_gs chosen level B.ground B.opening y.beside base opens y.flags registers
+        (subst (λ W. Known u W words B.opening.words) (sym y.known) (subst (λ ws. Known u (known_of mode) words ws) (sym y.words) known'))
+        windows y.shared)
+
+    -- one of call items
     pub call_stands : (s' : CallSpot) → fills_record s' ≡ false → is_spot mode (body mode (InCall s')) ≡ true → (extra' v' : ℕ → ℕ) → v 60 ≡ v' 60 → v 61 ≡ v' 61
         → v 63 ≡ v' 63 → extra' 20 ≡ extra 20 → (regs : List ℕ) (g : Flags) (next onto : ℕ) (words : NatMap ℕ) → length regs ≡ 16
         → get_or regs 4 0 ≡ get_or c.regs 4 0 → next ≡ (extra 20 + onto) % M
@@ -220,40 +248,25 @@ module _ (mode : Mode) (image : Image) (built : IsBuilt image) (good : IsImage i
         → Lines code (env ss extra' (with_registers regs v') g) (block mode (body mode (InCall s'))).lines
         → At code (block mode (body mode (InCall s'))) 0 (env ss extra' (with_registers regs v') g) (gone c regs g next) (with_words s.memory words)
     call_stands s' off over extra' v' other_gs chosen level base regs g next onto words long rsp rip opens registers known known' told lines =
-        let B : Block = block_of_call (is_fred mode) (layout_of mode) s' in
         let same = block_is mode s' in
-        let u : Env = env ss extra' (with_registers regs v') g in
-        let y = call_opens mode s' off in
-        let mem : Memory = with_words s.memory words in
-        let d : Processor = gone c regs g next in
-        let there : IsAtOffset mode (env ss extra v f) d mem onto g = place_behind mode p o.κ o.σ ss o.w extra v f c s.memory offset a.flags a.state regs g next
-        words onto long rsp rip known in
-        let seat = step.in_seat mode image built good facts left s m h p hp o in
-        let windows : Open u (known_of mode) mem.regions = subst (λ W. Open u W mem.regions) (ap (λ (q : Block). q.ground.known) same ∙ y.known)
-        (opens_at mode image p o.σ seat hp good.count.1 o.κ ss o.w extra' (with_registers regs v') g (body mode (InCall s')) over mem h.regions_are) in
-        let fit : Fits code u (block mode (body mode (InCall s'))) = fits_with mode image p o.σ seat hp good.count.1 o.κ ss o.w extra'
-        (with_registers regs v') g facts (body mode (InCall s')) over (step.fred_is mode image built good facts left s m h p hp o)
-        (subst (λ n. (0xffffffff82000000 ≤ n) × (n + 0x100 ≤ M)) (sym base) a.range) told lines in
-        begins code (block mode (body mode (InCall s'))) u d mem fit
-        (subst (λ (q : Block). Agrees u q.ground q.opening d mem) (sym same)
-        (opens_from mode p o.κ o.σ ss o.w extra v f d mem onto g there extra' v' other_gs chosen level B.ground B.opening y.beside base opens y.flags registers
-        (subst (λ W. Known u W words B.opening.words) (sym y.known) (subst (λ ws. Known u (known_of mode) words ws) (sym y.words) known'))
-        (subst (λ W. Open u W mem.regions) (sym y.known) windows) y.shared))
+        spot_stands (InCall s') (subst (CallOpens mode) (sym same) (call_opens mode s' off)) over extra' v' other_gs chosen level base regs g next onto words long
+        rsp rip (ap (λ (q : Block). q.opening.rip) same ∙ opens)
+        (registers ∙ ap (λ (q : Block). map (eval (env ss extra' (with_registers regs v') g)) q.opening.regs) (sym same)) known known' told lines
 
-    -- An edge by an instruction that writes nothing, to the opening of a block of call items.
-    pub goes_to : (s' : CallSpot) → fills_record s' ≡ false → (i : Ins) (next : ℕ) → code c.rip ≡ Some (edge_cell i next) → is_return (Some i) ≡ false
+    -- An edge by an instruction that writes nothing, to the opening of a block of an item.
+    pub goes_to_spot : (s' : BodySpot) → fills s' ≡ false → (i : Ins) (next : ℕ) → code c.rip ≡ Some (edge_cell i next) → is_return (Some i) ≡ false
         → (regs : List ℕ) (g : Flags) → length regs ≡ 16 → g.interrupts ≡ b.interrupts → Leads c s.memory i (gone c regs g next) s.memory.words
         → (extra' v' : ℕ → ℕ)
-        → At code (block mode (body mode (InCall s'))) 0 (env ss extra' (with_registers regs v') g) (gone c regs g next) s.memory
-        → InSpot mode image (origin_of o.κ) (InCall s') (env ss extra' (with_registers regs v') g) o.w b (first_fill on.fills) s.memory.words
-        → edges mode (body mode (InCall s')) 0 < on.own → is_in_repeat c.rip ≡ false → Simulated mode image left s m p
-    goes_to s' off i next cell inner regs g long masked leads extra' v' at means fewer outside =
+        → At code (block mode (body mode s')) 0 (env ss extra' (with_registers regs v') g) (gone c regs g next) s.memory
+        → InSpot mode image (origin_of o.κ) s' (env ss extra' (with_registers regs v') g) o.w b (first_fill on.fills) s.memory.words
+        → edges mode (body mode s') 0 < on.own → is_in_repeat c.rip ≡ false → Simulated mode image left s m p
+    goes_to_spot s' off i next cell inner regs g long masked leads extra' v' at means fewer outside =
         step.edge mode image built good facts left s m h p hp o (edge_cell i next) cell refl inner a.kernel outside (gone c regs g next) s.memory.words
         leads (step.blocked mode image built good facts left s m h p hp) [] (none_spares p) refl (step.unknown_none o.below) (λ y far near. refl)
-        (edges mode (body mode (InCall s')) 0) fewer
+        (edges mode (body mode s') 0) fewer
         (record {
           stands = record {
-            spot = body mode (InCall s');
+            spot = body mode s';
             k = 0;
             extra = extra';
             var = with_registers regs v';
@@ -268,6 +281,15 @@ module _ (mode : Mode) (image : Image) (built : IsBuilt image) (good : IsImage i
           };
           switches = sym o.off;
           fills = off ∙ sym (ap is_some a.unfilled);
-          knows = plain_knows mode o.κ on.frame plain (blocks.holds (body mode (InCall s')));
-          means = means_at mode image o.κ plain (InCall s') (env ss extra' (with_registers regs v') g) o.w b (first_fill on.fills) s.memory.words means;
+          knows = plain_knows mode o.κ on.frame plain (blocks.holds (body mode s'));
+          means = means_at mode image o.κ plain s' (env ss extra' (with_registers regs v') g) o.w b (first_fill on.fills) s.memory.words means;
         })
+
+    -- and of one of call items
+    pub goes_to : (s' : CallSpot) → fills_record s' ≡ false → (i : Ins) (next : ℕ) → code c.rip ≡ Some (edge_cell i next) → is_return (Some i) ≡ false
+        → (regs : List ℕ) (g : Flags) → length regs ≡ 16 → g.interrupts ≡ b.interrupts → Leads c s.memory i (gone c regs g next) s.memory.words
+        → (extra' v' : ℕ → ℕ)
+        → At code (block mode (body mode (InCall s'))) 0 (env ss extra' (with_registers regs v') g) (gone c regs g next) s.memory
+        → InSpot mode image (origin_of o.κ) (InCall s') (env ss extra' (with_registers regs v') g) o.w b (first_fill on.fills) s.memory.words
+        → edges mode (body mode (InCall s')) 0 < on.own → is_in_repeat c.rip ≡ false → Simulated mode image left s m p
+    goes_to s' = goes_to_spot (InCall s')

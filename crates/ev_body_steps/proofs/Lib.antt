@@ -44,4 +44,5 @@ pub mod BodyInterrupt
 pub mod BodyBreak
 pub mod BodyFault
 pub mod CallSteps
+pub mod KickGoes
 pub mod CallFills
