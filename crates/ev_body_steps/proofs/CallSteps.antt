@@ -1,5 +1,5 @@
--- Steps that write words of calls which are the last context's own: those that it has taken, or the one whose record it fills. What they give: an edge, or a turn
--- of the abstract machine.
+-- Steps that write words of calls which are the last context's own: those that it has taken, or the one whose record it fills. What they give: an edge, or a
+-- turn of the abstract machine.
 use Rattle.std.proofs.Common.{◌≡◌, ℕ, ◌+◌, ◌<◌, ◌≤◌, Bool, true, false, not, ◌&&◌, List, ◌∷◌, length, Option, Some, None, refl, sym, ap, ◌∙◌, subst, arith, eq-eqb}
 use Rattle.std.specs.Prelude.{◌==◌, ◌++◌, ◌||◌, if◌then◌else◌, nat_le, nat_lt}
 use Rattle.std.specs.List.{list_any}
@@ -128,8 +128,8 @@ module _ (mode : Mode) (image : Image) (built : IsBuilt image) (good : IsImage i
         (records_spared p o.σ names small narrow s.memory.words words are.allowed.written changes mine are.of mode image p fs x.records x.records small
         (λ k lt off. refl) (λ k lt off e. on.records k lt (unfilled k off e)) (λ k lt is e. held p k hp lt is (λ d. e)))
         (let l = on.short in omega arith) chain in
-        step.edge_with mode image built good facts left s m h p hp (step.first mode image built good facts left s m h p hp o) cell hc hm hr hu out cpu words he now
-        fewer there
+        step.edge_with mode image built good facts left s m h p hp (step.first mode image built good facts left s m h p hp o) cell hc hm hr hu out cpu words he
+        now fewer there
         (stands_become mode image left s (step.Behind mode image built good facts left s m h p hp (s.apics p) cpu words None) m m p
         (now + inner_edges (s.latches p)) x o.σ cpu _ words good built.accepted (four_tasks image good) h hp
         (step.moves mode image built good facts left s m h p hp (s.apics p) cpu words None) narrow names are.allowed changes
@@ -138,8 +138,8 @@ module _ (mode : Mode) (image : Image) (built : IsBuilt image) (good : IsImage i
           others = λ q e. refl;
           mail = refl;
           mail_nmi = refl;
-          queues = λ q lq. queue_kept mode image left s m h p hp o.b o.below o.bodies o.σ words names narrow good.count.1 are.allowed.written changes mine are.of
-              alone q lq (heads q);
+          queues = λ q lq. queue_kept mode image left s m h p hp o.b o.below o.bodies o.σ words names narrow good.count.1 are.allowed.written changes mine
+              are.of alone q lq (heads q);
           user = λ a u. user_same p o.σ names small narrow s.memory.words words are.allowed.written changes are.user a u ∙ h.shares.user a u;
           held = h.shares.held;
           pages = λ i l. page_same p o.σ names small narrow s.memory.words words are.allowed.written changes are.pages i l ∙ h.shares.pages i l;

@@ -57,8 +57,7 @@ AllSettle = (mode : Mode) (image : Image) → IsBuilt image → IsImage image �
     → Stands mode image left s m
     → (p : ℕ) → p < image.processors → Settles mode image left s m p
 
--- A turn of the one is a turn of the other, with at most two frames, and with the entries that its visible step shows, where steps are few enough for the
--- numbers of calls in them.
+-- A turn of the one is a turn of the other, with at most two frames, and with the entries that its visible step shows while calls' numbers are words.
 pub record Turns (mode : Mode) (image : Image) (s : System) (m : Machine) (p : ℕ) : Type 0 where
   pub now : NatMap ℕ
   pub stands : Stands mode image now (concrete_turn (marks_of mode image) image.processors s p).0 (turn image m p).0

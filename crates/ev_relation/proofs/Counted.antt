@@ -1,4 +1,4 @@
--- Numbers of calls in words: where steps were few, the word that the concrete machine keeps of a number modulo 2^64 is the number.
+-- Numbers of calls in words: while few steps were counted, the word that the concrete machine keeps of a number modulo 2^64 is the number.
 use Rattle.std.proofs.Common.{◌≡◌, ℕ, suc, ◌<◌, arith}
 use Rattle.std.specs.Prelude.{◌%◌, ◌^◌}
 use Rattle.std.proofs.Math.Nat.{mod-eq_of_lt}
@@ -17,7 +17,7 @@ use Rattle.ev_relation.specs.Step.{IsCounted}
 
 module _ (mode : Mode) (image : Image) (left : NatMap ℕ) (s : System) (m : Machine) (h : Stands mode image left s m) (counted : IsCounted s)
     (k : CallId) where
-  -- a site has queued no more calls than entries were told, and no step tells two
+  -- a site has queued no more calls than entries were told
   number_small : (record_of m k).number < 2 ^ 63
   number_small =
       let total = (h.calls.told k).total in

@@ -217,7 +217,7 @@ module _ (mode : Mode) (image : Image) where
     pub bases : HasBases image m  -- which a switch loads from the descriptors
     pub numbers : HoldsNumbers m
     pub told : List Entry  -- which the abstract machine has made so far
-    pub few : length told ≤ s.totals.steps
+    pub few : length told ≤ s.totals.steps  -- by each step one at most
     pub calls : KeepsCallRecords image m told
     pub domain : (p : ℕ) → p < image.processors → IsInDomain (processor m p)
     pub each : (p : ℕ) → p < image.processors → StandsOn p (left p) s (processor m p)

@@ -16,7 +16,7 @@ use Rattle.ev_concrete.specs.Shown.{shown}
 abbrev pub EdgeWrites : (latch now : Bool) → List FrameNote → Type 0
 EdgeWrites latch now frames = ((frames ≡ []) × (now ≡ latch)) ⊎ ((length frames ≡ 1) × (latch ≡ true) × (now ≡ false))
 
--- So few steps that no number of a call has grown beyond a word, in which the concrete machine keeps it modulo 2^64.
+-- So few steps were counted that each number of a call is a word: the concrete machine keeps it modulo 2^64.
 abbrev pub IsCounted : System → Type 0
 IsCounted s = s.totals.steps < 2 ^ 63
 
@@ -29,7 +29,7 @@ module _ (mode : Mode) (image : Image) where
     pub stands : Stands mode image now (concrete_step image.processors s p).0 m
     pub writes : EdgeWrites (s.latches p) ((concrete_step image.processors s p).0.latches p) (concrete_step image.processors s p).1
 
-  -- a visible step: the abstract machine makes one with the same entries, where steps are few enough for their numbers
+  -- a visible step: the abstract machine makes one, with the same entries while calls' numbers are words
   pub record MakesTurn (left : NatMap ℕ) (s : System) (m : Machine) (p : ℕ) : Type 0 where
     pub seen : is_visible (marks_of mode image) s p ≡ true
     pub now : NatMap ℕ
