@@ -21,8 +21,8 @@ use Rattle.ev_listing.specs.Marks.{Always}
 use Rattle.ev_state.specs.Processor.{Processor, is_user, register}
 use Rattle.ev_mem.specs.Memory.{Memory}
 use Rattle.ev_proc.specs.declared.stepped.Stepped.{Stepped}
-use Rattle.ev_abstract.specs.Context.{CallId, BodyContext, onward as onward_of}
-use Rattle.ev_abstract.specs.ItemMeaning.{item_step, waited, with_context, unknown_flags}
+use Rattle.ev_abstract.specs.Context.{CallId, BodyContext}
+use Rattle.ev_abstract.specs.ItemMeaning.{item_step, waited, with_context}
 use Rattle.ev_abstract.specs.Machine.{CallState, Free, Queued, Taken, CallRecord, Machine, processor}
 use Rattle.ev_abstract.specs.Machine as abstract
 use Rattle.ev_abstract.specs.Rules.{breaks_slots}
@@ -33,12 +33,12 @@ use Rattle.ev_concrete.specs.Depth.{is_in_repeat, is_jump, bodies_on}
 use Rattle.ev_concrete.specs.Shown.{shown_always, record_word}
 use Rattle.ev_built.specs.Built.{IsBuilt}
 use Rattle.ev_law.specs.Legal.{AreLegal, knows}
-use Rattle.ev_law.proofs.Ruled.{IsRuled, body_ruled}
+use Rattle.ev_law.proofs.Ruled.{body_ruled}
 use Rattle.ev_symbolic.specs.Value.{M, V, K, X, B, OAdd}
 use Rattle.ev_symbolic.specs.State.{Block}
 use Rattle.ev_symbolic.specs.Names.{item_tag, top_less}
 use Rattle.ev_symbolic.specs.Single.{Leads, onward}
-use Rattle.ev_symbolic.specs.Agrees.{Env, Code, Cell, Stands as Lines, eval, FactsHold, IsOpen, At, with_words}
+use Rattle.ev_symbolic.specs.Agrees.{Env, Code, Cell, Stands as Lines, eval, FactsHold, IsOpen, At}
 use Rattle.ev_symbolic.proofs.Single.{singles}
 use Rattle.ev_blocks.specs.Shapes.{body_bytes}
 use Rattle.ev_blocks.specs.Calls.{AtRecord, BehindWait, behind_first, behind_state, state_word}
@@ -46,12 +46,11 @@ use Rattle.ev_blocks.specs.Calls as calls
 use Rattle.ev_blocks.specs.Items.{InCall}
 use Rattle.ev_blocks.specs.Blocks.{block, edges}
 use Rattle.ev_blocks.specs.Blocks as blocks
-use Rattle.ev_activation.specs.Seat.{kind_of}
 use Rattle.ev_paths.specs.CallEnds.{item_regs}
 use Rattle.ev_table.specs.Table.{code_table}
 use Rattle.ev_relation.specs.Filling.{Filling, first_fill, rest_fills, is_of_site, is_filled}
-use Rattle.ev_relation.specs.Active.{item_place, address_of_item, item_of, here, IsKernelSs, InCode, InCallSpot, Active}
-use Rattle.ev_relation.specs.Relation.{IsContext, HoldsCall, CallIs, Chain, StandsOn, Stands, switches_at, serves, body_edges}
+use Rattle.ev_relation.specs.Active.{address_of_item, item_of, here, IsKernelSs, InCode, InCallSpot, Active}
+use Rattle.ev_relation.specs.Relation.{IsContext, HoldsCall, CallIs, Chain, StandsOn, Stands, switches_at, serves}
 use Rattle.ev_relation.specs.Step.{IsCounted, Simulated}
 use Rattle.ev_relation.proofs.After.{none_spares}
 use Rattle.ev_relation.proofs.CallKinds.{origin_of, plain_knows}
