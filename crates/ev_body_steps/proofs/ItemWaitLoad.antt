@@ -1,4 +1,4 @@
--- `wait` at its visible load, which reads whether the site's call is done: what it reads, and where the abstract machine's context goes on.
+-- `wait` at its item, and at its visible load, which reads whether the site's call is done: what it reads, and where the abstract machine's context goes on.
 use Rattle.std.proofs.Common.{◌≡◌, ℕ, suc, ◌+◌, ◌*◌, ◌%◌, ◌^◌, ◌<◌, ◌≤◌, Bool, true, false, List, [], ◌∷◌, get_or, set, map, length, Option, None, Some, refl, sym, ap, ◌∙◌, subst, arith}
 use Rattle.std.specs.Prelude.{pos, slice_get, is_some, not, ◌&&◌, ◌||◌, ◌==◌, nat_le, nat_lt, if◌then◌else◌}
 use Rattle.std.specs.List.{list_any}
@@ -43,13 +43,13 @@ use Rattle.ev_symbolic.proofs.Single.{singles}
 use Rattle.ev_blocks.specs.Shapes.{body_bytes}
 use Rattle.ev_blocks.specs.Calls.{AtRecord, BehindWait, behind_first, behind_state, state_word}
 use Rattle.ev_blocks.specs.Calls as calls
-use Rattle.ev_blocks.specs.Items.{InCall}
+use Rattle.ev_blocks.specs.Items.{AtItem, InCall}
 use Rattle.ev_blocks.specs.Blocks.{block, edges}
 use Rattle.ev_blocks.specs.Blocks as blocks
 use Rattle.ev_paths.specs.CallEnds.{item_regs}
 use Rattle.ev_table.specs.Table.{code_table}
 use Rattle.ev_relation.specs.Filling.{Filling, first_fill, rest_fills, is_of_site, is_filled}
-use Rattle.ev_relation.specs.Active.{address_of_item, item_of, here, IsKernelSs, InCode, InCallSpot, Active}
+use Rattle.ev_relation.specs.Active.{item_place, address_of_item, item_of, site_of, here, IsKernelSs, InCode, InItem, InCallSpot, Active}
 use Rattle.ev_relation.specs.Relation.{IsContext, HoldsCall, CallIs, Chain, StandsOn, Stands, switches_at, serves}
 use Rattle.ev_relation.specs.Step.{IsCounted, Simulated}
 use Rattle.ev_relation.proofs.After.{none_spares}
@@ -63,7 +63,7 @@ use Rattle.ev_relation.proofs.Spots.{is_spot}
 use Rattle.ev_relation.proofs.Standing.{went_stays}
 use Rattle.ev_body_steps.proofs.Bodies.{body, layout_of, means_at}
 use Rattle.ev_body_steps.proofs.CallCells.{WaitCode, wait_code}
-use Rattle.ev_body_steps.proofs.CallFirst.{AreKept, in_code}
+use Rattle.ev_body_steps.proofs.CallFirst.{AreKept, in_code, to_record}
 use Rattle.ev_body_steps.proofs.CallGoes.{block_is, ends_of}
 use Rattle.ev_body_steps.proofs.CallGoes as goes
 use Rattle.ev_body_steps.proofs.CallPlaces.{rax_regs_are, same_rsp}
@@ -129,6 +129,17 @@ module _ (mode : Mode) (image : Image) (built : IsBuilt image) (good : IsImage i
   -- the context behind the load, at this item
   abbrev behind : ℕ → BodyContext
   behind place = record b { place = place; flags = None }
+
+  -- At the item: the load of the first record's address is an edge.
+  pub at_wait : first_fill on.fills ≡ None → (act : Stood on.own b c s.memory) (ss : ℕ) → IsKernelSs mode ss → (extra v : ℕ → ℕ) (f : Flags)
+      → At code (block mode (body mode AtItem)) 0 (env ss extra v f) c s.memory → InItem mode image (origin_of o.κ) (env ss extra v f) o.w b s.memory.words
+      → extra 20 ≡ item_place mode image b.body b.place → length c.regs ≡ 16 → edges mode (body mode AtItem) 0 ≤ on.own → (site : ℕ)
+      → item_at (Some body') b.place ≡ Some (Wait site) → Simulated mode image left s m p
+  unfolding site_of
+  at_wait unfilled act ss ss_is extra v f at means place long enough site hi =
+      let cells = wait_code mode image facts b.body body' is b.place site hi in
+      to_record mode image built good facts left s m h p hp o body' is unfilled act ss ss_is extra v f at means place long enough site
+      (ap (λ y. site_of (item_at y b.place)) is ∙ ap site_of hi) (record { first = cells.first; sum = cells.sum })
 
   module _ (unfilled : first_fill on.fills ≡ None) (act : Stood on.own b c s.memory) (ss : ℕ) (ss_is : IsKernelSs mode ss) (extra v : ℕ → ℕ) (f : Flags)
       (site : ℕ) (at : At code (block mode (body mode (InCall (AtRecord site)))) (block mode (body mode (InCall (AtRecord site)))).steps (env ss extra v f) c

@@ -29,10 +29,10 @@ pub mod ItemKick
 pub mod ItemUser
 pub mod ItemPage
 pub mod ItemPages
-pub mod KernelItems
 pub mod CallGoes
 pub mod CallFirst
 pub mod ItemWaitLoad
+pub mod KernelItems
 pub mod WaitSteps
 pub mod Kernel
 pub mod BodyRaising

@@ -1,4 +1,4 @@
--- Steps of an activation in `wait`: at its item, at its load, and where its code ends and an item opens, the next one or itself.
+-- Steps of an activation behind the first instruction of `wait`: at its load, and where its code ends and an item opens, the next one or itself.
 use Rattle.std.proofs.Common.{◌≡◌, ℕ, ◌<◌, ◌≤◌, Bool, true, length, None, Some, sym, ap, ◌∙◌, subst}
 use Rattle.std.specs.Prelude.{slice_get}
 use Rattle.ev_isa.specs.Word.{NatMap}
@@ -19,18 +19,16 @@ use Rattle.ev_built.specs.Built.{IsBuilt, is_built_item}
 use Rattle.ev_symbolic.specs.Agrees.{Env, Code, At}
 use Rattle.ev_symbolic.proofs.Blocks.{unsome}
 use Rattle.ev_blocks.specs.Calls.{AtRecord, BehindWait}
-use Rattle.ev_blocks.specs.Items.{AtItem, InCall}
+use Rattle.ev_blocks.specs.Items.{InCall}
 use Rattle.ev_blocks.specs.Blocks.{block, edges}
 use Rattle.ev_table.specs.Table.{code_table}
 use Rattle.ev_relation.specs.Filling.{first_fill}
-use Rattle.ev_relation.specs.Active.{item_place, site_of, here, IsKernelSs, InItem, InCallSpot, Active}
+use Rattle.ev_relation.specs.Active.{site_of, here, IsKernelSs, InCallSpot, Active}
 use Rattle.ev_relation.specs.Relation.{StandsOn, Stands, switches_at}
 use Rattle.ev_relation.specs.Step.{Simulated}
 use Rattle.ev_relation.proofs.CallKinds.{origin_of}
 use Rattle.ev_relation.proofs.Facts.{Facts}
 use Rattle.ev_body_steps.proofs.Bodies.{body}
-use Rattle.ev_body_steps.proofs.CallCells.{wait_code}
-use Rattle.ev_body_steps.proofs.CallFirst.{to_record}
 use Rattle.ev_body_steps.proofs.ItemWait.{wait_steps, behind_wait_opens}
 use Rattle.ev_body_steps.proofs.ItemWaitLoad.{by_load}
 use Rattle.ev_body_steps.proofs.KernelItems as items
@@ -56,17 +54,6 @@ module _ (mode : Mode) (image : Image) (built : IsBuilt image) (good : IsImage i
 
   abbrev Stood : ℕ → BodyContext → Processor → Memory → Type 0
   Stood now b cpu mem = Active mode image p now o.κ o.σ on.frame (switches_at mode image on.switching o.below) (first_fill on.fills) o.w b cpu mem
-
-  -- at the item
-  pub at_wait : first_fill on.fills ≡ None → (act : Stood on.own b c s.memory) (ss : ℕ) → IsKernelSs mode ss → (extra v : ℕ → ℕ) (f : Flags)
-      → At code (block mode (body mode AtItem)) 0 (env ss extra v f) c s.memory → InItem mode image (origin_of o.κ) (env ss extra v f) o.w b s.memory.words
-      → extra 20 ≡ item_place mode image b.body b.place → length c.regs ≡ 16 → edges mode (body mode AtItem) 0 ≤ on.own → (site : ℕ)
-      → item_at (Some body') b.place ≡ Some (Wait site) → Simulated mode image left s m p
-  unfolding site_of
-  at_wait unfilled act ss ss_is extra v f at means place long enough site hi =
-      let cells = wait_code mode image facts b.body body' is b.place site hi in
-      to_record mode image built good facts left s m h p hp o body' is unfilled act ss ss_is extra v f at means place long enough site
-      (ap (λ y. site_of (item_at y b.place)) is ∙ ap site_of hi) (record { first = cells.first; sum = cells.sum })
 
   -- at the visible load, where the block of the sum has ended
   pub at_wait_record : first_fill on.fills ≡ None → (act : Stood on.own b c s.memory) (k ss : ℕ) → IsKernelSs mode ss → (extra v : ℕ → ℕ) (f : Flags)
