@@ -10,7 +10,8 @@ use Rattle.ev_isa.specs.declared.instruction.Ins.TheVariants.{Jmp}
 use Rattle.ev_isa.specs.declared.mode.Mode.{Mode}
 use Rattle.ev_isa.specs.declared.mode.Mode.TheVariants.{Idt, Fred}
 use Rattle.ev_effect.specs.Task.{Task}
-use Rattle.ev_body.specs.declared.item.Item.TheVariants.{Kick, Ret}
+use Rattle.ev_body.specs.declared.item.Item.{Item}
+use Rattle.ev_body.specs.declared.item.Item.TheVariants.{Call, Wait, Kick, Ret}
 use Rattle.ev_body.specs.declared.body.Body.{Body}
 use Rattle.ev_body.specs.declared.image.Image.{Image}
 use Rattle.ev_body.specs.WellFormed.{IsImage}
@@ -62,7 +63,7 @@ use Rattle.ev_paths.specs.IdtEnds.{idt_end}
 use Rattle.ev_paths.specs.Ends.{Enters}
 use Rattle.ev_relation.specs.Domain.{IsInDomain}
 use Rattle.ev_relation.specs.Filling.{Filling, first_fill, rest_fills}
-use Rattle.ev_relation.specs.Active.{fills_record, HoldsCalls, item_place, number_of, numbers_of, here, IsKernelSs, Saved, SavedBody, AtLoad, AtStart, FlagsAre, HasPlace, InSpot, Matches, OverTask, OverBody, Active}
+use Rattle.ev_relation.specs.Active.{fills_record, HoldsCalls, item_place, number_of, numbers_of, site_of, here, IsKernelSs, Saved, SavedBody, AtLoad, AtStart, FlagsAre, HasPlace, InSpot, Matches, OverTask, OverBody, Active}
 use Rattle.ev_relation.specs.Relation.{IsContext, switches_at, body_edges, Chain, StandsOn, Stands, serves}
 use Rattle.ev_relation.specs.Step.{Simulated}
 use Rattle.ev_relation.proofs.Facts.{Facts}
@@ -92,6 +93,8 @@ use Rattle.ev_body_steps.proofs.ItemKick as kick
 use Rattle.ev_body_steps.proofs.BodyInterrupt as arrivals
 use Rattle.ev_body_steps.proofs.SwitchStep as switching
 use Rattle.ev_body_steps.proofs.CallFills as fillings
+use Rattle.ev_body_steps.proofs.WaitSteps as waits
+use Rattle.ev_blocks.specs.Calls.{AtRecord, BehindWait}
 
 -- ---- from the entry of a vector to the code in common
 
@@ -402,7 +405,7 @@ module _ (mode : Mode) (image : Image) (built : IsBuilt image) (good : IsImage i
           → InSpot mode image (origin_of κ) spot (env ss extra v f) w b (first_fill on.fills) s.memory.words → length c.regs ≡ 16 → edges mode
           (body mode spot) k ≤ on.own
           → item_at (Some body') b.place ≡ Some ctx.item → Result
-      unfolding is_built_item
+      unfolding is_built_item site_of
       at_body act AtTable unfilled k ss ss_is extra v f n at means long enough hi =
           at_table (unfilled refl) act ss ss_is extra v f (subst (λ j. At code (block mode (body mode AtTable)) j (env ss extra v f) c s.memory)
           (n ∙ (at_the_table mode).steps) at)
@@ -442,6 +445,17 @@ module _ (mode : Mode) (image : Image) (built : IsBuilt image) (good : IsImage i
           (subst (λ j. edges mode (body mode BehindSti) j ≤ on.own) last enough) in
           items.by_item mode image built good facts left s m h p hp o body' is (unfilled refl) z.act ss ss_is z.extra v f z.at z.means z.place long z.enough
           ctx.item (which image built good b.body body' is b.place ctx.item hi) hi
+      at_body act (InCall (AtRecord site)) unfilled k ss ss_is extra v f n at means long enough hi = by_site ctx.item hi
+          (ap site_of (sym hi) ∙ ap (λ y. site_of (item_at y b.place)) (sym is) ∙ means.2)
+        where
+          by_site : (i : Item) → item_at (Some body') b.place ≡ Some i → site_of (Some i) ≡ Some site → Result
+          by_site (Wait n') hi q = waits.at_wait_record mode image built good facts left s m h p hp o body' is (unfilled refl) act k ss ss_is extra v f site n at
+              means n' hi
+          by_site (Call n' to' func s') hi q = absurd (not_built image built good b.body body' is b.place (Call n' to' func s') (ap (λ y. item_at y b.place) is ∙ hi) refl)
+          by_site _ hi q = absurd (cc)
+      at_body act (InCall (BehindWait d)) unfilled k ss ss_is extra v f n at means long enough hi =
+          waits.at_wait_end mode image built good facts left s m h p hp o body' is (unfilled refl) d k ss ss_is extra v f n at means long enough ctx.item
+          (which image built good b.body body' is b.place ctx.item hi) hi
       at_body act (InCall s') unfilled k ss ss_is extra v f n at means long enough hi = absurd (never_in_call image built good b.body body' is mode (origin_of κ)
           (env ss extra v f) w b refl (first_fill on.fills) s.memory.words s' means)
       at_body act (AtKick target) unfilled k ss ss_is extra v f n at means long enough hi =
