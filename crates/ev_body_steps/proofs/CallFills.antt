@@ -203,7 +203,8 @@ module _ (mode : Mode) (image : Image) (built : IsBuilt image) (good : IsImage i
       let found = body_at (slice_get image.bodies b.body) b.place (Call called.0 to called.1 called.2) called.3 in
       let ruled = body_ruled image good built.accepted.1.kept b.body found.0 found.1 in
       let ok : nat_lt called.0 8 && nat_lt to image.processors && nat_lt called.1 8 ≡ true = not-false _ (ruled.slots b.place _ found.2) in
-      let l : to < image.processors = ltb-true to image.processors (and_right (nat_lt called.0 8) _ (and_left (nat_lt called.0 8 && nat_lt to image.processors) _ ok)) in
+      let l : to < image.processors = ltb-true to image.processors (and_right (nat_lt called.0 8) _
+      (and_left (nat_lt called.0 8 && nat_lt to image.processors) _ ok)) in
       let few = good.count.1 in omega arith
 
   -- at an instruction of such a block
@@ -271,4 +272,5 @@ module _ (mode : Mode) (image : Image) (built : IsBuilt image) (good : IsImage i
 
       head_stays : (f : Filling) → first_fill on.fills ≡ Some f → (to : ℕ) → to < 32 → (words : NatMap ℕ)
           → Changes p o.σ (record_names p f.site) s.memory.words words → StaysHead to s.memory.words words
-      head_stays f first to l words changes = head_spared p o.σ (record_names p f.site) small narrow s.memory.words words (record_is f first).allowed.written changes to l refl
+      head_stays f first to l words changes = head_spared p o.σ (record_names p f.site) small narrow s.memory.words words (record_is f first).allowed.written
+          changes to l refl

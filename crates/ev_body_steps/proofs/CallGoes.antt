@@ -237,7 +237,8 @@ module _ (mode : Mode) (image : Image) (built : IsBuilt image) (good : IsImage i
         windows y.shared)
 
     -- one of call items
-    pub call_stands : (s' : CallSpot) → fills_record s' ≡ false → is_spot mode (body mode (InCall s')) ≡ true → (extra' v' : ℕ → ℕ) → v 60 ≡ v' 60 → v 61 ≡ v' 61
+    pub call_stands : (s' : CallSpot) → fills_record s' ≡ false → is_spot mode (body mode (InCall s')) ≡ true → (extra' v' : ℕ → ℕ) → v 60 ≡ v' 60
+        → v 61 ≡ v' 61
         → v 63 ≡ v' 63 → extra' 20 ≡ extra 20 → (regs : List ℕ) (g : Flags) (next onto : ℕ) (words : NatMap ℕ) → length regs ≡ 16
         → get_or regs 4 0 ≡ get_or c.regs 4 0 → next ≡ (extra 20 + onto) % M
         → (block_of_call (is_fred mode) (layout_of mode) s').opening.rip ≡ at_base item_tag onto
@@ -249,7 +250,8 @@ module _ (mode : Mode) (image : Image) (built : IsBuilt image) (good : IsImage i
         → At code (block mode (body mode (InCall s'))) 0 (env ss extra' (with_registers regs v') g) (gone c regs g next) (with_words s.memory words)
     call_stands s' off over extra' v' other_gs chosen level base regs g next onto words long rsp rip opens registers known known' told lines =
         let same = block_is mode s' in
-        spot_stands (InCall s') (subst (CallOpens mode) (sym same) (call_opens mode s' off)) over extra' v' other_gs chosen level base regs g next onto words long
+        spot_stands (InCall s') (subst (CallOpens mode) (sym same) (call_opens mode s' off)) over extra' v' other_gs chosen level base regs g next onto words
+        long
         rsp rip (ap (λ (q : Block). q.opening.rip) same ∙ opens)
         (registers ∙ ap (λ (q : Block). map (eval (env ss extra' (with_registers regs v') g)) q.opening.regs) (sym same)) known known' told lines
 

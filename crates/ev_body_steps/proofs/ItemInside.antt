@@ -172,7 +172,8 @@ module _ (mode : Mode) (image : Image) (built : IsBuilt image) (good : IsImage i
       }) refl (omega arith)
 
   -- at the block's end the visible instruction comes, with the number in RAX
-  unfoldable pub at_number : first_fill on.fills ≡ None → (act : Stood on.own b c s.memory) (ss : ℕ) → IsKernelSs mode ss → (extra v : ℕ → ℕ) (f : Flags) (n : ℕ)
+  unfoldable pub at_number : first_fill on.fills ≡ None → (act : Stood on.own b c s.memory) (ss : ℕ) → IsKernelSs mode ss
+      → (extra v : ℕ → ℕ) (f : Flags) (n : ℕ)
       → At code (block mode (body mode (AtNumber n))) 1 (env ss extra v f) c s.memory → InItem mode image (origin_of o.κ)
       (env ss extra v f) o.w b s.memory.words
       → extra 20 ≡ item_place mode image b.body b.place → length c.regs ≡ 16

@@ -244,7 +244,8 @@ module _ (mode : Mode) (image : Image) (built : IsBuilt image) (good : IsImage i
       }) refl (omega arith)
 
   -- at the block's end the visible instruction comes, with the numbers in the registers
-  unfoldable pub at_numbers : first_fill on.fills ≡ None → (act : Stood on.own b c s.memory) (ss : ℕ) → IsKernelSs mode ss → (extra v : ℕ → ℕ) (f : Flags) (rcx rax rdx : ℕ)
+  unfoldable pub at_numbers : first_fill on.fills ≡ None → (act : Stood on.own b c s.memory) (ss : ℕ) → IsKernelSs mode ss
+      → (extra v : ℕ → ℕ) (f : Flags) (rcx rax rdx : ℕ)
       → At code (block mode (body mode (AtNumbers rcx rax rdx))) 3 (env ss extra v f) c s.memory → InItem mode image (origin_of o.κ)
       (env ss extra v f) o.w b s.memory.words
       → extra 20 ≡ item_place mode image b.body b.place → length c.regs ≡ 16

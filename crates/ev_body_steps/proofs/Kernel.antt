@@ -337,7 +337,8 @@ module _ (mode : Mode) (image : Image) (built : IsBuilt image) (good : IsImage i
       -- ---- every spot
 
       -- at the end of an entry, which comes to the load of the body's address
-      at_entry : first_fill on.fills ≡ None → (act : Stood on.own b c s.memory) (B : Block) (z : SS) (θ : List V) → Enters B z θ (block mode (body mode AtTable)) → (ss : ℕ)
+      at_entry : first_fill on.fills ≡ None → (act : Stood on.own b c s.memory) (B : Block) (z : SS) (θ : List V)
+          → Enters B z θ (block mode (body mode AtTable)) → (ss : ℕ)
           → IsKernelSs mode ss → (extra v : ℕ → ℕ) (f : Flags) → At code B B.steps (env ss extra v f) c s.memory
           → AtLoad mode image (origin_of κ) (env_after (env ss extra v f) θ f) w b → extra 20 ≡ item_place mode image b.body b.place → length c.regs ≡ 16
           → edges mode (body mode AtTable) 0 ≤ on.own → Result
@@ -354,7 +355,8 @@ module _ (mode : Mode) (image : Image) (built : IsBuilt image) (good : IsImage i
           (load_again mode image (origin_of κ) (env_after e θ f) g w b l) place long enough
 
       -- at the end of a vector's entry, which jumps to the code in common
-      at_stub : first_fill on.fills ≡ None → (act : Stood on.own b c s.memory) → Idt ≡ mode → (og : Origin) → origin_of κ ≡ og → (has : Bool) (v : ℕ) (ss : ℕ) → IsKernelSs mode ss
+      at_stub : first_fill on.fills ≡ None → (act : Stood on.own b c s.memory) → Idt ≡ mode → (og : Origin) → origin_of κ ≡ og
+          → (has : Bool) (v : ℕ) (ss : ℕ) → IsKernelSs mode ss
           → (extra u : ℕ → ℕ) (f : Flags)
           → At code (idt_block (Stub og has v)) (idt_block (Stub og has v)).steps (env ss extra u f) c s.memory
           → IsAtStub (env ss extra u f) (Stub og has v)
@@ -400,7 +402,8 @@ module _ (mode : Mode) (image : Image) (built : IsBuilt image) (good : IsImage i
           over_common KernelCode e k a =
               subst (λ y. OverBody mode image y (InIdt (Common KernelCode (v == 14))) e w b (first_fill on.fills) s.memory.words) q (k, a)
 
-      at_body : (act : Stood on.own b c s.memory) (spot : BodySpot) (unfilled : spots.fills spot ≡ false → first_fill on.fills ≡ None) (k ss : ℕ) → IsKernelSs mode ss → (extra v : ℕ → ℕ) (f : Flags)
+      at_body : (act : Stood on.own b c s.memory) (spot : BodySpot) (unfilled : spots.fills spot ≡ false → first_fill on.fills ≡ None) (k ss : ℕ)
+          → IsKernelSs mode ss → (extra v : ℕ → ℕ) (f : Flags)
           → k ≡ (block mode (body mode spot)).steps → At code (block mode (body mode spot)) k (env ss extra v f) c s.memory
           → InSpot mode image (origin_of κ) spot (env ss extra v f) w b (first_fill on.fills) s.memory.words → length c.regs ≡ 16 → edges mode
           (body mode spot) k ≤ on.own
@@ -449,14 +452,17 @@ module _ (mode : Mode) (image : Image) (built : IsBuilt image) (good : IsImage i
           (ap site_of (sym hi) ∙ ap (λ y. site_of (item_at y b.place)) (sym is) ∙ means.2)
         where
           by_site : (i : Item) → item_at (Some body') b.place ≡ Some i → site_of (Some i) ≡ Some site → Result
-          by_site (Wait n') hi q = waits.at_wait_record mode image built good facts left s m h p hp o body' is (unfilled refl) act k ss ss_is extra v f site n at
+          by_site (Wait n') hi q = waits.at_wait_record mode image built good facts left s m h p hp o body' is (unfilled refl) act k ss ss_is extra v f site
+              n at
               means n' hi
-          by_site (Call n' to' func s') hi q = absurd (not_built image built good b.body body' is b.place (Call n' to' func s') (ap (λ y. item_at y b.place) is ∙ hi) refl)
+          by_site (Call n' to' func s') hi q = absurd (not_built image built good b.body body' is b.place (Call n' to' func s')
+              (ap (λ y. item_at y b.place) is ∙ hi) refl)
           by_site _ hi q = absurd (cc)
       at_body act (InCall (BehindWait d)) unfilled k ss ss_is extra v f n at means long enough hi =
           waits.at_wait_end mode image built good facts left s m h p hp o body' is (unfilled refl) d k ss ss_is extra v f n at means long enough ctx.item
           (which image built good b.body body' is b.place ctx.item hi) hi
-      at_body act (InCall s') unfilled k ss ss_is extra v f n at means long enough hi = absurd (never_in_call image built good b.body body' is mode (origin_of κ)
+      at_body act (InCall s') unfilled k ss ss_is extra v f n at means long enough hi = absurd
+          (never_in_call image built good b.body body' is mode (origin_of κ)
           (env ss extra v f) w b refl (first_fill on.fills) s.memory.words s' means)
       at_body act (AtKick target) unfilled k ss ss_is extra v f n at means long enough hi =
           absurd (not_built image built good b.body body' is b.place (Kick target means.s) means.item refl)
@@ -513,7 +519,8 @@ module _ (mode : Mode) (image : Image) (built : IsBuilt image) (good : IsImage i
           (subst (λ y. AtLoad mode image y (env_after (env ss extra v f) kernel_values f) w b) (sym oq) means.0) means.1 long
           (subst (λ m. edges m (body m AtTable) 0 ≤ on.own) q (omega arith))
       at_the_end act KernelCode oq Fred q (InFred (fred.Leaves FredToKernel)) unfilled k ss ss_is extra v f n at means long enough off hi =
-          at_exit (unfilled refl) (fred_exits_to_body p small κ σ w ss extra v f code c s.memory blocked image (subst (λ m. HasKernel m code) (sym q) facts.kernel)
+          at_exit (unfilled refl) (fred_exits_to_body p small κ σ w ss extra v f code c s.memory blocked image
+          (subst (λ m. HasKernel m code) (sym q) facts.kernel)
           (step.fred_is mode image built good facts left s m h p hp o ∙ ap is_fred (sym q)) (plain_level Fred κ w plain_kind)
           (subst (λ m. SavedBody m image (here m p κ σ ss w extra v f) w) (sym q) means.saved)
           (subst (λ m. At code (fred_block (fred.Leaves FredToKernel)) (fred_block (fred.Leaves FredToKernel)).steps (here m p κ σ ss w extra v f) c s.memory)
@@ -567,7 +574,8 @@ module _ (mode : Mode) (image : Image) (built : IsBuilt image) (good : IsImage i
       at_the_end act UserCode oq Idt q (InIdt (idt.Leaves (IdtToTask by))) unfilled k ss ss_is extra v f n at means long enough off hi =
           let over = of_task κ plain_kind oq in
           let one : Alone = alone over in
-          at_exit (unfilled refl) (idt_exits image p small κ σ to t w ss extra v f code c s.memory blocked by (subst (λ m. HasKernel m code) (sym q) facts.kernel)
+          at_exit (unfilled refl) (idt_exits image p small κ σ to t w ss extra v f code c s.memory blocked by
+          (subst (λ m. HasKernel m code) (sym q) facts.kernel)
           (subst (λ m. RunsTask m image p to t w) (sym q) one.task) (level_of Idt κ w over) (subst (λ m. Saved m image v w) (sym q) means.0.saved)
           (subst (λ m. Matches m image by (v 31) (v 17) (v 41) (v 19)) (sym q) means.1)
           (subst (λ m. At code (idt_block (idt.Leaves (IdtToTask by))) (idt_block (idt.Leaves (IdtToTask by))).steps (here m p κ σ ss w extra v f) c
@@ -576,7 +584,8 @@ module _ (mode : Mode) (image : Image) (built : IsBuilt image) (good : IsImage i
           (ap is_user at.agrees.rest) means.0.off (λ e. calm one (idt_mark mode p small κ σ w ss extra v f code c s.memory by
           (subst (λ j. At code (idt_block (idt.Leaves (IdtToTask by))) j (env ss extra v f) c s.memory) n at))) means.0.ret
       at_the_end act KernelCode oq Idt q (InIdt (idt.Leaves IdtToKernel)) unfilled k ss ss_is extra v f n at means long enough off hi =
-          at_exit (unfilled refl) (idt_exits_to_body p small κ σ w ss extra v f code c s.memory blocked image (subst (λ m. HasKernel m code) (sym q) facts.kernel)
+          at_exit (unfilled refl) (idt_exits_to_body p small κ σ w ss extra v f code c s.memory blocked image
+          (subst (λ m. HasKernel m code) (sym q) facts.kernel)
           (subst (IsKernelSs Idt) means.saved.same_ss (subst (λ m. IsKernelSs m ss) (sym q) ss_is)) (plain_level Idt κ w plain_kind)
           (subst (λ m. SavedBody m image (here m p κ σ ss w extra v f) w) (sym q) means.saved)
           (subst (λ m. At code (idt_block (idt.Leaves IdtToKernel)) (idt_block (idt.Leaves IdtToKernel)).steps (here m p κ σ ss w extra v f) c s.memory)

@@ -305,7 +305,8 @@ module _ (mode : Mode) (image : Image) (built : IsBuilt image) (good : IsImage i
 
           -- the number for RAX comes first
           number : (i : Item) (ins : Ins) → visible_of i ≡ Some ins → item_at (Some body') b.place ≡ Some i → (n : ℕ) → number_of (Some i) ≡ Some n → Result
-          number i ins seen hi n q = inside.to_number mode image built good facts left s m h p hp o body' is unfilled act ss ss_is extra v f at means place long enough
+          number i ins seen hi n q = inside.to_number mode image built good facts left s m h p hp o body' is unfilled act ss ss_is extra v f at means place
+              long enough
               i ins seen hi n q
 
           ruled : IsRuled image body'
@@ -356,13 +357,15 @@ module _ (mode : Mode) (image : Image) (built : IsBuilt image) (good : IsImage i
           pick (Unmap q) today hi = page (Unmap q) (StoreImm 0 (pos 0) (pos 0)) refl hi q refl (ruled.operands b.place (Unmap q) hi).2
           pick Eoi today hi = msr.to_numbers mode image built good facts left s m h p hp o body' is unfilled act ss ss_is extra v f at means place long enough
               Eoi Wrmsr refl hi 0x80b 0 0 refl
-          pick (Send to (Irq k)) today hi = msr.to_numbers mode image built good facts left s m h p hp o body' is unfilled act ss ss_is extra v f at means place long
+          pick (Send to (Irq k)) today hi = msr.to_numbers mode image built good facts left s m h p hp o body' is unfilled act ss ss_is extra v f at means
+              place long
               enough (Send to (Irq k)) Wrmsr refl hi 0x830 (command (Irq k)) to refl
           pick Item.Cli today hi = does (interrupts.by_cli mode image built good facts left s m h p hp o body' is ss extra v f a off same hi)
           pick Item.Sti today hi = interrupts.by_sti mode image built good facts left s m h p hp o body' is ss extra v f a off same hi
           pick Item.Bp today hi = breaks.by_bp mode image built good facts left s m h p hp o body' is ss extra v f a off same hi
           pick Ret today hi = at_ret unfilled act ss ss_is extra v f at means place long enough hi
-          pick (Wait site) today hi = waits.at_wait mode image built good facts left s m h p hp o body' is unfilled act ss ss_is extra v f at means place long enough
+          pick (Wait site) today hi = waits.at_wait mode image built good facts left s m h p hp o body' is unfilled act ss ss_is extra v f at means place
+              long enough
               site hi
           pick _ today hi = absurd (cc)
 
@@ -409,7 +412,8 @@ module _ (mode : Mode) (image : Image) (built : IsBuilt image) (good : IsImage i
           pick _ q hi = absurd (cc)
 
       -- behind the loads of numbers for RCX, RAX and RDX
-      pub by_numbers : first_fill on.fills ≡ None → (act : Stood on.own b c s.memory) (ss : ℕ) → IsKernelSs mode ss → (extra v : ℕ → ℕ) (f : Flags) (rcx rax rdx : ℕ)
+      pub by_numbers : first_fill on.fills ≡ None → (act : Stood on.own b c s.memory) (ss : ℕ) → IsKernelSs mode ss
+          → (extra v : ℕ → ℕ) (f : Flags) (rcx rax rdx : ℕ)
           → At code (block mode (body mode (AtNumbers rcx rax rdx))) 3 (env ss extra v f) c s.memory
           → InItem mode image (origin_of κ) (env ss extra v f) w b s.memory.words
           → extra 20 ≡ item_place mode image b.body b.place → length c.regs ≡ 16 → (i : Item) → is_built_item i ≡ true
@@ -443,7 +447,8 @@ module _ (mode : Mode) (image : Image) (built : IsBuilt image) (good : IsImage i
           pick _ today q hi = absurd (cc)
 
       -- behind the block that comes to the address of the page's word
-      pub by_page : first_fill on.fills ≡ None → (act : Stood on.own b c s.memory) (ss : ℕ) → IsKernelSs mode ss → (extra v : ℕ → ℕ) (f : Flags) (is_page : Bool)
+      pub by_page : first_fill on.fills ≡ None → (act : Stood on.own b c s.memory) (ss : ℕ) → IsKernelSs mode ss
+          → (extra v : ℕ → ℕ) (f : Flags) (is_page : Bool)
           → At code (block mode (body mode (AtPageWord is_page))) (page_steps is_page) (env ss extra v f) c s.memory
           → InItem mode image (origin_of κ) (env ss extra v f) w b s.memory.words → extra 20 ≡ item_place mode image b.body b.place
           → LocalInRax mode image page_local (env ss extra v f) b → length c.regs ≡ 16 → (i : Item) → item_at (Some body') b.place ≡ Some i → Result
