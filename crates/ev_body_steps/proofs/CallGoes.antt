@@ -238,8 +238,7 @@ module _ (mode : Mode) (image : Image) (built : IsBuilt image) (good : IsImage i
 
     -- one of call items
     pub call_stands : (s' : CallSpot) → fills_record s' ≡ false → is_spot mode (body mode (InCall s')) ≡ true → (extra' v' : ℕ → ℕ) → v 60 ≡ v' 60
-        → v 61 ≡ v' 61
-        → v 63 ≡ v' 63 → extra' 20 ≡ extra 20 → (regs : List ℕ) (g : Flags) (next onto : ℕ) (words : NatMap ℕ) → length regs ≡ 16
+        → v 61 ≡ v' 61 → v 63 ≡ v' 63 → extra' 20 ≡ extra 20 → (regs : List ℕ) (g : Flags) (next onto : ℕ) (words : NatMap ℕ) → length regs ≡ 16
         → get_or regs 4 0 ≡ get_or c.regs 4 0 → next ≡ (extra 20 + onto) % M
         → (block_of_call (is_fred mode) (layout_of mode) s').opening.rip ≡ at_base item_tag onto
         → regs ≡ map (eval (env ss extra' (with_registers regs v') g)) (block_of_call (is_fred mode) (layout_of mode) s').opening.regs
@@ -251,19 +250,18 @@ module _ (mode : Mode) (image : Image) (built : IsBuilt image) (good : IsImage i
     call_stands s' off over extra' v' other_gs chosen level base regs g next onto words long rsp rip opens registers known known' told lines =
         let same = block_is mode s' in
         spot_stands (InCall s') (subst (CallOpens mode) (sym same) (call_opens mode s' off)) over extra' v' other_gs chosen level base regs g next onto words
-        long
-        rsp rip (ap (λ (q : Block). q.opening.rip) same ∙ opens)
+        long rsp rip (ap (λ (q : Block). q.opening.rip) same ∙ opens)
         (registers ∙ ap (λ (q : Block). map (eval (env ss extra' (with_registers regs v') g)) q.opening.regs) (sym same)) known known' told lines
 
-    -- An edge by an instruction that writes nothing, to the opening of a block of an item.
-    pub goes_to_spot : (s' : BodySpot) → fills s' ≡ false → (i : Ins) (next : ℕ) → code c.rip ≡ Some (edge_cell i next) → is_return (Some i) ≡ false
-        → (regs : List ℕ) (g : Flags) → length regs ≡ 16 → g.interrupts ≡ b.interrupts → Leads c s.memory i (gone c regs g next) s.memory.words
+    -- An edge by an instruction that writes nothing, to the opening of a block of an item, which a jump finds elsewhere than behind it.
+    pub goes_to_spot : (s' : BodySpot) → fills s' ≡ false → (i : Ins) (next onto : ℕ) → code c.rip ≡ Some (edge_cell i next) → is_return (Some i) ≡ false
+        → (regs : List ℕ) (g : Flags) → length regs ≡ 16 → g.interrupts ≡ b.interrupts → Leads c s.memory i (gone c regs g onto) s.memory.words
         → (extra' v' : ℕ → ℕ)
-        → At code (block mode (body mode s')) 0 (env ss extra' (with_registers regs v') g) (gone c regs g next) s.memory
+        → At code (block mode (body mode s')) 0 (env ss extra' (with_registers regs v') g) (gone c regs g onto) s.memory
         → InSpot mode image (origin_of o.κ) s' (env ss extra' (with_registers regs v') g) o.w b (first_fill on.fills) s.memory.words
         → edges mode (body mode s') 0 < on.own → is_in_repeat c.rip ≡ false → Simulated mode image left s m p
-    goes_to_spot s' off i next cell inner regs g long masked leads extra' v' at means fewer outside =
-        step.edge mode image built good facts left s m h p hp o (edge_cell i next) cell refl inner a.kernel outside (gone c regs g next) s.memory.words
+    goes_to_spot s' off i next onto cell inner regs g long masked leads extra' v' at means fewer outside =
+        step.edge mode image built good facts left s m h p hp o (edge_cell i next) cell refl inner a.kernel outside (gone c regs g onto) s.memory.words
         leads (step.blocked mode image built good facts left s m h p hp) [] (none_spares p) refl (step.unknown_none o.below) (λ y far near. refl)
         (edges mode (body mode s') 0) fewer
         (record {
@@ -294,4 +292,4 @@ module _ (mode : Mode) (image : Image) (built : IsBuilt image) (good : IsImage i
         → At code (block mode (body mode (InCall s'))) 0 (env ss extra' (with_registers regs v') g) (gone c regs g next) s.memory
         → InSpot mode image (origin_of o.κ) (InCall s') (env ss extra' (with_registers regs v') g) o.w b (first_fill on.fills) s.memory.words
         → edges mode (body mode (InCall s')) 0 < on.own → is_in_repeat c.rip ≡ false → Simulated mode image left s m p
-    goes_to s' = goes_to_spot (InCall s')
+    goes_to s' off i next = goes_to_spot (InCall s') off i next next
