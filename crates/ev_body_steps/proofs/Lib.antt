@@ -14,6 +14,7 @@ pub mod KernelStep
 pub mod SwitchStep
 pub mod NextTask
 pub mod ItemWords
+pub mod Mailing
 pub mod ItemVisible
 pub mod ItemInside
 pub mod ItemAddress
