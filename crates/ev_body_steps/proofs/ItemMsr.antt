@@ -374,7 +374,8 @@ module _ (mode : Mode) (image : Image) (built : IsBuilt image) (good : IsImage i
             sent = Some (record { target = One to; key = Fixed n });
             sends = mailing.sending mode image built good facts left s m h p hp o to n there sendable used;
             runs = subst (λ g. executed c (s.apics p) s.memory (s.latches p) (Some Wrmsr)
-                ≡ went (record (onward c c.regs next) { flags = g }) (s.apics p) s.memory.words (s.latches p) (Some (record { target = One to; key = Fixed n }))) a.state.flags
+                ≡ went (record (onward c c.regs next) { flags = g }) (s.apics p) s.memory.words (s.latches p)
+                (Some (record { target = One to; key = Fixed n }))) a.state.flags
                 (writes_command c s.memory next (steps.at_ins mode image built good facts left s m h p hp o body' is ss extra v f a Wrmsr next here) n to from
                 small (let l = there in omega arith) rax rcx rdx (s.apics p) (s.latches p));
             service = b.service;

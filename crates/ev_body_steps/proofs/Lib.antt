@@ -35,6 +35,9 @@ pub mod CallFirst
 pub mod ItemWaitLoad
 pub mod KernelItems
 pub mod WaitSteps
+pub mod KickGoes
+pub mod KickSends
+pub mod KickSteps
 pub mod Kernel
 pub mod BodyRaising
 pub mod BodyRaisingFred
@@ -45,5 +48,4 @@ pub mod BodyInterrupt
 pub mod BodyBreak
 pub mod BodyFault
 pub mod CallSteps
-pub mod KickGoes
 pub mod CallFills
