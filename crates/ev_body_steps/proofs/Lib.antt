@@ -33,11 +33,11 @@ pub mod ItemPages
 pub mod CallGoes
 pub mod CallFirst
 pub mod ItemWaitLoad
-pub mod KernelItems
-pub mod WaitSteps
 pub mod KickGoes
 pub mod KickSends
 pub mod KickSteps
+pub mod KernelItems
+pub mod WaitSteps
 pub mod Kernel
 pub mod BodyRaising
 pub mod BodyRaisingFred
