@@ -2,7 +2,7 @@
 -- APIC the interrupt of the greatest vector in service, which is that of its context; `send` puts an interrupt into the mail of a processor.
 use Rattle.std.proofs.Common.{◌≡◌, ℕ, suc, ◌+◌, ◌<◌, ◌≤◌, false, [], ◌∷◌, length, Some, refl, sym, ap, ◌∙◌, subst, arith}
 use Rattle.std.specs.Prelude.{is_some, slice_get, if◌then◌else◌, not, ◌&&◌, ◌*◌, ◌/◌, ◌%◌, ◌^◌, ◌==◌, nat_lt, nat_le, Bool, true, None}
-use Rattle.ev_isa.specs.Word.{NatMap, NatSet, put_at}
+use Rattle.ev_isa.specs.Word.{NatMap}
 use Rattle.ev_isa.specs.Flags.{Flags}
 use Rattle.ev_isa.specs.Spelling.{spelling, four_bytes}
 use Rattle.ev_isa.specs.declared.instruction.Ins.{Ins}
@@ -14,7 +14,6 @@ use Rattle.ev_body.specs.declared.item.Item.TheVariants.{Eoi, Send}
 use Rattle.ev_body.specs.declared.key.Key.TheVariants.{Irq}
 use Rattle.ev_body.specs.declared.body.Body.{Body}
 use Rattle.ev_body.specs.declared.image.Image.{Image}
-use Rattle.ev_body.specs.Bodies.{key_number}
 use Rattle.ev_body.specs.WellFormed.{IsImage, is_sendable}
 use Rattle.ev_listing.specs.Expansion.{item_address}
 use Rattle.ev_state.specs.Processor.{Processor, register, is_user}
@@ -54,6 +53,7 @@ use Rattle.ev_body_steps.proofs.ItemVisible as visible
 use Rattle.ev_body_steps.proofs.KernelStep as step
 use Rattle.ev_body_steps.proofs.ItemSteps as steps
 use Rattle.ev_body_steps.proofs.ItemWords as words
+use Rattle.ev_body_steps.proofs.Mailing as mailing
 use Rattle.ev_relation.proofs.Legality.{eoi_context}
 use Rattle.ev_relation.proofs.Vectors.{ended_is, lower_each}
 use Rattle.ev_relation.proofs.After.{none_spares}
@@ -62,25 +62,19 @@ use Rattle.ev_isa.specs.Instruction.{user_may}
 use Rattle.ev_event.specs.Event.{ud}
 use Rattle.ev_apic.specs.Apic.{ended}
 use Rattle.ev_apic.specs.Send.{sent, send_to, target_of}
-use Rattle.ev_apic.specs.declared.send.Send.{Send as Sent}
 use Rattle.ev_apic.specs.declared.send.SendKey.TheVariants.{Fixed, Nmi}
 use Rattle.ev_apic.specs.declared.send.Target.TheVariants.{One}
 use Rattle.ev_proc.specs.ProcessorStep.{executed, ran, fault, special, write_msr, after_send, low32}
 use Rattle.ev_exec.specs.Exec.{exec}
 use Rattle.ev_symbolic.specs.Single.{IsAt, onward}
-use Rattle.ev_concrete.specs.ConcreteRun.{is_return, posted}
+use Rattle.ev_concrete.specs.ConcreteRun.{is_return}
 use Rattle.ev_concrete.specs.Shown.{shown_always}
 use Rattle.ev_abstract.specs.ItemMeaning.{item_step, with_context, with_mail}
-use Rattle.ev_abstract.specs.ItemMeaning as meaning
 use Rattle.ev_abstract.specs.Rules.{breaks_slots, is_used}
 use Rattle.ev_law.proofs.Ruled.{IsRuled}
 use Rattle.ev_law.proofs.Machines.{used_by_item, send_sends}
 use Rattle.ev_symbolic.proofs.Values.{and_left, and_right}
 use Rattle.std.proofs.lemmas.Bool.{lt-ltb, ltb-true, leb-true, not-false}
-use Rattle.std.proofs.lemmas.Bool.Decides.{eqb_tells}
-use Rattle.std.proofs.Common.{⊎_elim}
-use Rattle.ev_relation.proofs.Maps.{at_same, at_other}
-use Rattle.ev_relation.proofs.Arrivals.{sending_stands}
 use Rattle.ev_relation.proofs.Standing.{went}
 
 -- ---- the block of the numbers
@@ -162,7 +156,7 @@ command_sends v to from small low =
     ∙ ap (λ b. if b then Some (record { target = One to; key = Fixed v }) else None) (lt-ltb 15 v (omega arith))
 
 -- WRMSR to the interrupt command register
-writes_command : (c : Processor) (m : Memory) (next : ℕ) → IsAt c Wrmsr next → (v to : ℕ) → 0x20 ≤ v → v < 0x100 → to < 2 ^ 32
+pub writes_command : (c : Processor) (m : Memory) (next : ℕ) → IsAt c Wrmsr next → (v to : ℕ) → 0x20 ≤ v → v < 0x100 → to < 2 ^ 32
     → register c 0 ≡ 0x4000 + v → register c 1 ≡ 0x830 → register c 2 ≡ to → (a : Apic) (nmi : Bool)
     → executed c a m nmi (Some Wrmsr) ≡ went (onward c c.regs next) a m.words nmi (Some (record { target = One to; key = Fixed v }))
 unfolding exec special
@@ -350,59 +344,12 @@ module _ (mode : Mode) (image : Image) (built : IsBuilt image) (good : IsImage i
       used : is_used image (Irq n) ≡ true
       used = used_by_item image (Irq n) b.body b.place body' (Send to (Irq n)) is hi (send_sends image to (Irq n))
 
-      abbrev what : Sent
-      what = record { target = One to; key = Fixed n }
-
-      -- the machine with it in the mail of its target
       abbrev mailed_to : Machine
       mailed_to = with_mail m to (Irq n)
 
-      sender : processor mailed_to p ≡ record x { mail = (processor mailed_to p).mail; mail_nmi = (processor mailed_to p).mail_nmi }
-      sender = ⊎_elim
-          (λ e. by (put_at x.mail (key_number (Irq n)) true) (at_same m.processors to p (meaning.mailed (processor m to) (Irq n)) e.1
-          ∙ ap (λ q. meaning.mailed (processor m q) (Irq n)) (sym e.1)))
-          (λ e. by x.mail (at_other m.processors to p (meaning.mailed (processor m to) (Irq n)) e.0)) (eqb_tells p to)
-        where
-          by : (mail : NatSet) → processor mailed_to p ≡ record x { mail = mail }
-              → processor mailed_to p ≡ record x { mail = (processor mailed_to p).mail; mail_nmi = (processor mailed_to p).mail_nmi }
-          by mail e = e ∙ sym (ap (λ (y : abstract.Processor). record x { mail = y.mail; mail_nmi = y.mail_nmi }) e)
-
-      unfoldable sending : step.Sends mode image built good facts left s m h p hp (Some what)
-      sending = record {
-        machine = mailed_to;
-        own = sender;
-        stands = subst (λ t. Stands mode image left
-            (record s { inboxes = (posted s (Fixed n) (if t then to ∷ [] else [])).inboxes }) mailed_to) (sym (lt-ltb to image.processors there))
-            (sending_stands mode image left s m h to n there small sendable used);
-      }
-
-      -- of the sender nothing else is another
-      still : step.Makes mode image built good facts left s m h p hp o mailed_to mailed_to s.memory.words x.tasks x.slots x.bodies
-      still =
-          let none = steps.nothing mode image built good facts left s m h p hp o body' is ss extra v f a in record {
-            resched = x.resched;
-            asked = λ e. e;
-            own = λ i. record (processor mailed_to p) {
-              tasks = (sender i).tasks;
-              slots = (sender i).slots;
-              resched = (sender i).resched;
-              bodies = (sender i).bodies;
-            };
-            others = λ q e. refl;
-            same_tasks = none.same_tasks;
-            good_tasks = none.good_tasks;
-            current = none.current;
-            mark = (step.on mode image built good facts left s m h p hp).mark;
-            slots_are = none.slots_are;
-            user = none.user;
-            held = none.held;
-            pages = none.pages;
-            cells = none.cells;
-          }
-
       pub by_send : a.offset ≡ 30 → a.flags ≡ f → register c 1 ≡ 0x830 → register c 0 ≡ 0x4000 + n → register c 2 ≡ to
           → visible.Does mode image built good facts left s m h p hp o body' is ss extra v f a
-      unfolding item_step visible_of before is_return shown_always spelling four_bytes sending
+      unfolding item_step visible_of before is_return shown_always spelling four_bytes mailing.sending
       by_send off same rcx rax rdx =
           let cells : ItemCells code (visible.at mode image built good facts left s m h p hp o body' is b.place) next (Send to (Irq n)) Wrmsr
           = cells_of mode image facts b.body body' is b.place (Send to (Irq n)) Wrmsr hi refl in
@@ -424,10 +371,11 @@ module _ (mode : Mode) (image : Image) (built : IsBuilt image) (good : IsImage i
             masked = steps.same_interrupts mode image built good facts left s m h p hp o body' is ss extra v f a;
             words = s.memory.words;
             apic = s.apics p;
-            sent = Some what;
-            sends = sending;
+            sent = Some (record { target = One to; key = Fixed n });
+            sends = mailing.sending mode image built good facts left s m h p hp o to n there sendable used;
             runs = subst (λ g. executed c (s.apics p) s.memory (s.latches p) (Some Wrmsr)
-                ≡ went (record (onward c c.regs next) { flags = g }) (s.apics p) s.memory.words (s.latches p) (Some what)) a.state.flags
+                ≡ went (record (onward c c.regs next) { flags = g }) (s.apics p) s.memory.words (s.latches p)
+                (Some (record { target = One to; key = Fixed n }))) a.state.flags
                 (writes_command c s.memory next (steps.at_ins mode image built good facts left s m h p hp o body' is ss extra v f a Wrmsr next here) n to from
                 small (let l = there in omega arith) rax rcx rdx (s.apics p) (s.latches p));
             service = b.service;
@@ -445,6 +393,7 @@ module _ (mode : Mode) (image : Image) (built : IsBuilt image) (good : IsImage i
             turns = steps.turns mode image built good facts left s m h p hp o body' is ss extra v f a (Send to (Irq n)) hi;
             slots = x.slots;
             makes = words.makes_context mode image built good facts left s m h p hp o mailed_to mailed_to s.memory.words x.tasks x.slots
-                (visible.behind mode image built good facts left s m h p hp o body' is None (suc b.place) b.flags) still;
+                (visible.behind mode image built good facts left s m h p hp o body' is None (suc b.place) b.flags)
+                (mailing.still mode image built good facts left s m h p hp o to n there sendable used);
             shows = refl;
           }

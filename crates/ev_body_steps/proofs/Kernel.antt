@@ -11,7 +11,7 @@ use Rattle.ev_isa.specs.declared.mode.Mode.{Mode}
 use Rattle.ev_isa.specs.declared.mode.Mode.TheVariants.{Idt, Fred}
 use Rattle.ev_effect.specs.Task.{Task}
 use Rattle.ev_body.specs.declared.item.Item.{Item}
-use Rattle.ev_body.specs.declared.item.Item.TheVariants.{Call, Wait, Kick, Ret}
+use Rattle.ev_body.specs.declared.item.Item.TheVariants.{Call, Wait, Ret}
 use Rattle.ev_body.specs.declared.body.Body.{Body}
 use Rattle.ev_body.specs.declared.image.Image.{Image}
 use Rattle.ev_body.specs.WellFormed.{IsImage}
@@ -63,7 +63,7 @@ use Rattle.ev_paths.specs.IdtEnds.{idt_end}
 use Rattle.ev_paths.specs.Ends.{Enters}
 use Rattle.ev_relation.specs.Domain.{IsInDomain}
 use Rattle.ev_relation.specs.Filling.{Filling, first_fill, rest_fills}
-use Rattle.ev_relation.specs.Active.{fills_record, HoldsCalls, item_place, number_of, numbers_of, site_of, here, IsKernelSs, Saved, SavedBody, AtLoad, AtStart, FlagsAre, HasPlace, InSpot, Matches, OverTask, OverBody, Active}
+use Rattle.ev_relation.specs.Active.{fills_record, HoldsCalls, item_place, number_of, numbers_of, site_of, IsByHand, BehindComparison, AtQuiet, here, IsKernelSs, Saved, SavedBody, AtLoad, AtStart, FlagsAre, HasPlace, InSpot, Matches, OverTask, OverBody, Active}
 use Rattle.ev_relation.specs.Relation.{IsContext, switches_at, body_edges, Chain, StandsOn, Stands, serves}
 use Rattle.ev_relation.specs.Step.{Simulated}
 use Rattle.ev_relation.proofs.Facts.{Facts}
@@ -90,11 +90,12 @@ use Rattle.ev_body_steps.proofs.ItemState.{with_registers}
 use Rattle.ev_body_steps.proofs.ItemInterrupts as interrupts
 use Rattle.ev_body_steps.proofs.ItemWait as wait
 use Rattle.ev_body_steps.proofs.ItemKick as kick
+use Rattle.ev_body_steps.proofs.KickSteps as kicks
 use Rattle.ev_body_steps.proofs.BodyInterrupt as arrivals
 use Rattle.ev_body_steps.proofs.SwitchStep as switching
 use Rattle.ev_body_steps.proofs.CallFills as fillings
 use Rattle.ev_body_steps.proofs.WaitSteps as waits
-use Rattle.ev_blocks.specs.Calls.{AtRecord, BehindWait}
+use Rattle.ev_blocks.specs.Calls.{AtRecord, BehindWait, AtOffset}
 
 -- ---- from the entry of a vector to the code in common
 
@@ -461,11 +462,21 @@ module _ (mode : Mode) (image : Image) (built : IsBuilt image) (good : IsImage i
       at_body act (InCall (BehindWait d)) unfilled k ss ss_is extra v f n at means long enough hi =
           waits.at_wait_end mode image built good facts left s m h p hp o body' is (unfilled refl) d k ss ss_is extra v f n at means long enough ctx.item
           (which image built good b.body body' is b.place ctx.item hi) hi
+      at_body act (InCall (AtOffset offset more)) unfilled k ss ss_is extra v f n at means long enough hi = by_hand means
+        where
+          by_hand : IsByHand mode image (origin_of κ) (env ss extra v f) w b s.memory.words offset more → Result
+          by_hand (BehindComparison q y target sends z zero) =
+              kicks.at_kick_comparison mode image built good facts left s m h p hp o body' is (unfilled refl) act k ss ss_is extra v f offset more q y n at
+              target sends z zero enough
+          by_hand (AtQuiet q y target z) =
+              kicks.at_kick_quiet mode image built good facts left s m h p hp o body' is (unfilled refl) act k ss ss_is extra v f offset more q y n at target z
+          by_hand _ = absurd (never_in_call image built good b.body body' is mode (origin_of κ) (env ss extra v f) w b refl (first_fill on.fills)
+              s.memory.words (AtOffset offset more) means)
       at_body act (InCall s') unfilled k ss ss_is extra v f n at means long enough hi = absurd
           (never_in_call image built good b.body body' is mode (origin_of κ)
           (env ss extra v f) w b refl (first_fill on.fills) s.memory.words s' means)
       at_body act (AtKick target) unfilled k ss ss_is extra v f n at means long enough hi =
-          absurd (not_built image built good b.body body' is b.place (Kick target means.s) means.item refl)
+          kicks.at_kick_sends mode image built good facts left s m h p hp o body' is (unfilled refl) act k ss ss_is extra v f target n at means
       at_body act BehindKick unfilled k ss ss_is extra v f n at means long enough hi =
           let last : k ≡ 1 = n ∙ kick.jump_steps mode in
           let z : wait.Opens mode image built good facts left s m h p hp o body' is ss v

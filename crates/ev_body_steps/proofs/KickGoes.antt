@@ -25,7 +25,7 @@ use Rattle.ev_abstract.specs.Machine.{Machine, processor}
 use Rattle.ev_abstract.specs.Run.{item_at}
 use Rattle.ev_concrete.specs.ConcreteRun.{System, is_return}
 use Rattle.ev_built.specs.Built.{IsBuilt}
-use Rattle.ev_symbolic.specs.Value.{M, X, FVar}
+use Rattle.ev_symbolic.specs.Value.{M, X, FVar, V}
 use Rattle.ev_symbolic.specs.State.{Block}
 use Rattle.ev_symbolic.specs.Single.{Leads, onward, in_status}
 use Rattle.ev_symbolic.specs.Agrees.{Env, Code, eval, eval_flags, Known, FactsHold, Stands as Lines, Agrees, At, edge_cell}
@@ -148,9 +148,9 @@ sending_opens Idt to = (
 )
 
 -- an item's state is a place
-place_of : (mode : Mode) (e : Env) (c : Processor) (m : Memory) (offset : ℕ) (g : Flags) → ItemState mode e c m offset (X 0) (X 1) (X 2) g
-    → IsAtOffset mode e c m offset g
-place_of mode e c m offset g s = record {
+pub place_of : (mode : Mode) (e : Env) (c : Processor) (m : Memory) (offset : ℕ) (rax rcx rdx : V) (g : Flags)
+    → ItemState mode e c m offset rax rcx rdx g → IsAtOffset mode e c m offset g
+place_of mode e c m offset rax rcx rdx g s = record {
   long = ap length s.regs;
   rsp = ap (λ xs. get_or xs 4 0) s.regs;
   rip = s.rip;
@@ -209,7 +209,7 @@ module _ (mode : Mode) (image : Image) (built : IsBuilt image) (good : IsImage i
         range = range;
         near = omega arith;
         flags = f';
-        state = place_of mode e c s.memory 0 f' state;
+        state = place_of mode e c s.memory 0 (X 0) (X 1) (X 2) f' state;
       } in
       let cells : KickCode code a (item_address mode b.body body' (suc b.place)) to r = kick_code mode image facts b.body body' is b.place to r hi in
       let rip : c.rip ≡ a = goes.rip_is mode image built good facts left s m h p hp o ss extra v f 0 there ∙ (let z : extra 20 + 0 ≡ a = omega arith in z) in
@@ -295,7 +295,7 @@ module _ (mode : Mode) (image : Image) (built : IsBuilt image) (good : IsImage i
         range = range;
         near = omega arith;
         flags = g;
-        state = place_of mode e c s.memory behind_comparison g state;
+        state = place_of mode e c s.memory behind_comparison (X 0) (X 1) (X 2) g state;
       } in
       let u : Env = env ss extra (with_registers c.regs v) g in
       let cells : KickCode code a (item_address mode b.body body' (suc b.place)) to means.s

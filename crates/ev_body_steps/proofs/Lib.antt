@@ -14,6 +14,7 @@ pub mod KernelStep
 pub mod SwitchStep
 pub mod NextTask
 pub mod ItemWords
+pub mod Mailing
 pub mod ItemVisible
 pub mod ItemInside
 pub mod ItemAddress
@@ -32,6 +33,9 @@ pub mod ItemPages
 pub mod CallGoes
 pub mod CallFirst
 pub mod ItemWaitLoad
+pub mod KickGoes
+pub mod KickSends
+pub mod KickSteps
 pub mod KernelItems
 pub mod WaitSteps
 pub mod Kernel
@@ -44,5 +48,4 @@ pub mod BodyInterrupt
 pub mod BodyBreak
 pub mod BodyFault
 pub mod CallSteps
-pub mod KickGoes
 pub mod CallFills
