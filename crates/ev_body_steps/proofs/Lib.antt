@@ -45,5 +45,7 @@ pub mod BodyInterrupt
 pub mod BodyBreak
 pub mod BodyFault
 pub mod CallSteps
+pub mod CallTurns
+pub mod ItemCallLoad
 pub mod KickGoes
 pub mod CallFills
