@@ -1,10 +1,9 @@
 -- `wait` at its item, and at its visible load, which reads whether the site's call is done: what it reads, and where the abstract machine's context goes on.
-use Rattle.std.proofs.Common.{◌≡◌, ℕ, suc, ◌+◌, ◌*◌, ◌%◌, ◌^◌, ◌<◌, ◌≤◌, Bool, true, false, List, [], ◌∷◌, get_or, set, map, length, Option, None, Some, refl, sym, ap, ◌∙◌, subst, arith}
-use Rattle.std.specs.Prelude.{pos, slice_get, is_some, not, ◌&&◌, ◌||◌, ◌==◌, nat_le, nat_lt, if◌then◌else◌}
+use Rattle.std.proofs.Common.{◌≡◌, ℕ, suc, ◌+◌, ◌%◌, ◌^◌, ◌<◌, ◌≤◌, Bool, true, false, List, [], ◌∷◌, set, length, None, Some, refl, sym, ap, ◌∙◌, subst, arith}
+use Rattle.std.specs.Prelude.{pos, slice_get, is_some, not, ◌&&◌, ◌==◌, nat_le, nat_lt, if◌then◌else◌}
 use Rattle.std.specs.List.{list_any}
 use Rattle.std.proofs.lemmas.Bool.{ltb-true, not-false}
-use Rattle.std.proofs.lemmas.List.{get_or-set_same, get_or-set_other, length-set}
-use Rattle.ev_isa.specs.Word.{NatMap, displaced, wrap}
+use Rattle.ev_isa.specs.Word.{NatMap}
 use Rattle.ev_isa.specs.Flags.{Flags}
 use Rattle.ev_isa.specs.Spelling.{spelling, four_bytes}
 use Rattle.ev_isa.specs.declared.instruction.Ins.{Ins}
@@ -15,10 +14,10 @@ use Rattle.ev_body.specs.declared.item.Item.TheVariants.{Wait}
 use Rattle.ev_body.specs.declared.body.Body.{Body}
 use Rattle.ev_body.specs.declared.image.Image.{Image}
 use Rattle.ev_body.specs.WellFormed.{IsImage}
-use Rattle.ev_listing.specs.AddressMap.{pcpu, record_address, nmi_entry, repeat_entry}
+use Rattle.ev_listing.specs.AddressMap.{record_address, nmi_entry, repeat_entry}
 use Rattle.ev_listing.specs.Expansion.{item_address}
 use Rattle.ev_listing.specs.Marks.{Always}
-use Rattle.ev_state.specs.Processor.{Processor, is_user, register}
+use Rattle.ev_state.specs.Processor.{Processor, is_user}
 use Rattle.ev_mem.specs.Memory.{Memory}
 use Rattle.ev_proc.specs.declared.stepped.Stepped.{Stepped}
 use Rattle.ev_abstract.specs.Context.{CallId, BodyContext}
@@ -34,21 +33,16 @@ use Rattle.ev_concrete.specs.Shown.{shown_always, record_word}
 use Rattle.ev_built.specs.Built.{IsBuilt}
 use Rattle.ev_law.specs.Legal.{AreLegal, knows}
 use Rattle.ev_law.proofs.Ruled.{body_ruled}
-use Rattle.ev_symbolic.specs.Value.{M, V, K, X, B, OAdd}
-use Rattle.ev_symbolic.specs.State.{Block}
-use Rattle.ev_symbolic.specs.Names.{item_tag, top_less}
-use Rattle.ev_symbolic.specs.Single.{Leads, onward}
-use Rattle.ev_symbolic.specs.Agrees.{Env, Code, Cell, Stands as Lines, eval, FactsHold, IsOpen, At}
-use Rattle.ev_symbolic.proofs.Single.{singles}
-use Rattle.ev_blocks.specs.Shapes.{body_bytes}
+use Rattle.ev_symbolic.specs.Names.{item_tag}
+use Rattle.ev_symbolic.specs.Single.{Leads}
+use Rattle.ev_symbolic.specs.Agrees.{Env, Code, Cell, At}
 use Rattle.ev_blocks.specs.Calls.{AtRecord, BehindWait, behind_first, behind_state, state_word}
 use Rattle.ev_blocks.specs.Calls as calls
 use Rattle.ev_blocks.specs.Items.{AtItem, InCall}
 use Rattle.ev_blocks.specs.Blocks.{block, edges}
 use Rattle.ev_blocks.specs.Blocks as blocks
-use Rattle.ev_paths.specs.CallEnds.{item_regs}
 use Rattle.ev_table.specs.Table.{code_table}
-use Rattle.ev_relation.specs.Filling.{Filling, first_fill, rest_fills, is_of_site, is_filled}
+use Rattle.ev_relation.specs.Filling.{first_fill}
 use Rattle.ev_relation.specs.Active.{item_place, address_of_item, item_of, site_of, here, IsKernelSs, InCode, InItem, InCallSpot, Active}
 use Rattle.ev_relation.specs.Relation.{IsContext, HoldsCall, CallIs, Chain, StandsOn, Stands, switches_at, serves}
 use Rattle.ev_relation.specs.Step.{IsCounted, Simulated}
@@ -61,33 +55,19 @@ use Rattle.ev_relation.proofs.FilledOnce.{never_filled_at_wait}
 use Rattle.ev_relation.proofs.Legality.{turn_legal}
 use Rattle.ev_relation.proofs.Spots.{is_spot}
 use Rattle.ev_relation.proofs.Standing.{went_stays}
-use Rattle.ev_body_steps.proofs.Bodies.{body, layout_of, means_at}
+use Rattle.ev_body_steps.proofs.Bodies.{body, means_at}
 use Rattle.ev_body_steps.proofs.CallCells.{WaitCode, wait_code}
 use Rattle.ev_body_steps.proofs.CallFirst.{AreKept, in_code, to_record}
 use Rattle.ev_body_steps.proofs.CallGoes.{block_is, ends_of}
 use Rattle.ev_body_steps.proofs.CallGoes as goes
-use Rattle.ev_body_steps.proofs.CallPlaces.{rax_regs_are, same_rsp}
-use Rattle.ev_body_steps.proofs.ItemAddresses.{area_open}
 use Rattle.ev_body_steps.proofs.ItemCells.{edges_stand}
-use Rattle.ev_body_steps.proofs.ItemState.{with_registers, any_known, gone}
-use Rattle.ev_body_steps.proofs.ItemVisible.{goes_onward, legal_context}
+use Rattle.ev_body_steps.proofs.ItemState.{with_registers, gone}
+use Rattle.ev_body_steps.proofs.ItemVisible.{legal_context}
 use Rattle.ev_body_steps.proofs.ItemWords as words
 use Rattle.ev_body_steps.proofs.KernelStep as step
+use Rattle.ev_body_steps.proofs.RecordLoad as record_load
 
--- ---- the blocks before and behind the load
-
--- the registers behind the sum, and with what the load reads
-record_regs : Mode → ℕ → List V
-record_regs mode site = set (item_regs (layout_of mode)) 3 (B OAdd (X 3) (K (0x40 * site)))
-
-record_rsp : (mode : Mode) (e : Env) (site : ℕ)
-    → get_or (map (eval e) (record_regs mode site)) 4 0 ≡ eval e (top_less (body_bytes (layout_of mode)))
-unfolding record_regs
-record_rsp mode e site = refl
-
-record_kept : (mode : Mode) (e : Env) (site n : ℕ) → AreKept e.var (set (map (eval e) (record_regs mode site)) 0 n)
-unfolding record_regs eval
-record_kept mode e site n = record { locals = refl; calls = refl }
+-- ---- the block behind the load
 
 wait_spot : (mode : Mode) (d : Bool) → is_spot mode (body mode (InCall (BehindWait d))) ≡ true
 wait_spot Fred d = refl
@@ -96,11 +76,6 @@ wait_spot Idt d = refl
 wait_few : (mode : Mode) (d : Bool) → edges mode (body mode (InCall (BehindWait d))) 0 ≤ 100
 wait_few Fred d = omega arith
 wait_few Idt d = omega arith
-
--- none fills a record where the first doesn't, and none below
-none_fills : (site : ℕ) (fs : List (Option Filling)) → first_fill fs ≡ None → is_filled site (rest_fills fs) ≡ false → is_filled site fs ≡ false
-none_fills site [] first rest = refl
-none_fills site (f ∷ fs) first rest = ap (λ g. is_of_site site g || is_filled site fs) first ∙ rest
 
 module _ (mode : Mode) (image : Image) (built : IsBuilt image) (good : IsImage image) (facts : Facts mode image)
     (left : NatMap ℕ) (s : System) (m : Machine) (h : Stands mode image left s m) (p : ℕ) (hp : p < image.processors)
@@ -155,37 +130,20 @@ module _ (mode : Mode) (image : Image) (built : IsBuilt image) (good : IsImage i
     abbrev there : ℕ
     there = record_address p site
 
-    abbrev AtLoad : Type 0
-    AtLoad = goes.AtPlace mode image built good facts left s m h p hp o ss extra v f 16
-
-    at_load : AtLoad × (c.regs ≡ map (eval e) (record_regs mode site))
-    unfolding record_regs
-    at_load = goes.behind_block mode image built good facts left s m h p hp o (AtRecord site) refl unfilled act ss ss_is extra v f means.0.range at 16
-        (omega arith) (record_regs mode site) ((ends_of mode).site site) refl (record_rsp mode e site)
-
     small_site : site < 8
     unfolding breaks_slots
     small_site = ltb-true site 8 (not-false _ ((body_ruled image good built.accepted.1.kept b.body body' is).slots b.place (Wait site) hi))
 
-    small : p < 32
-    small = step.small mode image built good facts left s m h p hp
+    abbrev at_load : record_load.AtLoad mode image built good facts left s m h p hp o unfilled act ss ss_is extra v f site at means small_site
+    at_load = (record_load.at_load mode image built good facts left s m h p hp o unfilled act ss ss_is extra v f site at means small_site).0
 
-    -- RBX is the record
-    rbx : register c 3 ≡ there
-    unfolding record_regs eval
-    rbx = let low = small_site in let near = small in ap (λ (xs : List ℕ). get_or xs 3 0) at_load.1 ∙ ap (λ n. (n + 0x40 * site) % M) means.3
-        ∙ (let q : (pcpu p + 0x800 + 0x40 * site) % M ≡ record_address p site = omega arith in q)
-
-    -- which holds what the abstract machine has of it
+    -- the record holds what the abstract machine has of it
     held : HoldsCall mode image s.memory.words p site (x.records site)
-    held = on.records site small_site (none_fills site on.fills unfilled
-        (never_filled_at_wait mode image good built.accepted p (left p) s m h.legal on b o.below o.bodies site (ap (λ y. item_at y b.place) is ∙ hi)))
+    held = record_load.held mode image built good facts left s m h p hp o unfilled act ss ss_is extra v f site at means small_site
+        (never_filled_at_wait mode image good built.accepted p (left p) s m h.legal on b o.below o.bodies site (ap (λ y. item_at y b.place) is ∙ hi))
 
-    -- a word of the record
     word_is : (n : ℕ) → n < 0x40 → record_word c s.memory.words n ≡ s.memory.words (there + n)
-    word_is n l = let low = small_site in let near = small in
-        ap (λ y. s.memory.words (wrap (y + n))) rbx
-        ∙ ap s.memory.words (let q : (record_address p site + n) % 2 ^ 64 ≡ record_address p site + n = omega arith in q)
+    word_is = record_load.word_is mode image built good facts left s m h p hp o unfilled act ss ss_is extra v f site at means small_site
 
     cells : WaitCode code a (item_address mode b.body body' (suc b.place)) site
     cells = wait_code mode image facts b.body body' is b.place site hi
@@ -204,12 +162,9 @@ module _ (mode : Mode) (image : Image) (built : IsBuilt image) (good : IsImage i
         → ((u : Env) → u.base ≡ e.base → InCode mode image (origin_of o.κ) u o.w (behind place) s.memory.words
         → InCallSpot mode image (origin_of o.κ) (BehindWait d) u o.w (behind place) (first_fill on.fills) s.memory.words)
         → (IsCounted s → shown_always p (bodies_on s p) c s.memory.words (Some ins) ≡ es) → Simulated mode image left s m p
-    unfolding record_regs eval spelling four_bytes is_return
+    unfolding is_return spelling four_bytes
     goes_on d reads place es turns spot shows =
-        let z : AtLoad × (c.regs ≡ map (eval e) (record_regs mode site)) = at_load in
-        let y : AtLoad = z.0 in
-        let low = small_site in let near = small in
-        let few = good.count.1 in
+        let y : record_load.AtLoad mode image built good facts left s m h p hp o unfilled act ss ss_is extra v f site at means small_site = at_load in
         let range = y.range in
         let high = range.1 in
         let base_is = base in
@@ -219,30 +174,18 @@ module _ (mode : Mode) (image : Image) (built : IsBuilt image) (good : IsImage i
         let cpu : Processor = gone c regs g next in
         let u : Env = env ss extra (with_registers regs v) g in
         let cell : Cell = record { ins = ins; next = next; mark = Always } in
+        let next_is : next ≡ extra 20 + behind_state = ap (λ k. k + behind_state) (sym base_is) in
         let here_is : c.rip ≡ a + 16 = goes.rip_is mode image built good facts left s m h p hp o ss extra v f 16 y ∙ ap (λ k. k + 16) base_is in
         let found : code c.rip ≡ Some cell = ap code here_is ∙ cells.seen in
-        let from : displaced (register c 3) (pos 0) ≡ there = ap (λ k. displaced k (pos 0)) rbx
-        ∙ (let q : (record_address p site + 0) % 2 ^ 64 ≡ record_address p site = omega arith in q) in
-        let at_ins = goes.at_instruction mode image built good facts left s m h p hp o ss extra v f 16 y ins next (omega arith) in
-        let opened : IsOpen s.memory.regions there = subst (IsOpen s.memory.regions)
-        (let q : pcpu p + (0x800 + 0x40 * site) ≡ record_address p site = omega arith in q)
-        (area_open image s.memory.regions h.regions_are p (0x800 + 0x40 * site) hp few (omega arith) (omega arith)) in
-        let leads : Leads c s.memory ins cpu s.memory.words = goes_onward c s.memory ins g regs next s.memory.words y.state.flags
-        (subst (λ k. Leads c s.memory ins (onward c (set c.regs 0 k) next) s.memory.words) reads
-        ((singles c s.memory next).loads 0 3 (pos 0) there at_ins from opened)) in
-        let rsp : get_or regs 4 0 ≡ get_or c.regs 4 0 = get_or-set_other c.regs 0 4 n 0 (λ e. omega arith) in
-        let stack : get_or regs 4 0 ≡ eval u (top_less (body_bytes (layout_of mode)))
-        = rsp ∙ same_rsp mode p o.κ o.σ ss o.w extra v f c s.memory 16 g y.state extra v refl refl refl in
-        let wide : length regs ≡ 16 = length-set c.regs 0 n ∙ y.state.long in
-        let long = y.state.long in
-        let lines : Lines code u (block mode (body mode (InCall (BehindWait d)))).lines = subst (λ (B : Block). Lines code u B.lines)
-        (sym (block_is mode (BehindWait d))) (edges_stand code u a behind_state calls.wait_code base_is (omega arith) cells.test) in
-        let stands = goes.call_stands mode image built good facts left s m h p hp o ss extra v f 16 y (BehindWait d) refl (wait_spot mode d) extra v
-        refl refl refl refl regs g next behind_state s.memory.words wide rsp (omega arith) refl
-        (rax_regs_are mode u regs v (K n) refl wide stack (get_or-set_same c.regs 0 n 0 (omega arith))) y.state.words
-        (any_known mode p o.κ o.σ ss o.w extra extra v f g regs s.memory.words y.state.words)
-        (subst (λ (B : Block). FactsHold u B.ground.facts) (sym (block_is mode (BehindWait d))) tt) lines in
-        let kept : AreKept v regs = subst (λ (xs : List ℕ). AreKept v (set xs 0 n)) (sym z.1) (record_kept mode e site n) in
+        let leads : Leads c s.memory ins cpu s.memory.words
+        = record_load.loads mode image built good facts left s m h p hp o unfilled act ss ss_is extra v f site at means small_site n reads next next_is in
+        let wide : length regs ≡ 16
+        = record_load.wide mode image built good facts left s m h p hp o unfilled act ss ss_is extra v f site at means small_site n reads in
+        let stands = record_load.opens_behind mode image built good facts left s m h p hp o unfilled act ss ss_is extra v f site at means small_site n reads
+        (BehindWait d) refl (wait_spot mode d) next next_is refl refl refl
+        (edges_stand code u a behind_state calls.wait_code base_is (omega arith) cells.test) in
+        let kept : AreKept v regs
+        = record_load.kept mode image built good facts left s m h p hp o unfilled act ss ss_is extra v f site at means small_site n reads in
         let b' : BodyContext = behind place in
         let in_wait = in_code mode image built good facts left s m h p hp o ss extra v f g regs kept range b' refl refl means.0.saved means.0.locals
         means.0.calls in
@@ -305,7 +248,7 @@ module _ (mode : Mode) (image : Image) (built : IsBuilt image) (good : IsImage i
         item = ap (λ y. item_at y b.place) is ∙ hi
 
         turned : (st : CallState) → (x.records site).state ≡ st → turn image m p ≡ waited m p b key st
-        turned st e = step.turns mode image built good facts left s m h p hp o (λ i. at_load.0.state.blocked) (Wait site) item ∙ ap (waited m p b key) e
+        turned st e = step.turns mode image built good facts left s m h p hp o (λ i. at_load.state.blocked) (Wait site) item ∙ ap (waited m p b key) e
 
         call : (st : CallState) → (x.records site).state ≡ st → CallIs mode image s.memory.words there (x.records site) st
         call st e = subst (CallIs mode image s.memory.words there (x.records site)) e held.call
@@ -314,7 +257,7 @@ module _ (mode : Mode) (image : Image) (built : IsBuilt image) (good : IsImage i
         state_is = word_is 0 (omega arith) ∙ ap s.memory.words (let q : record_address p site + 0 ≡ record_address p site = omega arith in q)
 
         site_is : record_word c s.memory.words 0x30 % 2 ^ 8 ≡ site
-        site_is = let low = small_site in ap (λ n. n % 2 ^ 8) (word_is 0x30 (omega arith) ∙ held.site) ∙ (let q : site % 2 ^ 8 ≡ site = omega arith in q)
+        site_is = record_load.site_is mode image built good facts left s m h p hp o unfilled act ss ss_is extra v f site at means small_site held
 
         -- the entry tells the number of calls that the site has queued
         number_is : IsCounted s → record_word c s.memory.words 0x28 ≡ (x.records site).number

@@ -32,6 +32,7 @@ pub mod ItemPage
 pub mod ItemPages
 pub mod CallGoes
 pub mod CallFirst
+pub mod RecordLoad
 pub mod ItemWaitLoad
 pub mod KickGoes
 pub mod KickSends
@@ -48,4 +49,6 @@ pub mod BodyInterrupt
 pub mod BodyBreak
 pub mod BodyFault
 pub mod CallSteps
+pub mod CallTurns
+pub mod ItemCallLoad
 pub mod CallFills
