@@ -1,6 +1,7 @@
 -- Steps in the items of cross calls, from one place to the next: what an activation knows where a block has ended, and how it stands where another opens.
 use Rattle.std.proofs.Common.{◌≡◌, ℕ, ◌+◌, ◌%◌, ◌<◌, ◌≤◌, false, true, List, [], get_or, map, length, None, Some, refl, sym, ap, ◌∙◌, subst, arith}
 use Rattle.std.specs.Prelude.{is_some}
+use Rattle.std.proofs.lemmas.Bool.{lt-ltb}
 use Rattle.ev_isa.specs.Word.{NatMap}
 use Rattle.ev_isa.specs.Flags.{Flags}
 use Rattle.ev_isa.specs.declared.instruction.Ins.{Ins}
@@ -26,7 +27,7 @@ use Rattle.ev_symbolic.specs.Agrees.{Env, Code, Stands as Lines, eval, eval_flag
 use Rattle.ev_symbolic.proofs.Blocks.{at_end, begins}
 use Rattle.ev_state.proofs.FlagLaws.{kept}
 use Rattle.ev_blocks.specs.Shapes.{body_bytes, body_forms, private, item_text, ground_over, over}
-use Rattle.ev_paths.specs.CallEnds.{CallComes, CallEnds}
+use Rattle.ev_paths.specs.CallEnds.{CallComes, CallEnds, item_regs}
 use Rattle.ev_paths.proofs.CallEnds.{call_ends}
 use Rattle.ev_relation.proofs.ModeFacts.{is_fred}
 use Rattle.ev_relation.proofs.After.{none_spares}
@@ -37,7 +38,7 @@ use Rattle.ev_blocks.specs.Blocks as blocks
 use Rattle.ev_blocks.specs.Calls.{CallSpot, AtRecord, BehindWait, BehindBusy, AtFill, AtHead, AtLink, BehindFailure, BehindCall, AtTake, BehindTake, AtTurn, BehindTurn, AtTaken, AtFinish, BehindNext, AtOffset, fills_record, block_of_call, item_opening}
 use Rattle.ev_blocks.specs.Items.{BodySpot, InCall, fills}
 use Rattle.ev_table.specs.Table.{code_table}
-use Rattle.ev_relation.specs.Active.{here, IsKernelSs, InSpot, Active}
+use Rattle.ev_relation.specs.Active.{here, IsKernelSs, IsByHand, InCallSpot, InSpot, Active}
 use Rattle.ev_relation.specs.Filling.{first_fill}
 use Rattle.ev_relation.specs.Relation.{StandsOn, Stands, switches_at}
 use Rattle.ev_relation.specs.Step.{Simulated}
@@ -45,8 +46,8 @@ use Rattle.ev_relation.proofs.Facts.{Facts}
 use Rattle.ev_relation.proofs.Spots.{is_spot, layout_of, body}
 use Rattle.ev_relation.proofs.CallKinds.{origin_of, plain_knows}
 use Rattle.ev_body_steps.proofs.Bodies.{means_at}
-use Rattle.ev_body_steps.proofs.ItemState.{with_registers, opening_of, known_of, gone}
-use Rattle.ev_body_steps.proofs.CallPlaces.{IsAtOffset, IsBeside, offset_from, place_behind, opens_from}
+use Rattle.ev_body_steps.proofs.ItemState.{with_registers, opening_of, known_of, any_known, gone}
+use Rattle.ev_body_steps.proofs.CallPlaces.{IsAtOffset, IsBeside, offset_from, place_behind, opens_from, item_regs_are, same_rsp}
 use Rattle.ev_body_steps.proofs.KernelStep as step
 
 -- ---- the blocks of call items
@@ -127,6 +128,24 @@ comes_to mode s h offset regs k =
       regs_are = ap (λ (z : SS). z.regs) k.is;
       words = ap (λ (z : SS). z.words) k.is ∙ o.words;
     }
+
+-- ---- places between blocks
+
+pub offset_spot : (mode : Mode) (n e : ℕ) → n < 0x100 → is_spot mode (body mode (InCall (AtOffset n e))) ≡ true
+offset_spot Fred n e l = lt-ltb n 0x100 l
+offset_spot Idt n e l = lt-ltb n 0x100 l
+
+pub offset_facts : (mode : Mode) (n k : ℕ) (e : Env) → FactsHold e (block mode (body mode (InCall (AtOffset n k)))).ground.facts
+offset_facts Fred n k e = tt
+offset_facts Idt n k e = tt
+
+pub offset_lines : (mode : Mode) (code : Code) (n k : ℕ) (e : Env) → Lines code e (block mode (body mode (InCall (AtOffset n k)))).lines
+offset_lines Fred code n k e = tt
+offset_lines Idt code n k e = tt
+
+offset_edges : (mode : Mode) (n k : ℕ) → edges mode (body mode (InCall (AtOffset n k))) 0 ≡ k
+offset_edges Fred n k = omega arith
+offset_edges Idt n k = omega arith
 
 -- ---- an activation between the blocks
 
@@ -293,3 +312,64 @@ module _ (mode : Mode) (image : Image) (built : IsBuilt image) (good : IsImage i
         → InSpot mode image (origin_of o.κ) (InCall s') (env ss extra' (with_registers regs v') g) o.w b (first_fill on.fills) s.memory.words
         → edges mode (body mode (InCall s')) 0 < on.own → is_in_repeat c.rip ≡ false → Simulated mode image left s m p
     goes_to s' off i next = goes_to_spot (InCall s') off i next next
+
+    -- Where a block has ended and another opens: the step is that one's first.
+    pub opens : (s' : CallSpot) → fills_record s' ≡ false → is_spot mode (body mode (InCall s')) ≡ true
+        → (block_of_call (is_fred mode) (layout_of mode) s').opening.rip ≡ at_base item_tag offset
+        → (block_of_call (is_fred mode) (layout_of mode) s').opening.regs ≡ item_regs (layout_of mode)
+        → FactsHold (env ss extra (with_registers c.regs v) a.flags) (block_of_call (is_fred mode) (layout_of mode) s').ground.facts
+        → Lines code (env ss extra (with_registers c.regs v) a.flags) (block_of_call (is_fred mode) (layout_of mode) s').lines
+        → 0 < (block_of_call (is_fred mode) (layout_of mode) s').steps
+        → InCallSpot mode image (origin_of o.κ) s' (env ss extra (with_registers c.regs v) a.flags) o.w b (first_fill on.fills) s.memory.words
+        → edges mode (body mode (InCall s')) 0 ≤ on.own → Simulated mode image left s m p
+    opens s' off over rip regs told lines some means enough =
+        let u : Env = env ss extra (with_registers c.regs v) a.flags in
+        let long : length c.regs ≡ 16 = a.state.long in
+        let stack : get_or c.regs 4 0 ≡ eval u (top_less (body_bytes (layout_of mode)))
+        = same_rsp mode p o.κ o.σ ss o.w extra v f c s.memory offset a.flags a.state extra v refl refl refl in
+        let same = block_is mode s' in
+        let there = call_stands s' off over extra v refl refl refl refl c.regs a.flags c.rip offset s.memory.words long refl a.state.rip rip
+        (item_regs_are mode u c.regs v refl long stack ∙ ap (map (eval u)) (sym regs)) a.state.words
+        (any_known mode p o.κ o.σ ss o.w extra extra v f a.flags c.regs s.memory.words a.state.words)
+        (subst (λ (B : Block). FactsHold u B.ground.facts) (sym same) told) (subst (λ (B : Block). Lines code u B.lines) (sym same) lines) in
+        let stays : c ≡ gone c c.regs a.flags c.rip = λ i. record c { flags = a.state.flags i; sti_blocked = a.state.blocked i } in
+        let act' : Stood on.own b c s.memory = record {
+          stands = record {
+            spot = body mode (InCall s');
+            k = 0;
+            extra = extra;
+            var = with_registers c.regs v;
+            flags = a.flags;
+            ss = ss;
+            ss_is = a.ss_is;
+            masked = step.masks_flags mode image built good facts left s m h p hp o a.flags a.state.flags;
+            within = omega arith;
+            enough = enough;
+            at = subst (λ y. At code (block mode (body mode (InCall s'))) 0 u y s.memory) (sym stays) there;
+            long = long;
+          };
+          switches = sym o.off;
+          fills = off ∙ sym (ap is_some a.unfilled);
+          knows = plain_knows mode o.κ on.frame plain (blocks.holds (body mode (InCall s')));
+          means = means_at mode image o.κ plain (InCall s') u o.w b (first_fill on.fills) s.memory.words means;
+        } in
+        step.inside mode image built good facts left s m h p hp o act' off (subst (λ (B : Block). 0 < B.steps) (sym same) some)
+
+    -- An edge by an instruction that writes nothing, to one that is made by hand too.
+    pub goes_by_hand : (n k : ℕ) → n < 0x100 → (i : Ins) (next : ℕ) → code c.rip ≡ Some (edge_cell i next) → is_return (Some i) ≡ false
+        → (regs : List ℕ) → length regs ≡ 16 → get_or regs 4 0 ≡ get_or c.regs 4 0 → next ≡ extra 20 + n
+        → Leads c s.memory i (gone c regs a.flags next) s.memory.words
+        → IsByHand mode image (origin_of o.κ) (env ss extra (with_registers regs v) a.flags) o.w b s.memory.words n k → k < on.own
+        → Simulated mode image left s m p
+    unfolding eval
+    goes_by_hand n k near i next cell inner regs long rsp onto leads means fewer =
+        let u : Env = env ss extra (with_registers regs v) a.flags in
+        let high = a.range.1 in
+        let stack : get_or regs 4 0 ≡ eval u (top_less (body_bytes (layout_of mode)))
+        = rsp ∙ same_rsp mode p o.κ o.σ ss o.w extra v f c s.memory offset a.flags a.state extra v refl refl refl in
+        goes_to (AtOffset n k) refl i next cell inner regs a.flags long
+        (step.masks_flags mode image built good facts left s m h p hp o a.flags a.state.flags) leads extra v
+        (call_stands (AtOffset n k) refl (offset_spot mode n k near) extra v refl refl refl refl regs a.flags next n s.memory.words long rsp
+        (let z : next ≡ (extra 20 + n) % M = omega arith in z) refl (item_regs_are mode u regs v refl long stack) a.state.words
+        (any_known mode p o.κ o.σ ss o.w extra extra v f a.flags regs s.memory.words a.state.words) (offset_facts mode n k u) (offset_lines mode code n k u))
+        means (subst (λ y. y < on.own) (sym (offset_edges mode n k)) fewer) (step.outside mode image built good facts left s m h p hp o a.act)

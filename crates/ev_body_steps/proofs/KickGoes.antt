@@ -2,7 +2,7 @@
 use Rattle.std.proofs.Common.{◌≡◌, ℕ, suc, ◌+◌, ◌-◌, ◌%◌, ◌<◌, ◌≤◌, ◌^◌, Bool, true, false, not, map, get_or, length, None, Some, refl, sym, ap, ◌∙◌, subst, arith}
 use Rattle.std.specs.Prelude.{pos, nat_le, slice_get, ◌==◌, if◌then◌else◌}
 use Rattle.std.proofs.Common.{⊎_elim}
-use Rattle.std.proofs.lemmas.Bool.{eq-eqb, ne_eqb, lt-ltb, leb-true, ltb-true}
+use Rattle.std.proofs.lemmas.Bool.{eq-eqb, ne_eqb, leb-true, ltb-true}
 use Rattle.std.proofs.lemmas.Bool.Decides.{eqb_tells}
 use Rattle.std.proofs.lemmas.List.{set-get_or}
 use Rattle.ev_isa.specs.Word.{NatMap, wrap, displaced, is_canonical}
@@ -48,8 +48,8 @@ use Rattle.ev_relation.specs.Active.{item_place, address_of_item, here, IsKernel
 use Rattle.ev_relation.specs.Relation.{StandsOn, Stands, switches_at}
 use Rattle.ev_relation.specs.Step.{Simulated}
 use Rattle.ev_relation.proofs.Facts.{Facts}
-use Rattle.ev_relation.proofs.Fits.{InBodies}
 use Rattle.ev_relation.proofs.Spots.{is_spot}
+use Rattle.ev_relation.proofs.Fits.{InBodies}
 use Rattle.ev_relation.proofs.CallKinds.{origin_of}
 use Rattle.ev_law.proofs.Ruled.{body_ruled}
 use Rattle.ev_body_steps.proofs.Bodies.{body, layout_of, saved_again}
@@ -59,6 +59,7 @@ use Rattle.ev_body_steps.proofs.ItemVisible.{goes_onward, goes_with}
 use Rattle.ev_body_steps.proofs.ItemCells.{edges_stand}
 use Rattle.ev_body_steps.proofs.CallCells.{KickCode, kick_code}
 use Rattle.ev_body_steps.proofs.CallPlaces.{IsAtOffset, item_regs_are}
+use Rattle.ev_body_steps.proofs.CallGoes.{offset_spot, offset_facts, offset_lines}
 use Rattle.ev_body_steps.proofs.CallGoes as goes
 use Rattle.ev_body_steps.proofs.KernelStep as step
 
@@ -76,18 +77,6 @@ says_two a small = ⊎_elim (λ e. two e.1) (λ e. other e.1) (eqb_tells a 2)
     other ne = ne_eqb (wrap (a + 2 ^ 64 - 2)) 0 (λ q. ne (let z : (a + 2 ^ 64 - 2) % 2 ^ 64 ≡ 0 = q in let r : a ≡ 2 = omega arith in r)) ∙ sym (ne_eqb a 2 ne)
 
 -- ---- places between blocks
-
-offset_spot : (mode : Mode) (n e : ℕ) → n < 0x100 → is_spot mode (body mode (InCall (AtOffset n e))) ≡ true
-offset_spot Fred n e l = lt-ltb n 0x100 l
-offset_spot Idt n e l = lt-ltb n 0x100 l
-
-offset_facts : (mode : Mode) (n k : ℕ) (e : Env) → FactsHold e (block mode (body mode (InCall (AtOffset n k)))).ground.facts
-offset_facts Fred n k e = tt
-offset_facts Idt n k e = tt
-
-offset_lines : (mode : Mode) (code : Code) (n k : ℕ) (e : Env) → Lines code e (block mode (body mode (InCall (AtOffset n k)))).lines
-offset_lines Fred code n k e = tt
-offset_lines Idt code n k e = tt
 
 comparison_falls : (mode : Mode) → edges mode (body mode (InCall (AtOffset behind_comparison 4))) 0 < edges mode (body mode AtItem) 0
 comparison_falls Fred = omega arith
