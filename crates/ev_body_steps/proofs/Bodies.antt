@@ -1,6 +1,6 @@
 -- The way from the table of bodies to a body's first item, in either mode.
 use Rattle.std.proofs.Common.{◌≡◌, ◌≢◌, ℕ, ◌+◌, ◌-◌, ◌/◌, ◌%◌, ◌^◌, ◌<◌, ◌≤◌, Bool, true, false, ◌&&◌, List, [], ◌∷◌, ◌++◌, get_or, map, Some, refl, sym, ap, ◌∙◌, subst, arith, Option}
-use Rattle.std.specs.Prelude.{pos, ◌==◌}
+use Rattle.std.specs.Prelude.{pos, ◌==◌, nat_lt}
 use Rattle.std.proofs.lemmas.Bool.{eqb-true, eq-eqb}
 use Rattle.ev_isa.specs.Word.{NatMap, displaced, is_canonical, bit}
 use Rattle.ev_isa.specs.Flags.{Flags}
@@ -136,48 +136,60 @@ exit_canonical Idt = refl
 
 -- ---- what they mean
 
--- what gives back w is told by none of the sixteen registers, and by no flags
-pub saved_again : (mode : Mode) (image : Image) (o : Origin) (e u : Env) (w : Processor) → ((i : ℕ) → 16 ≤ i → u.var i ≡ e.var i)
+-- the variables that tell of a record which is filled
+abbrev pub tells_record : ℕ → Bool
+tells_record n = nat_lt 21 n && nat_lt n 30
+
+-- what gives back w is told by none of the sixteen registers, by none of those and by no flags
+pub saved_beside : (mode : Mode) (image : Image) (o : Origin) (e u : Env) (w : Processor)
+    → ((i : ℕ) → 16 ≤ i → tells_record i ≡ false → u.var i ≡ e.var i)
     → u.base gs_tag ≡ e.base gs_tag → u.base top_tag ≡ e.base top_tag → u.rest ≡ e.rest → SavedOf mode image o e w → SavedOf mode image o u w
-saved_again mode image UserCode e u w same base top rest s =
-    let at = λ (n : ℕ) (l : 16 ≤ n). sym (same n l) in
+saved_beside mode image UserCode e u w same base top rest s =
+    let at = λ (n : ℕ) (l : 16 ≤ n) (off : tells_record n ≡ false). sym (same n l off) in
     record {
-      regs = s.regs ∙ (λ i. at 30 (omega arith) i ∷ at 31 (omega arith) i ∷ at 32 (omega arith) i ∷ at 33 (omega arith) i ∷ at 20 (omega arith) i
-          ∷ at 35 (omega arith) i ∷ at 36 (omega arith) i ∷ at 37 (omega arith) i ∷ at 38 (omega arith) i ∷ at 39 (omega arith) i ∷ at 40 (omega arith) i
-          ∷ at 41 (omega arith) i ∷ at 42 (omega arith) i ∷ at 43 (omega arith) i ∷ at 44 (omega arith) i ∷ at 45 (omega arith) i ∷ []);
-      rip = same 17 (omega arith) ∙ s.rip;
-      cs = ap selector (same 18 (omega arith)) ∙ s.cs;
-      flags = same 19 (omega arith) ∙ s.flags;
-      ss = ap selector (same 21 (omega arith)) ∙ s.ss;
-      sti = ap (bit 16) (same 21 (omega arith)) ∙ s.sti;
-      gs = same 60 (omega arith) ∙ s.gs;
-      chosen = same 61 (omega arith) ∙ s.chosen;
-      level = same 63 (omega arith) ∙ s.level;
+      regs = s.regs ∙ (λ i. at 30 (omega arith) refl i ∷ at 31 (omega arith) refl i ∷ at 32 (omega arith) refl i ∷ at 33 (omega arith) refl i
+          ∷ at 20 (omega arith) refl i ∷ at 35 (omega arith) refl i ∷ at 36 (omega arith) refl i ∷ at 37 (omega arith) refl i
+          ∷ at 38 (omega arith) refl i ∷ at 39 (omega arith) refl i ∷ at 40 (omega arith) refl i ∷ at 41 (omega arith) refl i
+          ∷ at 42 (omega arith) refl i ∷ at 43 (omega arith) refl i ∷ at 44 (omega arith) refl i ∷ at 45 (omega arith) refl i ∷ []);
+      rip = same 17 (omega arith) refl ∙ s.rip;
+      cs = ap selector (same 18 (omega arith) refl) ∙ s.cs;
+      flags = same 19 (omega arith) refl ∙ s.flags;
+      ss = ap selector (same 21 (omega arith) refl) ∙ s.ss;
+      sti = ap (bit 16) (same 21 (omega arith) refl) ∙ s.sti;
+      gs = same 60 (omega arith) refl ∙ s.gs;
+      chosen = same 61 (omega arith) refl ∙ s.chosen;
+      level = same 63 (omega arith) refl ∙ s.level;
     }
-saved_again mode image KernelCode e u w same base top rest s =
-    let at = λ (n : ℕ) (l : 16 ≤ n). sym (same n l) in
+saved_beside mode image KernelCode e u w same base top rest s =
+    let at = λ (n : ℕ) (l : 16 ≤ n) (off : tells_record n ≡ false). sym (same n l off) in
     record {
-      regs = s.regs ∙ (λ i. at 30 (omega arith) i ∷ at 31 (omega arith) i ∷ at 32 (omega arith) i ∷ at 33 (omega arith) i ∷ at 20 (omega arith) i
-          ∷ at 35 (omega arith) i ∷ at 36 (omega arith) i ∷ at 37 (omega arith) i ∷ at 38 (omega arith) i ∷ at 39 (omega arith) i ∷ at 40 (omega arith) i
-          ∷ at 41 (omega arith) i ∷ at 42 (omega arith) i ∷ at 43 (omega arith) i ∷ at 44 (omega arith) i ∷ at 45 (omega arith) i ∷ []);
-      rip = same 17 (omega arith) ∙ s.rip;
+      regs = s.regs ∙ (λ i. at 30 (omega arith) refl i ∷ at 31 (omega arith) refl i ∷ at 32 (omega arith) refl i ∷ at 33 (omega arith) refl i
+          ∷ at 20 (omega arith) refl i ∷ at 35 (omega arith) refl i ∷ at 36 (omega arith) refl i ∷ at 37 (omega arith) refl i
+          ∷ at 38 (omega arith) refl i ∷ at 39 (omega arith) refl i ∷ at 40 (omega arith) refl i ∷ at 41 (omega arith) refl i
+          ∷ at 42 (omega arith) refl i ∷ at 43 (omega arith) refl i ∷ at 44 (omega arith) refl i ∷ at 45 (omega arith) refl i ∷ []);
+      rip = same 17 (omega arith) refl ∙ s.rip;
       canonical = s.canonical;
-      cs = ap selector (same 18 (omega arith)) ∙ s.cs;
+      cs = ap selector (same 18 (omega arith) refl) ∙ s.cs;
       ring = s.ring;
-      stack_level = ap (λ n. n / 2 ^ 16 % 4) (same 18 (omega arith)) ∙ s.stack_level;
-      flags = same 19 (omega arith) ∙ s.flags;
+      stack_level = ap (λ n. n / 2 ^ 16 % 4) (same 18 (omega arith) refl) ∙ s.stack_level;
+      flags = same 19 (omega arith) refl ∙ s.flags;
       whole = s.whole;
-      ss = ap selector (same 21 (omega arith)) ∙ s.ss;
+      ss = ap selector (same 21 (omega arith) refl) ∙ s.ss;
       same_ss = ap (λ (y : Processor). y.ss) rest ∙ s.same_ss;
-      sti = ap (bit 16) (same 21 (omega arith)) ∙ s.sti;
+      sti = ap (bit 16) (same 21 (omega arith) refl) ∙ s.sti;
       unblocked = s.unblocked;
       base = s.base ∙ sym base;
-      gs = same 60 (omega arith) ∙ s.gs;
-      chosen = same 61 (omega arith) ∙ s.chosen;
-      level = same 63 (omega arith) ∙ s.level;
+      gs = same 60 (omega arith) refl ∙ s.gs;
+      chosen = same 61 (omega arith) refl ∙ s.chosen;
+      level = same 63 (omega arith) refl ∙ s.level;
       levels = s.levels;
       above = subst (λ n. n ≤ rsp w) (sym top) s.above;
     }
+
+-- where none of them but the registers is another
+pub saved_again : (mode : Mode) (image : Image) (o : Origin) (e u : Env) (w : Processor) → ((i : ℕ) → 16 ≤ i → u.var i ≡ e.var i)
+    → u.base gs_tag ≡ e.base gs_tag → u.base top_tag ≡ e.base top_tag → u.rest ≡ e.rest → SavedOf mode image o e w → SavedOf mode image o u w
+saved_again mode image o e u w same = saved_beside mode image o e u w (λ i l off. same i l)
 
 -- so at the load of the body's address with other flags
 pub load_again : (mode : Mode) (image : Image) (o : Origin) (e : Env) (g : Flags) (w : Processor) (b : BodyContext) → AtLoad mode image o e w b

@@ -31,6 +31,7 @@ pub mod ItemUser
 pub mod ItemPage
 pub mod ItemPages
 pub mod CallGoes
+pub mod FillGoes
 pub mod CallFirst
 pub mod RecordLoad
 pub mod ItemWaitLoad
