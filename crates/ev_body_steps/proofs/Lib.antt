@@ -34,6 +34,7 @@ pub mod CallFirst
 pub mod ItemWaitLoad
 pub mod KernelItems
 pub mod WaitSteps
+pub mod TakenSteps
 pub mod Kernel
 pub mod BodyRaising
 pub mod BodyRaisingFred
