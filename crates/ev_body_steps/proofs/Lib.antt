@@ -40,6 +40,7 @@ pub mod KickSends
 pub mod KickSteps
 pub mod KernelItems
 pub mod WaitSteps
+pub mod TakenSteps
 pub mod Kernel
 pub mod BodyRaising
 pub mod BodyRaisingFred
