@@ -1,6 +1,6 @@
 -- Steps of an activation behind the exchange of `take` that write nothing: from record to record of the list that it turns round, and to the function of the
 -- first call.
-use Rattle.std.proofs.Common.{◌≡◌, ◌≢◌, ℕ, zero, suc, ◌+◌, ◌-◌, ◌*◌, ◌%◌, ◌<◌, ◌≤◌, Bool, true, false, not, ◌&&◌, List, [], ◌∷◌, get_or, set, map, length, None, Some, refl, sym, ap, ◌∙◌, subst, arith}
+use Rattle.std.proofs.Common.{◌≡◌, ℕ, zero, suc, ◌+◌, ◌-◌, ◌*◌, ◌%◌, ◌<◌, ◌≤◌, Bool, true, false, not, ◌&&◌, List, [], ◌∷◌, get_or, set, map, length, None, Some, refl, sym, ap, ◌∙◌, subst, arith}
 use Rattle.std.specs.Prelude.{pos, slice_get, ◌==◌, ◌||◌, if◌then◌else◌, reverse}
 use Rattle.std.proofs.lemmas.Bool.{ne_eqb}
 use Rattle.std.proofs.lemmas.List.{get_or-set_other, length-set}
@@ -11,7 +11,6 @@ use Rattle.ev_isa.specs.declared.instruction.Ins.{Ins}
 use Rattle.ev_isa.specs.declared.instruction.Ins.TheVariants.{Load}
 use Rattle.ev_isa.specs.declared.mode.Mode.{Mode}
 use Rattle.ev_isa.specs.declared.mode.Mode.TheVariants.{Idt, Fred}
-use Rattle.ev_body.specs.declared.item.Item.TheVariants.{Take}
 use Rattle.ev_body.specs.declared.body.Body.{Body}
 use Rattle.ev_body.specs.declared.image.Image.{Image}
 use Rattle.ev_body.specs.WellFormed.{IsImage}
@@ -19,7 +18,7 @@ use Rattle.ev_listing.specs.AddressMap.{pcpu, record_address}
 use Rattle.ev_listing.specs.Expansion.{item_address}
 use Rattle.ev_state.specs.Processor.{Processor, register}
 use Rattle.ev_mem.specs.Memory.{Memory}
-use Rattle.ev_abstract.specs.Context.{BodyContext, CallId, local}
+use Rattle.ev_abstract.specs.Context.{BodyContext, CallId}
 use Rattle.ev_abstract.specs.CrossCall.{record_of}
 use Rattle.ev_abstract.specs.Machine.{CallState, Free, Queued, Taken, Machine, processor}
 use Rattle.ev_abstract.specs.Run.{item_at}
@@ -27,27 +26,23 @@ use Rattle.ev_concrete.specs.ConcreteRun.{System, is_return}
 use Rattle.ev_built.specs.Built.{IsBuilt}
 use Rattle.ev_calls.specs.Lists.{HasFirst, IsTurning}
 use Rattle.ev_calls.specs.Records.{Linked}
-use Rattle.ev_calls.proofs.Lists.{first_elsewhere, lists_are_turned, empty_at_zero}
+use Rattle.ev_calls.proofs.Lists.{first_elsewhere, lists_are_turned}
 use Rattle.ev_call_law.specs.Calls.{is_free, is_taken, one_if, times, to_run, IsPlaced, IsInRange}
 use Rattle.ev_call_law.proofs.Counts.{times_same, times_append, is_one}
 use Rattle.ev_law.specs.Legal.{runs_calls}
 use Rattle.ev_symbolic.specs.Value.{M, V, K, X}
-use Rattle.ev_symbolic.specs.Single.{Leads, onward}
-use Rattle.ev_symbolic.specs.State.{Block}
-use Rattle.ev_symbolic.specs.Openings.{at_base}
-use Rattle.ev_symbolic.specs.Names.{item_tag}
-use Rattle.ev_symbolic.specs.Agrees.{Env, Code, Stands as Lines, IsOpen, eval, FactsHold, At, edge_cell}
+use Rattle.ev_symbolic.specs.Agrees.{Env, Code, IsOpen, eval, FactsHold, At, edge_cell}
 use Rattle.ev_symbolic.proofs.Single.{singles}
 use Rattle.ev_symbolic.proofs.Values.{and_left}
 use Rattle.ev_blocks.specs.Shapes.{FredFrame, IdtFrame}
-use Rattle.ev_blocks.specs.Calls.{CallSpot, BehindTake, AtTurn, BehindTurn, AtTaken, AtOffset, fills_record, block_of_call, none_left, is_none_of, says_none, turn_code, taken_code, at_turn, at_old_link, at_taken, at_function, turn_edges}
+use Rattle.ev_blocks.specs.Calls.{CallSpot, BehindTake, AtTurn, BehindTurn, AtTaken, AtOffset, block_of_call, none_left, is_none_of, says_none, turn_code, taken_code, at_turn, at_old_link, at_taken, turn_edges}
 use Rattle.ev_blocks.specs.Items.{InCall}
 use Rattle.ev_blocks.specs.Blocks.{block, edges, item_edges}
 use Rattle.ev_blocks.proofs.CallFalls.{call_edges}
 use Rattle.ev_paths.specs.CallEnds.{CallComes, item_regs}
 use Rattle.ev_table.specs.Table.{code_table}
 use Rattle.ev_relation.specs.Filling.{first_fill}
-use Rattle.ev_relation.specs.Active.{address_of_item, here, IsKernelSs, LocalsBut, BeginsCall, Taking, InTake, Turns, IsByHand, BehindOldLink, BehindArgument, BehindCaller, BehindAddress, InCallSpot, Active}
+use Rattle.ev_relation.specs.Active.{address_of_item, here, IsKernelSs, LocalsBut, Taking, InTake, Turns, IsByHand, BehindOldLink, Active}
 use Rattle.ev_relation.specs.Relation.{StandsOn, Stands, switches_at}
 use Rattle.ev_relation.specs.Step.{Simulated}
 use Rattle.ev_relation.proofs.CallKinds.{origin_of}
@@ -61,7 +56,7 @@ use Rattle.ev_body_steps.proofs.CallGoes.{block_is, ends_of}
 use Rattle.ev_body_steps.proofs.CallGoes as goes
 use Rattle.ev_body_steps.proofs.ItemAddresses.{area_open}
 use Rattle.ev_body_steps.proofs.ItemCells.{edges_stand}
-use Rattle.ev_body_steps.proofs.ItemState.{with_registers, gone, beyond_registers}
+use Rattle.ev_body_steps.proofs.ItemState.{with_registers, beyond_registers}
 use Rattle.ev_body_steps.proofs.ItemVisible.{goes_onward}
 use Rattle.ev_body_steps.proofs.KernelStep as step
 

@@ -1,5 +1,5 @@
 -- How many bodies stand is told from the activations: also where a held NMI's body follows another one, and where an inner NMI stands on REPEAT.
-use Rattle.std.specs.Prelude.{◌≡◌, refl, ℕ, suc, Bool, true, ◌&&◌, ◌==◌, List, [], ◌∷◌, ◌++◌, length, replicate}
+use Rattle.std.specs.Prelude.{◌≡◌, refl, Bool, true, ◌&&◌, ◌==◌, List, [], ◌∷◌, ◌++◌, length, replicate}
 use Rattle.ev_isa.specs.declared.mode.Mode.{Mode}
 use Rattle.ev_isa.specs.declared.mode.Mode.TheVariants.{Fred, Idt}
 use Rattle.ev_body.specs.KernelImage.{KernelImage}

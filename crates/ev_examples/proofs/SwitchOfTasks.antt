@@ -1,6 +1,6 @@
 -- Bodies that ask for another task: the first one's return switches to it, in both modes, by either return; with one task alone, which is its own next one; and
 -- asked for twice.
-use Rattle.std.specs.Prelude.{◌≡◌, refl, ℕ, negsuc, List, [], ◌∷◌, Bool, true, ◌&&◌, None, flat_map}
+use Rattle.std.specs.Prelude.{◌≡◌, refl, ℕ, negsuc, List, [], ◌∷◌, Bool, true, None, flat_map}
 use Rattle.std.specs.List.{list_all}
 use Rattle.ev_isa.specs.Spelling.{spelling}
 use Rattle.ev_isa.specs.declared.instruction.Ins.TheVariants.{Int3, Jmp, MovImm, Syscall}
