@@ -1,6 +1,6 @@
 -- Where a block of `call` opens that fills a record: what it knows is words of the body's frame and of the record.
-use Rattle.std.proofs.Common.{◌≡◌, ℕ, ◌+◌, ◌%◌, ◌<◌, ◌≤◌, Bool, true, false, List, [], ◌∷◌, get_or, map, length, refl, sym, ap, ◌∙◌, subst, arith}
-use Rattle.std.specs.Prelude.{◌++◌, nat_le, nat_lt, ◌&&◌, if◌then◌else◌}
+use Rattle.std.proofs.Common.{◌≡◌, ℕ, ◌+◌, ◌%◌, ◌<◌, ◌≤◌, Bool, true, false, List, [], ◌∷◌, get_or, map, length, refl, sym, subst}
+use Rattle.std.specs.Prelude.{if◌then◌else◌}
 use Rattle.ev_isa.specs.Word.{NatMap}
 use Rattle.ev_isa.specs.Flags.{Flags}
 use Rattle.ev_isa.specs.declared.mode.Mode.{Mode}
@@ -8,7 +8,6 @@ use Rattle.ev_isa.specs.declared.mode.Mode.TheVariants.{Idt, Fred}
 use Rattle.ev_body.specs.declared.image.Image.{Image}
 use Rattle.ev_body.specs.WellFormed.{IsImage}
 use Rattle.ev_listing.specs.AddressMap.{record_address}
-use Rattle.ev_mem.specs.Memory.{Memory}
 use Rattle.ev_state.specs.Processor.{Processor}
 use Rattle.ev_abstract.specs.Machine.{Machine}
 use Rattle.ev_concrete.specs.ConcreteRun.{System}
@@ -17,7 +16,7 @@ use Rattle.ev_symbolic.specs.Value.{M, FVar}
 use Rattle.ev_symbolic.specs.State.{Win, Word, Block, in_win, in_one}
 use Rattle.ev_symbolic.specs.Openings.{at_base}
 use Rattle.ev_symbolic.specs.Names.{item_tag}
-use Rattle.ev_symbolic.specs.Agrees.{Env, Code, Stands as Lines, eval, Known, Open, Fits, At, with_words}
+use Rattle.ev_symbolic.specs.Agrees.{Env, Code, Stands as Lines, eval, Known, Open, Fits, At}
 use Rattle.ev_symbolic.proofs.Blocks.{begins}
 use Rattle.ev_distances.specs.Form.{win_of, InRecord}
 use Rattle.ev_blocks.specs.Items.{BodySpot}
@@ -30,7 +29,7 @@ use Rattle.ev_relation.proofs.Fills.{is_fill_spot, is_fill, fill_fits, fill_open
 use Rattle.ev_relation.proofs.Fits.{InBodies}
 use Rattle.ev_body_steps.proofs.Bodies.{body}
 use Rattle.ev_body_steps.proofs.CallPlaces.{IsAtOffset, IsBeside, place_behind, opens_from}
-use Rattle.ev_body_steps.proofs.ItemState.{with_registers, opening_of, known_of, gone}
+use Rattle.ev_body_steps.proofs.ItemState.{with_registers, known_of, gone}
 use Rattle.ev_body_steps.proofs.KernelStep as step
 
 -- with a window more the words are known that were

@@ -1,5 +1,5 @@
 -- `call` at its item, and at the load of its record's state where that is in use: the load is visible then, and the local's answer is 0.
-use Rattle.std.proofs.Common.{◌≡◌, ℕ, suc, ◌+◌, ◌^◌, ◌-◌, ◌<◌, ◌≤◌, Bool, true, false, List, [], ◌∷◌, get_or, set, length, Some, None, refl, sym, ap, ◌∙◌, subst, arith}
+use Rattle.std.proofs.Common.{◌≡◌, ℕ, suc, ◌+◌, ◌-◌, ◌<◌, ◌≤◌, true, false, List, [], ◌∷◌, set, length, Some, None, refl, sym, ap, ◌∙◌, subst, arith}
 use Rattle.std.specs.Prelude.{pos, slice_get, is_some, not, ◌&&◌, ◌==◌, nat_le, nat_lt}
 use Rattle.std.proofs.Common.{le-leb, lt-ltb, leb-true, ltb-true}
 use Rattle.std.proofs.lemmas.Bool.{not-false}
@@ -20,15 +20,14 @@ use Rattle.ev_listing.specs.Expansion.{item_address, function_address}
 use Rattle.ev_listing.specs.Marks.{IfNonzero}
 use Rattle.ev_state.specs.Processor.{Processor, register}
 use Rattle.ev_mem.specs.Memory.{Memory}
-use Rattle.ev_abstract.specs.Context.{CallId, BodyContext, local, with_local, onward}
-use Rattle.ev_abstract.specs.ItemMeaning.{item_step, called, unknown_flags, with_context}
+use Rattle.ev_abstract.specs.Context.{BodyContext, with_local, onward}
+use Rattle.ev_abstract.specs.ItemMeaning.{unknown_flags, with_context}
 use Rattle.ev_abstract.specs.Machine.{CallState, Free, Queued, Taken, CallRecord, Machine, processor}
 use Rattle.ev_abstract.specs.Machine as abstract
 use Rattle.ev_abstract.specs.Rules.{breaks_slots}
 use Rattle.ev_abstract.specs.Run.{item_at, turn}
 use Rattle.ev_abstract.specs.declared.entry.Entry.{Entry}
-use Rattle.ev_calls.specs.Lists.{QueueIs}
-use Rattle.ev_concrete.specs.ConcreteRun.{System, is_return, is_seen}
+use Rattle.ev_concrete.specs.ConcreteRun.{System, is_return}
 use Rattle.ev_built.specs.Built.{IsBuilt}
 use Rattle.ev_law.specs.Legal.{AreLegal, knows}
 use Rattle.ev_law.proofs.Ruled.{body_ruled}
@@ -39,12 +38,10 @@ use Rattle.ev_blocks.specs.Items.{AtItem, InCall}
 use Rattle.ev_blocks.specs.Blocks.{block, edges}
 use Rattle.ev_blocks.specs.Blocks as blocks
 use Rattle.ev_table.specs.Table.{code_table}
-use Rattle.ev_relation.specs.Filling.{first_fill, rest_fills, is_filled, AreFree}
-use Rattle.ev_relation.specs.Active.{item_place, address_of_item, item_of, site_of, here, IsKernelSs, InCode, InItem, InCallSpot, Active}
-use Rattle.ev_relation.specs.Relation.{IsContext, HoldsCall, CallIs, StandsOn, Stands, switches_at}
+use Rattle.ev_relation.specs.Filling.{first_fill, rest_fills, is_filled}
+use Rattle.ev_relation.specs.Active.{item_place, address_of_item, item_of, site_of, here, IsKernelSs, InItem, InCallSpot, Active}
+use Rattle.ev_relation.specs.Relation.{IsContext, HoldsCall, StandsOn, Stands, switches_at}
 use Rattle.ev_relation.specs.Step.{Simulated}
-use Rattle.ev_relation.proofs.After.{none_spares}
-use Rattle.ev_relation.proofs.CallHolders.{AreAlone}
 use Rattle.ev_relation.proofs.CallKinds.{origin_of, plain_knows}
 use Rattle.ev_relation.proofs.Facts.{Facts}
 use Rattle.ev_relation.proofs.FilledOnce.{never_filled_twice}
@@ -60,7 +57,6 @@ use Rattle.ev_body_steps.proofs.CallTurns as alike
 use Rattle.ev_body_steps.proofs.ItemCells.{edges_stand}
 use Rattle.ev_body_steps.proofs.ItemState.{with_registers, gone}
 use Rattle.ev_body_steps.proofs.ItemVisible.{legal_context}
-use Rattle.ev_body_steps.proofs.ItemWords as words
 use Rattle.ev_body_steps.proofs.KernelStep as step
 use Rattle.ev_body_steps.proofs.RecordLoad as record_load
 
@@ -173,7 +169,7 @@ module _ (mode : Mode) (image : Image) (built : IsBuilt image) (good : IsImage i
       answered = onward (with_local (unknown_flags b) r 0)
 
       -- Where the record is in use, the load is visible.
-      busy : s.memory.words there ≡ 1 → turn image m p ≡ (with_context m p answered, Entry.Busy p site ∷ []) → Simulated mode image left s m p
+      pub busy : s.memory.words there ≡ 1 → turn image m p ≡ (with_context m p answered, Entry.Busy p site ∷ []) → Simulated mode image left s m p
       unfolding is_return spelling four_bytes
       busy used turns =
           let range = at_load.range in

@@ -48,5 +48,6 @@ pub mod BodyFault
 pub mod CallSteps
 pub mod CallTurns
 pub mod ItemCallLoad
+pub mod ItemCallFill
 pub mod KickGoes
 pub mod CallFills
