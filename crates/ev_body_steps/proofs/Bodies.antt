@@ -138,7 +138,7 @@ exit_canonical Idt = refl
 
 -- the variables that tell of a record which is filled
 abbrev pub tells_record : ℕ → Bool
-tells_record n = nat_lt 21 n && nat_lt n 30
+tells_record n = nat_lt 24 n && nat_lt n 30
 
 -- what gives back w is told by none of the sixteen registers, by none of those and by no flags
 pub saved_beside : (mode : Mode) (image : Image) (o : Origin) (e u : Env) (w : Processor)

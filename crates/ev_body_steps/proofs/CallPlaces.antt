@@ -1,5 +1,5 @@
 -- Places in the items of cross calls: a processor so many bytes behind the item's beginning, whatever its registers are, and how a block opens there.
-use Rattle.std.proofs.Common.{◌≡◌, ℕ, suc, ◌+◌, ◌%◌, false, List, [], ◌∷◌, get_or, set, map, length, None, refl, sym, ap, ◌∙◌, subst}
+use Rattle.std.proofs.Common.{◌≡◌, ℕ, zero, suc, ◌+◌, ◌%◌, false, List, [], ◌∷◌, get_or, set, map, length, None, refl, sym, ap, ◌∙◌, subst}
 use Rattle.ev_isa.specs.Word.{NatMap}
 use Rattle.ev_isa.specs.Flags.{Flags, flags_word}
 use Rattle.ev_isa.specs.declared.mode.Mode.{Mode}
@@ -35,17 +35,22 @@ item_regs_are mode u regs v var long rsp = sixteen regs long ∙ ap (with_rsp re
     as_told : (ℕ → ℕ) → ℕ → List ℕ
     as_told w r = w 0 ∷ w 1 ∷ w 2 ∷ w 3 ∷ r ∷ w 5 ∷ w 6 ∷ w 7 ∷ w 8 ∷ w 9 ∷ w 10 ∷ w 11 ∷ w 12 ∷ w 13 ∷ w 14 ∷ w 15 ∷ []
 
+-- with one more told
+pub told_too : (u : Env) (regs : List ℕ) (vs : List V) (r : ℕ) (a : V) → regs ≡ map (eval u) vs → get_or regs r 0 ≡ eval u a
+    → regs ≡ map (eval u) (set vs r a)
+told_too u regs vs r a is at = is ∙ same vs r (ap (λ xs. get_or xs r 0) (sym is) ∙ at)
+  where
+    same : (vs : List V) (r : ℕ) → get_or (map (eval u) vs) r 0 ≡ eval u a → map (eval u) vs ≡ map (eval u) (set vs r a)
+    same [] r q = refl
+    same (v ∷ vs) zero q = ap (λ n. n ∷ map (eval u) vs) q
+    same (v ∷ vs) (suc r) q = ap (λ xs. eval u v ∷ xs) (same vs r q)
+
 -- with RAX told too
 pub rax_regs_are : (mode : Mode) (u : Env) (regs : List ℕ) (v : ℕ → ℕ) (a : V) → u.var ≡ with_registers regs v → length regs ≡ 16
     → get_or regs 4 0 ≡ eval u (top_less (body_bytes (layout_of mode))) → get_or regs 0 0 ≡ eval u a
     → regs ≡ map (eval u) (set (item_regs (layout_of mode)) 0 a)
-unfolding eval
 rax_regs_are mode u regs v a var long rsp rax =
-    set_same regs long ∙ ap (set regs 0) rax ∙ ap (λ xs. set xs 0 (eval u a)) (item_regs_are mode u regs v var long rsp)
-  where
-    set_same : (xs : List ℕ) → length xs ≡ 16 → xs ≡ set xs 0 (get_or xs 0 0)
-    set_same (x ∷ xs) q = refl
-    set_same [] q = refl
+    told_too u regs (item_regs (layout_of mode)) 0 a (item_regs_are mode u regs v var long rsp) rax
 
 -- ---- where a processor is
 

@@ -169,7 +169,7 @@ module _ (mode : Mode) (image : Image) (built : IsBuilt image) (good : IsImage i
       answered = onward (with_local (unknown_flags b) r 0)
 
       -- Where the record is in use, the load is visible.
-      busy : s.memory.words there ≡ 1 → turn image m p ≡ (with_context m p answered, Entry.Busy p site ∷ []) → Simulated mode image left s m p
+      pub busy : s.memory.words there ≡ 1 → turn image m p ≡ (with_context m p answered, Entry.Busy p site ∷ []) → Simulated mode image left s m p
       unfolding is_return spelling four_bytes
       busy used turns =
           let range = at_load.range in

@@ -53,4 +53,5 @@ pub mod BodyFault
 pub mod CallSteps
 pub mod CallTurns
 pub mod ItemCallLoad
+pub mod ItemCallFill
 pub mod CallFills
