@@ -52,6 +52,7 @@ use Rattle.ev_relation.specs.Relation.{StandsOn, Stands, switches_at}
 use Rattle.ev_relation.specs.Step.{Simulated}
 use Rattle.ev_relation.proofs.CallKinds.{origin_of}
 use Rattle.ev_relation.proofs.Facts.{Facts}
+use Rattle.ev_relation.proofs.Fits.{InBodies}
 use Rattle.ev_relation.proofs.ModeFacts.{is_fred}
 use Rattle.ev_relation.proofs.Records.{times_reverse}
 use Rattle.ev_relation.proofs.Spots.{is_spot}
@@ -351,3 +352,111 @@ module _ (mode : Mode) (image : Image) (built : IsBuilt image) (good : IsImage i
             (subst (λ xs. Turns mode image words (get_or (set xs 1 w) 0 0) (get_or (set xs 1 w) 14 0) b.calls (suc n)) (sym z.1) turns)
             (subst (λ xs. get_or (set xs 1 w) 1 0 ≡ words (get_or (set xs 1 w) 0 0 + 0x18)) (sym z.1) (ap (λ y. words (y + 0x18)) (sym first.at))))
             (omega arith)
+
+        -- ---- the loads of the first call's words
+
+        has_first : (first : HasFirst words (v 14) b.calls) → 0 < times first.first b.calls
+        has_first first = let one = ap (times first.first) first.are ∙ times_same first.first first.rest in omega (arith, one)
+
+        -- the argument
+        to_argument : AtPlace at_function → c.regs ≡ map (eval e) (item_regs (layout_of mode)) → IsTaking e false false → runs_calls b.calls ≡ true
+            → Linked words (v 14) b.calls → item_edges + 3 < on.own → Simulated mode image left s m p
+        unfolding eval spelling four_bytes is_return
+        to_argument at same t some list fewer =
+            let first : HasFirst words (v 14) b.calls = first_of words (v 14) b.calls some list in
+            let k : CallId = first.first in
+            let w : ℕ = words (record_address k.from k.site + 0x10) in
+            let says = subst (BeginsCall mode image words b) first.are t.begins in
+            let locals : LocalsBut mode image false false v b
+            = subst (λ r. LocalsBut mode image (not r || false) (not r || false) v b) some t.locals in
+            let told : b.locals ≡ v 6 ∷ v 7 ∷ v 8 ∷ w ∷ local b 10 ∷ v 11 ∷ v 12 ∷ v 13 ∷ []
+            = locals ∙ ap (λ n. v 6 ∷ v 7 ∷ v 8 ∷ n ∷ local b 10 ∷ v 11 ∷ v 12 ∷ v 13 ∷ []) (sym says.1) in
+            loads at_function at 9 14 0x10 (at_function + 7) (item_edges + 3) k (has_first first)
+            (ap (λ (xs : List ℕ). get_or xs 14 0) same ∙ first.at) (omega arith) refl (λ q. omega (arith, q)) refl refl (omega arith) cells.argument refl
+            (BehindArgument refl refl
+            (taking_behind false false true false (set c.regs 9 w) at.flags t
+            (subst (λ r. LocalsBut mode image (not r || true) (not r || false) (with_registers (set c.regs 9 w) v) b) (sym some)
+            (subst (λ xs. LocalsBut mode image true false (with_registers (set xs 9 w) v) b) (sym same) told)))
+            (in_take (set c.regs 9 w) at.flags i) some
+            (subst (λ xs. Linked words (get_or (set xs 9 w) 14 0) b.calls) (sym same) list))
+            fewer
+
+        -- the caller
+        to_caller : AtPlace (at_function + 7) → c.regs ≡ map (eval e) (item_regs (layout_of mode)) → IsTaking e true false → runs_calls b.calls ≡ true
+            → Linked words (v 14) b.calls → item_edges + 2 < on.own → Simulated mode image left s m p
+        unfolding eval spelling four_bytes is_return
+        to_caller at same t some list fewer =
+            let first : HasFirst words (v 14) b.calls = first_of words (v 14) b.calls some list in
+            let k : CallId = first.first in
+            let w : ℕ = words (record_address k.from k.site + 0x20) in
+            let says = subst (BeginsCall mode image words b) first.are t.begins in
+            let locals : LocalsBut mode image true false v b
+            = subst (λ r. LocalsBut mode image (not r || true) (not r || false) v b) some t.locals in
+            let told : b.locals ≡ v 6 ∷ v 7 ∷ v 8 ∷ v 9 ∷ w ∷ v 11 ∷ v 12 ∷ v 13 ∷ []
+            = locals ∙ ap (λ n. v 6 ∷ v 7 ∷ v 8 ∷ v 9 ∷ n ∷ v 11 ∷ v 12 ∷ v 13 ∷ []) (sym says.2) in
+            loads (at_function + 7) at 10 14 0x20 (at_function + 14) (item_edges + 2) k (has_first first)
+            (ap (λ (xs : List ℕ). get_or xs 14 0) same ∙ first.at) (omega arith) refl (λ q. omega (arith, q)) refl refl (omega arith) cells.caller refl
+            (BehindCaller refl refl
+            (taking_behind true false true true (set c.regs 10 w) at.flags t
+            (subst (λ r. LocalsBut mode image (not r || true) (not r || true) (with_registers (set c.regs 10 w) v) b) (sym some)
+            (subst (λ xs. LocalsBut mode image true true (with_registers (set xs 10 w) v) b) (sym same) told)))
+            (in_take (set c.regs 10 w) at.flags i) some
+            (subst (λ xs. Linked words (get_or (set xs 10 w) 14 0) b.calls) (sym same) list))
+            fewer
+
+        -- the address
+        to_address : AtPlace (at_function + 14) → c.regs ≡ map (eval e) (item_regs (layout_of mode)) → IsTaking e true true → runs_calls b.calls ≡ true
+            → Linked words (v 14) b.calls → item_edges + 1 < on.own → Simulated mode image left s m p
+        unfolding eval spelling four_bytes is_return
+        to_address at same t some list fewer =
+            let first : HasFirst words (v 14) b.calls = first_of words (v 14) b.calls some list in
+            let k : CallId = first.first in
+            let w : ℕ = words (record_address k.from k.site + 8) in
+            let says = subst (BeginsCall mode image words b) first.are t.begins in
+            loads (at_function + 14) at 0 14 8 (at_function + 21) (item_edges + 1) k (has_first first)
+            (ap (λ (xs : List ℕ). get_or xs 14 0) same ∙ first.at) (omega arith) refl (λ q. omega (arith, q)) refl refl (omega arith) cells.address refl
+            (BehindAddress refl refl
+            (taking_behind true true true true (set c.regs 0 w) at.flags t
+            (subst (λ xs. LocalsBut mode image (not (runs_calls b.calls) || true) (not (runs_calls b.calls) || true) (with_registers (set xs 0 w) v) b)
+            (sym same) t.locals))
+            (in_take (set c.regs 0 w) at.flags i) some
+            (subst (λ xs. Linked words (get_or (set xs 0 w) 14 0) b.calls) (sym same) list)
+            (subst (λ xs. get_or (set xs 0 w) 0 0 ≡ w) (sym same) refl ∙ says.0))
+            fewer
+
+        -- where an instruction is made by hand
+        at_hand : (n k : ℕ) → n < 0x100 → InBodies extra → AtEnd (AtOffset n k) → AtPlace n × (c.regs ≡ map (eval e) (item_regs (layout_of mode)))
+        unfolding eval
+        at_hand n k near range at = goes.behind_block mode image built good facts left s m h p hp o (AtOffset n k) refl unfilled act ss ss_is extra v f range at n
+            near (item_regs (layout_of mode)) (ends_at_hand mode n k) refl refl
+
+        -- at the end of the block that found a call
+        pub at_some_end : AtEnd (AtTaken true) → IsTaking e false false → Linked words (v 14) b.calls → runs_calls b.calls ≡ true
+            → edges_at_end mode (AtTaken true) ≤ on.own → Simulated mode image left s m p
+        unfolding eval
+        at_some_end at t list some enough =
+            let z = goes.behind_block mode image built good facts left s m h p hp o (AtTaken true) refl unfilled act ss ss_is extra v f t.range at at_function
+            (omega arith) (item_regs (layout_of mode)) ((ends_of mode).taken true) refl refl in
+            let falls = argument_falls mode in
+            to_argument z.0 z.1 t some list (omega arith)
+
+        pub at_argument : AtEnd (AtOffset at_function (item_edges + 4)) → IsTaking e false false → runs_calls b.calls ≡ true → Linked words (v 14) b.calls
+            → edges_at_end mode (AtOffset at_function (item_edges + 4)) ≤ on.own → Simulated mode image left s m p
+        at_argument at t some list enough =
+            let z = at_hand at_function (item_edges + 4) (omega arith) t.range at in
+            let same = hand_edges mode at_function (item_edges + 4) in
+            to_argument z.0 z.1 t some list (omega arith)
+
+        pub at_caller : AtEnd (AtOffset (at_function + 7) (item_edges + 3)) → IsTaking e true false → runs_calls b.calls ≡ true → Linked words (v 14) b.calls
+            → edges_at_end mode (AtOffset (at_function + 7) (item_edges + 3)) ≤ on.own → Simulated mode image left s m p
+        at_caller at t some list enough =
+            let z = at_hand (at_function + 7) (item_edges + 3) (omega arith) t.range at in
+            let same = hand_edges mode (at_function + 7) (item_edges + 3) in
+            to_caller z.0 z.1 t some list (omega arith)
+
+        pub at_address : AtEnd (AtOffset (at_function + 14) (item_edges + 2)) → IsTaking e true true → runs_calls b.calls ≡ true → Linked words (v 14) b.calls
+            → edges_at_end mode (AtOffset (at_function + 14) (item_edges + 2)) ≤ on.own → Simulated mode image left s m p
+        at_address at t some list enough =
+            let z = at_hand (at_function + 14) (item_edges + 2) (omega arith) t.range at in
+            let same = hand_edges mode (at_function + 14) (item_edges + 2) in
+            to_address z.0 z.1 t some list (omega arith)
