@@ -1,5 +1,5 @@
 -- Steps in the items of cross calls, from one place to the next: what an activation knows where a block has ended, and how it stands where another opens.
-use Rattle.std.proofs.Common.{◌≡◌, ℕ, ◌+◌, ◌%◌, ◌<◌, ◌≤◌, false, true, List, [], get_or, map, length, None, Some, refl, sym, ap, ◌∙◌, subst, arith}
+use Rattle.std.proofs.Common.{◌≡◌, ℕ, ◌+◌, ◌%◌, ◌<◌, ◌≤◌, false, true, List, [], ◌∷◌, get_or, map, length, None, Some, refl, sym, ap, ◌∙◌, subst, arith}
 use Rattle.std.specs.Prelude.{is_some}
 use Rattle.std.proofs.lemmas.Bool.{lt-ltb}
 use Rattle.ev_isa.specs.Word.{NatMap}
@@ -18,7 +18,7 @@ use Rattle.ev_concrete.specs.ConcreteRun.{System}
 use Rattle.ev_concrete.specs.Depth.{is_in_repeat}
 use Rattle.ev_concrete.specs.ConcreteRun.{is_return}
 use Rattle.ev_built.specs.Built.{IsBuilt}
-use Rattle.ev_symbolic.specs.Value.{M, V, FVar, Fact}
+use Rattle.ev_symbolic.specs.Value.{M, V, X, FVar, Fact}
 use Rattle.ev_symbolic.specs.State.{SS, Block, Line}
 use Rattle.ev_symbolic.specs.Single.{IsAt, Leads}
 use Rattle.ev_symbolic.specs.Openings.{at_base}
@@ -46,7 +46,7 @@ use Rattle.ev_relation.proofs.Facts.{Facts}
 use Rattle.ev_relation.proofs.Spots.{is_spot, layout_of, body}
 use Rattle.ev_relation.proofs.CallKinds.{origin_of, plain_knows}
 use Rattle.ev_body_steps.proofs.Bodies.{means_at}
-use Rattle.ev_body_steps.proofs.ItemState.{with_registers, opening_of, known_of, any_known, gone}
+use Rattle.ev_body_steps.proofs.ItemState.{with_registers, opening_of, known_of, ItemState, unblocked, any_registers, any_known, gone}
 use Rattle.ev_body_steps.proofs.CallPlaces.{IsAtOffset, IsBeside, offset_from, place_behind, opens_from, item_regs_are, same_rsp}
 use Rattle.ev_body_steps.proofs.KernelStep as step
 
@@ -373,3 +373,22 @@ module _ (mode : Mode) (image : Image) (built : IsBuilt image) (good : IsImage i
         (let z : next ≡ (extra 20 + n) % M = omega arith in z) refl (item_regs_are mode u regs v refl long stack) a.state.words
         (any_known mode p o.κ o.σ ss o.w extra extra v f a.flags regs s.memory.words a.state.words) (offset_facts mode n k u) (offset_lines mode code n k u))
         means (subst (λ y. y < on.own) (sym (offset_edges mode n k)) fewer) (step.outside mode image built good facts left s m h p hp o a.act)
+
+    -- an item's state there, of which the registers are the variables
+    pub item_state_at : ItemState mode (env ss extra (with_registers c.regs v) a.flags) c s.memory offset (X 0) (X 1) (X 2) a.flags
+    unfolding eval
+    item_state_at =
+        let u : Env = env ss extra (with_registers c.regs v) a.flags in
+        let same = any_registers mode p o.κ o.σ ss o.w o.w extra extra v v f a.flags c.regs refl refl refl in record {
+          regs = item_regs_are mode u c.regs v refl a.state.long
+              (same_rsp mode p o.κ o.σ ss o.w extra v f c s.memory offset a.flags a.state extra v refl refl refl);
+          rip = a.state.rip;
+          flags = a.state.flags;
+          gs = a.state.gs ∙ same.gs;
+          kernel_gs = a.state.kernel_gs ∙ same.kernel_gs;
+          selector = a.state.selector ∙ same.selector;
+          levels = a.state.levels ∙ ap (λ n. n ∷ u.rest.msrs.rsp) same.rsp0;
+          blocked = a.state.blocked ∙ sym (unblocked mode);
+          rest = a.state.rest;
+          words = any_known mode p o.κ o.σ ss o.w extra extra v f a.flags c.regs s.memory.words a.state.words;
+        }

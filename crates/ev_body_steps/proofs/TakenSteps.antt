@@ -1,16 +1,17 @@
 -- Steps of an activation behind the exchange of `take` that write nothing: from record to record of the list that it turns round, and to the function of the
 -- first call.
-use Rattle.std.proofs.Common.{◌≡◌, ℕ, zero, suc, ◌+◌, ◌-◌, ◌*◌, ◌%◌, ◌<◌, ◌≤◌, Bool, true, false, not, ◌&&◌, List, [], ◌∷◌, get_or, set, map, length, None, Some, refl, sym, ap, ◌∙◌, subst, arith}
+use Rattle.std.proofs.Common.{◌≡◌, ℕ, zero, suc, ◌+◌, ◌-◌, ◌*◌, ◌%◌, ◌^◌, ◌<◌, ◌≤◌, Bool, true, false, not, ◌&&◌, List, [], ◌∷◌, get_or, set, map, length, None, Some, refl, sym, ap, ◌∙◌, subst, arith}
 use Rattle.std.specs.Prelude.{pos, slice_get, ◌==◌, ◌||◌, if◌then◌else◌, reverse}
 use Rattle.std.proofs.lemmas.Bool.{ne_eqb}
 use Rattle.std.proofs.lemmas.List.{get_or-set_other, length-set}
-use Rattle.ev_isa.specs.Word.{NatMap, displaced}
+use Rattle.ev_isa.specs.Word.{NatMap, displaced, is_canonical}
 use Rattle.ev_isa.specs.Flags.{Flags}
 use Rattle.ev_isa.specs.Spelling.{spelling, four_bytes}
 use Rattle.ev_isa.specs.declared.instruction.Ins.{Ins}
-use Rattle.ev_isa.specs.declared.instruction.Ins.TheVariants.{Load}
+use Rattle.ev_isa.specs.declared.instruction.Ins.TheVariants.{Load, JmpReg}
 use Rattle.ev_isa.specs.declared.mode.Mode.{Mode}
 use Rattle.ev_isa.specs.declared.mode.Mode.TheVariants.{Idt, Fred}
+use Rattle.ev_body.specs.declared.item.Item.{Item}
 use Rattle.ev_body.specs.declared.body.Body.{Body}
 use Rattle.ev_body.specs.declared.image.Image.{Image}
 use Rattle.ev_body.specs.WellFormed.{IsImage}
@@ -18,12 +19,12 @@ use Rattle.ev_listing.specs.AddressMap.{pcpu, record_address}
 use Rattle.ev_listing.specs.Expansion.{item_address}
 use Rattle.ev_state.specs.Processor.{Processor, register}
 use Rattle.ev_mem.specs.Memory.{Memory}
-use Rattle.ev_abstract.specs.Context.{BodyContext, CallId}
+use Rattle.ev_abstract.specs.Context.{BodyContext, CallId, local}
 use Rattle.ev_abstract.specs.CrossCall.{record_of}
 use Rattle.ev_abstract.specs.Machine.{CallState, Free, Queued, Taken, Machine, processor}
 use Rattle.ev_abstract.specs.Run.{item_at}
 use Rattle.ev_concrete.specs.ConcreteRun.{System, is_return}
-use Rattle.ev_built.specs.Built.{IsBuilt}
+use Rattle.ev_built.specs.Built.{IsBuilt, is_built_item}
 use Rattle.ev_calls.specs.Lists.{HasFirst, IsTurning}
 use Rattle.ev_calls.specs.Records.{Linked}
 use Rattle.ev_calls.proofs.Lists.{first_elsewhere, lists_are_turned}
@@ -31,33 +32,38 @@ use Rattle.ev_call_law.specs.Calls.{is_free, is_taken, one_if, times, to_run, Is
 use Rattle.ev_call_law.proofs.Counts.{times_same, times_append, is_one}
 use Rattle.ev_law.specs.Legal.{runs_calls}
 use Rattle.ev_symbolic.specs.Value.{M, V, K, X}
-use Rattle.ev_symbolic.specs.Agrees.{Env, Code, IsOpen, eval, FactsHold, At, edge_cell}
+use Rattle.ev_symbolic.specs.Single.{Leads, onward}
+use Rattle.ev_symbolic.specs.Agrees.{Env, Code, IsOpen, eval, FactsHold, Agrees, At, edge_cell}
+use Rattle.ev_symbolic.proofs.Blocks.{begins}
 use Rattle.ev_symbolic.proofs.Single.{singles}
 use Rattle.ev_symbolic.proofs.Values.{and_left}
 use Rattle.ev_blocks.specs.Shapes.{FredFrame, IdtFrame}
-use Rattle.ev_blocks.specs.Calls.{CallSpot, BehindTake, AtTurn, BehindTurn, AtTaken, AtOffset, block_of_call, none_left, is_none_of, says_none, turn_code, taken_code, at_turn, at_old_link, at_taken, turn_edges}
-use Rattle.ev_blocks.specs.Items.{InCall}
+use Rattle.ev_blocks.specs.Calls.{CallSpot, BehindTake, AtTurn, BehindTurn, AtTaken, AtOffset, block_of_call, none_left, is_none_of, says_none, turn_code, taken_code, at_turn, at_old_link, at_taken, at_function, take_end, turn_edges}
+use Rattle.ev_blocks.specs.Items.{AtItem, InCall}
 use Rattle.ev_blocks.specs.Blocks.{block, edges, item_edges}
 use Rattle.ev_blocks.proofs.CallFalls.{call_edges}
 use Rattle.ev_paths.specs.CallEnds.{CallComes, item_regs}
 use Rattle.ev_table.specs.Table.{code_table}
 use Rattle.ev_relation.specs.Filling.{first_fill}
-use Rattle.ev_relation.specs.Active.{address_of_item, here, IsKernelSs, LocalsBut, Taking, InTake, Turns, IsByHand, BehindOldLink, Active}
+use Rattle.ev_relation.specs.Active.{item_place, address_of_item, here, IsKernelSs, FlagsAre, HoldsCalls, Locals, LocalsBut, BeginsCall, Taking, InTake, Turns, IsByHand, BehindOldLink, BehindArgument, BehindCaller, BehindAddress, Active}
 use Rattle.ev_relation.specs.Relation.{StandsOn, Stands, switches_at}
 use Rattle.ev_relation.specs.Step.{Simulated}
 use Rattle.ev_relation.proofs.CallKinds.{origin_of}
 use Rattle.ev_relation.proofs.Facts.{Facts}
+use Rattle.ev_relation.proofs.Fits.{InBodies}
 use Rattle.ev_relation.proofs.ModeFacts.{is_fred}
 use Rattle.ev_relation.proofs.Records.{times_reverse}
 use Rattle.ev_relation.proofs.Spots.{is_spot}
-use Rattle.ev_body_steps.proofs.Bodies.{body, layout_of, saved_again}
+use Rattle.ev_body_steps.proofs.Bodies.{body, layout_of, at_the_item, saved_again}
 use Rattle.ev_body_steps.proofs.CallCells.{TakeCode, take_code}
 use Rattle.ev_body_steps.proofs.CallGoes.{block_is, ends_of}
 use Rattle.ev_body_steps.proofs.CallGoes as goes
 use Rattle.ev_body_steps.proofs.ItemAddresses.{area_open}
 use Rattle.ev_body_steps.proofs.ItemCells.{edges_stand}
-use Rattle.ev_body_steps.proofs.ItemState.{with_registers, beyond_registers}
+use Rattle.ev_body_steps.proofs.ItemState.{with_registers, opening_of, gone, lands, any_registers, any_known, beyond_registers}
 use Rattle.ev_body_steps.proofs.ItemVisible.{goes_onward}
+use Rattle.ev_body_steps.proofs.ItemWait.{opens_behind}
+use Rattle.ev_body_steps.proofs.KernelItems as items
 use Rattle.ev_body_steps.proofs.KernelStep as step
 
 -- ---- whether a list has a record
@@ -136,6 +142,24 @@ hand_edges Idt n k = omega arith
 -- a block of no instruction ends where it begins
 ends_at_hand : (mode : Mode) (n k : ℕ) → CallComes (is_fred mode) (layout_of mode) (AtOffset n k) n (item_regs (layout_of mode))
 ends_at_hand mode n k = record { z = (block_of_call (is_fred mode) (layout_of mode) (AtOffset n k)).opening; runs = refl; is = refl }
+
+item_fewer : (mode : Mode) → edges mode (body mode AtItem) 0 < item_edges + 1
+item_fewer Fred = omega arith
+item_fewer Idt = omega arith
+
+none_falls : (mode : Mode) → edges mode (body mode AtItem) 0 ≤ edges_at_end mode (AtTaken false)
+none_falls Fred = (call_edges Fred FredFrame).none
+none_falls Idt = (call_edges Idt IdtFrame).none
+
+-- ---- the calls that a context holds
+
+empty_of : (ks : List CallId) → runs_calls ks ≡ false → ks ≡ []
+empty_of [] e = refl
+empty_of (k ∷ ks) e = let clash : true ≡ false = e in absurd (cc)
+
+holds_linked : (mode : Mode) (image : Image) (words : NatMap ℕ) (a : ℕ) (ks : List CallId) → Linked words a ks → HoldsCalls mode image words a ks
+holds_linked mode image words a [] h = tt
+holds_linked mode image words a (k ∷ ks) h = h
 
 module _ (mode : Mode) (image : Image) (built : IsBuilt image) (good : IsImage image) (facts : Facts mode image)
     (left : NatMap ℕ) (s : System) (m : Machine) (h : Stands mode image left s m) (p : ℕ) (hp : p < image.processors)
@@ -346,3 +370,192 @@ module _ (mode : Mode) (image : Image) (built : IsBuilt image) (good : IsImage i
             (subst (λ xs. Turns mode image words (get_or (set xs 1 w) 0 0) (get_or (set xs 1 w) 14 0) b.calls (suc n)) (sym z.1) turns)
             (subst (λ xs. get_or (set xs 1 w) 1 0 ≡ words (get_or (set xs 1 w) 0 0 + 0x18)) (sym z.1) (ap (λ y. words (y + 0x18)) (sym first.at))))
             (omega arith)
+
+        -- ---- the loads of the first call's words
+
+        has_first : (first : HasFirst words (v 14) b.calls) → 0 < times first.first b.calls
+        has_first first = let one = ap (times first.first) first.are ∙ times_same first.first first.rest in omega (arith, one)
+
+        -- the argument
+        to_argument : AtPlace at_function → c.regs ≡ map (eval e) (item_regs (layout_of mode)) → IsTaking e false false → runs_calls b.calls ≡ true
+            → Linked words (v 14) b.calls → item_edges + 3 < on.own → Simulated mode image left s m p
+        unfolding eval spelling four_bytes is_return
+        to_argument at same t some list fewer =
+            let first : HasFirst words (v 14) b.calls = first_of words (v 14) b.calls some list in
+            let k : CallId = first.first in
+            let w : ℕ = words (record_address k.from k.site + 0x10) in
+            let says = subst (BeginsCall mode image words b) first.are t.begins in
+            let locals : LocalsBut mode image false false v b
+            = subst (λ r. LocalsBut mode image (not r || false) (not r || false) v b) some t.locals in
+            let told : b.locals ≡ v 6 ∷ v 7 ∷ v 8 ∷ w ∷ local b 10 ∷ v 11 ∷ v 12 ∷ v 13 ∷ []
+            = locals ∙ ap (λ n. v 6 ∷ v 7 ∷ v 8 ∷ n ∷ local b 10 ∷ v 11 ∷ v 12 ∷ v 13 ∷ []) (sym says.1) in
+            loads at_function at 9 14 0x10 (at_function + 7) (item_edges + 3) k (has_first first)
+            (ap (λ (xs : List ℕ). get_or xs 14 0) same ∙ first.at) (omega arith) refl (λ q. omega (arith, q)) refl refl (omega arith) cells.argument refl
+            (BehindArgument refl refl
+            (taking_behind false false true false (set c.regs 9 w) at.flags t
+            (subst (λ r. LocalsBut mode image (not r || true) (not r || false) (with_registers (set c.regs 9 w) v) b) (sym some)
+            (subst (λ xs. LocalsBut mode image true false (with_registers (set xs 9 w) v) b) (sym same) told)))
+            (in_take (set c.regs 9 w) at.flags i) some
+            (subst (λ xs. Linked words (get_or (set xs 9 w) 14 0) b.calls) (sym same) list))
+            fewer
+
+        -- the caller
+        to_caller : AtPlace (at_function + 7) → c.regs ≡ map (eval e) (item_regs (layout_of mode)) → IsTaking e true false → runs_calls b.calls ≡ true
+            → Linked words (v 14) b.calls → item_edges + 2 < on.own → Simulated mode image left s m p
+        unfolding eval spelling four_bytes is_return
+        to_caller at same t some list fewer =
+            let first : HasFirst words (v 14) b.calls = first_of words (v 14) b.calls some list in
+            let k : CallId = first.first in
+            let w : ℕ = words (record_address k.from k.site + 0x20) in
+            let says = subst (BeginsCall mode image words b) first.are t.begins in
+            let locals : LocalsBut mode image true false v b
+            = subst (λ r. LocalsBut mode image (not r || true) (not r || false) v b) some t.locals in
+            let told : b.locals ≡ v 6 ∷ v 7 ∷ v 8 ∷ v 9 ∷ w ∷ v 11 ∷ v 12 ∷ v 13 ∷ []
+            = locals ∙ ap (λ n. v 6 ∷ v 7 ∷ v 8 ∷ v 9 ∷ n ∷ v 11 ∷ v 12 ∷ v 13 ∷ []) (sym says.2) in
+            loads (at_function + 7) at 10 14 0x20 (at_function + 14) (item_edges + 2) k (has_first first)
+            (ap (λ (xs : List ℕ). get_or xs 14 0) same ∙ first.at) (omega arith) refl (λ q. omega (arith, q)) refl refl (omega arith) cells.caller refl
+            (BehindCaller refl refl
+            (taking_behind true false true true (set c.regs 10 w) at.flags t
+            (subst (λ r. LocalsBut mode image (not r || true) (not r || true) (with_registers (set c.regs 10 w) v) b) (sym some)
+            (subst (λ xs. LocalsBut mode image true true (with_registers (set xs 10 w) v) b) (sym same) told)))
+            (in_take (set c.regs 10 w) at.flags i) some
+            (subst (λ xs. Linked words (get_or (set xs 10 w) 14 0) b.calls) (sym same) list))
+            fewer
+
+        -- the address
+        to_address : AtPlace (at_function + 14) → c.regs ≡ map (eval e) (item_regs (layout_of mode)) → IsTaking e true true → runs_calls b.calls ≡ true
+            → Linked words (v 14) b.calls → item_edges + 1 < on.own → Simulated mode image left s m p
+        unfolding eval spelling four_bytes is_return
+        to_address at same t some list fewer =
+            let first : HasFirst words (v 14) b.calls = first_of words (v 14) b.calls some list in
+            let k : CallId = first.first in
+            let w : ℕ = words (record_address k.from k.site + 8) in
+            let says = subst (BeginsCall mode image words b) first.are t.begins in
+            loads (at_function + 14) at 0 14 8 (at_function + 21) (item_edges + 1) k (has_first first)
+            (ap (λ (xs : List ℕ). get_or xs 14 0) same ∙ first.at) (omega arith) refl (λ q. omega (arith, q)) refl refl (omega arith) cells.address refl
+            (BehindAddress refl refl
+            (taking_behind true true true true (set c.regs 0 w) at.flags t
+            (subst (λ xs. LocalsBut mode image (not (runs_calls b.calls) || true) (not (runs_calls b.calls) || true) (with_registers (set xs 0 w) v) b)
+            (sym same) t.locals))
+            (in_take (set c.regs 0 w) at.flags i) some
+            (subst (λ xs. Linked words (get_or (set xs 0 w) 14 0) b.calls) (sym same) list)
+            (subst (λ xs. get_or (set xs 0 w) 0 0 ≡ w) (sym same) refl ∙ says.0))
+            fewer
+
+        -- where an instruction is made by hand
+        at_hand : (n k : ℕ) → n < 0x100 → InBodies extra → AtEnd (AtOffset n k) → AtPlace n × (c.regs ≡ map (eval e) (item_regs (layout_of mode)))
+        unfolding eval
+        at_hand n k near range at = goes.behind_block mode image built good facts left s m h p hp o (AtOffset n k) refl unfilled act ss ss_is extra v f range at n
+            near (item_regs (layout_of mode)) (ends_at_hand mode n k) refl refl
+
+        -- at the end of the block that found a call
+        pub at_some_end : AtEnd (AtTaken true) → IsTaking e false false → Linked words (v 14) b.calls → runs_calls b.calls ≡ true
+            → edges_at_end mode (AtTaken true) ≤ on.own → Simulated mode image left s m p
+        unfolding eval
+        at_some_end at t list some enough =
+            let z = goes.behind_block mode image built good facts left s m h p hp o (AtTaken true) refl unfilled act ss ss_is extra v f t.range at at_function
+            (omega arith) (item_regs (layout_of mode)) ((ends_of mode).taken true) refl refl in
+            let falls = argument_falls mode in
+            to_argument z.0 z.1 t some list (omega arith)
+
+        pub at_argument : AtEnd (AtOffset at_function (item_edges + 4)) → IsTaking e false false → runs_calls b.calls ≡ true → Linked words (v 14) b.calls
+            → edges_at_end mode (AtOffset at_function (item_edges + 4)) ≤ on.own → Simulated mode image left s m p
+        at_argument at t some list enough =
+            let z = at_hand at_function (item_edges + 4) (omega arith) t.range at in
+            let same = hand_edges mode at_function (item_edges + 4) in
+            to_argument z.0 z.1 t some list (omega arith)
+
+        pub at_caller : AtEnd (AtOffset (at_function + 7) (item_edges + 3)) → IsTaking e true false → runs_calls b.calls ≡ true → Linked words (v 14) b.calls
+            → edges_at_end mode (AtOffset (at_function + 7) (item_edges + 3)) ≤ on.own → Simulated mode image left s m p
+        at_caller at t some list enough =
+            let z = at_hand (at_function + 7) (item_edges + 3) (omega arith) t.range at in
+            let same = hand_edges mode (at_function + 7) (item_edges + 3) in
+            to_caller z.0 z.1 t some list (omega arith)
+
+        pub at_address : AtEnd (AtOffset (at_function + 14) (item_edges + 2)) → IsTaking e true true → runs_calls b.calls ≡ true → Linked words (v 14) b.calls
+            → edges_at_end mode (AtOffset (at_function + 14) (item_edges + 2)) ≤ on.own → Simulated mode image left s m p
+        at_address at t some list enough =
+            let z = at_hand (at_function + 14) (item_edges + 2) (omega arith) t.range at in
+            let same = hand_edges mode (at_function + 14) (item_edges + 2) in
+            to_address z.0 z.1 t some list (omega arith)
+
+        -- ---- where an item opens
+
+        -- the jump to the function
+        pub at_function_jump : AtEnd (AtOffset (at_function + 21) (item_edges + 1)) → IsTaking e true true → runs_calls b.calls ≡ true
+            → Linked words (v 14) b.calls → v 0 ≡ item_place mode image b.body b.place
+            → edges_at_end mode (AtOffset (at_function + 21) (item_edges + 1)) ≤ on.own → Simulated mode image left s m p
+        unfolding eval spelling four_bytes is_return
+        at_function_jump at t some list target enough =
+            let z = at_hand (at_function + 21) (item_edges + 1) (omega arith) t.range at in
+            let y : AtPlace (at_function + 21) = z.0 in
+            let same = hand_edges mode (at_function + 21) (item_edges + 1) in
+            let fewer = item_fewer mode in
+            let base_is = base in
+            let g : Flags = y.flags in
+            let long : length c.regs ≡ 16 = y.state.long in
+            let there : ℕ = item_place mode image b.body b.place in
+            let here_is = step.place_is mode image built good facts left s m h p hp o body' is in
+            let fine = facts.item_small b.body b.place body' is in
+            let small : there + 16 < 2 ^ 64 = subst (λ n. n + 16 < 2 ^ 64) (sym here_is) fine.1 in
+            let ins : Ins = JmpReg 0 in
+            let next : ℕ = a + take_end in
+            let found : code c.rip ≡ Some (edge_cell ins next)
+            = ap code (goes.rip_is mode image built good facts left s m h p hp o ss extra v f (at_function + 21) y ∙ ap (λ n. n + (at_function + 21)) base)
+            ∙ cells.jump in
+            let at_ins = goes.at_instruction mode image built good facts left s m h p hp o ss extra v f (at_function + 21) y ins next (omega arith) in
+            let rax : register c 0 ≡ there = ap (λ (xs : List ℕ). get_or xs 0 0) z.1 ∙ target in
+            let leads : Leads c s.memory ins (gone c c.regs g there) words = goes_onward c s.memory ins g c.regs there words y.state.flags
+            (subst (λ n. Leads c s.memory ins (onward c c.regs n) words) rax
+            ((singles c s.memory next).jumps_to 0 at_ins (ap is_canonical (rax ∙ here_is) ∙ fine.0))) in
+            let way = at_the_item mode in
+            let extra' : ℕ → ℕ = λ i. there in
+            let u : Env = env ss extra' (with_registers c.regs v) g in
+            let windows = step.windows mode image built good facts left s m h p hp o body' is (body mode AtItem) way.over ss extra' (with_registers c.regs v) g in
+            let state = goes.item_state_at mode image built good facts left s m h p hp o ss extra v f (at_function + 21) y in
+            let agrees : Agrees u (block mode (body mode AtItem)).ground (opening_of mode) (gone c c.regs g there) s.memory
+            = lands mode (behind c.regs g) u c s.memory (at_function + 21) (X 0) (X 1) (X 2) g state
+            (any_registers mode p o.κ o.σ ss o.w o.w extra extra' (with_registers c.regs v) v g g c.regs refl refl refl) refl c.regs long refl v refl there refl
+            small words (any_known mode p o.κ o.σ ss o.w extra extra' v f g c.regs words y.state.words) windows in
+            let opened : At code (block mode (body mode AtItem)) 0 u (gone c c.regs g there) s.memory
+            = begins code (block mode (body mode AtItem)) u (gone c c.regs g there) s.memory
+            (step.fits mode image built good facts left s m h p hp o body' is (body mode AtItem) way.over ss extra' (with_registers c.regs v) g refl tt
+            (way.told u)) agrees in
+            let locals : Locals mode image v b = subst (λ r. LocalsBut mode image (not r || true) (not r || true) v b) some t.locals in
+            goes.goes_to_spot mode image built good facts left s m h p hp o ss extra v f (at_function + 21) y AtItem refl ins next there found refl c.regs g long
+            (step.masks_flags mode image built good facts left s m h p hp o g y.state.flags) leads extra' v opened (
+              record {
+                saved = saved_again mode image (origin_of o.κ) e u o.w (beyond_registers c.regs v) refl refl refl t.saved;
+                locals = subst (λ xs. Locals mode image (with_registers xs v) b) (sym z.1) locals;
+                flags = subst (λ q. FlagsAre mode image q g) (sym t.flags) tt;
+                calls = holds_linked mode image words (get_or c.regs 14 0) b.calls (subst (λ xs. Linked words (get_or xs 14 0) b.calls) (sym z.1) list);
+              },
+              refl,
+            )
+            (omega arith) (step.outside mode image built good facts left s m h p hp o act)
+
+        -- where there is no call the next item opens
+        pub at_none_end : AtEnd (AtTaken false) → IsTaking e false false → runs_calls b.calls ≡ false → edges_at_end mode (AtTaken false) ≤ on.own
+            → (item : Item) → is_built_item item ≡ true → item_at (Some body') b.place ≡ Some item → Simulated mode image left s m p
+        unfolding eval
+        at_none_end at t none enough item today hi =
+            let z = goes.behind_block mode image built good facts left s m h p hp o (AtTaken false) refl unfilled act ss ss_is extra v f t.range at take_end
+            (omega arith) (item_regs (layout_of mode)) ((ends_of mode).taken false) refl refl in
+            let y : AtPlace take_end = z.0 in
+            let falls = none_falls mode in
+            let g : Flags = y.flags in
+            let empty : b.calls ≡ [] = empty_of b.calls none in
+            let locals : Locals mode image v b = subst (λ r. LocalsBut mode image (not r || false) (not r || false) v b) none t.locals in
+            let next : extra 20 + take_end ≡ item_place mode image b.body b.place = ap (λ n. n + take_end) base ∙ cells.follows
+            ∙ sym (ap (address_of_item mode b.body (suc i.n)) is) ∙ ap (item_place mode image b.body) (sym (i.none empty)) in
+            let q = opens_behind mode image built good facts left s m h p hp o body' is unfilled ss ss_is extra (with_registers c.regs v) g take_end
+            (X 0) (X 1) (X 2) g (goes.item_state_at mode image built good facts left s m h p hp o ss extra v f take_end y)
+            (record {
+              range = t.range;
+              saved = saved_again mode image (origin_of o.κ) e (behind c.regs g) o.w (beyond_registers c.regs v) refl refl refl t.saved;
+              locals = subst (λ xs. Locals mode image (with_registers xs v) b) (sym z.1) locals;
+              calls = subst (HoldsCalls mode image words (get_or c.regs 14 0)) (sym empty) tt;
+            }) next t.flags y.state.long (omega arith) in
+            let w = q.next in
+            items.by_item mode image built good facts left s m h p hp o body' is unfilled w.act ss ss_is w.extra _ q.flags w.at w.means w.place y.state.long
+            w.enough item today hi
