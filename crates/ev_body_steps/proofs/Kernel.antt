@@ -36,7 +36,7 @@ use Rattle.ev_symbolic.specs.Names.{item_tag, key, says_ring}
 use Rattle.ev_symbolic.specs.Join.{env_after}
 use Rattle.ev_symbolic.specs.Agrees.{Env, Cell, Code, eval, FactsHold, Open, Fits, Agrees, At}
 use Rattle.ev_symbolic.specs.Machine.{Fetches}
-use Rattle.ev_symbolic.proofs.Blocks.{at_end}
+use Rattle.ev_symbolic.proofs.Blocks.{at_end, unsome}
 use Rattle.ev_blocks.specs.Shapes.{Origin, UserCode, KernelCode, ring, FredFrame, IdtFrame}
 use Rattle.ev_blocks.specs.Fred.{FromUser, FromKernel, FredToKernel, FredToTask, FredToNext, fred_block, way_values, kernel_values}
 use Rattle.ev_blocks.specs.Fred as fred
@@ -95,6 +95,7 @@ use Rattle.ev_body_steps.proofs.BodyInterrupt as arrivals
 use Rattle.ev_body_steps.proofs.SwitchStep as switching
 use Rattle.ev_body_steps.proofs.CallFills as fillings
 use Rattle.ev_body_steps.proofs.WaitSteps as waits
+use Rattle.ev_body_steps.proofs.ItemCallFill as callings
 use Rattle.ev_blocks.specs.Calls.{AtRecord, BehindWait, AtOffset}
 
 -- ---- from the entry of a vector to the code in common
@@ -453,11 +454,13 @@ module _ (mode : Mode) (image : Image) (built : IsBuilt image) (good : IsImage i
           (ap site_of (sym hi) ∙ ap (λ y. site_of (item_at y b.place)) (sym is) ∙ means.2)
         where
           by_site : (i : Item) → item_at (Some body') b.place ≡ Some i → site_of (Some i) ≡ Some site → Result
-          by_site (Wait n') hi q = waits.at_wait_record mode image built good facts left s m h p hp o body' is (unfilled refl) act k ss ss_is extra v f site
-              n at
-              means n' hi
-          by_site (Call n' to' func s') hi q = absurd (not_built image built good b.body body' is b.place (Call n' to' func s')
-              (ap (λ y. item_at y b.place) is ∙ hi) refl)
+          by_site (Wait n') hi q = waits.at_wait_record mode image built good facts left s m h p hp o body' is (unfilled refl) act k ss ss_is extra v f
+              site n at means n' hi
+          by_site (Call n' to' func r') hi q =
+              let same : n' ≡ site = unsome _ _ q in
+              callings.by_load mode image built good facts left s m h p hp o body' is site to' func r' (hi ∙ ap (λ j. Some (Call j to' func r')) same)
+              (unfilled refl) act ss ss_is extra v f (subst (λ j. At code (block mode (body mode (InCall (AtRecord site)))) j (env ss extra v f) c s.memory) n at)
+              means (subst (λ j. edges mode (body mode (InCall (AtRecord site))) j ≤ on.own) n enough)
           by_site _ hi q = absurd (cc)
       at_body act (InCall (BehindWait d)) unfilled k ss ss_is extra v f n at means long enough hi =
           waits.at_wait_end mode image built good facts left s m h p hp o body' is (unfilled refl) d k ss ss_is extra v f n at means long enough ctx.item

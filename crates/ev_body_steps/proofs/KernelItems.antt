@@ -10,7 +10,7 @@ use Rattle.ev_isa.specs.declared.instruction.Ins.TheVariants.{Load, Store, Store
 use Rattle.ev_isa.specs.declared.mode.Mode.{Mode}
 use Rattle.ev_effect.specs.Task.{Task}
 use Rattle.ev_body.specs.declared.item.Item.{Item}
-use Rattle.ev_body.specs.declared.item.Item.TheVariants.{Set, Copy, Goto, Log, Cpu, Slot, Put, SetCell, AddCell, SwapCell, Uget, Uput, GetReg, SetReg, SetRip, Eoi, Send, Map, Unmap, Ret, Resched, Kick, Wait}
+use Rattle.ev_body.specs.declared.item.Item.TheVariants.{Set, Copy, Goto, Log, Cpu, Slot, Put, SetCell, AddCell, SwapCell, Uget, Uput, GetReg, SetReg, SetRip, Eoi, Send, Map, Unmap, Ret, Resched, Kick, Wait, Call}
 use Rattle.ev_body.specs.declared.key.Key.TheVariants.{Irq}
 use Rattle.ev_body.specs.Bodies.{key_number}
 use Rattle.ev_body.specs.declared.body.Body.{Body}
@@ -76,6 +76,7 @@ use Rattle.ev_body_steps.proofs.KernelStep as step
 use Rattle.ev_body_steps.proofs.BodyBreak as breaks
 use Rattle.ev_body_steps.proofs.SwitchOpens as switching
 use Rattle.ev_body_steps.proofs.ItemWaitLoad as waits
+use Rattle.ev_body_steps.proofs.ItemCallLoad as callings
 use Rattle.ev_body_steps.proofs.KickGoes.{to_comparison}
 
 -- ---- numbers
@@ -367,6 +368,8 @@ module _ (mode : Mode) (image : Image) (built : IsBuilt image) (good : IsImage i
           pick Ret today hi = at_ret unfilled act ss ss_is extra v f at means place long enough hi
           pick (Kick target r) today hi = to_comparison mode image built good facts left s m h p hp o body' is unfilled act ss ss_is extra v f at means place
               enough target r hi
+          pick (Call site to func r) today hi = callings.at_call mode image built good facts left s m h p hp o body' is site to func r hi unfilled act ss ss_is
+              extra v f at means place long enough
           pick (Wait site) today hi = waits.at_wait mode image built good facts left s m h p hp o body' is unfilled act ss ss_is extra v f at means place
               long enough
               site hi
