@@ -49,5 +49,6 @@ pub mod CallSteps
 pub mod CallTurns
 pub mod ItemCallLoad
 pub mod ItemCallFill
+pub mod CallEnd
 pub mod KickGoes
 pub mod CallFills
