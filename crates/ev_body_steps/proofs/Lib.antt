@@ -52,3 +52,4 @@ pub mod ItemCallFill
 pub mod CallEnd
 pub mod KickGoes
 pub mod CallFills
+pub mod ItemCallHead
