@@ -197,15 +197,16 @@ module _ (mode : Mode) (image : Image) (built : IsBuilt image) (good : IsImage i
   first_is_filled (g ∷ fs) f e = ap (λ t. is_of_site f.site t || is_filled f.site fs) e ∙ or_left (f.site == f.site) _ (eq-eqb f.site f.site refl)
 
   -- the target of a call is a processor
-  called_small : (to : ℕ) → Calls mode image b to → to < 32
+  pub called_processor : (to : ℕ) → Calls mode image b to → to < image.processors
   unfolding breaks_slots
-  called_small to called =
+  called_processor to called =
       let found = body_at (slice_get image.bodies b.body) b.place (Call called.0 to called.1 called.2) called.3 in
       let ruled = body_ruled image good built.accepted.1.kept b.body found.0 found.1 in
       let ok : nat_lt called.0 8 && nat_lt to image.processors && nat_lt called.1 8 ≡ true = not-false _ (ruled.slots b.place _ found.2) in
-      let l : to < image.processors = ltb-true to image.processors (and_right (nat_lt called.0 8) _
-      (and_left (nat_lt called.0 8 && nat_lt to image.processors) _ ok)) in
-      let few = good.count.1 in omega arith
+      ltb-true to image.processors (and_right (nat_lt called.0 8) _ (and_left (nat_lt called.0 8 && nat_lt to image.processors) _ ok))
+
+  called_small : (to : ℕ) → Calls mode image b to → to < 32
+  called_small to called = let l = called_processor to called in let few = good.count.1 in omega arith
 
   -- at an instruction of such a block
   pub inside : (act : Stood on.own b c s.memory) → fills_record act.stands.spot ≡ true → act.stands.k < (block mode act.stands.spot).steps

@@ -43,6 +43,8 @@ pub mod CallTurns
 pub mod ItemCallLoad
 pub mod ItemCallFill
 pub mod CallFills
+pub mod CallEnd
+pub mod ItemCallHead
 pub mod KernelItems
 pub mod WaitSteps
 pub mod TakenSteps
