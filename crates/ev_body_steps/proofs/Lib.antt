@@ -45,5 +45,6 @@ pub mod BodyInterrupt
 pub mod BodyBreak
 pub mod BodyFault
 pub mod CallSteps
+pub mod TakenLink
 pub mod KickGoes
 pub mod CallFills
