@@ -1,11 +1,10 @@
 -- `call` at the load of the head of its target's queue: an edge, behind which RAX is the head until another processor changes it.
-use Rattle.std.proofs.Common.{◌≡◌, ℕ, ◌+◌, ◌*◌, ◌%◌, ◌^◌, ◌<◌, ◌≤◌, false, true, List, [], ◌∷◌, ◌++◌, get_or, set, map, length, Some, None, refl, sym, ap, ◌∙◌, subst, arith}
+use Rattle.std.proofs.Common.{◌≡◌, ℕ, ◌+◌, ◌%◌, ◌^◌, ◌<◌, ◌≤◌, false, true, List, [], ◌∷◌, ◌++◌, get_or, set, map, length, Some, refl, sym, ap, ◌∙◌, subst, arith}
 use Rattle.std.specs.Prelude.{pos, slice_get, is_some}
 use Rattle.std.proofs.lemmas.List.{get_or-set_same, get_or-set_other, length-set}
 use Rattle.ev_isa.specs.Word.{NatMap, displaced}
 use Rattle.ev_isa.specs.Flags.{Flags}
 use Rattle.ev_isa.specs.Spelling.{spelling, four_bytes}
-use Rattle.ev_isa.specs.declared.instruction.Ins.{Ins}
 use Rattle.ev_isa.specs.declared.instruction.Ins.TheVariants.{Load}
 use Rattle.ev_isa.specs.declared.mode.Mode.{Mode}
 use Rattle.ev_isa.specs.declared.mode.Mode.TheVariants.{Idt, Fred}
@@ -14,7 +13,7 @@ use Rattle.ev_body.specs.declared.body.Body.{Body}
 use Rattle.ev_body.specs.declared.image.Image.{Image}
 use Rattle.ev_body.specs.WellFormed.{IsImage}
 use Rattle.ev_listing.specs.AddressMap.{pcpu, head_offset, record_address}
-use Rattle.ev_listing.specs.Expansion.{item_address, function_address}
+use Rattle.ev_listing.specs.Expansion.{item_address}
 use Rattle.ev_state.specs.Processor.{Processor, is_user, register}
 use Rattle.ev_state.proofs.FlagLaws.{kept}
 use Rattle.ev_mem.specs.Memory.{Memory}
@@ -24,11 +23,10 @@ use Rattle.ev_abstract.specs.Machine as abstract
 use Rattle.ev_abstract.specs.Run.{item_at}
 use Rattle.ev_concrete.specs.ConcreteRun.{System, is_return}
 use Rattle.ev_built.specs.Built.{IsBuilt}
-use Rattle.ev_symbolic.specs.Value.{M, V, K, P, X}
+use Rattle.ev_symbolic.specs.Value.{M, V, K, P}
 use Rattle.ev_symbolic.specs.State.{Block, Word}
-use Rattle.ev_symbolic.specs.Openings.{at_base}
-use Rattle.ev_symbolic.specs.Names.{item_tag, record_tag, top_less}
-use Rattle.ev_symbolic.specs.Single.{IsAt, Leads, onward}
+use Rattle.ev_symbolic.specs.Names.{record_tag, top_less}
+use Rattle.ev_symbolic.specs.Single.{IsAt, Leads}
 use Rattle.ev_symbolic.specs.Agrees.{Env, Code, Stands as Lines, edge_cell, eval, eval_flags, Known, Agrees, IsOpen, At}
 use Rattle.ev_symbolic.proofs.Single.{singles}
 use Rattle.ev_symbolic.proofs.Blocks.{at_end}
@@ -43,7 +41,7 @@ use Rattle.ev_blocks.proofs.CallFalls.{call_edges}
 use Rattle.ev_paths.specs.CallEnds.{item_regs}
 use Rattle.ev_table.specs.Table.{code_table}
 use Rattle.ev_relation.specs.Filling.{first_fill}
-use Rattle.ev_relation.specs.Active.{item_place, address_of_item, item_of, here, IsKernelSs, InCode, InCallSpot, Active}
+use Rattle.ev_relation.specs.Active.{address_of_item, here, IsKernelSs, InCode, InCallSpot, Active}
 use Rattle.ev_relation.specs.Relation.{StandsOn, Stands, switches_at}
 use Rattle.ev_relation.specs.Step.{Simulated}
 use Rattle.ev_relation.proofs.CallHolders.{first_free}
@@ -51,7 +49,7 @@ use Rattle.ev_relation.proofs.CallKinds.{origin_of, plain_knows}
 use Rattle.ev_relation.proofs.Facts.{Facts}
 use Rattle.ev_relation.proofs.ModeFacts.{is_fred}
 use Rattle.ev_body_steps.proofs.Bodies.{body, layout_of, means_at}
-use Rattle.ev_body_steps.proofs.CallCells.{CallCode, call_code}
+use Rattle.ev_body_steps.proofs.CallCells.{call_code}
 use Rattle.ev_body_steps.proofs.CallFills.{called_processor}
 use Rattle.ev_body_steps.proofs.CallFirst.{AreKept, in_code}
 use Rattle.ev_body_steps.proofs.CallGoes.{block_is}

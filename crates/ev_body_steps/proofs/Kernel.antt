@@ -77,7 +77,7 @@ use Rattle.ev_body_steps.proofs.Return.{Exits, fred_mark, idt_mark, fred_exits, 
 use Rattle.ev_relation.proofs.BodyTables.{table_place, table_reads}
 use Rattle.ev_relation.proofs.Depth.{body_at, ends_a_body}
 use Rattle.ev_relation.proofs.Items.{which}
-use Rattle.ev_relation.proofs.NoCalls.{not_built, never_in_call}
+use Rattle.ev_relation.proofs.NoCalls.{never_in_call}
 use Rattle.ev_body_steps.proofs.ItemWords.{word_of}
 use Rattle.ev_body_steps.proofs.ItemInside.{number_steps}
 use Rattle.ev_body_steps.proofs.ItemMsr.{numbers_steps}

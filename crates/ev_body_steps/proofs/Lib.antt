@@ -48,6 +48,7 @@ pub mod ItemCallHead
 pub mod KernelItems
 pub mod WaitSteps
 pub mod TakenSteps
+pub mod TakenLink
 pub mod Kernel
 pub mod BodyRaising
 pub mod BodyRaisingFred

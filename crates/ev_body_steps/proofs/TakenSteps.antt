@@ -89,7 +89,7 @@ none_is true = refl
 none_is false = refl
 
 -- one that isn't empty has a first record
-first_of : (words : NatMap ℕ) (a : ℕ) (ks : List CallId) → runs_calls ks ≡ true → Linked words a ks → HasFirst words a ks
+pub first_of : (words : NatMap ℕ) (a : ℕ) (ks : List CallId) → runs_calls ks ≡ true → Linked words a ks → HasFirst words a ks
 first_of words a [] e h = let clash : false ≡ true = e in absurd (cc)
 first_of words a (k ∷ ks) e h = first_elsewhere words a (k ∷ ks) (λ z. let at = h.2 in omega (arith, at, z)) h
 
@@ -97,7 +97,7 @@ zero_of : (words : NatMap ℕ) (a : ℕ) (ks : List CallId) → length ks ≡ 0 
 zero_of words a [] e h = h
 zero_of words a (k ∷ ks) e h = absurd (omega (arith, e))
 
-some_of : (ks : List CallId) (n : ℕ) → length ks ≡ suc n → runs_calls ks ≡ true
+pub some_of : (ks : List CallId) (n : ℕ) → length ks ≡ suc n → runs_calls ks ≡ true
 some_of [] n e = absurd (omega (arith, e))
 some_of (k ∷ ks) n e = refl
 
@@ -112,7 +112,7 @@ taken_spot Fred is_some = refl
 taken_spot Idt is_some = refl
 
 -- the edges that are left where a spot's block ends
-abbrev edges_at_end : Mode → CallSpot → ℕ
+abbrev pub edges_at_end : Mode → CallSpot → ℕ
 edges_at_end mode s = edges mode (body mode (InCall s)) (block mode (body mode (InCall s))).steps
 
 turn_falls : (mode : Mode) (left : ℕ) → edges mode (body mode (InCall (AtTurn left))) 0 ≤ edges_at_end mode (BehindTake left)
@@ -135,12 +135,12 @@ argument_falls : (mode : Mode) → item_edges + 3 < edges_at_end mode (AtTaken t
 argument_falls Fred = omega arith
 argument_falls Idt = omega arith
 
-hand_edges : (mode : Mode) (n k : ℕ) → edges_at_end mode (AtOffset n k) ≡ k
+pub hand_edges : (mode : Mode) (n k : ℕ) → edges_at_end mode (AtOffset n k) ≡ k
 hand_edges Fred n k = omega arith
 hand_edges Idt n k = omega arith
 
 -- a block of no instruction ends where it begins
-ends_at_hand : (mode : Mode) (n k : ℕ) → CallComes (is_fred mode) (layout_of mode) (AtOffset n k) n (item_regs (layout_of mode))
+pub ends_at_hand : (mode : Mode) (n k : ℕ) → CallComes (is_fred mode) (layout_of mode) (AtOffset n k) n (item_regs (layout_of mode))
 ends_at_hand mode n k = record { z = (block_of_call (is_fred mode) (layout_of mode) (AtOffset n k)).opening; runs = refl; is = refl }
 
 item_fewer : (mode : Mode) → edges mode (body mode AtItem) 0 < item_edges + 1
@@ -186,7 +186,7 @@ module _ (mode : Mode) (image : Image) (built : IsBuilt image) (good : IsImage i
   words = s.memory.words
 
   -- a call that it has is one of a processor of the image
-  has_range : (k : CallId) → 0 < times k b.calls → (k.from < image.processors) × (k.site < 8)
+  pub has_range : (k : CallId) → 0 < times k b.calls → (k.from < image.processors) × (k.site < 8)
   has_range k some =
       let placed : IsPlaced image m k = h.calls.placed k in
       let list : times k (to_run (processor m p).bodies) ≡ one_if (is_taken (record_of m k).state && ((record_of m k).to == p)) = placed.list p in
@@ -231,13 +231,13 @@ module _ (mode : Mode) (image : Image) (built : IsBuilt image) (good : IsImage i
     in_take regs g i = record { n = i.n; behind = i.behind; code = i.code; none = i.none }
 
     module _ (i : InTake mode image e b) where
-      abbrev a : ℕ
+      abbrev pub a : ℕ
       a = item_address mode b.body body' i.n
 
-      cells : TakeCode code a (item_address mode b.body body' (suc i.n))
+      pub cells : TakeCode code a (item_address mode b.body body' (suc i.n))
       cells = take_code mode image facts b.body body' is i.n (ap (λ q. item_at q i.n) (sym is) ∙ i.code.0)
 
-      base : extra 20 ≡ a
+      pub base : extra 20 ≡ a
       base = i.code.1 ∙ ap (address_of_item mode b.body i.n) is
 
       -- at the list, of which so many records are left
