@@ -1,5 +1,5 @@
 -- Where the code of a `call` ends: the next item opens without an instruction, with the answer in its local.
-use Rattle.std.proofs.Common.{◌≡◌, ℕ, suc, ◌+◌, ◌-◌, ◌%◌, ◌<◌, ◌≤◌, false, true, List, [], ◌∷◌, get_or, set, map, length, Some, None, refl, sym, ap, ◌∙◌, subst, arith}
+use Rattle.std.proofs.Common.{◌≡◌, ℕ, suc, ◌+◌, ◌-◌, ◌%◌, ◌<◌, ◌≤◌, false, List, [], ◌∷◌, get_or, set, map, length, Some, None, refl, sym, ap, ◌∙◌, subst, arith}
 use Rattle.std.specs.Prelude.{slice_get, is_some}
 use Rattle.std.proofs.lemmas.List.{get_or-set_other, length-set, map-set}
 use Rattle.ev_isa.specs.Word.{NatMap}
@@ -17,8 +17,7 @@ use Rattle.ev_abstract.specs.Run.{item_at}
 use Rattle.ev_concrete.specs.ConcreteRun.{System}
 use Rattle.ev_built.specs.Built.{IsBuilt}
 use Rattle.ev_symbolic.specs.Value.{M, V, K}
-use Rattle.ev_symbolic.specs.Names.{item_tag, top_less}
-use Rattle.ev_symbolic.specs.Openings.{at_base}
+use Rattle.ev_symbolic.specs.Names.{top_less}
 use Rattle.ev_symbolic.specs.Agrees.{Env, Code, Stands as Lines, eval, At}
 use Rattle.ev_activation.specs.Seat.{Kind, Seat}
 use Rattle.ev_blocks.specs.Shapes.{FredFrame, IdtFrame, body_bytes}

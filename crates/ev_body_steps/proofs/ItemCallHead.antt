@@ -1,11 +1,10 @@
 -- `call` at the load of the head of its target's queue: an edge, behind which RAX is the head until another processor changes it.
-use Rattle.std.proofs.Common.{◌≡◌, ℕ, zero, suc, ◌+◌, ◌-◌, ◌*◌, ◌%◌, ◌^◌, ◌<◌, ◌≤◌, false, true, List, [], ◌∷◌, ◌++◌, get_or, set, map, length, Some, None, refl, sym, ap, ◌∙◌, subst, arith}
+use Rattle.std.proofs.Common.{◌≡◌, ℕ, zero, suc, ◌+◌, ◌-◌, ◌%◌, ◌^◌, ◌<◌, ◌≤◌, false, true, List, [], ◌∷◌, ◌++◌, get_or, set, map, length, Some, refl, sym, ap, ◌∙◌, subst, arith}
 use Rattle.std.specs.Prelude.{pos, slice_get, is_some}
 use Rattle.std.proofs.lemmas.List.{get_or-set_same, get_or-set_other, length-set}
 use Rattle.ev_isa.specs.Word.{NatMap, displaced, numbers_from}
 use Rattle.ev_isa.specs.Flags.{Flags}
 use Rattle.ev_isa.specs.Spelling.{spelling, four_bytes}
-use Rattle.ev_isa.specs.declared.instruction.Ins.{Ins}
 use Rattle.ev_isa.specs.declared.instruction.Ins.TheVariants.{Load}
 use Rattle.ev_isa.specs.declared.mode.Mode.{Mode}
 use Rattle.ev_isa.specs.declared.mode.Mode.TheVariants.{Idt, Fred}
@@ -14,7 +13,7 @@ use Rattle.ev_body.specs.declared.body.Body.{Body}
 use Rattle.ev_body.specs.declared.image.Image.{Image}
 use Rattle.ev_body.specs.WellFormed.{IsImage}
 use Rattle.ev_listing.specs.AddressMap.{pcpu, head_offset, record_address}
-use Rattle.ev_listing.specs.Expansion.{item_address, function_address}
+use Rattle.ev_listing.specs.Expansion.{item_address}
 use Rattle.ev_state.specs.Processor.{Processor, is_user, register}
 use Rattle.ev_state.proofs.FlagLaws.{kept}
 use Rattle.ev_mem.specs.Memory.{Memory}
@@ -26,9 +25,8 @@ use Rattle.ev_concrete.specs.ConcreteRun.{System, is_return}
 use Rattle.ev_built.specs.Built.{IsBuilt}
 use Rattle.ev_symbolic.specs.Value.{M, V, K, P, X, B, OAdd}
 use Rattle.ev_symbolic.specs.State.{Block, Word}
-use Rattle.ev_symbolic.specs.Openings.{at_base}
-use Rattle.ev_symbolic.specs.Names.{item_tag, record_tag, top_less}
-use Rattle.ev_symbolic.specs.Single.{IsAt, Leads, onward}
+use Rattle.ev_symbolic.specs.Names.{record_tag, top_less}
+use Rattle.ev_symbolic.specs.Single.{IsAt, Leads}
 use Rattle.ev_symbolic.specs.Agrees.{Env, Code, Stands as Lines, edge_cell, eval, eval_flags, addr, Known, Open, Fits, Agrees, IsOpen, At}
 use Rattle.ev_symbolic.proofs.Single.{singles}
 use Rattle.ev_symbolic.proofs.Blocks.{at_end, begins, joined}
@@ -45,7 +43,7 @@ use Rattle.ev_paths.proofs.CallEnds.{call_ends}
 use Rattle.ev_paths.proofs.Locals.{from_six}
 use Rattle.ev_table.specs.Table.{code_table}
 use Rattle.ev_relation.specs.Filling.{first_fill}
-use Rattle.ev_relation.specs.Active.{item_place, address_of_item, item_of, here, IsKernelSs, InCode, InCallSpot, Active}
+use Rattle.ev_relation.specs.Active.{address_of_item, here, IsKernelSs, InCode, InCallSpot, Active}
 use Rattle.ev_relation.specs.Relation.{StandsOn, Stands, switches_at}
 use Rattle.ev_relation.specs.Step.{Simulated}
 use Rattle.ev_relation.proofs.CallHolders.{first_free}
@@ -54,7 +52,7 @@ use Rattle.ev_relation.proofs.Facts.{Facts}
 use Rattle.ev_relation.proofs.Fills.{fill_fits, fill_opens}
 use Rattle.ev_relation.proofs.ModeFacts.{is_fred}
 use Rattle.ev_body_steps.proofs.Bodies.{body, layout_of, means_at, tells_record, saved_beside, nothing_open}
-use Rattle.ev_body_steps.proofs.CallCells.{CallCode, call_code}
+use Rattle.ev_body_steps.proofs.CallCells.{call_code}
 use Rattle.ev_body_steps.proofs.CallFills.{called_processor}
 use Rattle.ev_body_steps.proofs.CallFirst.{AreKept, in_code}
 use Rattle.ev_body_steps.proofs.CallGoes.{block_is}
