@@ -140,48 +140,52 @@ exit_canonical Idt = refl
 abbrev pub tells_record : ℕ → Bool
 tells_record n = nat_lt 24 n && nat_lt n 30
 
--- what gives back w is told by none of the sixteen registers, by none of those and by no flags
+-- what gives back w is told by none of the sixteen registers, by none of those, by none from 64 on and by no flags
 pub saved_beside : (mode : Mode) (image : Image) (o : Origin) (e u : Env) (w : Processor)
-    → ((i : ℕ) → 16 ≤ i → tells_record i ≡ false → u.var i ≡ e.var i)
+    → ((i : ℕ) → 16 ≤ i → i < 64 → tells_record i ≡ false → u.var i ≡ e.var i)
     → u.base gs_tag ≡ e.base gs_tag → u.base top_tag ≡ e.base top_tag → u.rest ≡ e.rest → SavedOf mode image o e w → SavedOf mode image o u w
 saved_beside mode image UserCode e u w same base top rest s =
-    let at = λ (n : ℕ) (l : 16 ≤ n) (off : tells_record n ≡ false). sym (same n l off) in
+    let at = λ (n : ℕ) (l : 16 ≤ n) (u : n < 64) (off : tells_record n ≡ false). sym (same n l u off) in
     record {
-      regs = s.regs ∙ (λ i. at 30 (omega arith) refl i ∷ at 31 (omega arith) refl i ∷ at 32 (omega arith) refl i ∷ at 33 (omega arith) refl i
-          ∷ at 20 (omega arith) refl i ∷ at 35 (omega arith) refl i ∷ at 36 (omega arith) refl i ∷ at 37 (omega arith) refl i
-          ∷ at 38 (omega arith) refl i ∷ at 39 (omega arith) refl i ∷ at 40 (omega arith) refl i ∷ at 41 (omega arith) refl i
-          ∷ at 42 (omega arith) refl i ∷ at 43 (omega arith) refl i ∷ at 44 (omega arith) refl i ∷ at 45 (omega arith) refl i ∷ []);
-      rip = same 17 (omega arith) refl ∙ s.rip;
-      cs = ap selector (same 18 (omega arith) refl) ∙ s.cs;
-      flags = same 19 (omega arith) refl ∙ s.flags;
-      ss = ap selector (same 21 (omega arith) refl) ∙ s.ss;
-      sti = ap (bit 16) (same 21 (omega arith) refl) ∙ s.sti;
-      gs = same 60 (omega arith) refl ∙ s.gs;
-      chosen = same 61 (omega arith) refl ∙ s.chosen;
-      level = same 63 (omega arith) refl ∙ s.level;
+      regs = s.regs ∙ (λ i. at 30 (omega arith) (omega arith) refl i ∷ at 31 (omega arith) (omega arith) refl i ∷ at 32 (omega arith) (omega arith) refl i
+          ∷ at 33 (omega arith) (omega arith) refl i ∷ at 20 (omega arith) (omega arith) refl i ∷ at 35 (omega arith) (omega arith) refl i
+          ∷ at 36 (omega arith) (omega arith) refl i ∷ at 37 (omega arith) (omega arith) refl i ∷ at 38 (omega arith) (omega arith) refl i
+          ∷ at 39 (omega arith) (omega arith) refl i ∷ at 40 (omega arith) (omega arith) refl i ∷ at 41 (omega arith) (omega arith) refl i
+          ∷ at 42 (omega arith) (omega arith) refl i ∷ at 43 (omega arith) (omega arith) refl i ∷ at 44 (omega arith) (omega arith) refl i
+          ∷ at 45 (omega arith) (omega arith) refl i ∷ []);
+      rip = same 17 (omega arith) (omega arith) refl ∙ s.rip;
+      cs = ap selector (same 18 (omega arith) (omega arith) refl) ∙ s.cs;
+      flags = same 19 (omega arith) (omega arith) refl ∙ s.flags;
+      ss = ap selector (same 21 (omega arith) (omega arith) refl) ∙ s.ss;
+      sti = ap (bit 16) (same 21 (omega arith) (omega arith) refl) ∙ s.sti;
+      gs = same 60 (omega arith) (omega arith) refl ∙ s.gs;
+      chosen = same 61 (omega arith) (omega arith) refl ∙ s.chosen;
+      level = same 63 (omega arith) (omega arith) refl ∙ s.level;
     }
 saved_beside mode image KernelCode e u w same base top rest s =
-    let at = λ (n : ℕ) (l : 16 ≤ n) (off : tells_record n ≡ false). sym (same n l off) in
+    let at = λ (n : ℕ) (l : 16 ≤ n) (u : n < 64) (off : tells_record n ≡ false). sym (same n l u off) in
     record {
-      regs = s.regs ∙ (λ i. at 30 (omega arith) refl i ∷ at 31 (omega arith) refl i ∷ at 32 (omega arith) refl i ∷ at 33 (omega arith) refl i
-          ∷ at 20 (omega arith) refl i ∷ at 35 (omega arith) refl i ∷ at 36 (omega arith) refl i ∷ at 37 (omega arith) refl i
-          ∷ at 38 (omega arith) refl i ∷ at 39 (omega arith) refl i ∷ at 40 (omega arith) refl i ∷ at 41 (omega arith) refl i
-          ∷ at 42 (omega arith) refl i ∷ at 43 (omega arith) refl i ∷ at 44 (omega arith) refl i ∷ at 45 (omega arith) refl i ∷ []);
-      rip = same 17 (omega arith) refl ∙ s.rip;
+      regs = s.regs ∙ (λ i. at 30 (omega arith) (omega arith) refl i ∷ at 31 (omega arith) (omega arith) refl i ∷ at 32 (omega arith) (omega arith) refl i
+          ∷ at 33 (omega arith) (omega arith) refl i ∷ at 20 (omega arith) (omega arith) refl i ∷ at 35 (omega arith) (omega arith) refl i
+          ∷ at 36 (omega arith) (omega arith) refl i ∷ at 37 (omega arith) (omega arith) refl i ∷ at 38 (omega arith) (omega arith) refl i
+          ∷ at 39 (omega arith) (omega arith) refl i ∷ at 40 (omega arith) (omega arith) refl i ∷ at 41 (omega arith) (omega arith) refl i
+          ∷ at 42 (omega arith) (omega arith) refl i ∷ at 43 (omega arith) (omega arith) refl i ∷ at 44 (omega arith) (omega arith) refl i
+          ∷ at 45 (omega arith) (omega arith) refl i ∷ []);
+      rip = same 17 (omega arith) (omega arith) refl ∙ s.rip;
       canonical = s.canonical;
-      cs = ap selector (same 18 (omega arith) refl) ∙ s.cs;
+      cs = ap selector (same 18 (omega arith) (omega arith) refl) ∙ s.cs;
       ring = s.ring;
-      stack_level = ap (λ n. n / 2 ^ 16 % 4) (same 18 (omega arith) refl) ∙ s.stack_level;
-      flags = same 19 (omega arith) refl ∙ s.flags;
+      stack_level = ap (λ n. n / 2 ^ 16 % 4) (same 18 (omega arith) (omega arith) refl) ∙ s.stack_level;
+      flags = same 19 (omega arith) (omega arith) refl ∙ s.flags;
       whole = s.whole;
-      ss = ap selector (same 21 (omega arith) refl) ∙ s.ss;
+      ss = ap selector (same 21 (omega arith) (omega arith) refl) ∙ s.ss;
       same_ss = ap (λ (y : Processor). y.ss) rest ∙ s.same_ss;
-      sti = ap (bit 16) (same 21 (omega arith) refl) ∙ s.sti;
+      sti = ap (bit 16) (same 21 (omega arith) (omega arith) refl) ∙ s.sti;
       unblocked = s.unblocked;
       base = s.base ∙ sym base;
-      gs = same 60 (omega arith) refl ∙ s.gs;
-      chosen = same 61 (omega arith) refl ∙ s.chosen;
-      level = same 63 (omega arith) refl ∙ s.level;
+      gs = same 60 (omega arith) (omega arith) refl ∙ s.gs;
+      chosen = same 61 (omega arith) (omega arith) refl ∙ s.chosen;
+      level = same 63 (omega arith) (omega arith) refl ∙ s.level;
       levels = s.levels;
       above = subst (λ n. n ≤ rsp w) (sym top) s.above;
     }
@@ -189,7 +193,7 @@ saved_beside mode image KernelCode e u w same base top rest s =
 -- where none of them but the registers is another
 pub saved_again : (mode : Mode) (image : Image) (o : Origin) (e u : Env) (w : Processor) → ((i : ℕ) → 16 ≤ i → u.var i ≡ e.var i)
     → u.base gs_tag ≡ e.base gs_tag → u.base top_tag ≡ e.base top_tag → u.rest ≡ e.rest → SavedOf mode image o e w → SavedOf mode image o u w
-saved_again mode image o e u w same = saved_beside mode image o e u w (λ i l off. same i l)
+saved_again mode image o e u w same = saved_beside mode image o e u w (λ i l below off. same i l)
 
 -- so at the load of the body's address with other flags
 pub load_again : (mode : Mode) (image : Image) (o : Origin) (e : Env) (g : Flags) (w : Processor) (b : BodyContext) → AtLoad mode image o e w b

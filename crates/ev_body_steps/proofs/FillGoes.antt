@@ -42,7 +42,7 @@ known_more e W w m (x ∷ ws) h = (also (in_one w x.at) (in_win W x.at) h.0, h.1
     also false t q = q
 
 -- a spot of the mode's bodies
-fill_in : (mode : Mode) (s : BodySpot) → is_fill_spot s ≡ true → is_fill mode (body mode s) ≡ true
+pub fill_in : (mode : Mode) (s : BodySpot) → is_fill_spot s ≡ true → is_fill mode (body mode s) ≡ true
 fill_in Fred s h = h
 fill_in Idt s h = h
 

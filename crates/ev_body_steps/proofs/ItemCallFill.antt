@@ -253,7 +253,7 @@ module _ (mode : Mode) (image : Image) (built : IsBuilt image) (good : IsImage i
           (sym (ap (λ (B : Block). B.opening.words) is_block ∙ fill_words address func to r mode)) knows) lines in
           let inside : InCode mode image (origin_of o.κ) u o.w b s.memory.words = record {
             range = range;
-            saved = saved_beside mode image (origin_of o.κ) (env ss extra v f) u o.w (λ i l off. beyond_registers regs v' i l
+            saved = saved_beside mode image (origin_of o.κ) (env ss extra v f) u o.w (λ i l below off. beyond_registers regs v' i l
                 ∙ ap (λ t. if t then (if i == 25 then number % M else (if i == 27 then p else site)) else v i) off) refl refl refl means.0.saved;
             locals = means.0.locals ∙ sym kept.locals;
             calls = subst (λ k. HoldsCalls mode image s.memory.words k b.calls) (sym kept.calls) means.0.calls;

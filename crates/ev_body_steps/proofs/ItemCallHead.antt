@@ -1,8 +1,8 @@
 -- `call` at the load of the head of its target's queue: an edge, behind which RAX is the head until another processor changes it.
-use Rattle.std.proofs.Common.{◌≡◌, ℕ, ◌+◌, ◌%◌, ◌^◌, ◌<◌, ◌≤◌, false, true, List, [], ◌∷◌, ◌++◌, get_or, set, map, length, Some, refl, sym, ap, ◌∙◌, subst, arith}
+use Rattle.std.proofs.Common.{◌≡◌, ℕ, zero, suc, ◌+◌, ◌-◌, ◌%◌, ◌^◌, ◌<◌, ◌≤◌, false, true, List, [], ◌∷◌, ◌++◌, get_or, set, map, length, Some, refl, sym, ap, ◌∙◌, subst, arith}
 use Rattle.std.specs.Prelude.{pos, slice_get, is_some}
 use Rattle.std.proofs.lemmas.List.{get_or-set_same, get_or-set_other, length-set}
-use Rattle.ev_isa.specs.Word.{NatMap, displaced}
+use Rattle.ev_isa.specs.Word.{NatMap, displaced, numbers_from}
 use Rattle.ev_isa.specs.Flags.{Flags}
 use Rattle.ev_isa.specs.Spelling.{spelling, four_bytes}
 use Rattle.ev_isa.specs.declared.instruction.Ins.TheVariants.{Load}
@@ -23,22 +23,24 @@ use Rattle.ev_abstract.specs.Machine as abstract
 use Rattle.ev_abstract.specs.Run.{item_at}
 use Rattle.ev_concrete.specs.ConcreteRun.{System, is_return}
 use Rattle.ev_built.specs.Built.{IsBuilt}
-use Rattle.ev_symbolic.specs.Value.{M, V, K, P}
+use Rattle.ev_symbolic.specs.Value.{M, V, K, P, X, B, OAdd}
 use Rattle.ev_symbolic.specs.State.{Block, Word}
 use Rattle.ev_symbolic.specs.Names.{record_tag, top_less}
 use Rattle.ev_symbolic.specs.Single.{IsAt, Leads}
-use Rattle.ev_symbolic.specs.Agrees.{Env, Code, Stands as Lines, edge_cell, eval, eval_flags, Known, Agrees, IsOpen, At}
+use Rattle.ev_symbolic.specs.Agrees.{Env, Code, Stands as Lines, edge_cell, eval, eval_flags, addr, Known, Open, Fits, Agrees, IsOpen, At}
 use Rattle.ev_symbolic.proofs.Single.{singles}
-use Rattle.ev_symbolic.proofs.Blocks.{at_end}
+use Rattle.ev_symbolic.proofs.Blocks.{at_end, begins, joined}
 use Rattle.ev_activation.specs.Seat.{Kind, Seat}
 use Rattle.ev_distances.specs.Form.{win_of, InRecord}
 use Rattle.ev_blocks.specs.Shapes.{FredFrame, IdtFrame, body_bytes}
-use Rattle.ev_blocks.specs.Calls.{CallSpot, AtHead, AtLink, at_head, at_link, link_code, filled_words, block_of_call}
+use Rattle.ev_blocks.specs.Calls.{CallSpot, AtFill, AtHead, AtLink, at_head, at_link, link_code, filled_words, block_of_call}
 use Rattle.ev_blocks.specs.Items.{InCall}
 use Rattle.ev_blocks.specs.Blocks.{block, edges}
 use Rattle.ev_blocks.specs.Blocks as blocks
 use Rattle.ev_blocks.proofs.CallFalls.{call_edges}
-use Rattle.ev_paths.specs.CallEnds.{item_regs}
+use Rattle.ev_paths.specs.CallEnds.{item_regs, filled_values}
+use Rattle.ev_paths.proofs.CallEnds.{call_ends}
+use Rattle.ev_paths.proofs.Locals.{from_six}
 use Rattle.ev_table.specs.Table.{code_table}
 use Rattle.ev_relation.specs.Filling.{first_fill}
 use Rattle.ev_relation.specs.Active.{address_of_item, here, IsKernelSs, InCode, InCallSpot, Active}
@@ -47,8 +49,9 @@ use Rattle.ev_relation.specs.Step.{Simulated}
 use Rattle.ev_relation.proofs.CallHolders.{first_free}
 use Rattle.ev_relation.proofs.CallKinds.{origin_of, plain_knows}
 use Rattle.ev_relation.proofs.Facts.{Facts}
+use Rattle.ev_relation.proofs.Fills.{fill_fits, fill_opens}
 use Rattle.ev_relation.proofs.ModeFacts.{is_fred}
-use Rattle.ev_body_steps.proofs.Bodies.{body, layout_of, means_at}
+use Rattle.ev_body_steps.proofs.Bodies.{body, layout_of, means_at, tells_record, saved_beside, nothing_open}
 use Rattle.ev_body_steps.proofs.CallCells.{call_code}
 use Rattle.ev_body_steps.proofs.CallFills.{called_processor}
 use Rattle.ev_body_steps.proofs.CallFirst.{AreKept, in_code}
@@ -56,7 +59,7 @@ use Rattle.ev_body_steps.proofs.CallGoes.{block_is}
 use Rattle.ev_body_steps.proofs.CallPlaces.{IsAtOffset, offset_from, item_regs_are, told_too, same_rsp}
 use Rattle.ev_body_steps.proofs.CallSteps as calls
 use Rattle.ev_body_steps.proofs.CallTurns as alike
-use Rattle.ev_body_steps.proofs.FillGoes.{FillOpens, fill_stands}
+use Rattle.ev_body_steps.proofs.FillGoes.{FillOpens, fill_in, fill_stands}
 use Rattle.ev_body_steps.proofs.ItemAddresses.{area_open}
 use Rattle.ev_body_steps.proofs.ItemCells.{edges_stand}
 use Rattle.ev_body_steps.proofs.ItemState.{with_registers, opening_of, known_of, gone}
@@ -145,6 +148,31 @@ frame_alone : (mode : Mode) (e : Env) (n : NatMap ℕ) → Known e (win_of InRec
     → Known e (known_of mode) n (opening_of mode).words
 frame_alone Fred e n h = h
 frame_alone Idt e n h = h
+
+-- ---- where the filling ends
+
+head_falls : (address func to r : ℕ) (mode : Mode) → edges mode (body mode (InCall (AtHead address func to))) 0
+    ≤ edges mode (body mode (InCall (AtFill address func to r))) (block mode (body mode (InCall (AtFill address func to r)))).steps
+head_falls address func to r Fred = (call_edges Fred FredFrame).head address func to r
+head_falls address func to r Idt = (call_edges Idt IdtFrame).head address func to r
+
+numbered : (n k i : ℕ) → i < k → get_or (map (λ j. X j) (numbers_from n k)) i (K 0) ≡ X (n + i)
+numbered n zero i l = absurd (omega arith)
+numbered n (suc k) zero l = ap (λ j. X j) (let q : n ≡ n + 0 = omega arith in q)
+numbered n (suc k) (suc i) l = numbered (suc n) k i (omega arith) ∙ ap (λ j. X j) (let q : suc n + i ≡ n + suc i = omega arith in q)
+
+-- what the filling leaves of the variables
+left_alone : (e : Env) (argument : V) (i : ℕ) → 16 ≤ i → i < 64 → tells_record i ≡ false
+    → eval e (get_or (filled_values argument) i (K 0)) ≡ e.var i
+unfolding eval
+left_alone e argument i l u off =
+    let numbers : List V = map (λ j. X j) (numbers_from 0 64) in
+    let first : List V = set numbers 0 (K 1) in
+    let second : List V = set first 25 (B OAdd (X 25) (K 1)) in
+    ap (eval e) (get_or-set_other second 26 i argument (K 0) (λ q. let clash : false ≡ true = sym off ∙ ap tells_record q in cc)
+    ∙ get_or-set_other first 25 i (B OAdd (X 25) (K 1)) (K 0) (λ q. let clash : false ≡ true = sym off ∙ ap tells_record q in cc)
+    ∙ get_or-set_other numbers 0 i (K 1) (K 0) (λ q. omega arith) ∙ numbered 0 64 i u
+    ∙ ap (λ j. X j) (let q : 0 + i ≡ i = omega arith in q))
 
 module _ (mode : Mode) (image : Image) (built : IsBuilt image) (good : IsImage image) (facts : Facts mode image)
     (left : NatMap ℕ) (s : System) (m : Machine) (h : Stands mode image left s m) (p : ℕ) (hp : p < image.processors)
@@ -297,3 +325,73 @@ module _ (mode : Mode) (image : Image) (built : IsBuilt image) (good : IsImage i
           sym (get_or-set_same c.regs 0 n 0 (omega arith)),
         );
       })
+
+  -- Where the filling ends, the same is the load's place.
+  pub at_fill_end : (act : Stood on.own b c s.memory) (ss : ℕ) → IsKernelSs mode ss → (extra v : ℕ → ℕ) (f : Flags) (address func to r : ℕ)
+      → At code (block mode (body mode (InCall (AtFill address func to r)))) (block mode (body mode (InCall (AtFill address func to r)))).steps
+      (env ss extra v f) c s.memory
+      → InCallSpot mode image (origin_of o.κ) (AtFill address func to r) (env ss extra v f) o.w b (first_fill on.fills) s.memory.words
+      → edges mode (body mode (InCall (AtFill address func to r))) (block mode (body mode (InCall (AtFill address func to r)))).steps ≤ on.own
+      → Simulated mode image left s m p
+  unfolding eval
+  at_fill_end act ss ss_is extra v f address func to r at means enough =
+      let e : Env = env ss extra v f in
+      let B : Block = block_of_call (is_fred mode) (layout_of mode) (AtFill address func to r) in
+      let spot : CallSpot = AtHead address func to in
+      let next : Block = block_of_call (is_fred mode) (layout_of mode) spot in
+      let fills = means.2 in
+      let site : ℕ = fills.site in
+      let lo = fills.is_local.0 in
+      let hi = fills.is_local.1 in
+      let ends = (call_ends (is_fred mode) (layout_of mode)).fills address func to r lo hi in
+      let θ : List V = filled_values (X r) in
+      let there : At code B B.steps e c s.memory = subst (λ (q : Block). At code q q.steps e c s.memory) (block_is mode (AtFill address func to r)) at in
+      let a : Agrees e B.ground ends.z c s.memory = at_end code B B.steps ends.z ends.runs e c s.memory there in
+      let g : Flags = eval_flags e ends.z.flags in
+      let v' : ℕ → ℕ = λ i. eval e (get_or θ i (K 0)) in
+      let u : Env = env ss extra v' g in
+      let free = first_free x.records on.fills (record { site = site; number = fills.number }) on.free fills.is in
+      let record_is : extra 22 ≡ record_address p site = fills.at in
+      let seat = step.in_seat mode image built good facts left s m h p hp o in
+      let is_block = block_is mode spot in
+      let says = head_says address func to mode in
+      let windows : Open u next.ground.known s.memory.regions = subst (λ (q : Block). Open u q.ground.known s.memory.regions) is_block
+      (fill_opens mode image p o.σ seat hp good.count.1 o.κ ss o.w extra v' g site free.small record_is (body mode (InCall spot))
+      (fill_in mode (InCall spot) refl) s.memory h.regions_are) in
+      let opened : Agrees u next.ground next.opening c s.memory = joined e θ B.ground next.ground ends.z c s.memory next.opening a ends.continues.joins c g refl
+      refl refl refl refl (a.blocked ∙ ends.continues.blocked) (a.rip ∙ ap (addr e) ends.continues.rip) a.flags says.opens.flags windows
+      (subst (λ W. Open u W s.memory.regions) (sym says.opens.shared) (nothing_open u s.memory)) in
+      let fit : Fits code u (block mode (body mode (InCall spot))) = fill_fits mode image p o.σ seat hp good.count.1 o.κ ss o.w extra v' g site free.small
+      record_is facts mode (body mode (InCall spot)) (fill_in mode (InCall spot) refl) (step.fred_is mode image built good facts left s m h p hp o)
+      means.0.range (subst (λ (q : Block). Lines code u q.lines) (sym is_block) tt) in
+      let at_next : At code (block mode (body mode (InCall spot))) 0 u c s.memory = begins code (block mode (body mode (InCall spot))) u c s.memory fit
+      (subst (λ (q : Block). Agrees u q.ground q.opening c s.memory) (sym is_block) opened) in
+      let falls = head_falls address func to r mode in
+      let number = means.3 in
+      by_head act ss ss_is extra v' g address func to at_next (
+        record {
+          range = means.0.range;
+          saved = saved_beside mode image (origin_of o.κ) e u o.w (left_alone e (X r)) refl refl refl means.0.saved;
+          locals = means.0.locals;
+          calls = means.0.calls;
+        },
+        means.1,
+        record {
+          s = r;
+          fills = record {
+            site = site;
+            number = fills.number;
+            is = fills.is;
+            item = fills.item;
+            is_local = fills.is_local;
+            at = fills.at;
+            address_is = fills.address_is;
+            from = fills.from;
+            from_site = fills.from_site;
+          };
+          number = ap (λ n. (n + 1) % M) number ∙ (let q : (fills.number % M + 1) % M ≡ suc fills.number % M = omega arith in q);
+          argument = from_six (λ k. e.var k ≡ get_or (e.var 6 ∷ e.var 7 ∷ e.var 8 ∷ e.var 9 ∷ e.var 10 ∷ e.var 11 ∷ e.var 12 ∷ e.var 13 ∷ []) (k - 6) 0)
+              refl refl refl refl refl refl refl refl r lo hi ∙ ap (λ (xs : List ℕ). get_or xs (r - 6) 0) (sym means.0.locals);
+        },
+      )
+      (omega arith)
