@@ -31,6 +31,7 @@ pub mod ItemPage
 pub mod ItemPages
 pub mod CallGoes
 pub mod CallFirst
+pub mod ItemFinish
 pub mod ItemWaitLoad
 pub mod KernelItems
 pub mod WaitSteps
