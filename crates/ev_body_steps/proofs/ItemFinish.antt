@@ -1,5 +1,5 @@
 -- `finish` at its item: its code begins with a block, whose first instruction is an edge.
-use Rattle.std.proofs.Common.{◌≡◌, ℕ, suc, ◌+◌, ◌<◌, ◌≤◌, true, [], ◌∷◌, get_or, map, length, None, Some, refl, sym, ap, ◌∙◌, subst, arith}
+use Rattle.std.proofs.Common.{◌≡◌, ℕ, suc, ◌+◌, ◌<◌, ◌≤◌, true, [], ◌∷◌, map, None, Some, refl, sym, ap, ◌∙◌, subst, arith}
 use Rattle.std.specs.Prelude.{slice_get}
 use Rattle.ev_isa.specs.Word.{NatMap}
 use Rattle.ev_isa.specs.Flags.{Flags}

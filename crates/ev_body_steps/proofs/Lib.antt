@@ -36,6 +36,7 @@ pub mod ItemWaitLoad
 pub mod KernelItems
 pub mod WaitSteps
 pub mod TakenSteps
+pub mod FinishSteps
 pub mod Kernel
 pub mod BodyRaising
 pub mod BodyRaisingFred
