@@ -10,7 +10,7 @@ use Rattle.ev_isa.specs.declared.instruction.Ins.TheVariants.{Load, Store, Store
 use Rattle.ev_isa.specs.declared.mode.Mode.{Mode}
 use Rattle.ev_effect.specs.Task.{Task}
 use Rattle.ev_body.specs.declared.item.Item.{Item}
-use Rattle.ev_body.specs.declared.item.Item.TheVariants.{Set, Copy, Goto, Log, Cpu, Slot, Put, SetCell, AddCell, SwapCell, Uget, Uput, GetReg, SetReg, SetRip, Eoi, Send, Map, Unmap, Ret, Resched, Kick, Wait, Call}
+use Rattle.ev_body.specs.declared.item.Item.TheVariants.{Set, Copy, Goto, Log, Cpu, Slot, Put, SetCell, AddCell, SwapCell, Uget, Uput, GetReg, SetReg, SetRip, Eoi, Send, Map, Unmap, Ret, Resched, Kick, Wait, Call, Take, Finish}
 use Rattle.ev_body.specs.declared.key.Key.TheVariants.{Irq}
 use Rattle.ev_body.specs.Bodies.{key_number}
 use Rattle.ev_body.specs.declared.body.Body.{Body}
@@ -75,6 +75,8 @@ use Rattle.ev_law.proofs.Ruled.{IsRuled}
 use Rattle.ev_body_steps.proofs.KernelStep as step
 use Rattle.ev_body_steps.proofs.BodyBreak as breaks
 use Rattle.ev_body_steps.proofs.SwitchOpens as switching
+use Rattle.ev_body_steps.proofs.CallFirst as first
+use Rattle.ev_body_steps.proofs.ItemFinish as finishes
 use Rattle.ev_body_steps.proofs.ItemWaitLoad as waits
 use Rattle.ev_body_steps.proofs.ItemCallLoad as callings
 use Rattle.ev_body_steps.proofs.KickGoes.{to_comparison}
@@ -373,6 +375,10 @@ module _ (mode : Mode) (image : Image) (built : IsBuilt image) (good : IsImage i
           pick (Wait site) today hi = waits.at_wait mode image built good facts left s m h p hp o body' is unfilled act ss ss_is extra v f at means place
               long enough
               site hi
+          pick Take today hi = first.to_take mode image built good facts left s m h p hp o body' is unfilled act ss ss_is extra v f at means place long enough
+              hi
+          pick Finish today hi = finishes.at_finish mode image built good facts left s m h p hp o body' is unfilled act ss ss_is extra v f at means place
+              enough hi
           pick _ today hi = absurd (cc)
 
       -- behind the load of a number for RAX

@@ -33,6 +33,7 @@ pub mod ItemPages
 pub mod CallGoes
 pub mod CallFirst
 pub mod RecordLoad
+pub mod ItemFinish
 pub mod ItemWaitLoad
 pub mod KickGoes
 pub mod KickSends
@@ -49,6 +50,7 @@ pub mod KernelItems
 pub mod WaitSteps
 pub mod TakenSteps
 pub mod TakenLink
+pub mod FinishSteps
 pub mod Kernel
 pub mod BodyRaising
 pub mod BodyRaisingFred

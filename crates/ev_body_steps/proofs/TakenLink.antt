@@ -227,8 +227,8 @@ module _ (mode : Mode) (image : Image) (built : IsBuilt image) (good : IsImage i
     unfolding eval spelling four_bytes is_return
     at_new_link at t i turns old enough =
         let code : Code = code_table mode image in
-        let z = goes.behind_block mode image built good facts left s m h p hp o (AtOffset hand (turn_edges item_edges n + 4)) refl unfilled act ss ss_is extra v f
-        t.range at hand (omega arith) (item_regs (layout_of mode)) (ends_at_hand mode hand (turn_edges item_edges n + 4)) refl refl in
+        let z = goes.behind_block mode image built good facts left s m h p hp o (AtOffset hand (turn_edges item_edges n + 4)) refl unfilled act ss ss_is extra v
+        f t.range at hand (omega arith) (item_regs (layout_of mode)) (ends_at_hand mode hand (turn_edges item_edges n + 4)) refl refl in
         let y = z.0 in
         let g : Flags = y.flags in
         let long : length c.regs ≡ 16 = y.state.long in
@@ -293,8 +293,8 @@ module _ (mode : Mode) (image : Image) (built : IsBuilt image) (good : IsImage i
         let same = hand_edges mode hand (turn_edges item_edges n + 4) in
         calls.edge mode image built good facts left s m h p hp o mine (taken_alone mode image left s m h p hp b o.below o.bodies) words' (name k ∷ []) is_link
         (writes_name mode image built good facts left s m h p hp o (name k) value) on.fills refl (λ j off q. q) (edge_cell ins next) found refl refl y.kernel
-        (step.outside mode image built good facts left s m h p hp o act) cpu leads (step.blocked mode image built good facts left s m h p hp) (λ q. refl) on.free
-        (λ q j lq lj own' free. link_spares mode image words k value q j ((processor m q).records j) ((h.each q lq).records j lj
+        (step.outside mode image built good facts left s m h p hp o act) cpu leads (step.blocked mode image built good facts left s m h p hp) (λ q. refl)
+        on.free (λ q j lq lj own' free. link_spares mode image words k value q j ((processor m q).records j) ((h.each q lq).records j lj
         (false_from_ne_true _ (λ filled. let clash : true ≡ false
         = sym own' ∙ taken_unfilled mode image left s m h p hp b o.below o.bodies q lq j filled in cc))))
         (edges mode (body mode (InCall (BehindTurn n))) 0) (omega arith)

@@ -445,8 +445,8 @@ module _ (mode : Mode) (image : Image) (built : IsBuilt image) (good : IsImage i
         -- where an instruction is made by hand
         at_hand : (n k : ℕ) → n < 0x100 → InBodies extra → AtEnd (AtOffset n k) → AtPlace n × (c.regs ≡ map (eval e) (item_regs (layout_of mode)))
         unfolding eval
-        at_hand n k near range at = goes.behind_block mode image built good facts left s m h p hp o (AtOffset n k) refl unfilled act ss ss_is extra v f range at n
-            near (item_regs (layout_of mode)) (ends_at_hand mode n k) refl refl
+        at_hand n k near range at = goes.behind_block mode image built good facts left s m h p hp o (AtOffset n k) refl unfilled act ss ss_is extra v f range
+            at n near (item_regs (layout_of mode)) (ends_at_hand mode n k) refl refl
 
         -- at the end of the block that found a call
         pub at_some_end : AtEnd (AtTaken true) → IsTaking e false false → Linked words (v 14) b.calls → runs_calls b.calls ≡ true
@@ -511,7 +511,8 @@ module _ (mode : Mode) (image : Image) (built : IsBuilt image) (good : IsImage i
             let way = at_the_item mode in
             let extra' : ℕ → ℕ = λ i. there in
             let u : Env = env ss extra' (with_registers c.regs v) g in
-            let windows = step.windows mode image built good facts left s m h p hp o body' is (body mode AtItem) way.over ss extra' (with_registers c.regs v) g in
+            let windows = step.windows mode image built good facts left s m h p hp o body' is (body mode AtItem) way.over ss extra'
+            (with_registers c.regs v) g in
             let state = goes.item_state_at mode image built good facts left s m h p hp o ss extra v f (at_function + 21) y in
             let agrees : Agrees u (block mode (body mode AtItem)).ground (opening_of mode) (gone c c.regs g there) s.memory
             = lands mode (behind c.regs g) u c s.memory (at_function + 21) (X 0) (X 1) (X 2) g state
