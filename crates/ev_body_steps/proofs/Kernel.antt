@@ -1,5 +1,5 @@
 -- A step of a processor on which a body stands: an interrupt, an instruction of the kernel's code, an item, or the return.
-use Rattle.std.proofs.Common.{◌≡◌, ℕ, suc, ◌+◌, ◌-◌, ◌*◌, ◌<◌, ◌≤◌, Bool, true, false, not, ◌&&◌, List, [], ◌∷◌, length, Some, refl, sym, ap, ◌∙◌, subst, arith, ◌||◌, Option, None}
+use Rattle.std.proofs.Common.{◌≡◌, ℕ, zero, suc, ◌+◌, ◌-◌, ◌*◌, ◌<◌, ◌≤◌, Bool, true, false, not, ◌&&◌, List, [], ◌∷◌, length, Some, refl, sym, ap, ◌∙◌, subst, arith, ◌||◌, Option, None}
 use Rattle.std.specs.Prelude.{ℤ, pos, ◌==◌, if◌then◌else◌, slice_get, nat_le, is_some}
 use Rattle.std.proofs.lemmas.Bool.{eqb-true, ne_eqb, leb-true, leb-false}
 use Rattle.std.specs.List.{list_any}
@@ -94,9 +94,11 @@ use Rattle.ev_body_steps.proofs.KickSteps as kicks
 use Rattle.ev_body_steps.proofs.BodyInterrupt as arrivals
 use Rattle.ev_body_steps.proofs.SwitchStep as switching
 use Rattle.ev_body_steps.proofs.CallFills as fillings
+use Rattle.ev_body_steps.proofs.TakenSteps as takens
+use Rattle.ev_body_steps.proofs.FinishSteps as finishes
 use Rattle.ev_body_steps.proofs.WaitSteps as waits
 use Rattle.ev_body_steps.proofs.ItemCallFill as callings
-use Rattle.ev_blocks.specs.Calls.{AtRecord, BehindWait, AtOffset}
+use Rattle.ev_blocks.specs.Calls.{AtRecord, BehindWait, BehindTake, AtTurn, BehindTurn, AtTaken, AtFinish, AtOffset}
 
 -- ---- from the entry of a vector to the code in common
 
@@ -465,12 +467,41 @@ module _ (mode : Mode) (image : Image) (built : IsBuilt image) (good : IsImage i
       at_body act (InCall (BehindWait d)) unfilled k ss ss_is extra v f n at means long enough hi =
           waits.at_wait_end mode image built good facts left s m h p hp o body' is (unfilled refl) d k ss ss_is extra v f n at means long enough ctx.item
           (which image built good b.body body' is b.place ctx.item hi) hi
+      at_body act (InCall (BehindTake rest)) unfilled k ss ss_is extra v f n at means long enough hi =
+          takens.at_take_end mode image built good facts left s m h p hp o body' is ss extra v f means.1 (unfilled refl) act ss_is rest
+          (subst (λ j. At code (block mode (body mode (InCall (BehindTake rest)))) j (env ss extra v f) c s.memory) n at) means.0 means.2
+          (subst (λ j. edges mode (body mode (InCall (BehindTake rest))) j ≤ on.own) n enough)
+      at_body act (InCall (AtTurn zero)) unfilled k ss ss_is extra v f n at means long enough hi =
+          takens.at_last_end mode image built good facts left s m h p hp o body' is ss extra v f means.1 (unfilled refl) act ss_is
+          (subst (λ j. At code (block mode (body mode (InCall (AtTurn zero)))) j (env ss extra v f) c s.memory) n at) means.0 means.2
+          (subst (λ j. edges mode (body mode (InCall (AtTurn zero))) j ≤ on.own) n enough)
+      at_body act (InCall (AtTurn (suc rest))) unfilled k ss ss_is extra v f n at means long enough hi =
+          takens.at_turn_end mode image built good facts left s m h p hp o body' is ss extra v f means.1 (unfilled refl) act ss_is rest
+          (subst (λ j. At code (block mode (body mode (InCall (AtTurn (suc rest))))) j (env ss extra v f) c s.memory) n at) means.0 means.2
+          (subst (λ j. edges mode (body mode (InCall (AtTurn (suc rest)))) j ≤ on.own) n enough)
+      at_body act (InCall (BehindTurn rest)) unfilled k ss ss_is extra v f n at means long enough hi =
+          takens.at_turned_end mode image built good facts left s m h p hp o body' is ss extra v f means.1 (unfilled refl) act ss_is rest
+          (subst (λ j. At code (block mode (body mode (InCall (BehindTurn rest)))) j (env ss extra v f) c s.memory) n at) means.0 means.2
+          (subst (λ j. edges mode (body mode (InCall (BehindTurn rest))) j ≤ on.own) n enough)
+      at_body act (InCall (AtTaken true)) unfilled k ss ss_is extra v f n at means long enough hi =
+          takens.at_some_end mode image built good facts left s m h p hp o body' is ss extra v f means.1 (unfilled refl) act ss_is
+          (subst (λ j. At code (block mode (body mode (InCall (AtTaken true)))) j (env ss extra v f) c s.memory) n at) means.0 means.2 means.3
+          (subst (λ j. edges mode (body mode (InCall (AtTaken true))) j ≤ on.own) n enough)
+      at_body act (InCall (AtTaken false)) unfilled k ss ss_is extra v f n at means long enough hi =
+          takens.at_none_end mode image built good facts left s m h p hp o body' is ss extra v f means.1 (unfilled refl) act ss_is
+          (subst (λ j. At code (block mode (body mode (InCall (AtTaken false)))) j (env ss extra v f) c s.memory) n at) means.0 means.3
+          (subst (λ j. edges mode (body mode (InCall (AtTaken false))) j ≤ on.own) n enough) ctx.item
+          (which image built good b.body body' is b.place ctx.item hi) hi
+      at_body act (InCall AtFinish) unfilled k ss ss_is extra v f n at means long enough hi =
+          finishes.at_finish_end mode image built good facts left s m h p hp o body' is (unfilled refl) act ss ss_is extra v f
+          (subst (λ j. At code (block mode (body mode (InCall AtFinish))) j (env ss extra v f) c s.memory) n at) means
+          (subst (λ j. edges mode (body mode (InCall AtFinish)) j ≤ on.own) n enough)
       at_body act (InCall (AtOffset offset more)) unfilled k ss ss_is extra v f n at means long enough hi = by_hand means
         where
           by_hand : IsByHand mode image (origin_of κ) (env ss extra v f) w b s.memory.words offset more → Result
-          by_hand (BehindComparison q y target sends z zero) =
+          by_hand (BehindComparison q y target sends z is_two) =
               kicks.at_kick_comparison mode image built good facts left s m h p hp o body' is (unfilled refl) act k ss ss_is extra v f offset more q y n at
-              target sends z zero enough
+              target sends z is_two enough
           by_hand (AtQuiet q y target z) =
               kicks.at_kick_quiet mode image built good facts left s m h p hp o body' is (unfilled refl) act k ss ss_is extra v f offset more q y n at target z
           by_hand _ = absurd (never_in_call image built good b.body body' is mode (origin_of κ) (env ss extra v f) w b refl (first_fill on.fills)
