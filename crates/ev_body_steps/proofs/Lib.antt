@@ -53,3 +53,4 @@ pub mod CallEnd
 pub mod KickGoes
 pub mod CallFills
 pub mod ItemCallHead
+pub mod CallItemSteps
