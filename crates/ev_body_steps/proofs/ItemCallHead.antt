@@ -274,8 +274,8 @@ module _ (mode : Mode) (image : Image) (built : IsBuilt image) (good : IsImage i
       (sym (ap (λ (B : Block). B.opening.words) is_block ∙ link.words))
       (same_known address func to mode p o.κ o.σ ss o.w extra v f g regs s.memory.words known)) lines in
       let same : AreKept v regs = subst (λ (xs : List ℕ). AreKept v (set xs 0 n)) (sym regs_are) (head_kept mode e to n) in
-      let inside : InCode mode image (origin_of o.κ) u o.w b s.memory.words = in_code mode image built good facts left s m h p hp o ss extra v f g regs same range
-      b refl refl means.0.saved means.0.locals means.0.calls in
+      let inside : InCode mode image (origin_of o.κ) u o.w b s.memory.words
+      = in_code mode image built good facts left s m h p hp o ss extra v f g regs same range b refl refl means.0.saved means.0.locals means.0.calls in
       let plain = step.plain_kind mode image built good facts left s m h p hp o in
       let now : ℕ = edges mode (body mode (InCall spot)) 0 in
       let falls = link_falls address func to mode in
