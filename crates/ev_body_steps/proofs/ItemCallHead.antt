@@ -59,7 +59,7 @@ use Rattle.ev_body_steps.proofs.CallGoes.{block_is}
 use Rattle.ev_body_steps.proofs.CallPlaces.{IsAtOffset, offset_from, item_regs_are, told_too, same_rsp}
 use Rattle.ev_body_steps.proofs.CallSteps as calls
 use Rattle.ev_body_steps.proofs.CallTurns as alike
-use Rattle.ev_body_steps.proofs.FillGoes.{FillOpens, fill_in, fill_stands}
+use Rattle.ev_body_steps.proofs.FillGoes.{FillOpens, record_opens, fill_in, fill_stands}
 use Rattle.ev_body_steps.proofs.ItemAddresses.{area_open}
 use Rattle.ev_body_steps.proofs.ItemCells.{edges_stand}
 use Rattle.ev_body_steps.proofs.ItemState.{with_registers, opening_of, known_of, gone}
@@ -91,44 +91,12 @@ module _ (address func to : ℕ) where
     words : b.opening.words ≡ filled_words address func ++ (opening_of mode).words
 
   head_says : (mode : Mode) → SaysFilled mode (block_of_call (is_fred mode) (layout_of mode) (AtHead address func to))
-  head_says Fred = record {
-    opens = record {
-      beside = record { gs = refl; kernel_gs = refl; selector = refl; rsp0 = refl; cr2 = refl; blocked = refl };
-      known = refl;
-      shared = refl;
-      flags = refl;
-    };
-    words = refl;
-  }
-  head_says Idt = record {
-    opens = record {
-      beside = record { gs = refl; kernel_gs = refl; selector = refl; rsp0 = refl; cr2 = refl; blocked = refl };
-      known = refl;
-      shared = refl;
-      flags = refl;
-    };
-    words = refl;
-  }
+  head_says Fred = record { opens = record_opens Fred _ _ _ _ _ _; words = refl }
+  head_says Idt = record { opens = record_opens Idt _ _ _ _ _ _; words = refl }
 
   link_says : (mode : Mode) → SaysFilled mode (block_of_call (is_fred mode) (layout_of mode) (AtLink address func to false))
-  link_says Fred = record {
-    opens = record {
-      beside = record { gs = refl; kernel_gs = refl; selector = refl; rsp0 = refl; cr2 = refl; blocked = refl };
-      known = refl;
-      shared = refl;
-      flags = refl;
-    };
-    words = refl;
-  }
-  link_says Idt = record {
-    opens = record {
-      beside = record { gs = refl; kernel_gs = refl; selector = refl; rsp0 = refl; cr2 = refl; blocked = refl };
-      known = refl;
-      shared = refl;
-      flags = refl;
-    };
-    words = refl;
-  }
+  link_says Fred = record { opens = record_opens Fred _ _ _ _ _ _; words = refl }
+  link_says Idt = record { opens = record_opens Idt _ _ _ _ _ _; words = refl }
 
   link_falls : (mode : Mode) → edges mode (body mode (InCall (AtLink address func to false))) 0 < edges mode (body mode (InCall (AtHead address func to))) 0
   link_falls Fred = (call_edges Fred FredFrame).link address func to
