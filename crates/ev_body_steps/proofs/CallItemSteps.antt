@@ -65,7 +65,8 @@ module _ (mode : Mode) (image : Image) (built : IsBuilt image) (good : IsImage i
   unfolding site_of
   at_call_record unfilled act k ss ss_is extra v f site n at means enough site' to func r hi =
       let same : site' ≡ site = unsome _ _ (sym (ap site_of hi) ∙ ap (λ y. site_of (item_at y b.place)) (sym is) ∙ means.2) in
-      by_load mode image built good facts left s m h p hp o body' is site to func r (hi ∙ ap (λ j. Some (Call j to func r)) same) unfilled act ss ss_is extra v f
+      by_load mode image built good facts left s m h p hp o body' is site to func r (hi ∙ ap (λ j. Some (Call j to func r)) same)
+      unfilled act ss ss_is extra v f
       (subst (λ j. At code (block mode (body mode (InCall (AtRecord site)))) j (env ss extra v f) c s.memory) n at) means
       (subst (λ j. edges mode (body mode (InCall (AtRecord site))) j ≤ on.own) n enough)
 

@@ -236,7 +236,8 @@ module _ (mode : Mode) (image : Image) (built : IsBuilt image) (good : IsImage i
           (edges_stand code u a behind_state (fill_code address func to r) base_is (omega arith) cells.fill) in
           let stands = fill_stands mode image built good facts left s m h p hp o ss extra v f 16 g y.state range (InCall spot)
           (ap (λ t. t && nat_lt r 14) (le-leb 6 r bounds.0) ∙ lt-ltb r 14 bounds.1)
-          (subst (FillOpens mode) (sym is_block) (fill_opening address func to r mode)) extra' v' refl refl refl refl site small_site refl regs next behind_state wide same_stack (omega arith)
+          (subst (FillOpens mode) (sym is_block) (fill_opening address func to r mode)) extra' v' refl refl refl refl site small_site refl
+          regs next behind_state wide same_stack (omega arith)
           (ap (λ (B : Block). B.opening.rip) is_block) (told ∙ ap (λ (B : Block). map (eval u) B.opening.regs) (sym is_block))
           (subst (λ (ws : List Word). Known u (win_of InRecord ∷ known_of mode) s.memory.words ws)
           (sym (ap (λ (B : Block). B.opening.words) is_block ∙ fill_words address func to r mode)) knows) lines in
