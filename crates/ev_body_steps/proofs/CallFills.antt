@@ -273,5 +273,5 @@ module _ (mode : Mode) (image : Image) (built : IsBuilt image) (good : IsImage i
 
       head_stays : (f : Filling) → first_fill on.fills ≡ Some f → (to : ℕ) → to < 32 → (words : NatMap ℕ)
           → Changes p o.σ (record_names p f.site) s.memory.words words → StaysHead to s.memory.words words
-      head_stays f first to l words changes = head_spared p o.σ (record_names p f.site) small narrow s.memory.words words (record_is f first).allowed.written
-          changes to l refl
+      head_stays f first to l words changes = head_spared p o.σ (record_names p f.site) small narrow s.memory.words words
+          (record_is f first).allowed.written changes to l refl

@@ -12,8 +12,8 @@ use Rattle.ev_state.specs.Processor.{Processor}
 use Rattle.ev_abstract.specs.Machine.{Machine}
 use Rattle.ev_concrete.specs.ConcreteRun.{System}
 use Rattle.ev_built.specs.Built.{IsBuilt}
-use Rattle.ev_symbolic.specs.Value.{M, FVar}
-use Rattle.ev_symbolic.specs.State.{Win, Word, Block, in_win, in_one}
+use Rattle.ev_symbolic.specs.Value.{M, V, FVar, Fact}
+use Rattle.ev_symbolic.specs.State.{Win, Word, Line, Block, in_win, in_one}
 use Rattle.ev_symbolic.specs.Openings.{at_base}
 use Rattle.ev_symbolic.specs.Names.{item_tag}
 use Rattle.ev_symbolic.specs.Agrees.{Env, Code, Stands as Lines, eval, Known, Open, Fits, At}
@@ -27,7 +27,10 @@ use Rattle.ev_relation.specs.Relation.{Stands}
 use Rattle.ev_relation.proofs.Facts.{Facts}
 use Rattle.ev_relation.proofs.Fills.{is_fill_spot, is_fill, fill_fits, fill_opens}
 use Rattle.ev_relation.proofs.Fits.{InBodies}
-use Rattle.ev_body_steps.proofs.Bodies.{body}
+use Rattle.ev_blocks.specs.Shapes.{item_text, ground_over, over}
+use Rattle.ev_blocks.specs.Calls.{record_forms, item_opening}
+use Rattle.ev_relation.proofs.ModeFacts.{is_fred}
+use Rattle.ev_body_steps.proofs.Bodies.{body, layout_of}
 use Rattle.ev_body_steps.proofs.CallPlaces.{IsAtOffset, IsBeside, place_behind, opens_from}
 use Rattle.ev_body_steps.proofs.ItemState.{with_registers, known_of, gone}
 use Rattle.ev_body_steps.proofs.KernelStep as step
@@ -52,6 +55,23 @@ pub record FillOpens (mode : Mode) (b : Block) : Type 0 where
   pub known : b.ground.known ≡ win_of InRecord ∷ known_of mode
   pub shared : b.ground.shared ≡ []
   pub flags : b.opening.flags ≡ FVar
+
+-- so do those whose registers and words alone are told
+pub record_opens : (mode : Mode) (facts : List Fact) (lines : List Line) (offset : ℕ) (regs : List V) (words : List Word) (steps : ℕ)
+    → FillOpens mode (over (ground_over (is_fred mode) item_text (record_forms (layout_of mode)) facts) lines
+    (record (item_opening (layout_of mode) offset) { regs = regs; words = words }) steps)
+record_opens Fred facts lines offset regs words steps = record {
+  beside = record { gs = refl; kernel_gs = refl; selector = refl; rsp0 = refl; cr2 = refl; blocked = refl };
+  known = refl;
+  shared = refl;
+  flags = refl;
+}
+record_opens Idt facts lines offset regs words steps = record {
+  beside = record { gs = refl; kernel_gs = refl; selector = refl; rsp0 = refl; cr2 = refl; blocked = refl };
+  known = refl;
+  shared = refl;
+  flags = refl;
+}
 
 module _ (mode : Mode) (image : Image) (built : IsBuilt image) (good : IsImage image) (facts : Facts mode image)
     (left : NatMap ℕ) (s : System) (m : Machine) (h : Stands mode image left s m) (p : ℕ) (hp : p < image.processors)

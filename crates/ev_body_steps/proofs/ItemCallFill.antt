@@ -65,7 +65,7 @@ use Rattle.ev_relation.proofs.ModeFacts.{is_fred}
 use Rattle.ev_body_steps.proofs.Bodies.{layout_of, tells_record, saved_beside}
 use Rattle.ev_body_steps.proofs.CallGoes.{block_is}
 use Rattle.ev_body_steps.proofs.CallPlaces.{rax_regs_are, told_too, same_rsp}
-use Rattle.ev_body_steps.proofs.FillGoes.{FillOpens, known_more, fill_stands}
+use Rattle.ev_body_steps.proofs.FillGoes.{FillOpens, record_opens, known_more, fill_stands}
 use Rattle.ev_body_steps.proofs.ItemState.{opening_of, known_of, beyond_registers}
 use Rattle.ev_activation.specs.Seat.{Kind, Seat}
 use Rattle.ev_body_steps.proofs.ItemCallLoad as load
@@ -78,18 +78,7 @@ module _ (address func to r : ℕ) where
   fill_block mode = block_of_call (is_fred mode) (layout_of mode) (AtFill address func to r)
 
   fill_opening : (mode : Mode) → FillOpens mode (fill_block mode)
-  fill_opening Fred = record {
-    beside = record { gs = refl; kernel_gs = refl; selector = refl; rsp0 = refl; cr2 = refl; blocked = refl };
-    known = refl;
-    shared = refl;
-    flags = refl;
-  }
-  fill_opening Idt = record {
-    beside = record { gs = refl; kernel_gs = refl; selector = refl; rsp0 = refl; cr2 = refl; blocked = refl };
-    known = refl;
-    shared = refl;
-    flags = refl;
-  }
+  fill_opening mode = record_opens mode _ _ _ _ _ _
 
   fill_words : (mode : Mode) → (fill_block mode).opening.words ≡ (word (at_base record_tag 0x28) (X 25) ∷ site_words) ++ (opening_of mode).words
   fill_words Fred = refl
@@ -246,8 +235,9 @@ module _ (mode : Mode) (image : Image) (built : IsBuilt image) (good : IsImage i
           let lines : Lines code u (block mode (body mode (InCall spot))).lines = subst (λ (B : Block). Lines code u B.lines) (sym is_block)
           (edges_stand code u a behind_state (fill_code address func to r) base_is (omega arith) cells.fill) in
           let stands = fill_stands mode image built good facts left s m h p hp o ss extra v f 16 g y.state range (InCall spot)
-          (ap (λ t. t && nat_lt r 14) (le-leb 6 r bounds.0) ∙ lt-ltb r 14 bounds.1) (subst (FillOpens mode) (sym is_block) (fill_opening address func to r mode))
-          extra' v' refl refl refl refl site small_site refl regs next behind_state wide same_stack (omega arith)
+          (ap (λ t. t && nat_lt r 14) (le-leb 6 r bounds.0) ∙ lt-ltb r 14 bounds.1)
+          (subst (FillOpens mode) (sym is_block) (fill_opening address func to r mode)) extra' v' refl refl refl refl site small_site refl
+          regs next behind_state wide same_stack (omega arith)
           (ap (λ (B : Block). B.opening.rip) is_block) (told ∙ ap (λ (B : Block). map (eval u) B.opening.regs) (sym is_block))
           (subst (λ (ws : List Word). Known u (win_of InRecord ∷ known_of mode) s.memory.words ws)
           (sym (ap (λ (B : Block). B.opening.words) is_block ∙ fill_words address func to r mode)) knows) lines in

@@ -59,7 +59,7 @@ use Rattle.ev_body_steps.proofs.CallGoes.{block_is}
 use Rattle.ev_body_steps.proofs.CallPlaces.{IsAtOffset, offset_from, item_regs_are, told_too, same_rsp}
 use Rattle.ev_body_steps.proofs.CallSteps as calls
 use Rattle.ev_body_steps.proofs.CallTurns as alike
-use Rattle.ev_body_steps.proofs.FillGoes.{FillOpens, fill_in, fill_stands}
+use Rattle.ev_body_steps.proofs.FillGoes.{FillOpens, record_opens, fill_in, fill_stands}
 use Rattle.ev_body_steps.proofs.ItemAddresses.{area_open}
 use Rattle.ev_body_steps.proofs.ItemCells.{edges_stand}
 use Rattle.ev_body_steps.proofs.ItemState.{with_registers, opening_of, known_of, gone}
@@ -91,44 +91,12 @@ module _ (address func to : ℕ) where
     words : b.opening.words ≡ filled_words address func ++ (opening_of mode).words
 
   head_says : (mode : Mode) → SaysFilled mode (block_of_call (is_fred mode) (layout_of mode) (AtHead address func to))
-  head_says Fred = record {
-    opens = record {
-      beside = record { gs = refl; kernel_gs = refl; selector = refl; rsp0 = refl; cr2 = refl; blocked = refl };
-      known = refl;
-      shared = refl;
-      flags = refl;
-    };
-    words = refl;
-  }
-  head_says Idt = record {
-    opens = record {
-      beside = record { gs = refl; kernel_gs = refl; selector = refl; rsp0 = refl; cr2 = refl; blocked = refl };
-      known = refl;
-      shared = refl;
-      flags = refl;
-    };
-    words = refl;
-  }
+  head_says Fred = record { opens = record_opens Fred _ _ _ _ _ _; words = refl }
+  head_says Idt = record { opens = record_opens Idt _ _ _ _ _ _; words = refl }
 
   link_says : (mode : Mode) → SaysFilled mode (block_of_call (is_fred mode) (layout_of mode) (AtLink address func to false))
-  link_says Fred = record {
-    opens = record {
-      beside = record { gs = refl; kernel_gs = refl; selector = refl; rsp0 = refl; cr2 = refl; blocked = refl };
-      known = refl;
-      shared = refl;
-      flags = refl;
-    };
-    words = refl;
-  }
-  link_says Idt = record {
-    opens = record {
-      beside = record { gs = refl; kernel_gs = refl; selector = refl; rsp0 = refl; cr2 = refl; blocked = refl };
-      known = refl;
-      shared = refl;
-      flags = refl;
-    };
-    words = refl;
-  }
+  link_says Fred = record { opens = record_opens Fred _ _ _ _ _ _; words = refl }
+  link_says Idt = record { opens = record_opens Idt _ _ _ _ _ _; words = refl }
 
   link_falls : (mode : Mode) → edges mode (body mode (InCall (AtLink address func to false))) 0 < edges mode (body mode (InCall (AtHead address func to))) 0
   link_falls Fred = (call_edges Fred FredFrame).link address func to
@@ -274,8 +242,8 @@ module _ (mode : Mode) (image : Image) (built : IsBuilt image) (good : IsImage i
       (sym (ap (λ (B : Block). B.opening.words) is_block ∙ link.words))
       (same_known address func to mode p o.κ o.σ ss o.w extra v f g regs s.memory.words known)) lines in
       let same : AreKept v regs = subst (λ (xs : List ℕ). AreKept v (set xs 0 n)) (sym regs_are) (head_kept mode e to n) in
-      let inside : InCode mode image (origin_of o.κ) u o.w b s.memory.words = in_code mode image built good facts left s m h p hp o ss extra v f g regs same range
-      b refl refl means.0.saved means.0.locals means.0.calls in
+      let inside : InCode mode image (origin_of o.κ) u o.w b s.memory.words
+      = in_code mode image built good facts left s m h p hp o ss extra v f g regs same range b refl refl means.0.saved means.0.locals means.0.calls in
       let plain = step.plain_kind mode image built good facts left s m h p hp o in
       let now : ℕ = edges mode (body mode (InCall spot)) 0 in
       let falls = link_falls address func to mode in

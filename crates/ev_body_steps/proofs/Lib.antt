@@ -48,6 +48,7 @@ pub mod CallEnd
 pub mod ItemCallHead
 pub mod KernelItems
 pub mod WaitSteps
+pub mod CallItemSteps
 pub mod TakenSteps
 pub mod TakenLink
 pub mod FinishSteps
