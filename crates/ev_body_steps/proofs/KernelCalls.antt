@@ -1,9 +1,10 @@
 -- A step of an activation in the code of a call item, where the block of its spot has ended: which lemma of that item it comes to.
-use Rattle.std.proofs.Common.{◌≡◌, ℕ, zero, suc, ◌<◌, ◌≤◌, true, false, length, None, Some, refl, sym, ap, ◌∙◌}
+use Rattle.std.proofs.Common.{◌≡◌, ℕ, zero, suc, ◌+◌, ◌<◌, ◌≤◌, true, false, length, None, Some, refl, sym, ap, ◌∙◌, subst}
 use Rattle.std.specs.Prelude.{slice_get}
 use Rattle.ev_isa.specs.Word.{NatMap}
 use Rattle.ev_isa.specs.Flags.{Flags}
 use Rattle.ev_isa.specs.declared.mode.Mode.{Mode}
+use Rattle.ev_isa.specs.declared.mode.Mode.TheVariants.{Idt, Fred}
 use Rattle.ev_body.specs.declared.item.Item.{Item}
 use Rattle.ev_body.specs.declared.item.Item.TheVariants.{Call, Wait}
 use Rattle.ev_body.specs.declared.body.Body.{Body}
@@ -18,13 +19,13 @@ use Rattle.ev_concrete.specs.ConcreteRun.{System}
 use Rattle.ev_built.specs.Built.{IsBuilt, is_built_item}
 use Rattle.ev_symbolic.specs.Agrees.{Env, Code, At}
 use Rattle.ev_symbolic.proofs.Blocks.{unsome}
-use Rattle.ev_blocks.specs.Calls.{CallSpot, AtRecord, BehindWait, BehindBusy, AtFill, AtHead, AtLink, BehindFailure, BehindCall, AtTake, BehindTake, AtTurn, BehindTurn, AtTaken, AtFinish, BehindNext, AtOffset}
+use Rattle.ev_blocks.specs.Calls.{CallSpot, AtRecord, BehindWait, BehindBusy, AtFill, AtHead, AtLink, BehindFailure, BehindCall, AtTake, BehindTake, AtTurn, BehindTurn, AtTaken, AtFinish, BehindNext, AtOffset, at_old_link, at_function, turn_edges}
 use Rattle.ev_blocks.specs.Calls as blocks
 use Rattle.ev_blocks.specs.Items.{InCall}
-use Rattle.ev_blocks.specs.Blocks.{block, edges}
+use Rattle.ev_blocks.specs.Blocks.{block, edges, item_edges}
 use Rattle.ev_table.specs.Table.{code_table}
 use Rattle.ev_relation.specs.Filling.{first_fill}
-use Rattle.ev_relation.specs.Active.{site_of, here, IsKernelSs, IsByHand, BehindComparison, AtQuiet, InCallSpot, Active}
+use Rattle.ev_relation.specs.Active.{site_of, here, IsKernelSs, IsByHand, BehindExchange, BehindOldLink, AtFunction, BehindArgument, BehindCaller, BehindAddress, BehindFinish, BehindComparison, AtQuiet, InCallSpot, Active}
 use Rattle.ev_relation.specs.Relation.{StandsOn, Stands, switches_at}
 use Rattle.ev_relation.specs.Step.{Simulated}
 use Rattle.ev_relation.proofs.CallKinds.{origin_of}
@@ -36,8 +37,16 @@ use Rattle.ev_body_steps.proofs.KernelStep as step
 use Rattle.ev_body_steps.proofs.KickSteps as kicks
 use Rattle.ev_body_steps.proofs.WaitSteps as waits
 use Rattle.ev_body_steps.proofs.ItemCallFill as callings
+use Rattle.ev_body_steps.proofs.ItemCallHead as heads
+use Rattle.ev_body_steps.proofs.CallItemSteps as busy
 use Rattle.ev_body_steps.proofs.TakenSteps as takens
+use Rattle.ev_body_steps.proofs.TakenLink as links
 use Rattle.ev_body_steps.proofs.FinishSteps as finishes
+
+-- at the load of the head a block of no instruction ends where it begins
+head_steps : (mode : Mode) (address func to : ℕ) → (block mode (body mode (InCall (AtHead address func to)))).steps ≡ 0
+head_steps Fred address func to = refl
+head_steps Idt address func to = refl
 
 module _ (mode : Mode) (image : Image) (built : IsBuilt image) (good : IsImage image) (facts : Facts mode image)
     (left : NatMap ℕ) (s : System) (m : Machine) (h : Stands mode image left s m) (p : ℕ) (hp : p < image.processors)
@@ -100,6 +109,13 @@ module _ (mode : Mode) (image : Image) (built : IsBuilt image) (good : IsImage i
         ss ss_is extra v f at means enough
     by_record site unfilled at means enough _ hi q = absurd (cc)
 
+    -- the end of a place between blocks, where these are its offset and its edges
+    by_place : (n more : ℕ) (offset more' : ℕ) → offset ≡ n → more' ≡ more → AtEnd (AtOffset offset more') → left_at (AtOffset offset more') ≤ on.own
+        → AtEnd (AtOffset n more) × (left_at (AtOffset n more) ≤ on.own)
+    by_place n more offset more' q y at enough =
+        let same : (offset, more') ≡ (n, more) = λ i. (q i, y i) in
+        (subst (λ (t : ℕ × ℕ). AtEnd (AtOffset t.0 t.1)) same at, subst (λ (t : ℕ × ℕ). left_at (AtOffset t.0 t.1) ≤ on.own) same enough)
+
     -- what is made by hand
     by_hand : (offset more : ℕ) → first_fill on.fills ≡ None → AtEnd (AtOffset offset more) → left_at (AtOffset offset more) ≤ on.own
         → IsByHand mode image (origin_of o.κ) e o.w b s.memory.words offset more → Result
@@ -108,7 +124,24 @@ module _ (mode : Mode) (image : Image) (built : IsBuilt image) (good : IsImage i
         z is_two enough
     by_hand offset more unfilled at enough (AtQuiet q y target z) =
         kicks.at_kick_quiet mode image built good facts left s m h p hp o body' is unfilled act _ ss ss_is extra v f offset more q y refl at target z
-    by_hand offset more unfilled at enough means = never (AtOffset offset more) means
+    by_hand offset more unfilled at enough (BehindOldLink n q y t i turns old) =
+        let z = by_place (at_old_link + 7) (turn_edges item_edges n + 4) offset more q y at enough in
+        links.at_new_link mode image built good facts left s m h p hp o body' is unfilled act ss ss_is extra v f n z.0 t i turns old z.1
+    by_hand offset more unfilled at enough (AtFunction q y t i some list) =
+        let z = by_place at_function (item_edges + 4) offset more q y at enough in
+        takens.at_argument mode image built good facts left s m h p hp o body' is ss extra v f i unfilled act ss_is z.0 t some list z.1
+    by_hand offset more unfilled at enough (BehindArgument q y t i some list) =
+        let z = by_place (at_function + 7) (item_edges + 3) offset more q y at enough in
+        takens.at_caller mode image built good facts left s m h p hp o body' is ss extra v f i unfilled act ss_is z.0 t some list z.1
+    by_hand offset more unfilled at enough (BehindCaller q y t i some list) =
+        let z = by_place (at_function + 14) (item_edges + 2) offset more q y at enough in
+        takens.at_address mode image built good facts left s m h p hp o body' is ss extra v f i unfilled act ss_is z.0 t some list z.1
+    by_hand offset more unfilled at enough (BehindAddress q y t i some list target) =
+        let z = by_place (at_function + 21) (item_edges + 1) offset more q y at enough in
+        takens.at_function_jump mode image built good facts left s m h p hp o body' is ss extra v f i unfilled act ss_is z.0 t some list target z.1
+    by_hand offset more unfilled at enough (BehindExchange q y r is_first z head equal) =
+        never (AtOffset offset more) (BehindExchange q y r is_first z head equal)
+    by_hand offset more unfilled at enough (BehindFinish q y t i list) = never (AtOffset offset more) (BehindFinish q y t i list)
 
     -- at the end of each spot's block
     pub by_call_spot : (spot : CallSpot) → Unfilled spot → AtEnd spot → Means spot → left_at spot ≤ on.own → Result
@@ -117,9 +150,15 @@ module _ (mode : Mode) (image : Image) (built : IsBuilt image) (good : IsImage i
     by_call_spot (BehindWait d) unfilled at means enough =
         waits.at_wait_end mode image built good facts left s m h p hp o body' is (unfilled refl) d _ ss ss_is extra v f refl at means long enough o.ctx.item
         (today hi) hi
-    by_call_spot (BehindBusy r) unfilled at means enough = never (BehindBusy r) means
-    by_call_spot (AtFill address func to r) unfilled at means enough = never (AtFill address func to r) means
-    by_call_spot (AtHead address func to) unfilled at means enough = never (AtHead address func to) means
+    by_call_spot (BehindBusy r) unfilled at means enough =
+        busy.at_busy_end mode image built good facts left s m h p hp o body' is (unfilled refl) act r _ ss ss_is extra v f refl at means long enough
+        o.ctx.item (today hi) hi
+    by_call_spot (AtFill address func to r) unfilled at means enough =
+        heads.at_fill_end mode image built good facts left s m h p hp o body' is act ss ss_is extra v f address func to r at means enough
+    by_call_spot (AtHead address func to) unfilled at means enough =
+        heads.by_head mode image built good facts left s m h p hp o body' is act ss ss_is extra v f address func to
+        (subst (λ j. At code (block mode (body mode (InCall (AtHead address func to)))) j e c s.memory) (head_steps mode address func to) at) means
+        (subst (λ j. edges mode (body mode (InCall (AtHead address func to))) j ≤ on.own) (head_steps mode address func to) enough)
     by_call_spot (AtLink address func to is_stale) unfilled at means enough = never (AtLink address func to is_stale) means
     by_call_spot (BehindFailure address func to) unfilled at means enough = never (BehindFailure address func to) means
     by_call_spot (BehindCall r is_first) unfilled at means enough = never (BehindCall r is_first) means
