@@ -18,7 +18,6 @@ use Rattle.ev_abstract.specs.Run.{item_at}
 use Rattle.ev_concrete.specs.ConcreteRun.{System}
 use Rattle.ev_built.specs.Built.{IsBuilt, is_built_item}
 use Rattle.ev_symbolic.specs.Agrees.{Env, Code, At}
-use Rattle.ev_symbolic.proofs.Blocks.{unsome}
 use Rattle.ev_blocks.specs.Calls.{CallSpot, AtRecord, BehindWait, BehindBusy, AtFill, AtHead, AtLink, BehindFailure, BehindCall, AtTake, BehindTake, AtTurn, BehindTurn, AtTaken, AtFinish, BehindNext, AtOffset, at_old_link, at_function, turn_edges}
 use Rattle.ev_blocks.specs.Calls as blocks
 use Rattle.ev_blocks.specs.Items.{InCall}
@@ -36,9 +35,8 @@ use Rattle.ev_body_steps.proofs.Bodies.{body}
 use Rattle.ev_body_steps.proofs.KernelStep as step
 use Rattle.ev_body_steps.proofs.KickSteps as kicks
 use Rattle.ev_body_steps.proofs.WaitSteps as waits
-use Rattle.ev_body_steps.proofs.ItemCallFill as callings
 use Rattle.ev_body_steps.proofs.ItemCallHead as heads
-use Rattle.ev_body_steps.proofs.CallItemSteps as busy
+use Rattle.ev_body_steps.proofs.CallItemSteps as calls
 use Rattle.ev_body_steps.proofs.TakenSteps as takens
 use Rattle.ev_body_steps.proofs.TakenLink as links
 use Rattle.ev_body_steps.proofs.FinishSteps as finishes
@@ -104,9 +102,8 @@ module _ (mode : Mode) (image : Image) (built : IsBuilt image) (good : IsImage i
     by_record site unfilled at means enough (Wait n') hi q =
         waits.at_wait_record mode image built good facts left s m h p hp o body' is unfilled act _ ss ss_is extra v f site refl at means n' hi
     by_record site unfilled at means enough (Call n' to' func r') hi q =
-        let same : n' ≡ site = unsome _ _ q in
-        callings.by_load mode image built good facts left s m h p hp o body' is site to' func r' (hi ∙ ap (λ j. Some (Call j to' func r')) same) unfilled act
-        ss ss_is extra v f at means enough
+        calls.at_call_record mode image built good facts left s m h p hp o body' is unfilled act _ ss ss_is extra v f site refl at means enough n' to' func r'
+        hi
     by_record site unfilled at means enough _ hi q = absurd (cc)
 
     -- the end of a place between blocks, where these are its offset and its edges
@@ -151,7 +148,7 @@ module _ (mode : Mode) (image : Image) (built : IsBuilt image) (good : IsImage i
         waits.at_wait_end mode image built good facts left s m h p hp o body' is (unfilled refl) d _ ss ss_is extra v f refl at means long enough o.ctx.item
         (today hi) hi
     by_call_spot (BehindBusy r) unfilled at means enough =
-        busy.at_busy_end mode image built good facts left s m h p hp o body' is (unfilled refl) act r _ ss ss_is extra v f refl at means long enough
+        calls.at_busy_end mode image built good facts left s m h p hp o body' is (unfilled refl) act r _ ss ss_is extra v f refl at means long enough
         o.ctx.item (today hi) hi
     by_call_spot (AtFill address func to r) unfilled at means enough =
         heads.at_fill_end mode image built good facts left s m h p hp o body' is act ss ss_is extra v f address func to r at means enough
