@@ -49,6 +49,7 @@ pub mod ItemCallHead
 pub mod KernelItems
 pub mod WaitSteps
 pub mod CallItemSteps
+pub mod CallAnswered
 pub mod TakenSteps
 pub mod TakenLink
 pub mod FinishSteps
