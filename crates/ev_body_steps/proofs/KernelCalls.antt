@@ -18,7 +18,7 @@ use Rattle.ev_abstract.specs.Run.{item_at}
 use Rattle.ev_concrete.specs.ConcreteRun.{System}
 use Rattle.ev_built.specs.Built.{IsBuilt, is_built_item}
 use Rattle.ev_symbolic.specs.Agrees.{Env, Code, At}
-use Rattle.ev_blocks.specs.Calls.{CallSpot, AtRecord, BehindWait, BehindBusy, AtFill, AtHead, AtLink, BehindFailure, BehindCall, AtTake, BehindTake, AtTurn, BehindTurn, AtTaken, AtFinish, BehindNext, AtOffset, at_old_link, at_function, turn_edges}
+use Rattle.ev_blocks.specs.Calls.{CallSpot, AtRecord, BehindWait, BehindBusy, AtFill, AtHead, AtLink, BehindFailure, BehindCall, AtTake, BehindTake, AtTurn, BehindTurn, AtTaken, AtFinish, BehindNext, AtOffset, at_old_link, at_function, turn_edges, taken_edges}
 use Rattle.ev_blocks.specs.Calls as blocks
 use Rattle.ev_blocks.specs.Items.{InCall}
 use Rattle.ev_blocks.specs.Blocks.{block, edges, item_edges}
@@ -41,6 +41,7 @@ use Rattle.ev_body_steps.proofs.CallAnswered as answers
 use Rattle.ev_body_steps.proofs.TakenSteps as takens
 use Rattle.ev_body_steps.proofs.TakenLink as links
 use Rattle.ev_body_steps.proofs.FinishSteps as finishes
+use Rattle.ev_body_steps.proofs.FinishJump as jumps
 
 -- at the load of the head a block of no instruction ends where it begins
 head_steps : (mode : Mode) (address func to : ℕ) → (block mode (body mode (InCall (AtHead address func to)))).steps ≡ 0
@@ -139,7 +140,9 @@ module _ (mode : Mode) (image : Image) (built : IsBuilt image) (good : IsImage i
         takens.at_function_jump mode image built good facts left s m h p hp o body' is ss extra v f i unfilled act ss_is z.0 t some list target z.1
     by_hand offset more unfilled at enough (BehindExchange q y r is_first z head equal) =
         never (AtOffset offset more) (BehindExchange q y r is_first z head equal)
-    by_hand offset more unfilled at enough (BehindFinish q y t i list) = never (AtOffset offset more) (BehindFinish q y t i list)
+    by_hand offset more unfilled at enough (BehindFinish q y t i list) =
+        let z = by_place 27 (taken_edges item_edges + 1) offset more q y at enough in
+        jumps.at_finish_jump mode image built good facts left s m h p hp o body' is unfilled act ss ss_is extra v f z.0 t i list z.1
 
     -- at the end of each spot's block
     pub by_call_spot : (spot : CallSpot) → Unfilled spot → AtEnd spot → Means spot → left_at spot ≤ on.own → Result

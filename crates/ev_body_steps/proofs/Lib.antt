@@ -53,6 +53,7 @@ pub mod CallAnswered
 pub mod TakenSteps
 pub mod TakenLink
 pub mod FinishSteps
+pub mod FinishJump
 pub mod KernelCalls
 pub mod Kernel
 pub mod BodyRaising
