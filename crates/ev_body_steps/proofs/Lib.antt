@@ -49,9 +49,9 @@ pub mod ItemCallHead
 pub mod KernelItems
 pub mod WaitSteps
 pub mod CallItemSteps
-pub mod CallAnswered
 pub mod TakenSteps
 pub mod TakenLink
+pub mod CallAnswered
 pub mod FinishSteps
 pub mod FinishJump
 pub mod KernelCalls
