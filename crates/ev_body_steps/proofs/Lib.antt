@@ -51,6 +51,7 @@ pub mod WaitSteps
 pub mod CallItemSteps
 pub mod TakenSteps
 pub mod TakenLink
+pub mod CallAgain
 pub mod CallAnswered
 pub mod FinishSteps
 pub mod FinishJump
