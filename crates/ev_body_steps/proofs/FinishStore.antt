@@ -222,3 +222,185 @@ hand = taken_edges item_edges + 1
 jump_few : (mode : Mode) → edges mode (body mode (InCall (AtOffset 27 hand))) 0 ≤ 100
 jump_few Fred = omega arith
 jump_few Idt = omega arith
+
+module _ (mode : Mode) (image : Image) (built : IsBuilt image) (good : IsImage image) (facts : Facts mode image)
+    (left : NatMap ℕ) (s : System) (m : Machine) (h : Stands mode image left s m) (p : ℕ) (hp : p < image.processors)
+    (o : step.Top mode image built good facts left s m h p hp) (body' : Body) (is : slice_get image.bodies o.b.body ≡ Some body') where
+  abbrev code : Code
+  code = code_table mode image
+
+  abbrev c : Processor
+  c = s.cpus p
+
+  abbrev b : BodyContext
+  b = o.b
+
+  abbrev x : abstract.Processor
+  x = processor m p
+
+  abbrev on : StandsOn mode image p (left p) s x
+  on = step.on mode image built good facts left s m h p hp
+
+  abbrev words : NatMap ℕ
+  words = s.memory.words
+
+  abbrev Stood : ℕ → BodyContext → Processor → Memory → Type 0
+  Stood now b cpu mem = Active mode image p now o.κ o.σ on.frame (switches_at mode image on.switching o.below) (first_fill on.fills) o.w b cpu mem
+
+  small : p < 32
+  small = step.small mode image built good facts left s m h p hp
+
+  -- ---- the calls that the context has
+
+  abbrev taken : CallId → Bool
+  taken = has_taken mode image left s m h p hp b o.below o.bodies
+
+  has_is : (k : CallId) → 0 < times k b.calls → taken k ≡ true
+  has_is k has = lt-ltb 0 (times k b.calls) has
+
+  placed_once : (k : CallId) → times k b.calls + times k (to_run o.below) ≡ one_if (is_taken (record_of m k).state && ((record_of m k).to == p))
+  placed_once k = sym (ap (λ bs. times k (to_run bs)) o.bodies ∙ times_append k b.calls (to_run o.below)) ∙ (h.calls.placed k).list p
+
+  once : (k : CallId) → times k b.calls ≤ 1
+  once k =
+      let one = one_at_most (is_taken (record_of m k).state && ((record_of m k).to == p)) in
+      let placed = placed_once k in omega (arith, one, placed)
+
+  busy : (k : CallId) → 0 < times k b.calls → is_free (record_of m k).state ≡ false
+  busy k has = taken_busy (record_of m k).state (and_left _ ((record_of m k).to == p)
+      (is_one (is_taken (record_of m k).state && ((record_of m k).to == p)) (let placed = placed_once k in omega (arith, placed, has))))
+
+  -- memory holds their records
+  held : (k : CallId) → 0 < times k b.calls → HoldsCall mode image words k.from k.site (record_of m k)
+  held k has =
+      let range = has_range mode image built good facts left s m h p hp o body' is k has in
+      (h.each k.from range.0).records k.site range.1 (false_from_ne_true _ (λ filled. let clash : true ≡ false
+      = sym (has_is k has) ∙ taken_unfilled mode image left s m h p hp b o.below o.bodies k.from range.0 k.site filled in cc))
+
+  -- ---- the record that is freed
+
+  module _ (k : CallId) (has : 0 < times k b.calls) where
+    abbrev mine : CallId → Bool
+    mine j = is_id j k
+
+    away : (j : CallId) → taken j ≡ false → is_id j k ≡ false
+    away j off = false_from_ne_true (is_id j k) (λ q. let clash : true ≡ false = sym (has_is k has) ∙ ap taken (sym (same_call j k q)) ∙ off in cc)
+
+    alone : AreAlone mode image left s m h p hp b o.below o.bodies mine
+    alone =
+        let t : AreAlone mode image left s m h p hp b o.below o.bodies taken = taken_alone mode image left s m h p hp b o.below o.bodies in record {
+          beneath = λ j some. away j (t.beneath j some);
+          others = λ q d j some. away j (t.others q d j some);
+          queues = λ q j some. away j (t.queues q j some);
+          filled_beneath = λ site e. away (record { from = p; site = site }) (t.filled_beneath site e);
+          filled = λ q lq d site e. away (record { from = q; site = site }) (t.filled q lq d site e);
+        }
+
+    abbrev name : Named
+    name = RecordWord k.from k.site 0
+
+    state_is : address_of name ≡ state_at k
+    state_is = let q : record_address k.from k.site + 0 ≡ record_address k.from k.site = omega arith in q
+
+    are : AreOfCalls p mine o.below (name ∷ [])
+    are =
+        let range = has_range mode image built good facts left s m h p hp o body' is k has in
+        let own = range.0 in
+        let few = good.count.1 in record {
+          allowed = record { written = ((omega (arith, own, few), range.1, omega arith, refl), tt); own = λ q d. (none q, tt) };
+          of = (id_self k, tt);
+          unknown = by_depth o.below;
+          tasks = refl;
+          slots = refl;
+          cells = refl;
+          pages = refl;
+          user = refl;
+        }
+      where
+        none : (q : ℕ) → None ≡ Some q → ⊥
+        none q e = absurd (cc)
+
+        by_depth : (ds : List BodyContext) → UnknownTo ds (name ∷ [])
+        by_depth [] = tt
+        by_depth (d ∷ ds) = refl
+
+    abbrev words' : NatMap ℕ
+    words' = put_at words (state_at k) 0
+
+    changes : Changes p o.σ (name ∷ []) words words'
+    changes = subst (λ a. Changes p o.σ (name ∷ []) words (put_at words a 0)) state_is
+        (writes_name mode image built good facts left s m h p hp o name 0)
+
+    narrow : o.σ.stack < 7
+    narrow = step.narrow mode image built good facts left s m h p hp o
+
+    -- ---- the abstract machine behind it
+
+    abbrev without : Machine
+    without = with_record m k (in_state (record_of m k) Free)
+
+    -- with the calls that are left
+    module _ (ks : List CallId) (calls_are : b.calls ≡ k ∷ ks) where
+      abbrev b' : BodyContext
+      b' = at_first_call image without (unknown_flags b) ks
+
+      abbrev m' : Machine
+      m' = with_context without p b'
+
+      among : (j : CallId) → 0 < times j ks → (is_id j k ≡ false) × (0 < times j b.calls)
+      among j some =
+          let one = ap (times k) calls_are ∙ times_same k ks in
+          let bound = once k in
+          let off : is_id j k ≡ false = false_from_ne_true (is_id j k) (λ q.
+          let there : 0 < times k ks = subst (λ y. 0 < times y ks) (same_call j k q) some in omega (arith, there, one, bound)) in
+          (off, (let all = ap (times j) calls_are ∙ times_append j (k ∷ []) ks in omega (arith, all, some)))
+
+      -- the next call begins
+      begins : (js : List CallId) → ((j : CallId) → 0 < times j js → (is_id j k ≡ false) × (0 < times j b.calls)) → (v : ℕ → ℕ) → Locals mode image v b
+          → (t : ℕ) → item_at (Some body') t ≡ Some Take
+          → BeginsCall mode image words' (at_first_call image without (unknown_flags b) js) js
+      begins [] from v locals t takes = tt
+      begins (j ∷ js) from v locals t takes =
+          let one = times_same j js in
+          let f = from j (omega (arith, one)) in
+          let same : record_of without j ≡ record_of m j = record_kept m k (in_state (record_of m k) Free) j f.0 in
+          let range = has_range mode image built good facts left s m h p hp o body' is j f.1 in
+          let low = range.0 in
+          let few = good.count.1 in
+          begins_call mode image good built facts (unknown_flags b) body' is t takes v words' without j js locals
+          (subst (HoldsCall mode image words' j.from j.site) (sym same)
+          (call_stays mode image words words' j.from j.site (record_of m j)
+          (record_spared p o.σ (name ∷ []) small narrow words words' are.allowed.written changes mine are.of j f.0 (omega (arith, low, few)) range.1)
+          (held j f.1)))
+          (ap (λ (r : CallRecord). is_free r.state) same ∙ busy j f.1)
+
+      makes : calls.Makes mode image built good facts left s m h p hp o mine alone words' (name ∷ []) are changes on.fills refl (λ i off e. e) m' b'
+      makes = record {
+        own = own_is m k (in_state (record_of m k) Free) p b' b o.below o.bodies;
+        others = others_are m k (in_state (record_of m k) Free) p b';
+        same_words = refl;
+        same_pages = refl;
+        same_cells = refl;
+        queues = λ q lq. subst (QueueIs words' q) (sym (queue_is m k (in_state (record_of m k) Free) p b' q))
+            (queue_kept mode image left s m h p hp b o.below o.bodies o.σ words' (name ∷ []) narrow good.count.1 are.allowed.written changes mine are.of alone
+            q lq refl);
+        old = λ q site lt off. kept q site off;
+        held = λ q site lq lt on' unfilled. holds q site on';
+        free = free_still x.records (processor m' p).records on.fills (λ site e. kept p site (away (record { from = p; site = site })
+            (taken_unfilled mode image left s m h p hp b o.below o.bodies p hp site (filled_there site e)))) on.free;
+      }
+        where
+          filled_there : (site : ℕ) → is_filled site on.fills ≡ true → is_filled site (h.each p hp).fills ≡ true
+          filled_there site = subst (λ (y : StandsOn mode image p (left p) s x). is_filled site y.fills ≡ true)
+              (step.on_is mode image built good facts left s m h p hp)
+
+          kept : (q site : ℕ) → is_id (record { from = q; site = site }) k ≡ false → (processor m' q).records site ≡ (processor m q).records site
+          kept q site off = ap (λ (rs : NatMap CallRecord). rs site) (records_are m k (in_state (record_of m k) Free) p b' q)
+              ∙ record_kept m k (in_state (record_of m k) Free) (record { from = q; site = site }) off
+
+          holds : (q site : ℕ) → is_id (record { from = q; site = site }) k ≡ true → HoldsCall mode image words' q site ((processor m' q).records site)
+          holds q site on' = subst (λ (j : CallId). HoldsCall mode image words' j.from j.site ((processor m' j.from).records j.site))
+              (sym (same_call (record { from = q; site = site }) k on'))
+              (subst (HoldsCall mode image words' k.from k.site) (sym (ap (λ (rs : NatMap CallRecord). rs k.site)
+              (records_are m k (in_state (record_of m k) Free) p b' k.from) ∙ record_is m k (in_state (record_of m k) Free)))
+              (freed mode image words k (record_of m k) (held k has)))
