@@ -404,3 +404,130 @@ module _ (mode : Mode) (image : Image) (built : IsBuilt image) (good : IsImage i
               (subst (HoldsCall mode image words' k.from k.site) (sym (ap (λ (rs : NatMap CallRecord). rs k.site)
               (records_are m k (in_state (record_of m k) Free) p b' k.from) ∙ record_is m k (in_state (record_of m k) Free)))
               (freed mode image words k (record_of m k) (held k has)))
+
+  -- ---- the store
+
+  module _ (unfilled : first_fill on.fills ≡ None) (act : Stood on.own b c s.memory) (ss : ℕ) (ss_is : IsKernelSs mode ss) (extra v : ℕ → ℕ) (f : Flags) where
+    abbrev e : Env
+    e = here mode p o.κ o.σ ss o.w extra v f
+
+    -- a turn, which tells that the call has run
+    pub at_next_end : At code (block mode (body mode (InCall BehindNext))) (block mode (body mode (InCall BehindNext))).steps e c s.memory
+        → Finishing mode image (origin_of o.κ) e o.w b words → Simulated mode image left s m p
+    unfolding eval spelling four_bytes is_return item_step shown_always
+    at_next_end at means =
+        let rs : List V = set (item_regs (layout_of mode)) 0 (K 0) in
+        let z = goes.behind_block mode image built good facts left s m h p hp o BehindNext refl unfilled act ss ss_is extra v f means.range at 20
+        (omega arith) rs ((ends_of mode).behind_next) refl refl in
+        let y : goes.AtPlace mode image built good facts left s m h p hp o ss extra v f 20 = z.0 in
+        let g : Flags = y.flags in
+        let long : length c.regs ≡ 16 = y.state.long in
+        let hi : item_at (Some body') b.place ≡ Some Finish = ap (λ q. item_at q b.place) (sym is) ∙ means.item in
+        let ruled = finishes.ruled mode image built good facts left s m h p hp o body' is in
+        let legal = finishes.legal mode image built good facts left s m h p hp o body' is in
+        let takes : item_at (Some body') (take_place 0 (body_items body')) ≡ Some Take
+        = (ruled.part b.place legal.place (ruled.finish b.place hi)).1 in
+        let item : ℕ = item_address mode b.body body' b.place in
+        let base : extra 20 ≡ item = means.place ∙ ap (address_of_item mode b.body b.place) is in
+        let first : HasFirst words (v 3) b.calls = first_of words (v 3) b.calls means.some means.list in
+        let k : CallId = first.first in
+        let ks : List CallId = first.rest in
+        let has : 0 < times k b.calls = let one = ap (times k) first.are ∙ times_same k ks in omega (arith, one) in
+        let range = has_range mode image built good facts left s m h p hp o body' is k has in
+        let own = range.0 in
+        let site = range.1 in
+        let few = good.count.1 in
+        let high = y.range.1 in
+        let there : ℕ = state_at k in
+        let ins : Ins = Store 3 (pos 0) 0 in
+        let next : ℕ = item + 27 in
+        let cell : Cell = record { ins = ins; next = next; mark = Always } in
+        let cells = finishes.cells mode image built good facts left s m h p hp o body' is hi in
+        let found : code c.rip ≡ Some cell
+        = ap code (goes.rip_is mode image built good facts left s m h p hp o ss extra v f 20 y ∙ ap (λ q. q + 20) base) ∙ cells.seen in
+        let at_ins = goes.at_instruction mode image built good facts left s m h p hp o ss extra v f 20 y ins next (omega arith) in
+        let opened : IsOpen s.memory.regions there = subst (IsOpen s.memory.regions)
+        (let q : pcpu k.from + (0x800 + 0x40 * k.site) ≡ there = omega arith in q)
+        (area_open image s.memory.regions h.regions_are k.from (0x800 + 0x40 * k.site) own few (omega arith) (omega arith)) in
+        let rbx : register c 3 ≡ there = ap (λ (xs : List ℕ). get_or xs 3 0) z.1 ∙ first.at in
+        let rax : register c 0 ≡ 0 = ap (λ (xs : List ℕ). get_or xs 0 0) z.1 in
+        let address : displaced (register c 3) (pos 0) ≡ there = ap (λ q. displaced q (pos 0)) rbx
+        ∙ (let q : (record_address k.from k.site + 0) % 18446744073709551616 ≡ there = omega arith in q) in
+        let cpu : Processor = gone c c.regs g next in
+        let changed : NatMap ℕ = put_at words there 0 in
+        let leads : Leads c s.memory ins cpu changed = subst (λ q. Leads c s.memory ins cpu (put_at words there q)) rax
+        (goes_onward c s.memory ins g c.regs next (put_at words there (register c 0)) y.state.flags
+        ((singles c s.memory next).stores 3 (pos 0) 0 there at_ins address opened)) in
+        let u : Env = here mode p o.κ o.σ ss o.w extra (with_registers c.regs v) g in
+        let known : Known e (known_of mode) changed (opening_of mode).words
+        = subst (λ a. Known e (known_of mode) (put_at words a 0) (opening_of mode).words) (state_is k has)
+        (keeps_known mode image built good facts left s m h p hp o ss extra v f (name k has) 0 (are k has).allowed.written.0 y.state.words) in
+        let stack = same_rsp mode p o.κ o.σ ss o.w extra v f c s.memory 20 g y.state extra v refl refl refl in
+        let stands : At code (block mode (body mode (InCall (AtOffset 27 hand)))) 0 u cpu (with_words s.memory changed)
+        = goes.call_stands mode image built good facts left s m h p hp o ss extra v f 20 y (AtOffset 27 hand) refl (offset_spot mode 27 hand (omega arith))
+        extra v refl refl refl refl c.regs g next 27 changed long refl (omega arith) refl (item_regs_are mode u c.regs v refl long stack) known
+        (any_known mode p o.κ o.σ ss o.w extra extra v f g c.regs changed known) (offset_facts mode 27 hand u) (offset_lines mode code 27 hand u) in
+        let after : BodyContext = b' k has ks first.are in
+        let machine : Machine = m' k has ks first.are in
+        let firsts : IsAtFirst (unknown_flags b) after ks = first_is image (without k has) (unknown_flags b) ks in
+        let plain = step.plain_kind mode image built good facts left s m h p hp o in
+        let locals : Locals mode image (with_registers c.regs v) b = subst (λ xs. Locals mode image (with_registers xs v) b) (sym z.1) means.locals in
+        let list : Linked changed (get_or c.regs 14 0) ks = subst (λ a. Linked changed a ks)
+        (sym (ap (λ (xs : List ℕ). get_or xs 14 0) z.1 ∙ means.next ∙ ap (λ q. words (q + 0x18)) first.at))
+        (list_spared p o.σ (name k has ∷ []) small (narrow k has) words changed (are k has).allowed.written (changes k has) (mine k has) (are k has).of
+        (words (there + 0x18)) ks (λ j some. (among k has ks first.are j some).0) first.linked) in
+        let taking : Taking mode image (origin_of o.κ) u o.w after false false changed = record {
+          range = means.range;
+          saved = saved_again mode image (origin_of o.κ) e u o.w (beyond_registers c.regs v) refl refl refl means.saved;
+          locals = subst (λ js. LocalsBut mode image (not (runs_calls js) || false) (not (runs_calls js) || false) u.var after) (sym firsts.calls)
+              (locals_but mode image good built facts u.var (without k has) (unknown_flags b) ks locals);
+          flags = firsts.flags;
+          begins = subst (λ js. BeginsCall mode image changed after js) (sym firsts.calls)
+              (begins k has ks first.are ks (among k has ks first.are) u.var locals (take_place 0 (body_items body')) takes);
+        } in
+        let now : ℕ = edges mode (body mode (InCall (AtOffset 27 hand))) 0 in
+        let bounded = jump_few mode in
+        let act' : Active mode image p now o.κ o.σ on.frame (switches_at mode image on.switching o.below) (first_fill on.fills) o.w after cpu
+        (with_words s.memory changed) = record {
+          stands = record {
+            spot = body mode (InCall (AtOffset 27 hand));
+            k = 0;
+            extra = extra;
+            var = with_registers c.regs v;
+            flags = g;
+            ss = ss;
+            ss_is = ss_is;
+            masked = step.masks_flags mode image built good facts left s m h p hp o g y.state.flags ∙ sym firsts.interrupts;
+            within = omega arith;
+            enough = omega arith;
+            at = stands;
+            long = long;
+          };
+          switches = sym o.off;
+          fills = sym (ap is_some unfilled);
+          knows = plain_knows mode o.κ on.frame plain (blocks.holds (body mode (InCall (AtOffset 27 hand))));
+          means = means_at mode image o.κ plain (InCall (AtOffset 27 hand)) u o.w after (first_fill on.fills) changed
+              (BehindFinish refl refl taking (in_finish mode image u (without k has) (unknown_flags b) b.place ks (means.item, means.place))
+              (subst (λ js. Linked changed (get_or c.regs 14 0) js) (sym firsts.calls) list));
+        } in
+        let entries : List Entry = Entry.Ran p k.from k.site (record_of m k).number ∷ [] in
+        let turns : turn image m p ≡ (machine, entries)
+        = step.turns mode image built good facts left s m h p hp o (λ i. y.state.blocked) Finish means.item ∙ ap (finished image m p b) first.are in
+        let made = makes k has ks first.are in
+        let ctx : IsContext mode image after = legal_context image (knows image machine) after o.below mode
+        (subst (λ (q : abstract.Processor). AreLegal image (knows image machine) q.bodies) made.own
+        ((turn_legal image good built.accepted m p hp h.legal (machine, entries) turns).each p).bodies) in
+        let call : HoldsCall mode image words k.from k.site (record_of m k) = held k has in
+        let word_is : (i : ℕ) → i < 0x40 → record_word c words i ≡ words (there + i) = λ i l. ap (λ q. words (wrap (q + i))) rbx
+        ∙ ap words (let q : (record_address k.from k.site + i) % 2 ^ 64 ≡ record_address k.from k.site + i = omega arith in q) in
+        let from_is : record_word c words 0x20 % 2 ^ 32 ≡ k.from = ap (λ q. q % 2 ^ 32) (word_is 0x20 (omega arith) ∙ call.from)
+        ∙ (let q : k.from % 2 ^ 32 ≡ k.from = omega arith in q) in
+        let site_is : record_word c words 0x30 % 2 ^ 8 ≡ k.site = ap (λ q. q % 2 ^ 8) (word_is 0x30 (omega arith) ∙ call.site)
+        ∙ (let q : k.site % 2 ^ 8 ≡ k.site = omega arith in q) in
+        let number_is : IsCounted s → record_word c words 0x28 ≡ (record_of m k).number
+        = λ counted. word_is 0x28 (omega arith) ∙ call.number ∙ number_kept mode image left s m h counted k in
+        calls.turns mode image built good facts left s m h p hp o (mine k has) (alone k has) changed (name k has ∷ []) (are k has) (changes k has) on.fills refl
+        (λ i off q. q) (λ i. y.state.blocked) cell found Always refl refl refl y.kernel (step.outside mode image built good facts left s m h p hp o act) cpu leads
+        (step.blocked mode image built good facts left s m h p hp) machine entries turns after
+        (kind_kept image (without k has) (unknown_flags b) ks o.below ∙ o.kind) ctx firsts.service made now (omega arith) act'
+        (λ counted i. Entry.Ran p (from_is i) (site_is i) (number_is counted i) ∷ [])
