@@ -54,6 +54,7 @@ pub mod TakenLink
 pub mod CallAgain
 pub mod CallAnswered
 pub mod FinishSteps
+pub mod FinishStore
 pub mod FinishJump
 pub mod KernelCalls
 pub mod Kernel
