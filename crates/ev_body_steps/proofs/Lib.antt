@@ -39,6 +39,7 @@ pub mod KickGoes
 pub mod KickSends
 pub mod KickSteps
 pub mod FillGoes
+pub mod CallKeeps
 pub mod CallSteps
 pub mod CallTurns
 pub mod ItemCallLoad
