@@ -52,6 +52,7 @@ pub mod WaitSteps
 pub mod CallItemSteps
 pub mod TakenSteps
 pub mod TakenLink
+pub mod TakeQueue
 pub mod FinishSteps
 pub mod Kernel
 pub mod BodyRaising
