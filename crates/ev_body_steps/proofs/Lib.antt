@@ -53,6 +53,7 @@ pub mod CallItemSteps
 pub mod TakenSteps
 pub mod TakenLink
 pub mod TakeQueue
+pub mod TakeHolds
 pub mod FinishSteps
 pub mod Kernel
 pub mod BodyRaising
