@@ -52,6 +52,7 @@ pub mod WaitSteps
 pub mod CallItemSteps
 pub mod TakenSteps
 pub mod TakenLink
+pub mod QueueLength
 pub mod TakeQueue
 pub mod TakeHolds
 pub mod FinishSteps
