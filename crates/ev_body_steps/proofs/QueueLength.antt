@@ -1,5 +1,5 @@
 -- A queue has at most 64 calls: no call stands in it twice, and each is one of eight sites of at most eight processors.
-use Rattle.std.proofs.Common.{◌≡◌, ℕ, zero, suc, ◌+◌, ◌*◌, ◌<◌, ◌≤◌, Bool, true, false, ◌&&◌, List, [], ◌∷◌, length, refl, sym, ap, ◌∙◌, subst, arith}
+use Rattle.std.proofs.Common.{◌≡◌, ℕ, zero, suc, ◌+◌, ◌*◌, ◌<◌, ◌≤◌, Bool, true, false, ◌&&◌, List, [], ◌∷◌, length, refl, subst, arith}
 use Rattle.std.specs.Prelude.{◌==◌}
 use Rattle.std.proofs.Common.{eqb-true}
 use Rattle.std.proofs.lemmas.Bool.{eqb-false}
@@ -9,7 +9,7 @@ use Rattle.ev_abstract.specs.Context.{CallId}
 use Rattle.ev_abstract.specs.CrossCall.{record_of}
 use Rattle.ev_abstract.specs.Machine.{CallState, Free, Queued, Taken, Machine, processor}
 use Rattle.ev_abstract.specs.declared.entry.Entry.{Entry}
-use Rattle.ev_call_law.specs.Calls.{is_id, is_free, is_queued, one_if, times, IsPlaced, IsInRange, KeepsCallRecords}
+use Rattle.ev_call_law.specs.Calls.{is_id, is_free, is_queued, one_if, times, IsInRange, KeepsCallRecords}
 use Rattle.ev_call_law.proofs.Counts.{count_cons, times_same, is_one}
 use Rattle.ev_symbolic.proofs.Values.{and_left}
 
@@ -96,27 +96,32 @@ one_at_most : (t : Bool) → one_if t ≤ 1
 one_at_most true = omega arith
 one_at_most false = omega arith
 
-not_free : (st : CallState) → is_queued st ≡ true → is_free st ≡ false
+pub not_free : (st : CallState) → is_queued st ≡ true → is_free st ≡ false
 not_free Free e = let clash : false ≡ true = e in absurd (cc)
 not_free Queued e = refl
 not_free Taken e = refl
 
-pub queue_short : (image : Image) → IsImage image → (m : Machine) (told : List Entry) → KeepsCallRecords image m told → (p : ℕ)
-    → length (processor m p).queue ≤ 64
-queue_short image good m told calls p =
-    let small = good.count.1 in
-    let ks : List CallId = (processor m p).queue in
-    let all = counted image.processors ks within in
-    let bound = few image.processors ks once in omega (arith, all, bound, small)
-  where
-    once : (k : CallId) → times k (processor m p).queue ≤ 1
-    once k =
-        let t : Bool = is_queued (record_of m k).state && ((record_of m k).to == p) in
-        let there : times k (processor m p).queue ≡ one_if t = (calls.placed k).queue p in let one = one_at_most t in omega (arith, there, one)
+module _ (image : Image) (m : Machine) (told : List Entry) (calls : KeepsCallRecords image m told) (p : ℕ) where
+  abbrev is_here : CallId → Bool
+  is_here k = is_queued (record_of m k).state && ((record_of m k).to == p)
 
-    within : (k : CallId) → 0 < times k (processor m p).queue → (k.from < image.processors) × (k.site < 8)
-    within k some =
-        let t : Bool = is_queued (record_of m k).state && ((record_of m k).to == p) in
-        let there : times k (processor m p).queue ≡ one_if t = (calls.placed k).queue p in
-        let fits : IsInRange image k (record_of m k) = (calls.placed k).fits (not_free (record_of m k).state
-        (and_left (is_queued (record_of m k).state) _ (is_one t (omega (arith, there, some))))) in (fits.from, fits.site)
+  -- a call of the queue is queued
+  pub queued_here : (k : CallId) → 0 < times k (processor m p).queue → is_queued (record_of m k).state ≡ true
+  queued_here k some =
+      let there : times k (processor m p).queue ≡ one_if (is_here k) = (calls.placed k).queue p in
+      and_left (is_queued (record_of m k).state) _ (is_one (is_here k) (omega (arith, there, some)))
+
+  -- and one of a processor of the image and a site
+  pub queue_within : (k : CallId) → 0 < times k (processor m p).queue → (k.from < image.processors) × (k.site < 8)
+  queue_within k some =
+      let fits : IsInRange image k (record_of m k) = (calls.placed k).fits (not_free (record_of m k).state (queued_here k some)) in (fits.from, fits.site)
+
+  once : (k : CallId) → times k (processor m p).queue ≤ 1
+  once k = let there : times k (processor m p).queue ≡ one_if (is_here k) = (calls.placed k).queue p in
+      let one = one_at_most (is_here k) in omega (arith, there, one)
+
+  pub queue_short : IsImage image → length (processor m p).queue ≤ 64
+  queue_short good =
+      let small = good.count.1 in
+      let all = counted image.processors (processor m p).queue queue_within in
+      let bound = few image.processors (processor m p).queue once in omega (arith, all, bound, small)

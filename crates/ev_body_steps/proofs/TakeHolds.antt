@@ -11,14 +11,15 @@ use Rattle.ev_body.specs.WellFormed.{IsImage}
 use Rattle.ev_listing.specs.AddressMap.{pcpu, head_offset}
 use Rattle.ev_abstract.specs.Context.{BodyContext, CallId}
 use Rattle.ev_abstract.specs.CrossCall.{record_of}
-use Rattle.ev_abstract.specs.Machine.{CallState, Free, Queued, Taken, Machine, processor}
+use Rattle.ev_abstract.specs.Machine.{CallState, Free, Queued, Taken, CallRecord, Machine, processor}
 use Rattle.ev_abstract.specs.Machine as abstract
 use Rattle.ev_built.specs.Built.{IsBuilt}
 use Rattle.ev_calls.specs.Lists.{IsTurning, QueueIs}
-use Rattle.ev_call_law.specs.Calls.{is_queued, is_taken, one_if, times}
-use Rattle.ev_call_law.proofs.Counts.{is_one, equal_sym}
+use Rattle.ev_call_law.specs.Calls.{is_free, is_queued, is_taken, one_if, times}
+use Rattle.ev_call_law.proofs.Counts.{equal_sym}
 use Rattle.ev_concrete.specs.ConcreteRun.{System}
 use Rattle.ev_relation.specs.Named.{Named, Head, have_none, UnknownTo, Changes}
+use Rattle.ev_relation.specs.Filling.{is_filled}
 use Rattle.ev_relation.specs.Relation.{HoldsCall, Stands}
 use Rattle.ev_relation.proofs.After.{KeepsCalls, calls_bounded}
 use Rattle.ev_relation.proofs.CallHolders.{filled_free}
@@ -26,19 +27,19 @@ use Rattle.ev_relation.proofs.CallNames.{is_head_of, calls_spared, record_spared
 use Rattle.ev_relation.proofs.Facts.{Facts}
 use Rattle.ev_relation.proofs.Maps.{at_same}
 use Rattle.ev_relation.proofs.Records.{call_stays}
-use Rattle.ev_symbolic.proofs.Values.{and_left}
 use Rattle.ev_body_steps.proofs.CallKeeps.{AreCallWords}
 use Rattle.ev_body_steps.proofs.ItemWords.{writes_name}
 use Rattle.ev_body_steps.proofs.KernelStep as step
-use Rattle.ev_body_steps.proofs.TakeQueue.{IsOrTaken, behind, own_is, other_queue, record_behind, holds_taken}
+use Rattle.ev_body_steps.proofs.QueueLength.{not_free, queued_here, queue_within}
+use Rattle.ev_body_steps.proofs.TakeQueue.{IsOrTaken, emptied, behind, own_is, other_queue, record_behind, record_emptied, holds_taken}
 
 not_taken : (st : CallState) → is_queued st ≡ true → is_taken st ≡ false
 not_taken Free e = refl
 not_taken Queued e = refl
 not_taken Taken e = let clash : false ≡ true = e in absurd (cc)
 
-not_free : (st : CallState) → is_queued st ≡ true → st ≡ Free → ⊥
-not_free st e q = let clash : false ≡ true = sym (ap is_queued q) ∙ e in cc
+never_free : (st : CallState) → is_queued st ≡ true → st ≡ Free → ⊥
+never_free st e q = let clash : false ≡ true = sym (ap is_queued q) ∙ e in cc
 
 unknown_head : (p : ℕ) (below : List BodyContext) → UnknownTo below (Head p ∷ [])
 unknown_head p [] = tt
@@ -122,11 +123,8 @@ module _ (mode : Mode) (image : Image) (built : IsBuilt image) (good : IsImage i
   has_queued k = nat_lt 0 (times k queue)
 
   -- a call of the queue is queued
-  pub queued_here : (k : CallId) → 0 < times k queue → is_queued (record_of m k).state ≡ true
-  queued_here k some =
-      let t : Bool = is_queued (record_of m k).state && ((record_of m k).to == p) in
-      let there : times k queue ≡ one_if t = (h.calls.placed k).queue p in
-      and_left (is_queued (record_of m k).state) _ (is_one t (omega (arith, some, there)))
+  queued : (k : CallId) → 0 < times k queue → is_queued (record_of m k).state ≡ true
+  queued = queued_here image m h.told h.calls p
 
   -- A record that nobody fills is held by memory as it is behind the step.
   holds : (d : BodyContext) (q k : ℕ) → q < image.processors → k < 8 → HoldsCall mode image words q k ((processor m q).records k)
@@ -143,7 +141,7 @@ module _ (mode : Mode) (image : Image) (built : IsBuilt image) (good : IsImage i
       pick : IsOrTaken queue key (record_of (behind m p o.b o.below o.bodies d) key) (record_of m key)
           → HoldsCall mode image words' q k (record_of (behind m p o.b o.below o.bodies d) key)
       pick (inl e) = subst (HoldsCall mode image words' q k) (sym e) stays
-      pick (inr e) = subst (HoldsCall mode image words' q k) (sym e.1) (holds_taken mode image words' q k (record_of m key) (queued_here key e.0) stays)
+      pick (inr e) = subst (HoldsCall mode image words' q k) (sym e.1) (holds_taken mode image words' q k (record_of m key) (queued key e.0) stays)
 
   -- What it keeps of a processor's calls.
   pub keeps : (d : BodyContext) (q : ℕ) (lq : q < image.processors)
@@ -154,12 +152,12 @@ module _ (mode : Mode) (image : Image) (built : IsBuilt image) (good : IsImage i
       (omega (arith, lq, few)) (processor (behind m p o.b o.below o.bodies d) q).records
       (λ k some. let bounds = calls_bounded mode image m h.told h.calls few q k some in (
         false_from_ne_true (has_queued k) (λ t. none_there _ (is_taken (record_of m k).state) _ ((h.calls.placed k).list q)
-            (not_taken (record_of m k).state (queued_here k (ltb-true 0 (times k queue) t))) some),
+            (not_taken (record_of m k).state (queued k (ltb-true 0 (times k queue) t))) some),
         bounds.0,
         bounds.1,
       ))
-      (λ site e. false_from_ne_true (has_queued (record { from = q; site = site })) (λ t. not_free _
-      (queued_here (record { from = q; site = site }) (ltb-true 0 (times (record { from = q; site = site }) queue) t))
+      (λ site e. false_from_ne_true (has_queued (record { from = q; site = site })) (λ t. never_free _
+      (queued (record { from = q; site = site }) (ltb-true 0 (times (record { from = q; site = site }) queue) t))
       (filled_free (processor m q).records (h.each q lq).fills (h.each q lq).free site e)))
       (λ site lt off. same site off (record_behind m p o.b o.below o.bodies d (record { from = q; site = site })))
       (λ site lt on e. holds d q site lq lt ((h.each q lq).records site lt e))
@@ -170,3 +168,24 @@ module _ (mode : Mode) (image : Image) (built : IsBuilt image) (good : IsImage i
           → (processor (behind m p o.b o.below o.bodies d) q).records site ≡ (processor m q).records site
       same site off (inl e) = e
       same site off (inr e) = let clash : false ≡ true = sym off ∙ lt-ltb 0 (times (record { from = q; site = site }) queue) e.0 in absurd (cc)
+
+  -- A call of the queue is under way behind the step, and memory holds its record.
+  pub taken_here : (d : BodyContext) (k : CallId) → 0 < times k queue
+      → HoldsCall mode image words' k.from k.site (record_of (emptied m p o.b o.below o.bodies) k)
+      × (is_free (record_of (emptied m p o.b o.below o.bodies) k).state ≡ false)
+  taken_here d k some =
+      let within = queue_within image m h.told h.calls p k some in
+      let same : record_of (emptied m p o.b o.below o.bodies) k ≡ record_of (behind m p o.b o.below o.bodies d) k
+      = record_emptied m p o.b o.below o.bodies d k in
+      let unfilled : is_filled k.site (h.each k.from within.0).fills ≡ false = false_from_ne_true (is_filled k.site (h.each k.from within.0).fills)
+      (λ t. never_free _ (queued k some)
+      (filled_free (processor m k.from).records (h.each k.from within.0).fills (h.each k.from within.0).free k.site t)) in (
+        subst (HoldsCall mode image words' k.from k.site) (sym same)
+            (holds d k.from k.site within.0 within.1 ((h.each k.from within.0).records k.site within.1 unfilled)),
+        ap (λ (r : CallRecord). is_free r.state) same ∙ pick (record_behind m p o.b o.below o.bodies d k),
+      )
+    where
+      pick : IsOrTaken queue k (record_of (behind m p o.b o.below o.bodies d) k) (record_of m k)
+          → is_free (record_of (behind m p o.b o.below o.bodies d) k).state ≡ false
+      pick (inl e) = ap (λ (r : CallRecord). is_free r.state) e ∙ not_free (record_of m k).state (queued k some)
+      pick (inr e) = ap (λ (r : CallRecord). is_free r.state) e.1

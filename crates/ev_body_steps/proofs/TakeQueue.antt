@@ -149,3 +149,12 @@ module _ (m : Machine) (p : ℕ) (b : BodyContext) (below : List BodyContext) (b
         pick : IsOrTaken queue j (record_of (all_taken m queue) j) (record_of m j) → IsOrTaken queue j (record_of behind j) (record_of m j)
         pick (inl q) = inl (same ∙ q)
         pick (inr q) = inr (q.0, same ∙ q.1)
+
+    -- the records are those of the machine before the context is another one
+    pub record_emptied : (j : CallId) → record_of emptied j ≡ record_of behind j
+    record_emptied j = sym (pick (j.from == p) refl)
+      where
+        pick : (t : Bool) → (j.from == p) ≡ t → record_of behind j ≡ record_of emptied j
+        pick true t = ap (λ (y : abstract.Processor). y.records j.site) (at_same emptied.processors p j.from _ (eqb-true j.from p t))
+            ∙ ap (λ i. (processor emptied i).records j.site) (sym (eqb-true j.from p t))
+        pick false t = ap (λ (y : abstract.Processor). y.records j.site) (at_other emptied.processors p j.from _ t)
