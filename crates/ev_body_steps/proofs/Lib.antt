@@ -55,6 +55,7 @@ pub mod TakenLink
 pub mod QueueLength
 pub mod TakeQueue
 pub mod TakeHolds
+pub mod TakeExchange
 pub mod FinishSteps
 pub mod Kernel
 pub mod BodyRaising
