@@ -1,6 +1,6 @@
 -- The exchange of `take`, which is visible: the queue's head with 0. The calls of the queue are the context's behind it, at the function of the first one, and
 -- their list is left to be turned round.
-use Rattle.std.proofs.Common.{◌≡◌, ℕ, suc, ◌+◌, ◌-◌, ◌%◌, ◌^◌, ◌<◌, ◌≤◌, Bool, true, false, not, ◌&&◌, List, [], ◌∷◌, ◌++◌, get_or, set, map, length, None, Some, refl, sym, ap, ◌∙◌, subst, arith}
+use Rattle.std.proofs.Common.{◌≡◌, ℕ, suc, ◌+◌, ◌-◌, ◌%◌, ◌^◌, ◌<◌, ◌≤◌, true, false, not, List, [], ◌∷◌, get_or, set, map, length, None, Some, refl, sym, ap, ◌∙◌, subst, arith}
 use Rattle.std.specs.Prelude.{negsuc, is_some, slice_get, ◌||◌, reverse}
 use Rattle.std.proofs.Common.{length-append}
 use Rattle.std.proofs.lemmas.List.{get_or-set_same, get_or-set_other, length-set, length-reverse}
@@ -21,14 +21,14 @@ use Rattle.ev_listing.specs.Marks.{Always}
 use Rattle.ev_state.specs.Processor.{Processor, register}
 use Rattle.ev_mem.specs.Memory.{Memory}
 use Rattle.ev_abstract.specs.Context.{BodyContext, CallId}
-use Rattle.ev_abstract.specs.CrossCall.{record_of, after_take, at_first_call}
+use Rattle.ev_abstract.specs.CrossCall.{record_of, at_first_call}
 use Rattle.ev_abstract.specs.ItemMeaning.{item_step, unknown_flags}
 use Rattle.ev_abstract.specs.Machine.{Machine, processor}
 use Rattle.ev_abstract.specs.Machine as abstract
 use Rattle.ev_abstract.specs.Run.{item_at, turn}
 use Rattle.ev_built.specs.Built.{IsBuilt}
 use Rattle.ev_call_law.specs.Calls.{is_free, times}
-use Rattle.ev_call_law.proofs.Counts.{times_same, count_cons}
+use Rattle.ev_call_law.proofs.Counts.{times_same}
 use Rattle.ev_concrete.specs.ConcreteRun.{System, is_return}
 use Rattle.ev_concrete.specs.Shown.{shown_always}
 use Rattle.ev_law.specs.Legal.{AreLegal, knows, runs_calls}
@@ -41,14 +41,14 @@ use Rattle.ev_symbolic.proofs.Single.{singles}
 use Rattle.ev_activation.specs.Seat.{kind_of}
 use Rattle.ev_blocks.specs.Calls.{AtTake, BehindTake, behind_take}
 use Rattle.ev_blocks.specs.Items.{InCall}
-use Rattle.ev_blocks.specs.Blocks.{block, edges, item_edges}
+use Rattle.ev_blocks.specs.Blocks.{block, edges}
 use Rattle.ev_blocks.specs.Blocks as blocks
 use Rattle.ev_paths.specs.CallEnds.{item_regs}
 use Rattle.ev_table.specs.Table.{code_table}
 use Rattle.ev_relation.specs.Filling.{first_fill}
 use Rattle.ev_relation.specs.Named.{Head}
 use Rattle.ev_relation.specs.Active.{item_place, address_of_item, here, IsKernelSs, Locals, LocalsBut, BeginsCall, InCallSpot, Taking, InTake, Turns, Active}
-use Rattle.ev_relation.specs.Relation.{HoldsCall, IsContext, Chain, StandsOn, Stands, switches_at}
+use Rattle.ev_relation.specs.Relation.{HoldsCall, IsContext, StandsOn, Stands, switches_at}
 use Rattle.ev_relation.specs.Step.{Simulated}
 use Rattle.ev_relation.proofs.After.{KeepsCalls}
 use Rattle.ev_relation.proofs.CallKinds.{origin_of, plain_knows}
@@ -74,7 +74,7 @@ use Rattle.ev_body_steps.proofs.KernelStep as step
 use Rattle.ev_body_steps.proofs.QueueLength.{queue_short}
 use Rattle.ev_body_steps.proofs.TakeHolds.{are, changes, turning, queues, keeps, taken_here}
 use Rattle.ev_body_steps.proofs.TakeHolds as holds
-use Rattle.ev_body_steps.proofs.TakeQueue.{emptied, behind, own_is, own_stays, others_stay}
+use Rattle.ev_body_steps.proofs.TakeQueue.{emptied, behind, own_is, own_stays, others_stay, same_words, same_pages, same_cells}
 
 -- ---- the context at its first call
 
@@ -205,3 +205,183 @@ module _ (mode : Mode) (image : Image) (built : IsBuilt image) (good : IsImage i
     code = (ap (λ q. item_at q b.place) is ∙ hi, base);
     none = λ e. absurd (cc);
   }
+
+  module _ (unfilled : first_fill on.fills ≡ None) (act : Stood on.own b c s.memory) (ss : ℕ) (ss_is : IsKernelSs mode ss) (extra v : ℕ → ℕ) (f : Flags)
+      (at : At code (block mode (body mode (InCall AtTake))) (block mode (body mode (InCall AtTake))).steps (env ss extra v f) c s.memory)
+      (means : InCallSpot mode image (origin_of o.κ) AtTake (env ss extra v f) o.w b (first_fill on.fills) words) where
+    abbrev e : Env
+    e = env ss extra v f
+
+    abbrev a : ℕ
+    a = item_address mode b.body body' b.place
+
+    abbrev head : ℕ
+    head = pcpu p + head_offset
+
+    abbrev rs : List V
+    rs = set (item_regs (layout_of mode)) 0 (K 0)
+
+    hi : item_at (Some body') b.place ≡ Some Take
+    hi = ap (λ q. item_at q b.place) (sym is) ∙ means.2
+
+    base : extra 20 ≡ a
+    base = means.1 ∙ ap (address_of_item mode b.body b.place) is
+
+    cells : TakeCode code a (item_address mode b.body body' (suc b.place))
+    cells = take_code mode image facts b.body body' is b.place hi
+
+    -- the exchange's place, with 0 in RAX
+    at_exchange : goes.AtPlace mode image built good facts left s m h p hp o ss extra v f 19 × (c.regs ≡ map (eval e) rs)
+    unfolding eval
+    at_exchange = goes.behind_block mode image built good facts left s m h p hp o AtTake refl unfilled act ss ss_is extra v f means.0.range at 19
+        (omega arith) rs ((ends_of mode).take) refl refl
+
+    abbrev y : goes.AtPlace mode image built good facts left s m h p hp o ss extra v f 19
+    y = at_exchange.0
+
+    abbrev ins : Ins
+    ins = Xchg 2 (negsuc 0x7cf) 0
+
+    abbrev next : ℕ
+    next = a + behind_take
+
+    abbrev cell : Cell
+    cell = record { ins = ins; next = next; mark = Always }
+
+    found : code c.rip ≡ Some cell
+    found = ap code (goes.rip_is mode image built good facts left s m h p hp o ss extra v f 19 y ∙ ap (λ q. q + 19) base) ∙ cells.seen
+
+    -- registers behind it: the old head in RAX
+    abbrev regs : List ℕ
+    regs = set c.regs 0 (words head)
+
+    abbrev cpu : Processor
+    cpu = gone c regs y.flags next
+
+    wide : length regs ≡ 16
+    wide = length-set c.regs 0 (words head) ∙ y.state.long
+
+    leads : Leads c s.memory ins cpu words'
+    unfolding eval spelling four_bytes
+    leads =
+        let few = good.count.1 in
+        let small = step.small mode image built good facts left s m h p hp in
+        let is_base = base in
+        let rdx : register c 2 ≡ pcpu p + 0x800 = ap (λ (xs : List ℕ). get_or xs 2 0) at_exchange.1 ∙ means.3 in
+        let rax : register c 0 ≡ 0 = ap (λ (xs : List ℕ). get_or xs 0 0) at_exchange.1 in
+        let address : displaced (register c 2) (negsuc 0x7cf) ≡ head = ap (λ q. displaced q (negsuc 0x7cf)) rdx ∙ head_from (pcpu p) (omega (arith, small)) in
+        let at_ins = goes.at_instruction mode image built good facts left s m h p hp o ss extra v f 19 y ins next (omega (arith, is_base)) in
+        let opened : IsOpen s.memory.regions head = area_open image s.memory.regions h.regions_are p head_offset hp few refl (omega arith) in
+        goes_onward c s.memory ins y.flags regs next words' y.state.flags
+        (subst (λ n. Leads c s.memory ins (onward c regs next) (put_at words head n)) rax
+        ((singles c s.memory next).exchanges 2 (negsuc 0x7cf) 0 head at_ins address opened))
+
+    -- locals and the list of calls stay in their registers
+    kept : LocalsKept v regs
+    unfolding eval
+    kept = subst (λ (xs : List ℕ). LocalsKept v (set xs 0 (words head))) (sym at_exchange.1) (record { locals = refl; calls = refl })
+
+    abbrev u : Env
+    u = env ss extra (with_registers regs v) y.flags
+
+    abbrev n : ℕ
+    n = length turns.list.ahead
+
+    -- it stands behind the exchange, at the block that goes on
+    stands : At code (block mode (body mode (InCall (BehindTake n)))) 0 u cpu (with_words s.memory words')
+    unfolding eval spelling four_bytes
+    stands =
+        let small = step.small mode image built good facts left s m h p hp in
+        let high = y.range.1 in
+        let is_base = base in
+        let known : Known e (known_of mode) words' (opening_of mode).words
+        = keeps_known mode image built good facts left s m h p hp o ss extra v f (Head p) 0 small y.state.words in
+        let rsp : get_or regs 4 0 ≡ get_or c.regs 4 0 = get_or-set_other c.regs 0 4 (words head) 0 (λ q. omega (arith, q)) in
+        let stack = rsp ∙ same_rsp mode p o.κ o.σ ss o.w extra v f c s.memory 19 y.flags y.state extra v refl refl refl in
+        goes.call_stands mode image built good facts left s m h p hp o ss extra v f 19 y (BehindTake n) refl (behind_spot mode n) extra v
+        refl refl refl refl regs y.flags next behind_take words' wide rsp (omega (arith, is_base, high)) refl (item_regs_are mode u regs v refl wide stack) known
+        (any_known mode p o.κ o.σ ss o.w extra extra v f y.flags regs words' known)
+        (subst (λ (B : Block). FactsHold u B.ground.facts) (sym (block_is mode (BehindTake n))) tt)
+        (subst (λ (B : Block). Lines code u B.lines) (sym (block_is mode (BehindTake n)))
+        (edges_stand code u a behind_take (MovImm 14 0 ∷ []) base (omega arith) cells.start))
+
+    -- What the context is behind the exchange, where its blocks go on.
+    taking : Taking mode image (origin_of o.κ) u o.w b' false false words'
+    taking = record {
+      range = y.range;
+      saved = saved_again mode image (origin_of o.κ) e u o.w (beyond_registers regs v) refl refl refl means.0.saved;
+      locals = subst (λ ks. LocalsBut mode image (not (runs_calls ks) || false) (not (runs_calls ks) || false) (with_registers regs v) b')
+          (sym (first_calls image taken (unknown_flags b) queue))
+          (locals_but mode image good built facts (with_registers regs v) taken (unknown_flags b) queue (means.0.locals ∙ sym kept.locals));
+      flags = first_flags image taken b queue;
+      begins = subst (BeginsCall mode image words' b') (sym (first_calls image taken (unknown_flags b) queue))
+          (begins v means.0.locals hi queue (taken_here mode image built good facts left s m h p hp o b'));
+    }
+
+    means_behind : InCallSpot mode image (origin_of o.κ) (BehindTake n) u o.w b' (first_fill on.fills) words'
+    unfolding turns
+    means_behind = (
+      taking,
+      in_take u hi means.1 queue,
+      subst (λ ks. Turns mode image words' (u.var 0) 0 ks n) (sym (first_calls image taken (unknown_flags b) queue))
+          (subst (λ q. Turns mode image words' q 0 queue n)
+          (sym (get_or-set_same c.regs 0 (words head) 0 (let long = y.state.long in omega (arith, long)))) turns),
+    )
+
+    -- The exchange is a turn.
+    pub at_take : Simulated mode image left s m p
+    unfolding is_return shown_always
+    at_take =
+        let g : Flags = y.flags in
+        let plain = step.plain_kind mode image built good facts left s m h p hp o in
+        let now : ℕ = edges mode (body mode (InCall (BehindTake n))) 0 in
+        let act' : Stood now b' cpu (with_words s.memory words') = record {
+          stands = record {
+            spot = body mode (InCall (BehindTake n));
+            k = 0;
+            extra = extra;
+            var = with_registers regs v;
+            flags = g;
+            ss = ss;
+            ss_is = ss_is;
+            masked = step.masks_flags mode image built good facts left s m h p hp o g y.state.flags
+                ∙ sym (first_interrupts image taken (unknown_flags b) queue);
+            within = omega arith;
+            enough = omega arith;
+            at = stands;
+            long = wide;
+          };
+          switches = sym o.off;
+          fills = sym (ap is_some unfilled);
+          knows = plain_knows mode o.κ on.frame plain (blocks.holds (body mode (InCall (BehindTake n))));
+          means = means_at mode image o.κ plain (InCall (BehindTake n)) u o.w b' (first_fill on.fills) words' means_behind;
+        } in
+        let unblocked : b.interrupts ≡ true → c.sti_blocked ≡ false = λ i. y.state.blocked in
+        let ht : turn image m p ≡ (m', []) = turned unblocked hi in
+        let ctx : IsContext mode image b' = legal_context image (knows image m') b' o.below mode
+        (subst (λ (q : abstract.Processor). AreLegal image (knows image m') q.bodies) (own_is m p o.b o.below o.bodies b')
+        ((turn_legal image good built.accepted m p hp h.legal (m', []) ht).each p).bodies) in
+        let kp : KeepsCalls mode image p (left p) s x on (processor m' p).records words'
+        = subst (λ (z : StandsOn mode image p (left p) s x). KeepsCalls mode image p (left p) s x z (processor m' p).records words')
+        (sym (step.on_is mode image built good facts left s m h p hp)) (keeps mode image built good facts left s m h p hp o b' p hp) in
+        let beneath : AreKept p (rest_fills on.fills) o.below words words'
+        = (subst (λ bs. AreKept p on.fills bs words words') o.bodies kp.kept).1 in
+        let names_are = are mode image built good facts left s m h p hp o in
+        let written = changes mode image built good facts left s m h p hp o in
+        keeping.turns mode image built good facts left s m h p hp o words' (Head p ∷ []) names_are written on.fills unblocked cell found Always refl refl refl
+        y.kernel (step.outside mode image built good facts left s m h p hp o act) cpu leads (step.blocked mode image built good facts left s m h p hp)
+        m' [] ht b' (first_service image taken (unknown_flags b) queue)
+        (record {
+          own = own_stays m p o.b o.below o.bodies b';
+          others = others_stay m p o.b o.below o.bodies b';
+          same_words = same_words m p o.b o.below o.bodies b';
+          same_pages = same_pages m p o.b o.below o.bodies b';
+          same_cells = same_cells m p o.b o.below o.bodies b';
+          queues = queues mode image built good facts left s m h p hp o b';
+          free = kp.free;
+          records = kp.records;
+          each = λ q lq e. keeps mode image built good facts left s m h p hp o b' q lq;
+          chain = λ edges' cpu' stood. step.with_last_filling mode image built good facts left s m h p hp o b' (first_kind image taken b queue o.below ∙ o.kind)
+              ctx edges' cpu' words' (Head p ∷ []) names_are.allowed.written names_are.unknown written beneath on.fills refl stood;
+        })
+        now (behind_few mode n short) act' (λ counted. refl)

@@ -79,6 +79,12 @@ taken_at (k ∷ ks) m j = pick (is_id j k) refl (taken_at ks next j)
       q.1 ∙ ap (λ r. in_state r Taken) (other_record m k _ j e),
     )
 
+-- nothing that processors share is another
+taken_shares : (A : Type 0) (get : Machine → A) → ((m : Machine) (k : CallId) (r : CallRecord) → get (with_record m k r) ≡ get m) → (ks : List CallId)
+    (m : Machine) → get (all_taken m ks) ≡ get m
+taken_shares A get same [] m = refl
+taken_shares A get same (k ∷ ks) m = taken_shares A get same ks (with_record m k (in_state (record_of m k) Taken)) ∙ same m k _
+
 -- memory has the same of a call that is queued and of one that is taken
 pub holds_taken : (mode : Mode) (image : Image) (words : NatMap ℕ) (q k : ℕ) (r : CallRecord) → is_queued r.state ≡ true
     → HoldsCall mode image words q k r → HoldsCall mode image words q k (in_state r Taken)
@@ -107,6 +113,15 @@ module _ (m : Machine) (p : ℕ) (b : BodyContext) (below : List BodyContext) (b
 
     abbrev x : abstract.Processor
     x = processor m p
+
+    pub same_words : behind.words ≡ m.words
+    same_words = taken_shares _ (λ n. n.words) (λ n k r. refl) queue m
+
+    pub same_pages : behind.present ≡ m.present
+    same_pages = taken_shares _ (λ n. n.present) (λ n k r. refl) queue m
+
+    pub same_cells : behind.cells ≡ m.cells
+    same_cells = taken_shares _ (λ n. n.cells) (λ n k r. refl) queue m
 
     pub own_is : processor behind p ≡ record x { records = (processor (all_taken m queue) p).records; queue = []; bodies = d ∷ below }
     own_is =
