@@ -1,5 +1,5 @@
--- A turn of the abstract machine by a step that writes words of calls, from what it leaves: the contexts beneath, and of each processor the calls of its contexts,
--- the records that it fills and those that it doesn't.
+-- A turn of the abstract machine by a step that writes words of calls, from what it leaves: the contexts beneath, and of each processor the calls of its
+-- contexts, the records that it fills and those that it doesn't.
 use Rattle.std.proofs.Common.{◌≡◌, ℕ, ◌+◌, ◌<◌, ◌≤◌, true, false, not, ◌&&◌, List, ◌∷◌, length, Option, Some, None, refl, sym, ap, ◌∙◌, subst, arith, eq-eqb}
 use Rattle.std.specs.Prelude.{◌==◌, ◌++◌, ◌||◌, if◌then◌else◌, nat_le, nat_lt}
 use Rattle.std.specs.List.{list_any}

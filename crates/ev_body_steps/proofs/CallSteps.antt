@@ -187,8 +187,8 @@ module _ (mode : Mode) (image : Image) (built : IsBuilt image) (good : IsImage i
           free = y.free;
           records = records_spared p o.σ names small narrow s.memory.words words are.allowed.written changes mine are.of mode image p fs x.records
               (processor m' p).records small (y.old p) (λ k lt off e. on.records k lt (unfilled k off e)) (λ k lt is e. y.held p k hp lt is (λ d. e));
-          each = λ q lq e. others_kept mode image left s m h p hp o.b o.below o.bodies o.σ words names narrow good.count.1 are.allowed.written changes mine are.of
-              alone q lq (λ d. differ q e d) (processor m' q).records (y.old q) (λ k lt is off. y.held q k lq lt is (λ d. absurd (differ q e d)));
+          each = λ q lq e. others_kept mode image left s m h p hp o.b o.below o.bodies o.σ words names narrow good.count.1 are.allowed.written changes mine
+              are.of alone q lq (λ d. differ q e d) (processor m' q).records (y.old q) (λ k lt is off. y.held q k lq lt is (λ d. absurd (differ q e d)));
           chain = chain_behind b' kind ctx;
         })
         now few act hes

@@ -1,7 +1,6 @@
 -- A queue has at most 64 calls: no call stands in it twice, and each is one of eight sites of at most eight processors.
-use Rattle.std.proofs.Common.{◌≡◌, ℕ, zero, suc, ◌+◌, ◌*◌, ◌<◌, ◌≤◌, Bool, true, false, ◌&&◌, List, [], ◌∷◌, length, refl, subst, arith}
+use Rattle.std.proofs.Common.{◌≡◌, ℕ, zero, suc, ◌+◌, ◌*◌, ◌<◌, ◌≤◌, Bool, true, false, ◌&&◌, List, [], ◌∷◌, length, refl, subst, arith, eqb-true}
 use Rattle.std.specs.Prelude.{◌==◌}
-use Rattle.std.proofs.Common.{eqb-true}
 use Rattle.std.proofs.lemmas.Bool.{eqb-false}
 use Rattle.ev_body.specs.declared.image.Image.{Image}
 use Rattle.ev_body.specs.WellFormed.{IsImage}
@@ -96,6 +95,7 @@ one_at_most : (t : Bool) → one_if t ≤ 1
 one_at_most true = omega arith
 one_at_most false = omega arith
 
+-- a call that is queued isn't free
 pub not_free : (st : CallState) → is_queued st ≡ true → is_free st ≡ false
 not_free Free e = let clash : false ≡ true = e in absurd (cc)
 not_free Queued e = refl
@@ -116,10 +116,12 @@ module _ (image : Image) (m : Machine) (told : List Entry) (calls : KeepsCallRec
   queue_within k some =
       let fits : IsInRange image k (record_of m k) = (calls.placed k).fits (not_free (record_of m k).state (queued_here k some)) in (fits.from, fits.site)
 
+  -- it stands there once
   once : (k : CallId) → times k (processor m p).queue ≤ 1
   once k = let there : times k (processor m p).queue ≡ one_if (is_here k) = (calls.placed k).queue p in
       let one = one_at_most (is_here k) in omega (arith, there, one)
 
+  -- so they are few
   pub queue_short : IsImage image → length (processor m p).queue ≤ 64
   queue_short good =
       let small = good.count.1 in

@@ -1,8 +1,7 @@
--- The exchange of `take`, which is visible: the queue's head with 0. The calls of the queue are the context's behind it, at the function of the first one, and
+-- The exchange of `take`, which is visible: of the queue's head and 0. The calls of the queue are the context's behind it, at the function of the first one, and
 -- their list is left to be turned round.
-use Rattle.std.proofs.Common.{◌≡◌, ℕ, suc, ◌+◌, ◌-◌, ◌%◌, ◌^◌, ◌<◌, ◌≤◌, true, false, not, List, [], ◌∷◌, get_or, set, map, length, None, Some, refl, sym, ap, ◌∙◌, subst, arith}
+use Rattle.std.proofs.Common.{◌≡◌, ℕ, suc, ◌+◌, ◌-◌, ◌%◌, ◌^◌, ◌<◌, ◌≤◌, true, false, not, List, [], ◌∷◌, get_or, set, map, length, None, Some, refl, sym, ap, ◌∙◌, subst, arith, length-append}
 use Rattle.std.specs.Prelude.{negsuc, is_some, slice_get, ◌||◌, reverse}
-use Rattle.std.proofs.Common.{length-append}
 use Rattle.std.proofs.lemmas.List.{get_or-set_same, get_or-set_other, length-set, length-reverse}
 use Rattle.ev_isa.specs.Word.{NatMap, displaced, put_at}
 use Rattle.ev_isa.specs.Flags.{Flags}
@@ -45,7 +44,7 @@ use Rattle.ev_blocks.specs.Blocks.{block, edges}
 use Rattle.ev_blocks.specs.Blocks as blocks
 use Rattle.ev_paths.specs.CallEnds.{item_regs}
 use Rattle.ev_table.specs.Table.{code_table}
-use Rattle.ev_relation.specs.Filling.{first_fill}
+use Rattle.ev_relation.specs.Filling.{first_fill, rest_fills}
 use Rattle.ev_relation.specs.Named.{Head}
 use Rattle.ev_relation.specs.Active.{item_place, address_of_item, here, IsKernelSs, Locals, LocalsBut, BeginsCall, InCallSpot, Taking, InTake, Turns, Active}
 use Rattle.ev_relation.specs.Relation.{HoldsCall, IsContext, StandsOn, Stands, switches_at}
@@ -56,7 +55,6 @@ use Rattle.ev_relation.proofs.Facts.{Facts}
 use Rattle.ev_relation.proofs.Legality.{turn_legal}
 use Rattle.ev_relation.proofs.Spots.{is_spot}
 use Rattle.ev_relation.proofs.Stays.{AreKept}
-use Rattle.ev_relation.specs.Filling.{rest_fills}
 use Rattle.ev_body_steps.proofs.Bodies.{body, layout_of, means_at, saved_again}
 use Rattle.ev_body_steps.proofs.CallCells.{TakeCode, take_code}
 use Rattle.ev_body_steps.proofs.CallFirst.{AreKept as LocalsKept}
@@ -78,18 +76,17 @@ use Rattle.ev_body_steps.proofs.TakeQueue.{emptied, behind, own_is, own_stays, o
 
 -- ---- the context at its first call
 
+-- the calls are its own
 first_calls : (image : Image) (m : Machine) (b : BodyContext) (ks : List CallId) → (at_first_call image m b ks).calls ≡ ks
 first_calls image m b [] = refl
 first_calls image m b (k ∷ ks) = refl
 
+-- nothing is known of its flags
 first_flags : (image : Image) (m : Machine) (b : BodyContext) (ks : List CallId) → (at_first_call image m (unknown_flags b) ks).flags ≡ None
 first_flags image m b [] = refl
 first_flags image m b (k ∷ ks) = refl
 
-first_body : (image : Image) (m : Machine) (b : BodyContext) (ks : List CallId) → (at_first_call image m b ks).body ≡ b.body
-first_body image m b [] = refl
-first_body image m b (k ∷ ks) = refl
-
+-- the vector that it serves, IF and its kind are those of before
 first_service : (image : Image) (m : Machine) (b : BodyContext) (ks : List CallId) → (at_first_call image m b ks).service ≡ b.service
 first_service image m b [] = refl
 first_service image m b (k ∷ ks) = refl
@@ -105,6 +102,7 @@ first_kind image m b (k ∷ ks) below = refl
 
 -- ---- the blocks
 
+-- the block behind the exchange is one of a body, with few edges left
 behind_spot : (mode : Mode) (n : ℕ) → is_spot mode (body mode (InCall (BehindTake n))) ≡ true
 behind_spot Fred n = refl
 behind_spot Idt n = refl
@@ -164,15 +162,16 @@ module _ (mode : Mode) (image : Image) (built : IsBuilt image) (good : IsImage i
   abbrev m' : Machine
   m' = behind m p o.b o.below o.bodies b'
 
-  -- the turn
+  -- the turn of the abstract machine, which shows nothing
   turned : (b.interrupts ≡ true → c.sti_blocked ≡ false) → item_at (Some body') b.place ≡ Some Take → turn image m p ≡ (m', [])
   unfolding item_step
   turned unblocked hi = step.turns mode image built good facts left s m h p hp o unblocked Take (ap (λ q. item_at q b.place) is ∙ hi)
 
-  -- the list is left to be turned round, of at most 64 calls
+  -- the list is left to be turned round
   turns : Turns mode image words' (words (pcpu p + head_offset)) 0 queue (length (turning mode image built good facts left s m h p hp o).0.ahead)
   turns = record { list = (turning mode image built good facts left s m h p hp o).0; many = refl }
 
+  -- of at most 64 calls
   short : length turns.list.ahead ≤ 64
   unfolding turns
   short =
@@ -183,6 +182,7 @@ module _ (mode : Mode) (image : Image) (built : IsBuilt image) (good : IsImage i
 
   -- ---- what the context begins
 
+  -- the record of the first call has what its function begins with
   begins : (v : ℕ → ℕ) → Locals mode image v b → item_at (Some body') b.place ≡ Some Take → (ks : List CallId)
       → ((k : CallId) → 0 < times k ks → HoldsCall mode image words' k.from k.site (record_of taken k) × (is_free (record_of taken k).state ≡ false))
       → BeginsCall mode image words' (first ks) ks
@@ -191,6 +191,7 @@ module _ (mode : Mode) (image : Image) (built : IsBuilt image) (good : IsImage i
       let z = has k (let n = times_same k ks in omega (arith, n)) in
       begins_call mode image good built facts (unknown_flags b) body' is b.place hi v words' taken k ks locals z.0 z.1
 
+  -- the context stands at that function, or behind `take` where there is no call
   in_take : (u : Env) → item_at (Some body') b.place ≡ Some Take → u.base item_tag ≡ item_place mode image b.body b.place → (ks : List CallId)
       → InTake mode image u (first ks)
   in_take u hi base [] = record {
@@ -221,6 +222,7 @@ module _ (mode : Mode) (image : Image) (built : IsBuilt image) (good : IsImage i
     abbrev rs : List V
     rs = set (item_regs (layout_of mode)) 0 (K 0)
 
+    -- its item, whose place and code these are
     hi : item_at (Some body') b.place ≡ Some Take
     hi = ap (λ q. item_at q b.place) (sym is) ∙ means.2
 
@@ -248,6 +250,7 @@ module _ (mode : Mode) (image : Image) (built : IsBuilt image) (good : IsImage i
     abbrev cell : Cell
     cell = record { ins = ins; next = next; mark = Always }
 
+    -- the instruction that it finds is the exchange, which is marked
     found : code c.rip ≡ Some cell
     found = ap code (goes.rip_is mode image built good facts left s m h p hp o ss extra v f 19 y ∙ ap (λ q. q + 19) base) ∙ cells.seen
 
@@ -261,6 +264,7 @@ module _ (mode : Mode) (image : Image) (built : IsBuilt image) (good : IsImage i
     wide : length regs ≡ 16
     wide = length-set c.regs 0 (words head) ∙ y.state.long
 
+    -- the processor does it
     leads : Leads c s.memory ins cpu words'
     unfolding eval spelling four_bytes
     leads =
@@ -299,8 +303,8 @@ module _ (mode : Mode) (image : Image) (built : IsBuilt image) (good : IsImage i
         let rsp : get_or regs 4 0 ≡ get_or c.regs 4 0 = get_or-set_other c.regs 0 4 (words head) 0 (λ q. omega (arith, q)) in
         let stack = rsp ∙ same_rsp mode p o.κ o.σ ss o.w extra v f c s.memory 19 y.flags y.state extra v refl refl refl in
         goes.call_stands mode image built good facts left s m h p hp o ss extra v f 19 y (BehindTake n) refl (behind_spot mode n) extra v
-        refl refl refl refl regs y.flags next behind_take words' wide rsp (omega (arith, is_base, high)) refl (item_regs_are mode u regs v refl wide stack) known
-        (any_known mode p o.κ o.σ ss o.w extra extra v f y.flags regs words' known)
+        refl refl refl refl regs y.flags next behind_take words' wide rsp (omega (arith, is_base, high)) refl (item_regs_are mode u regs v refl wide stack)
+        known (any_known mode p o.κ o.σ ss o.w extra extra v f y.flags regs words' known)
         (subst (λ (B : Block). FactsHold u B.ground.facts) (sym (block_is mode (BehindTake n))) tt)
         (subst (λ (B : Block). Lines code u B.lines) (sym (block_is mode (BehindTake n)))
         (edges_stand code u a behind_take (MovImm 14 0 ∷ []) base (omega arith) cells.start))
@@ -318,6 +322,7 @@ module _ (mode : Mode) (image : Image) (built : IsBuilt image) (good : IsImage i
           (begins v means.0.locals hi queue (taken_here mode image built good facts left s m h p hp o b'));
     }
 
+    -- at the block that goes on
     means_behind : InCallSpot mode image (origin_of o.κ) (BehindTake n) u o.w b' (first_fill on.fills) words'
     unfolding turns
     means_behind = (

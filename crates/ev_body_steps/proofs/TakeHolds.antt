@@ -1,8 +1,7 @@
 -- The exchange of `take` writes the head of its processor's queue alone. What memory has of calls behind it: the queue is empty and its calls are left to be
 -- turned round, and all else is as it was.
-use Rattle.std.proofs.Common.{◌≡◌, inl, inr, ℕ, ◌+◌, ◌<◌, Bool, true, false, ◌&&◌, List, [], ◌∷◌, None, Some, refl, sym, ap, ◌∙◌, subst, arith}
+use Rattle.std.proofs.Common.{◌≡◌, inl, inr, ℕ, ◌+◌, ◌<◌, Bool, true, false, ◌&&◌, List, [], ◌∷◌, None, Some, refl, sym, ap, ◌∙◌, subst, arith, eqb-true}
 use Rattle.std.specs.Prelude.{◌==◌, nat_lt, not}
-use Rattle.std.proofs.Common.{eqb-true}
 use Rattle.std.proofs.lemmas.Bool.{false_from_ne_true, ltb-true, lt-ltb}
 use Rattle.ev_isa.specs.Word.{NatMap, put_at}
 use Rattle.ev_isa.specs.declared.mode.Mode.{Mode}
@@ -33,6 +32,7 @@ use Rattle.ev_body_steps.proofs.KernelStep as step
 use Rattle.ev_body_steps.proofs.QueueLength.{not_free, queued_here, queue_within}
 use Rattle.ev_body_steps.proofs.TakeQueue.{IsOrTaken, emptied, behind, own_is, other_queue, record_behind, record_emptied, holds_taken}
 
+-- a call that is queued isn't taken, nor free
 not_taken : (st : CallState) → is_queued st ≡ true → is_taken st ≡ false
 not_taken Free e = refl
 not_taken Queued e = refl
@@ -41,10 +41,12 @@ not_taken Taken e = let clash : false ≡ true = e in absurd (cc)
 never_free : (st : CallState) → is_queued st ≡ true → st ≡ Free → ⊥
 never_free st e q = let clash : false ≡ true = sym (ap is_queued q) ∙ e in cc
 
+-- the head of a queue is no private word
 unknown_head : (p : ℕ) (below : List BodyContext) → UnknownTo below (Head p ∷ [])
 unknown_head p [] = tt
 unknown_head p (b ∷ below) = refl
 
+-- a call that isn't there isn't counted
 none_there : (n : ℕ) (t u : Bool) → n ≡ one_if (t && u) → t ≡ false → 0 < n → ⊥
 none_there n true u e f l = absurd (cc)
 none_there n false u e f l = omega (arith, e, l)
@@ -77,6 +79,7 @@ module _ (mode : Mode) (image : Image) (built : IsBuilt image) (good : IsImage i
   narrow : o.σ.stack < 7
   narrow = step.narrow mode image built good facts left s m h p hp o
 
+  -- the head is a word of calls, and no record is among the names
   pub are : AreCallWords p o.below names
   are = record {
     allowed = record { written = (small, tt); own = λ q d. (none q, tt) };
@@ -104,6 +107,7 @@ module _ (mode : Mode) (image : Image) (built : IsBuilt image) (good : IsImage i
   turning = queue_taken p o.σ names small narrow words words' are.allowed.written changes no_call tt p queue small (λ j some. refl)
       (at_same words head head 0 refl) (h.shares.queues p hp)
 
+  -- and all other queues are as they were
   pub queues : (d : BodyContext) (q : ℕ) → q < image.processors → QueueIs words' q (processor (behind m p o.b o.below o.bodies d) q).queue
   queues d q lq = pick (q == p) refl
     where

@@ -1,7 +1,6 @@
 -- What `take` makes of the abstract machine: the calls of the processor's queue are taken, and the queue is empty. Memory has the same of each of them.
-use Rattle.std.proofs.Common.{◌≡◌, ◌⊎◌, inl, inr, ℕ, ◌<◌, Bool, true, false, ◌&&◌, List, [], ◌∷◌, refl, sym, ap, ◌∙◌, subst, arith}
+use Rattle.std.proofs.Common.{◌≡◌, ◌⊎◌, inl, inr, ℕ, ◌<◌, Bool, true, false, ◌&&◌, List, [], ◌∷◌, refl, sym, ap, ◌∙◌, subst, arith, eqb-true}
 use Rattle.std.specs.Prelude.{◌==◌}
-use Rattle.std.proofs.Common.{eqb-true}
 use Rattle.ev_isa.specs.Word.{NatMap}
 use Rattle.ev_isa.specs.declared.mode.Mode.{Mode}
 use Rattle.ev_body.specs.declared.image.Image.{Image}
@@ -39,6 +38,7 @@ taken_beside (k ∷ ks) m q =
     taken_beside ks next q
     ∙ ap (λ (y : abstract.Processor). record y { records = (processor (all_taken next ks) q).records }) (record_beside m k (in_state (record_of m k) Taken) q)
 
+-- which record is another one
 same_record : (m : Machine) (k : CallId) (r : CallRecord) → record_of (with_record m k r) k ≡ r
 same_record m k r = ap (λ (y : abstract.Processor). y.records k.site) (at_same m.processors k.from k.from _ refl)
     ∙ at_same (processor m k.from).records k.site k.site r refl
@@ -114,6 +114,7 @@ module _ (m : Machine) (p : ℕ) (b : BodyContext) (below : List BodyContext) (b
     abbrev x : abstract.Processor
     x = processor m p
 
+    -- words of user code, pages and cells stay
     pub same_words : behind.words ≡ m.words
     same_words = taken_shares _ (λ n. n.words) (λ n k r. refl) queue m
 
@@ -123,6 +124,7 @@ module _ (m : Machine) (p : ℕ) (b : BodyContext) (below : List BodyContext) (b
     pub same_cells : behind.cells ≡ m.cells
     same_cells = taken_shares _ (λ n. n.cells) (λ n k r. refl) queue m
 
+    -- of the processor its context, queue and records are others
     pub own_is : processor behind p ≡ record x { records = (processor (all_taken m queue) p).records; queue = []; bodies = d ∷ below }
     own_is =
         let e : processor emptied p ≡ record (processor (all_taken m queue) p) { queue = [] } = at_same (all_taken m queue).processors p p _ refl in
@@ -134,6 +136,7 @@ module _ (m : Machine) (p : ℕ) (b : BodyContext) (below : List BodyContext) (b
         ≡ record x { records = (processor behind p).records; queue = (processor behind p).queue; bodies = d ∷ below }
     own_stays = own_is ∙ sym (ap (λ (y : abstract.Processor). record x { records = y.records; queue = y.queue; bodies = d ∷ below }) own_is)
 
+    -- and of others some records
     others_are : (q : ℕ) → (q == p) ≡ false → processor behind q ≡ processor (all_taken m queue) q
     others_are q e = at_other emptied.processors p q _ e ∙ at_other (all_taken m queue).processors p q _ e
 
