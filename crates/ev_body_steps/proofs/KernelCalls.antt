@@ -39,9 +39,11 @@ use Rattle.ev_body_steps.proofs.ItemCallHead as heads
 use Rattle.ev_body_steps.proofs.CallItemSteps as calls
 use Rattle.ev_body_steps.proofs.CallAgain as again
 use Rattle.ev_body_steps.proofs.CallAnswered as answers
+use Rattle.ev_body_steps.proofs.TakeExchange as exchanges
 use Rattle.ev_body_steps.proofs.TakenSteps as takens
 use Rattle.ev_body_steps.proofs.TakenLink as links
 use Rattle.ev_body_steps.proofs.FinishSteps as finishes
+use Rattle.ev_body_steps.proofs.FinishStore as stores
 use Rattle.ev_body_steps.proofs.FinishJump as jumps
 
 -- at the load of the head a block of no instruction ends where it begins
@@ -167,7 +169,8 @@ module _ (mode : Mode) (image : Image) (built : IsBuilt image) (good : IsImage i
     by_call_spot (BehindCall r is_first) unfilled at means enough =
         answers.at_answer_end mode image built good facts left s m h p hp o body' is (unfilled refl) act r is_first _ ss ss_is extra v f refl at means long
         enough o.ctx.item (today hi) hi
-    by_call_spot AtTake unfilled at means enough = never AtTake means
+    by_call_spot AtTake unfilled at means enough =
+        exchanges.at_take mode image built good facts left s m h p hp o body' is (unfilled refl) act ss ss_is extra v f at means
     by_call_spot (BehindTake rest) unfilled at means enough =
         takens.at_take_end mode image built good facts left s m h p hp o body' is ss extra v f means.1 (unfilled refl) act ss_is rest at means.0 means.2 enough
     by_call_spot (AtTurn zero) unfilled at means enough =
@@ -185,5 +188,6 @@ module _ (mode : Mode) (image : Image) (built : IsBuilt image) (good : IsImage i
         o.ctx.item (today hi) hi
     by_call_spot AtFinish unfilled at means enough =
         finishes.at_finish_end mode image built good facts left s m h p hp o body' is (unfilled refl) act ss ss_is extra v f at means enough
-    by_call_spot BehindNext unfilled at means enough = never BehindNext means
+    by_call_spot BehindNext unfilled at means enough =
+        stores.at_next_end mode image built good facts left s m h p hp o body' is (unfilled refl) act ss ss_is extra v f at means
     by_call_spot (AtOffset offset more) unfilled at means enough = by_hand offset more (unfilled refl) at enough means
