@@ -95,7 +95,7 @@ busy_falls Fred r = (call_edges Fred FredFrame).busy r
 busy_falls Idt r = (call_edges Idt IdtFrame).busy r
 
 -- the locals among registers
-abbrev pub locals_of : List ℕ → List ℕ
+abbrev locals_of : List ℕ → List ℕ
 locals_of xs = get_or xs 6 0 ∷ get_or xs 7 0 ∷ get_or xs 8 0 ∷ get_or xs 9 0 ∷ get_or xs 10 0 ∷ get_or xs 11 0 ∷ get_or xs 12 0 ∷ get_or xs 13 0 ∷ []
 
 -- ---- an answer in a local

@@ -38,7 +38,7 @@ use Rattle.ev_body_steps.proofs.WaitSteps as waits
 use Rattle.ev_body_steps.proofs.ItemCallHead as heads
 use Rattle.ev_body_steps.proofs.CallItemSteps as calls
 use Rattle.ev_body_steps.proofs.CallAgain as again
-use Rattle.ev_body_steps.proofs.CallAnswered as answers
+use Rattle.ev_body_steps.proofs.ItemCallAnswer as answers
 use Rattle.ev_body_steps.proofs.TakeExchange as exchanges
 use Rattle.ev_body_steps.proofs.TakenSteps as takens
 use Rattle.ev_body_steps.proofs.TakenLink as links

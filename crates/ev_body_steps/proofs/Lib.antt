@@ -53,7 +53,7 @@ pub mod CallItemSteps
 pub mod TakenSteps
 pub mod TakenLink
 pub mod CallAgain
-pub mod CallAnswered
+pub mod ItemCallAnswer
 pub mod QueueLength
 pub mod TakeQueue
 pub mod TakeHolds
