@@ -3,6 +3,27 @@
 use ev_calls::{RecordView, call_view};
 use ev_mem::{Mem, Region, RegionKind, Who};
 
+/// Writes the record of site 3 of processor 1; the function's address and the link are no part of the
+/// view.
+fn is_written(mem: &mut Mem) -> bool {
+    let kernel = Who {
+        cpl: 0,
+        fetch: false,
+    };
+    mem.store(0xffff_8880_0001_08c0, 1, kernel).is_ok()
+        && mem
+            .store(0xffff_8880_0001_08c8, 0xffff_ffff_8202_0000, kernel)
+            .is_ok()
+        && mem.store(0xffff_8880_0001_08d0, 0x77, kernel).is_ok()
+        && mem.store(0xffff_8880_0001_08d8, 0x1234, kernel).is_ok()
+        && mem
+            .store(0xffff_8880_0001_08e0, 0x1_0000_0001, kernel)
+            .is_ok()
+        && mem.store(0xffff_8880_0001_08e8, 5, kernel).is_ok()
+        && mem.store(0xffff_8880_0001_08f0, 0x103, kernel).is_ok()
+        && mem.store(0xffff_8880_0001_08f8, 6, kernel).is_ok()
+}
+
 #[test]
 fn words_of_a_record(rt: HostRuntime) {
     let area = Region {
@@ -13,25 +34,7 @@ fn words_of_a_record(rt: HostRuntime) {
     let Ok(mut mem) = Mem::new(rt.alloc(), &[area], &[]) else {
         panic!(rt; "no memory");
     };
-    let kernel = Who {
-        cpl: 0,
-        fetch: false,
-    };
-    // Site 3 of processor 1; the function's address and the link are no part of the view.
-    assert_eq!(rt; mem.store(0xffff_8880_0001_08c0, 1, kernel), Ok(()));
-    assert_eq!(rt;
-        mem.store(0xffff_8880_0001_08c8, 0xffff_ffff_8202_0000, kernel),
-        Ok(())
-    );
-    assert_eq!(rt; mem.store(0xffff_8880_0001_08d0, 0x77, kernel), Ok(()));
-    assert_eq!(rt; mem.store(0xffff_8880_0001_08d8, 0x1234, kernel), Ok(()));
-    assert_eq!(rt;
-        mem.store(0xffff_8880_0001_08e0, 0x1_0000_0001, kernel),
-        Ok(())
-    );
-    assert_eq!(rt; mem.store(0xffff_8880_0001_08e8, 5, kernel), Ok(()));
-    assert_eq!(rt; mem.store(0xffff_8880_0001_08f0, 0x103, kernel), Ok(()));
-    assert_eq!(rt; mem.store(0xffff_8880_0001_08f8, 6, kernel), Ok(()));
+    assert!(rt; is_written(&mut mem));
     let queued = RecordView {
         used: true,
         from: 1,

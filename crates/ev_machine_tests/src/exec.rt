@@ -52,6 +52,18 @@ fn processor() -> Cpu {
     }
 }
 
+const STACK: u64 = 0xffff_8880_0000_0020;
+
+/// A word goes to the stack and comes back, and is compared: whether each instruction was done.
+#[tactic(auto, unfolding(ev_isa::specs::Instruction::is_instruction))]
+fn goes_by_the_stack(cpu: &mut Cpu, mem: &mut Mem) -> bool {
+    let (rax, rsp) = (Reg::new(0), Reg::new(4));
+    exec(cpu, mem, Ins::MovImm(rsp, STACK), 10) == Outcome::Done
+        && exec(cpu, mem, Ins::Push(rsp), 12) == Outcome::Done
+        && exec(cpu, mem, Ins::Pop(rax), 14) == Outcome::Done
+        && exec(cpu, mem, Ins::AluImm(AluOp::Cmp, rax, -1), 20) == Outcome::Done
+}
+
 #[test]
 #[tactic(auto, unfolding(ev_isa::specs::Instruction::is_instruction))]
 fn one_processor(rt: HostRuntime) {
@@ -59,38 +71,23 @@ fn one_processor(rt: HostRuntime) {
         panic!(rt; "no memory");
     };
     let mut cpu = processor();
-    let rax = Reg::new(0);
-    let rsp = Reg::new(4);
-    let stack = 0xffff_8880_0000_0020;
-    assert_eq!(rt;
-        exec(&mut cpu, &mut mem, Ins::MovImm(rsp, stack), 10),
-        Outcome::Done
-    );
-    assert_eq!(rt; exec(&mut cpu, &mut mem, Ins::Push(rsp), 12), Outcome::Done);
-    assert_eq!(rt; exec(&mut cpu, &mut mem, Ins::Pop(rax), 14), Outcome::Done);
-    assert_eq!(rt; cpu.regs[0], stack);
-    assert_eq!(rt; cpu.regs[4], stack);
-    assert_eq!(rt;
-        exec(&mut cpu, &mut mem, Ins::AluImm(AluOp::Cmp, rax, -1), 20),
-        Outcome::Done
-    );
+    assert!(rt; goes_by_the_stack(&mut cpu, &mut mem));
+    assert!(rt; cpu.regs[0] == STACK && cpu.regs[4] == STACK);
     assert_eq!(rt; cpu.flags, 0x83);
-    assert_eq!(rt; cpu.regs[0], stack);
-    assert_eq!(rt;
-        exec(&mut cpu, &mut mem, Ins::Jcc(Cond::C, -20), 26),
-        Outcome::Done
-    );
+    assert!(rt; exec(&mut cpu, &mut mem, Ins::Jcc(Cond::C, -20), 26) == Outcome::Done);
     assert_eq!(rt; cpu.rip, 6);
-    assert_eq!(rt; exec(&mut cpu, &mut mem, Ins::Sti, 7), Outcome::Done);
-    assert!(rt; cpu.sti_blocked);
-    assert_eq!(rt; cpu.flags, 0x283);
-    assert_eq!(rt; exec(&mut cpu, &mut mem, Ins::Syscall, 8), Outcome::Special);
-    match exec(&mut cpu, &mut mem, Ins::Load(rax, rsp, 0), 8) {
+    assert!(rt; exec(&mut cpu, &mut mem, Ins::Sti, 7) == Outcome::Done);
+    assert!(rt; cpu.sti_blocked && cpu.flags == 0x283);
+    assert!(rt; exec(&mut cpu, &mut mem, Ins::Syscall, 8) == Outcome::Special);
+    match exec(
+        &mut cpu,
+        &mut mem,
+        Ins::Load(Reg::new(0), Reg::new(4), 0),
+        8,
+    ) {
         Outcome::Raise(e) => {
             assert!(rt; e.kind == EventType::Hardware);
-            assert_eq!(rt; e.vector, 14);
-            assert_eq!(rt; e.error, 0);
-            assert_eq!(rt; e.info, stack);
+            assert_eq!(rt; (e.vector, e.error, e.info), (14, 0, STACK));
         }
         _ => panic!(rt; "no page fault"),
     }
