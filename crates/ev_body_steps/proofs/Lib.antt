@@ -52,6 +52,7 @@ pub mod CallItemSteps
 pub mod TakenSteps
 pub mod TakenLink
 pub mod FinishSteps
+pub mod ItemCallAgain
 pub mod ItemCallAnswer
 pub mod Kernel
 pub mod BodyRaising
