@@ -52,7 +52,7 @@ pub mod WaitSteps
 pub mod CallItemSteps
 pub mod TakenSteps
 pub mod TakenLink
-pub mod CallAgain
+pub mod ItemCallAgain
 pub mod ItemCallAnswer
 pub mod QueueLength
 pub mod TakeQueue
