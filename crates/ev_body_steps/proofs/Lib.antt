@@ -52,6 +52,7 @@ pub mod CallItemSteps
 pub mod TakenSteps
 pub mod TakenLink
 pub mod FinishSteps
+pub mod FinishRecord
 pub mod FinishStore
 pub mod FinishJump
 pub mod Kernel
