@@ -3,7 +3,6 @@
 use Rattle.std.proofs.Common.{◌≡◌, ℕ, suc, ◌+◌, ◌%◌, ◌<◌, ◌≤◌, Bool, true, false, not, List, [], ◌∷◌, map, get_or, length, None, Some, refl, sym, ap, ◌∙◌, subst, arith}
 use Rattle.std.specs.Prelude.{slice_get, ◌||◌, ◌-◌, ◌==◌, if◌then◌else◌}
 use Rattle.std.proofs.lemmas.Bool.{ne_eqb}
-use Rattle.std.proofs.lemmas.Option.{slice_get_within}
 use Rattle.ev_isa.specs.Word.{NatMap, is_canonical}
 use Rattle.ev_isa.specs.Flags.{Flags}
 use Rattle.ev_isa.specs.Spelling.{spelling, four_bytes}
@@ -14,20 +13,18 @@ use Rattle.ev_isa.specs.declared.mode.Mode.TheVariants.{Idt, Fred}
 use Rattle.ev_body.specs.declared.item.Item.TheVariants.{Take}
 use Rattle.ev_body.specs.declared.body.Body.{Body}
 use Rattle.ev_body.specs.declared.image.Image.{Image}
-use Rattle.ev_body.specs.Bodies.{body_items}
 use Rattle.ev_body.specs.WellFormed.{IsImage}
 use Rattle.ev_listing.specs.Expansion.{item_address}
 use Rattle.ev_mem.specs.Memory.{Memory}
 use Rattle.ev_state.specs.Processor.{Processor}
 use Rattle.ev_abstract.specs.Context.{BodyContext, CallId}
-use Rattle.ev_abstract.specs.CrossCall.{take_place, after_take}
+use Rattle.ev_abstract.specs.CrossCall.{after_take}
 use Rattle.ev_abstract.specs.Machine.{Machine, processor}
 use Rattle.ev_abstract.specs.Run.{item_at}
 use Rattle.ev_concrete.specs.ConcreteRun.{System, is_return}
 use Rattle.ev_built.specs.Built.{IsBuilt}
 use Rattle.ev_calls.specs.Records.{Linked}
 use Rattle.ev_law.specs.Legal.{runs_calls}
-use Rattle.ev_law.proofs.Ruled.{IsRuled, body_ruled}
 use Rattle.ev_tables.proofs.Gates.{upper_canonical}
 use Rattle.ev_symbolic.specs.Value.{M, X}
 use Rattle.ev_symbolic.specs.State.{Block}
@@ -50,6 +47,7 @@ use Rattle.ev_relation.proofs.Fits.{fits_with, opens_at}
 use Rattle.ev_relation.proofs.Spots.{is_spot}
 use Rattle.ev_body_steps.proofs.Bodies.{body, layout_of, saved_again}
 use Rattle.ev_body_steps.proofs.CallCells.{FinishCode, finish_code, TakeCode, take_code}
+use Rattle.ev_body_steps.proofs.CallFunctions.{after_take_is, finish_has_take}
 use Rattle.ev_body_steps.proofs.CallGoes.{block_is, CallOpens, call_opens}
 use Rattle.ev_body_steps.proofs.CallGoes as goes
 use Rattle.ev_body_steps.proofs.CallPlaces.{item_regs_are, IsAtOffset, opens_from}
@@ -119,11 +117,10 @@ module _ (mode : Mode) (image : Image) (built : IsBuilt image) (good : IsImage i
         let y : goes.AtPlace mode image built good facts left s m h p hp o ss extra v f 27 = z.0 in
         let g : Flags = y.flags in
         let long : length c.regs ≡ 16 = y.state.long in
-        let ruled : IsRuled image body' = body_ruled image good built.accepted.1.kept b.body body' is in
         let finishes = ap (λ q. item_at q i.n) (sym is) ∙ i.code.0 in
-        let place : ℕ = take_place 0 (body_items body') in
-        let takes : item_at (Some body') place ≡ Some Take
-        = (ruled.part i.n (slice_get_within (body_items body') i.n _ finishes) (ruled.finish i.n finishes)).1 in
+        let its_take : (t : ℕ) × (item_at (Some body') t ≡ Some Take) = finish_has_take mode image good built facts b.body i.n body' is finishes in
+        let place : ℕ = its_take.0 in
+        let takes = its_take.1 in
         let a : ℕ = item_address mode b.body body' i.n in
         let base : extra 20 ≡ a = i.code.1 ∙ ap (address_of_item mode b.body i.n) is in
         let cells : FinishCode code a (item_address mode b.body body' (suc i.n)) (item_address mode b.body body' place + at_taken)
@@ -184,7 +181,7 @@ module _ (mode : Mode) (image : Image) (built : IsBuilt image) (good : IsImage i
         (subst (λ W. Known u W words B.opening.words) (sym opens.known) (subst (λ ws. Known u (known_of mode) words ws) (sym opens.words) known))
         windows opens.shared in
         let opened : At code B 0 u d s.memory = begins code B u d s.memory fit agrees in
-        let behind : after_take (slice_get image.bodies b.body) ≡ suc place = ap after_take is in
+        let behind : after_take (slice_get image.bodies b.body) ≡ suc place = after_take_is mode image good built facts b body' is place takes in
         let fewer = taken_few mode some in
         let same_edges = hand_edges mode 27 hand in
         goes.goes_to_spot mode image built good facts left s m h p hp o ss extra v f 27 y (InCall (AtTaken some)) refl ins next target found refl c.regs g long

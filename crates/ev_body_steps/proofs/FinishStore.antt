@@ -11,7 +11,6 @@ use Rattle.ev_isa.specs.declared.mode.Mode.{Mode}
 use Rattle.ev_body.specs.declared.item.Item.TheVariants.{Take, Finish}
 use Rattle.ev_body.specs.declared.body.Body.{Body}
 use Rattle.ev_body.specs.declared.image.Image.{Image}
-use Rattle.ev_body.specs.Bodies.{body_items}
 use Rattle.ev_body.specs.WellFormed.{IsImage}
 use Rattle.ev_listing.specs.AddressMap.{pcpu, record_address}
 use Rattle.ev_listing.specs.Expansion.{item_address}
@@ -21,7 +20,7 @@ use Rattle.ev_mem.specs.Memory.{Memory}
 use Rattle.ev_law.specs.Legal.{AreLegal, knows, runs_calls}
 use Rattle.ev_abstract.specs.declared.entry.Entry.{Entry}
 use Rattle.ev_abstract.specs.Context.{BodyContext, CallId}
-use Rattle.ev_abstract.specs.CrossCall.{record_of, with_record, in_state, take_place, at_first_call}
+use Rattle.ev_abstract.specs.CrossCall.{record_of, with_record, in_state, at_first_call}
 use Rattle.ev_abstract.specs.ItemMeaning.{item_step, finished, with_context, unknown_flags}
 use Rattle.ev_abstract.specs.Machine.{Free, CallRecord, Machine, processor}
 use Rattle.ev_abstract.specs.Machine as abstract
@@ -57,7 +56,7 @@ use Rattle.ev_relation.proofs.Facts.{Facts}
 use Rattle.ev_relation.proofs.Legality.{turn_legal}
 use Rattle.ev_relation.proofs.Records.{call_stays}
 use Rattle.ev_body_steps.proofs.Bodies.{body, layout_of, means_at, saved_again}
-use Rattle.ev_body_steps.proofs.CallFunctions.{begins_call, locals_but}
+use Rattle.ev_body_steps.proofs.CallFunctions.{begins_call, finish_has_take, locals_but}
 use Rattle.ev_body_steps.proofs.CallGoes.{ends_of, offset_spot, offset_facts, offset_lines}
 use Rattle.ev_body_steps.proofs.CallGoes as goes
 use Rattle.ev_body_steps.proofs.CallPlaces.{item_regs_are, same_rsp}
@@ -282,10 +281,7 @@ module _ (mode : Mode) (image : Image) (built : IsBuilt image) (good : IsImage i
         let g : Flags = y.flags in
         let long : length c.regs ≡ 16 = y.state.long in
         let hi : item_at (Some body') b.place ≡ Some Finish = ap (λ q. item_at q b.place) (sym is) ∙ means.item in
-        let ruled = finishes.ruled mode image built good facts left s m h p hp o body' is in
-        let legal = finishes.legal mode image built good facts left s m h p hp o body' is in
-        let takes : item_at (Some body') (take_place 0 (body_items body')) ≡ Some Take
-        = (ruled.part b.place legal.place (ruled.finish b.place hi)).1 in
+        let its_take : (t : ℕ) × (item_at (Some body') t ≡ Some Take) = finish_has_take mode image good built facts b.body b.place body' is hi in
         let item : ℕ = item_address mode b.body body' b.place in
         let base : extra 20 ≡ item = means.place ∙ ap (address_of_item mode b.body b.place) is in
         let first : HasFirst words (v 3) b.calls = first_of words (v 3) b.calls means.some means.list in
@@ -342,7 +338,7 @@ module _ (mode : Mode) (image : Image) (built : IsBuilt image) (good : IsImage i
               (locals_but mode image good built facts u.var (without k has) (unknown_flags b) ks locals);
           flags = firsts.flags;
           begins = subst (λ js. BeginsCall mode image changed after js) (sym firsts.calls)
-              (begins k has ks first.are ks (among k has ks first.are) u.var locals (take_place 0 (body_items body')) takes);
+              (begins k has ks first.are ks (among k has ks first.are) u.var locals its_take.0 its_take.1);
         } in
         let now : ℕ = edges mode (body mode (InCall (AtOffset 27 hand))) 0 in
         let bounded = jump_few mode in
