@@ -59,6 +59,7 @@ pub mod TakeQueue
 pub mod TakeHolds
 pub mod TakeExchange
 pub mod FinishSteps
+pub mod FinishRecord
 pub mod FinishStore
 pub mod FinishJump
 pub mod KernelCalls
