@@ -1,9 +1,8 @@
 -- The jump behind the visible store of `finish`, which leads into the code of its body's `take`: to the first of the calls that are left, or to where that
 -- finds none.
-use Rattle.std.proofs.Common.{◌≡◌, ℕ, suc, ◌+◌, ◌*◌, ◌%◌, ◌<◌, ◌≤◌, Bool, true, false, not, List, [], ◌∷◌, map, get_or, length, None, Some, refl, sym, ap, ◌∙◌, subst, arith}
+use Rattle.std.proofs.Common.{◌≡◌, ℕ, suc, ◌+◌, ◌%◌, ◌<◌, ◌≤◌, Bool, true, false, not, List, [], ◌∷◌, map, get_or, length, None, Some, refl, sym, ap, ◌∙◌, subst, arith}
 use Rattle.std.specs.Prelude.{slice_get, ◌||◌, ◌-◌, ◌==◌, if◌then◌else◌}
 use Rattle.std.proofs.lemmas.Bool.{ne_eqb}
-use Rattle.std.proofs.lemmas.Option.{slice_get_within}
 use Rattle.ev_isa.specs.Word.{NatMap, is_canonical}
 use Rattle.ev_isa.specs.Flags.{Flags}
 use Rattle.ev_isa.specs.Spelling.{spelling, four_bytes}
@@ -14,36 +13,32 @@ use Rattle.ev_isa.specs.declared.mode.Mode.TheVariants.{Idt, Fred}
 use Rattle.ev_body.specs.declared.item.Item.TheVariants.{Take}
 use Rattle.ev_body.specs.declared.body.Body.{Body}
 use Rattle.ev_body.specs.declared.image.Image.{Image}
-use Rattle.ev_body.specs.Bodies.{body_items}
 use Rattle.ev_body.specs.WellFormed.{IsImage}
 use Rattle.ev_listing.specs.Expansion.{item_address}
 use Rattle.ev_mem.specs.Memory.{Memory}
 use Rattle.ev_state.specs.Processor.{Processor}
 use Rattle.ev_abstract.specs.Context.{BodyContext, CallId}
-use Rattle.ev_abstract.specs.CrossCall.{take_place, after_take}
+use Rattle.ev_abstract.specs.CrossCall.{after_take}
 use Rattle.ev_abstract.specs.Machine.{Machine, processor}
 use Rattle.ev_abstract.specs.Run.{item_at}
 use Rattle.ev_concrete.specs.ConcreteRun.{System, is_return}
 use Rattle.ev_built.specs.Built.{IsBuilt}
 use Rattle.ev_calls.specs.Records.{Linked}
 use Rattle.ev_law.specs.Legal.{runs_calls}
-use Rattle.ev_law.proofs.Ruled.{IsRuled, body_ruled}
 use Rattle.ev_tables.proofs.Gates.{upper_canonical}
-use Rattle.ev_symbolic.specs.Value.{M, V, X}
+use Rattle.ev_symbolic.specs.Value.{M, X}
 use Rattle.ev_symbolic.specs.State.{Block}
 use Rattle.ev_symbolic.specs.Single.{Leads, onward}
-use Rattle.ev_symbolic.specs.Names.{item_tag}
-use Rattle.ev_symbolic.specs.Openings.{at_base}
 use Rattle.ev_symbolic.specs.Agrees.{Env, Code, Stands as Lines, Known, eval, FactsHold, Agrees, At, edge_cell}
 use Rattle.ev_symbolic.proofs.Blocks.{begins}
 use Rattle.ev_symbolic.proofs.Single.{singles}
-use Rattle.ev_blocks.specs.Calls.{AtTaken, AtOffset, block_of_call, is_none_of, says_none, taken_code, at_taken, taken_edges}
+use Rattle.ev_blocks.specs.Calls.{AtTaken, AtOffset, is_none_of, says_none, taken_code, at_taken, taken_edges}
 use Rattle.ev_blocks.specs.Items.{InCall}
 use Rattle.ev_blocks.specs.Blocks.{block, edges, item_edges}
 use Rattle.ev_paths.specs.CallEnds.{item_regs}
 use Rattle.ev_table.specs.Table.{code_table}
 use Rattle.ev_relation.specs.Filling.{first_fill}
-use Rattle.ev_relation.specs.Active.{address_of_item, here, IsKernelSs, LocalsBut, Taking, InTake, InFinish, Active}
+use Rattle.ev_relation.specs.Active.{address_of_item, here, IsKernelSs, LocalsBut, Taking, InFinish, Active}
 use Rattle.ev_relation.specs.Relation.{StandsOn, Stands, switches_at}
 use Rattle.ev_relation.specs.Step.{Simulated}
 use Rattle.ev_relation.proofs.CallKinds.{origin_of}
@@ -52,15 +47,18 @@ use Rattle.ev_relation.proofs.Fits.{fits_with, opens_at}
 use Rattle.ev_relation.proofs.Spots.{is_spot}
 use Rattle.ev_body_steps.proofs.Bodies.{body, layout_of, saved_again}
 use Rattle.ev_body_steps.proofs.CallCells.{FinishCode, finish_code, TakeCode, take_code}
+use Rattle.ev_body_steps.proofs.CallFunctions.{after_take_is, finish_has_take}
 use Rattle.ev_body_steps.proofs.CallGoes.{block_is, CallOpens, call_opens}
 use Rattle.ev_body_steps.proofs.CallGoes as goes
 use Rattle.ev_body_steps.proofs.CallPlaces.{item_regs_are, IsAtOffset, opens_from}
+use Rattle.ev_body_steps.proofs.FinishRecord.{hand}
 use Rattle.ev_body_steps.proofs.ItemCells.{edges_stand}
 use Rattle.ev_body_steps.proofs.ItemState.{with_registers, known_of, opening_of, gone, any_registers, any_known, beyond_registers}
 use Rattle.ev_body_steps.proofs.ItemVisible.{goes_onward}
 use Rattle.ev_body_steps.proofs.KernelStep as step
 use Rattle.ev_body_steps.proofs.TakenSteps.{edges_at_end, hand_edges, ends_at_hand}
 
+-- the first call's block is one of bodies' spots
 taken_spot : (mode : Mode) (is_some : Bool) → is_spot mode (body mode (InCall (AtTaken is_some))) ≡ true
 taken_spot Fred is_some = refl
 taken_spot Idt is_some = refl
@@ -108,10 +106,7 @@ module _ (mode : Mode) (image : Image) (built : IsBuilt image) (good : IsImage i
     abbrev e : Env
     e = here mode p o.κ o.σ ss o.w extra v f
 
-    abbrev hand : ℕ
-    hand = taken_edges item_edges + 1
-
-    -- the jump, an edge
+    -- The jump is an edge. The block opens over the place of `take`, and what the registers, the list and the context's locals are stands as it did.
     pub at_finish_jump : At code (block mode (body mode (InCall (AtOffset 27 hand)))) (block mode (body mode (InCall (AtOffset 27 hand)))).steps e c s.memory
         → Taking mode image (origin_of o.κ) e o.w b false false words → InFinish mode image e b → Linked words (v 14) b.calls
         → edges_at_end mode (AtOffset 27 hand) ≤ on.own → Simulated mode image left s m p
@@ -122,11 +117,10 @@ module _ (mode : Mode) (image : Image) (built : IsBuilt image) (good : IsImage i
         let y : goes.AtPlace mode image built good facts left s m h p hp o ss extra v f 27 = z.0 in
         let g : Flags = y.flags in
         let long : length c.regs ≡ 16 = y.state.long in
-        let ruled : IsRuled image body' = body_ruled image good built.accepted.1.kept b.body body' is in
         let finishes = ap (λ q. item_at q i.n) (sym is) ∙ i.code.0 in
-        let place : ℕ = take_place 0 (body_items body') in
-        let takes : item_at (Some body') place ≡ Some Take
-        = (ruled.part i.n (slice_get_within (body_items body') i.n _ finishes) (ruled.finish i.n finishes)).1 in
+        let its_take : (t : ℕ) × (item_at (Some body') t ≡ Some Take) = finish_has_take mode image good built facts b.body i.n body' is finishes in
+        let place : ℕ = its_take.0 in
+        let takes = its_take.1 in
         let a : ℕ = item_address mode b.body body' i.n in
         let base : extra 20 ≡ a = i.code.1 ∙ ap (address_of_item mode b.body i.n) is in
         let cells : FinishCode code a (item_address mode b.body body' (suc i.n)) (item_address mode b.body body' place + at_taken)
@@ -181,13 +175,13 @@ module _ (mode : Mode) (image : Image) (built : IsBuilt image) (good : IsImage i
         let fit = fits_with mode image p o.σ seat hp good.count.1 o.κ ss o.w extra' (with_registers c.regs v) g facts (body mode (InCall (AtTaken some))) over
         (step.fred_is mode image built good facts left s m h p hp o) range told lines in
         let agrees : Agrees u B.ground B.opening d s.memory
-        = opens_from mode p o.κ o.σ ss o.w extra' (with_registers c.regs v) g d s.memory at_taken g stood extra' v refl refl refl B.ground B.opening opens.beside
-        refl (ap (λ (q : Block). q.opening.rip) B_is) opens.flags
+        = opens_from mode p o.κ o.σ ss o.w extra' (with_registers c.regs v) g d s.memory at_taken g stood extra' v refl refl refl B.ground B.opening
+        opens.beside refl (ap (λ (q : Block). q.opening.rip) B_is) opens.flags
         (item_regs_are mode u c.regs v refl long stood.rsp ∙ ap (λ (q : Block). map (eval u) q.opening.regs) (sym B_is))
         (subst (λ W. Known u W words B.opening.words) (sym opens.known) (subst (λ ws. Known u (known_of mode) words ws) (sym opens.words) known))
         windows opens.shared in
         let opened : At code B 0 u d s.memory = begins code B u d s.memory fit agrees in
-        let behind : after_take (slice_get image.bodies b.body) ≡ suc place = ap after_take is in
+        let behind : after_take (slice_get image.bodies b.body) ≡ suc place = after_take_is mode image good built facts b body' is place takes in
         let fewer = taken_few mode some in
         let same_edges = hand_edges mode 27 hand in
         goes.goes_to_spot mode image built good facts left s m h p hp o ss extra v f 27 y (InCall (AtTaken some)) refl ins next target found refl c.regs g long
@@ -195,8 +189,8 @@ module _ (mode : Mode) (image : Image) (built : IsBuilt image) (good : IsImage i
           record {
             range = range;
             saved = saved_again mode image (origin_of o.κ) e u o.w (beyond_registers c.regs v) refl refl refl t.saved;
-            locals = subst (λ xs. LocalsBut mode image (not (runs_calls b.calls) || false) (not (runs_calls b.calls) || false) (with_registers xs v) b) (sym z.1)
-                t.locals;
+            locals = subst (λ xs. LocalsBut mode image (not (runs_calls b.calls) || false) (not (runs_calls b.calls) || false) (with_registers xs v) b)
+                (sym z.1) t.locals;
             flags = t.flags;
             begins = t.begins;
           },
@@ -210,3 +204,22 @@ module _ (mode : Mode) (image : Image) (built : IsBuilt image) (good : IsImage i
           refl,
         )
         (omega arith) (step.outside mode image built good facts left s m h p hp o act)
+
+    -- a place between blocks
+    abbrev AtHand : ℕ × ℕ → ℕ → Type 0
+    AtHand t k = At code (block mode (body mode (InCall (AtOffset t.0 t.1)))) k e c s.memory
+
+    abbrev steps_of : ℕ × ℕ → ℕ
+    steps_of t = (block mode (body mode (InCall (AtOffset t.0 t.1)))).steps
+
+    abbrev EdgesAt : ℕ × ℕ → ℕ → ℕ
+    EdgesAt t k = edges mode (body mode (InCall (AtOffset t.0 t.1))) k
+
+    -- the same in the form of the step at a body, by the spot
+    pub at_behind_finish : (offset more k : ℕ) → offset ≡ 27 → more ≡ hand → k ≡ steps_of (offset, more) → AtHand (offset, more) k
+        → Taking mode image (origin_of o.κ) e o.w b false false words → InFinish mode image e b → Linked words (v 14) b.calls
+        → EdgesAt (offset, more) k ≤ on.own → Simulated mode image left s m p
+    at_behind_finish offset more k q r n at t i list enough =
+        let same : (offset, more) ≡ (27, hand) = λ j. (q j, r j) in
+        at_finish_jump (subst (λ z. AtHand z (steps_of z)) same (subst (AtHand (offset, more)) n at)) t i list
+        (subst (λ z. EdgesAt z (steps_of z) ≤ on.own) same (subst (λ j. EdgesAt (offset, more) j ≤ on.own) n enough))

@@ -1,18 +1,16 @@
 -- The visible store of `finish`: it frees the record of the call that ends, and the context is at the function of its next call, or behind `take`.
-use Rattle.std.proofs.Common.{◌≡◌, ℕ, suc, ◌+◌, ◌*◌, ◌%◌, ◌^◌, ◌<◌, ◌≤◌, Bool, true, false, not, ◌&&◌, List, [], ◌∷◌, get_or, set, map, length, Option, None, Some, refl, sym, ap, ◌∙◌, subst, arith}
+use Rattle.std.proofs.Common.{◌≡◌, ℕ, ◌+◌, ◌*◌, ◌%◌, ◌^◌, ◌<◌, ◌≤◌, Bool, true, false, not, ◌&&◌, List, [], ◌∷◌, get_or, set, length, None, Some, refl, sym, ap, ◌∙◌, subst, arith}
 use Rattle.std.specs.Prelude.{pos, slice_get, is_some, ◌==◌, ◌||◌}
-use Rattle.std.proofs.lemmas.Bool.{false_from_ne_true, lt-ltb, eqb-true, eq-eqb}
+use Rattle.std.proofs.lemmas.Bool.{false_from_ne_true, lt-ltb}
 use Rattle.ev_isa.specs.Word.{NatMap, wrap, displaced, put_at}
 use Rattle.ev_isa.specs.Flags.{Flags}
 use Rattle.ev_isa.specs.Spelling.{spelling, four_bytes}
 use Rattle.ev_isa.specs.declared.instruction.Ins.{Ins}
 use Rattle.ev_isa.specs.declared.instruction.Ins.TheVariants.{Store}
 use Rattle.ev_isa.specs.declared.mode.Mode.{Mode}
-use Rattle.ev_isa.specs.declared.mode.Mode.TheVariants.{Idt, Fred}
 use Rattle.ev_body.specs.declared.item.Item.TheVariants.{Take, Finish}
 use Rattle.ev_body.specs.declared.body.Body.{Body}
 use Rattle.ev_body.specs.declared.image.Image.{Image}
-use Rattle.ev_body.specs.Bodies.{body_items}
 use Rattle.ev_body.specs.WellFormed.{IsImage}
 use Rattle.ev_listing.specs.AddressMap.{pcpu, record_address}
 use Rattle.ev_listing.specs.Expansion.{item_address}
@@ -22,35 +20,33 @@ use Rattle.ev_mem.specs.Memory.{Memory}
 use Rattle.ev_law.specs.Legal.{AreLegal, knows, runs_calls}
 use Rattle.ev_abstract.specs.declared.entry.Entry.{Entry}
 use Rattle.ev_abstract.specs.Context.{BodyContext, CallId}
-use Rattle.ev_abstract.specs.CrossCall.{record_of, with_record, in_state, after_take, take_place, at_first_call}
-use Rattle.ev_abstract.specs.ItemMeaning.{item_step, finished, with_context, replace_last, unknown_flags}
-use Rattle.ev_abstract.specs.Machine.{CallState, Free, Queued, Taken, CallRecord, Machine, processor}
+use Rattle.ev_abstract.specs.CrossCall.{record_of, with_record, in_state, at_first_call}
+use Rattle.ev_abstract.specs.ItemMeaning.{item_step, finished, with_context, unknown_flags}
+use Rattle.ev_abstract.specs.Machine.{Free, CallRecord, Machine, processor}
 use Rattle.ev_abstract.specs.Machine as abstract
 use Rattle.ev_abstract.specs.Run.{item_at, turn}
 use Rattle.ev_concrete.specs.ConcreteRun.{System, is_return}
 use Rattle.ev_concrete.specs.Shown.{shown_always, record_word}
 use Rattle.ev_built.specs.Built.{IsBuilt}
-use Rattle.ev_calls.specs.Lists.{HasFirst, QueueIs}
+use Rattle.ev_calls.specs.Lists.{HasFirst, QueueIs, address_of as state_at}
 use Rattle.ev_calls.specs.Records.{Linked}
 use Rattle.ev_call_law.specs.Calls.{is_free, is_id, is_taken, one_if, times, to_run}
 use Rattle.ev_call_law.proofs.Counts.{id_self, same_call, times_same, times_append, is_one}
-use Rattle.ev_activation.specs.Seat.{kind_of}
-use Rattle.ev_symbolic.specs.Value.{V, K, X}
+use Rattle.ev_symbolic.specs.Value.{V, K}
 use Rattle.ev_symbolic.specs.Single.{Leads}
 use Rattle.ev_symbolic.specs.Agrees.{Cell, Env, Code, Known, IsOpen, eval, At, with_words}
 use Rattle.ev_symbolic.proofs.Single.{singles}
 use Rattle.ev_symbolic.proofs.Values.{and_left}
-use Rattle.ev_symbolic.proofs.Words.{put_same, put_other}
-use Rattle.ev_blocks.specs.Calls.{BehindNext, AtOffset, behind_next, taken_edges}
+use Rattle.ev_blocks.specs.Calls.{BehindNext, AtOffset}
 use Rattle.ev_blocks.specs.Items.{InCall}
-use Rattle.ev_blocks.specs.Blocks.{block, edges, item_edges}
+use Rattle.ev_blocks.specs.Blocks.{block, edges}
 use Rattle.ev_blocks.specs.Blocks as blocks
 use Rattle.ev_paths.specs.CallEnds.{item_regs}
 use Rattle.ev_table.specs.Table.{code_table}
-use Rattle.ev_relation.specs.Filling.{Filling, first_fill, is_filled, AreFree}
+use Rattle.ev_relation.specs.Filling.{first_fill, is_filled}
 use Rattle.ev_relation.specs.Named.{Named, RecordWord, UnknownTo, Changes, address_of}
-use Rattle.ev_relation.specs.Active.{address_of_item, here, IsKernelSs, Locals, LocalsBut, BeginsCall, InCodeOf, Taking, InFinish, Finishing, IsByHand, BehindFinish, Active}
-use Rattle.ev_relation.specs.Relation.{IsContext, HoldsCall, StandsOn, Stands, switches_at, body_edges}
+use Rattle.ev_relation.specs.Active.{address_of_item, here, IsKernelSs, Locals, LocalsBut, BeginsCall, Taking, Finishing, BehindFinish, Active}
+use Rattle.ev_relation.specs.Relation.{IsContext, HoldsCall, StandsOn, Stands, switches_at}
 use Rattle.ev_relation.specs.Step.{IsCounted, Simulated}
 use Rattle.ev_relation.proofs.CallHolders.{AreAlone, has_taken, taken_alone, taken_unfilled, queue_kept}
 use Rattle.ev_relation.proofs.CallKinds.{origin_of, plain_knows}
@@ -58,16 +54,15 @@ use Rattle.ev_relation.proofs.CallNames.{list_spared, record_spared}
 use Rattle.ev_relation.proofs.Counted.{number_kept}
 use Rattle.ev_relation.proofs.Facts.{Facts}
 use Rattle.ev_relation.proofs.Legality.{turn_legal}
-use Rattle.ev_relation.proofs.Maps.{at_same, at_other}
 use Rattle.ev_relation.proofs.Records.{call_stays}
-use Rattle.ev_relation.proofs.Standing.{went_shows}
 use Rattle.ev_body_steps.proofs.Bodies.{body, layout_of, means_at, saved_again}
-use Rattle.ev_body_steps.proofs.CallFunctions.{begins_call, locals_but}
+use Rattle.ev_body_steps.proofs.CallFunctions.{begins_call, finish_has_take, locals_but}
 use Rattle.ev_body_steps.proofs.CallGoes.{ends_of, offset_spot, offset_facts, offset_lines}
 use Rattle.ev_body_steps.proofs.CallGoes as goes
 use Rattle.ev_body_steps.proofs.CallPlaces.{item_regs_are, same_rsp}
 use Rattle.ev_body_steps.proofs.CallSteps.{AreOfCalls}
 use Rattle.ev_body_steps.proofs.CallSteps as calls
+use Rattle.ev_body_steps.proofs.FinishRecord.{record_is, record_kept, records_are, queue_is, own_is, others_are, free_still, IsAtFirst, first_is, kind_kept, in_finish, freed, taken_busy, one_at_most, hand, jump_few}
 use Rattle.ev_body_steps.proofs.ItemAddresses.{area_open}
 use Rattle.ev_body_steps.proofs.ItemFinish as finishes
 use Rattle.ev_body_steps.proofs.ItemState.{with_registers, known_of, opening_of, gone, any_known, beyond_registers}
@@ -75,153 +70,6 @@ use Rattle.ev_body_steps.proofs.ItemVisible.{goes_onward, legal_context}
 use Rattle.ev_body_steps.proofs.ItemWords.{writes_name, keeps_known}
 use Rattle.ev_body_steps.proofs.KernelStep as step
 use Rattle.ev_body_steps.proofs.TakenSteps.{first_of, has_range}
-
--- ---- the abstract machine in which a record is another
-
-module _ (m : Machine) (k : CallId) (r : CallRecord) where
-  abbrev n : Machine
-  n = with_record m k r
-
-  -- of each processor the records alone may be others
-  records_alone : (q : ℕ) → processor n q ≡ record (processor m q) { records = (processor n q).records }
-  records_alone q = pick (q == k.from) refl
-    where
-      changed : q ≡ k.from → processor n q ≡ record (processor m q) { records = put_at (processor m k.from).records k.site r }
-      changed e = at_same m.processors k.from q _ e
-          ∙ ap (λ i. record (processor m i) { records = put_at (processor m k.from).records k.site r }) (sym e)
-
-      pick : (t : Bool) → (q == k.from) ≡ t → processor n q ≡ record (processor m q) { records = (processor n q).records }
-      pick true t = let c = changed (eqb-true q k.from t) in
-          c ∙ sym (ap (λ (y : abstract.Processor). record (processor m q) { records = y.records }) c)
-      pick false t = let c : processor n q ≡ processor m q = at_other m.processors k.from q _ t in
-          c ∙ sym (ap (λ (y : abstract.Processor). record (processor m q) { records = y.records }) c)
-
-  -- the call has it
-  record_is : record_of n k ≡ r
-  record_is = ap (λ (y : abstract.Processor). y.records k.site) (at_same m.processors k.from k.from _ refl)
-      ∙ at_same (processor m k.from).records k.site k.site r refl
-
-  -- no other one
-  record_kept : (j : CallId) → is_id j k ≡ false → record_of n j ≡ record_of m j
-  record_kept j off = pick (j.from == k.from) refl
-    where
-      pick : (t : Bool) → (j.from == k.from) ≡ t → record_of n j ≡ record_of m j
-      pick true t =
-          let e : j.from ≡ k.from = eqb-true j.from k.from t in
-          ap (λ (y : abstract.Processor). y.records j.site) (at_same m.processors k.from j.from _ e)
-          ∙ at_other (processor m k.from).records k.site j.site r (sym (ap (λ (u : Bool). u && (j.site == k.site)) t) ∙ off)
-          ∙ ap (λ i. (processor m i).records j.site) (sym e)
-      pick false t = ap (λ (y : abstract.Processor). y.records j.site) (at_other m.processors k.from j.from _ t)
-
-  -- the same where a context of a processor is another
-  module _ (p : ℕ) (b' : BodyContext) where
-    abbrev n' : Machine
-    n' = with_context n p b'
-
-    but_bodies : (A : Type 0) (f : abstract.Processor → A) → ((x : abstract.Processor) (bs : List BodyContext) → f (record x { bodies = bs }) ≡ f x)
-        → (q : ℕ) → f (processor n' q) ≡ f (processor n q)
-    but_bodies A f same q = pick (q == p) refl
-      where
-        pick : (t : Bool) → (q == p) ≡ t → f (processor n' q) ≡ f (processor n q)
-        pick true t = let e : q ≡ p = eqb-true q p t in
-            ap f (at_same n.processors p q _ e) ∙ same (processor n p) _ ∙ ap (λ i. f (processor n i)) (sym e)
-        pick false t = ap f (at_other n.processors p q _ t)
-
-    records_are : (q : ℕ) → (processor n' q).records ≡ (processor n q).records
-    records_are = but_bodies _ (λ (y : abstract.Processor). y.records) (λ x bs. refl)
-
-    queue_is : (q : ℕ) → (processor n' q).queue ≡ (processor m q).queue
-    queue_is q = but_bodies _ (λ (y : abstract.Processor). y.queue) (λ x bs. refl) q ∙ ap (λ (y : abstract.Processor). y.queue) (records_alone q)
-
-    own_is : (b : BodyContext) (below : List BodyContext) → (processor m p).bodies ≡ b ∷ below
-        → processor n' p ≡ record (processor m p) { records = (processor n' p).records; queue = (processor n' p).queue; bodies = b' ∷ below }
-    own_is b below bodies =
-        let c : processor n' p ≡ record (processor m p) { records = (processor n p).records; bodies = b' ∷ below }
-        = at_same n.processors p p _ refl
-        ∙ ap (λ bs. record (processor n p) { bodies = replace_last b' bs }) (ap (λ (y : abstract.Processor). y.bodies) (records_alone p) ∙ bodies)
-        ∙ ap (λ (y : abstract.Processor). record y { bodies = b' ∷ below }) (records_alone p) in
-        c ∙ sym (ap (λ (y : abstract.Processor). record (processor m p) { records = y.records; queue = y.queue; bodies = b' ∷ below }) c)
-
-    others_are : (q : ℕ) → (q == p) ≡ false
-        → processor n' q ≡ record (processor m q) { records = (processor n' q).records; queue = (processor n' q).queue }
-    others_are q e =
-        let c : processor n' q ≡ record (processor m q) { records = (processor n q).records } = at_other n.processors p q _ e ∙ records_alone q in
-        c ∙ sym (ap (λ (y : abstract.Processor). record (processor m q) { records = y.records; queue = y.queue }) c)
-
--- records that are filled are free still, where they are what they were
-free_still : (xs rs : NatMap CallRecord) (fs : List (Option Filling)) → ((site : ℕ) → is_filled site fs ≡ true → rs site ≡ xs site) → AreFree xs fs
-    → AreFree rs fs
-free_still xs rs [] same h = tt
-free_still xs rs (None ∷ fs) same h = (tt, free_still xs rs fs same h.1)
-free_still xs rs (Some f ∷ fs) same h =
-    let is : rs f.site ≡ xs f.site = same f.site (ap (λ (t : Bool). t || is_filled f.site fs) (eq-eqb f.site f.site refl)) in (
-      record {
-        small = h.0.small;
-        free = ap (λ (r : CallRecord). r.state) is ∙ h.0.free;
-        number = ap (λ (r : CallRecord). r.number) is ∙ h.0.number;
-        alone = h.0.alone;
-      },
-      free_still xs rs fs (λ site e. same site (or_true (f.site == site) (is_filled site fs) e)) h.1,
-    )
-  where
-    or_true : (t u : Bool) → u ≡ true → (t || u) ≡ true
-    or_true true u e = refl
-    or_true false u e = e
-
--- ---- the context at its first call
-
--- is what it was, but for its place, its calls and two locals
-record IsAtFirst (c d : BodyContext) (ks : List CallId) : Type 0 where
-  pub calls : d.calls ≡ ks
-  pub service : d.service ≡ c.service
-  pub interrupts : d.interrupts ≡ c.interrupts
-  pub flags : d.flags ≡ c.flags
-
-first_is : (image : Image) (m : Machine) (c : BodyContext) (ks : List CallId) → IsAtFirst c (at_first_call image m c ks) ks
-first_is image m c [] = record { calls = refl; service = refl; interrupts = refl; flags = refl }
-first_is image m c (k ∷ ks) = record { calls = refl; service = refl; interrupts = refl; flags = refl }
-
-kind_kept : (image : Image) (m : Machine) (c : BodyContext) (ks : List CallId) (below : List BodyContext)
-    → kind_of image (at_first_call image m c ks) below ≡ kind_of image c below
-kind_kept image m c [] below = refl
-kind_kept image m c (k ∷ ks) below = refl
-
--- it is in the code of the `finish` where it was
-in_finish : (mode : Mode) (image : Image) (u : Env) (m : Machine) (c : BodyContext) (n : ℕ) (ks : List CallId) → InCodeOf mode image u c n Finish
-    → InFinish mode image u (at_first_call image m c ks)
-in_finish mode image u m c n [] code = record { n = n; code = code; none = λ e. refl }
-in_finish mode image u m c n (k ∷ ks) code = record { n = n; code = code; none = λ (e : k ∷ ks ≡ []). absurd (cc) }
-
--- ---- the record
-
-abbrev state_at : CallId → ℕ
-state_at k = record_address k.from k.site
-
--- the store frees it
-freed : (mode : Mode) (image : Image) (words : NatMap ℕ) (k : CallId) (r : CallRecord) → HoldsCall mode image words k.from k.site r
-    → HoldsCall mode image (put_at words (state_at k) 0) k.from k.site (in_state r Free)
-freed mode image words k r h = record {
-  from = put_other words (state_at k) 0 (state_at k + 0x20) (λ e. omega (arith, e)) ∙ h.from;
-  site = put_other words (state_at k) 0 (state_at k + 0x30) (λ e. omega (arith, e)) ∙ h.site;
-  number = put_other words (state_at k) 0 (state_at k + 0x28) (λ e. omega (arith, e)) ∙ h.number;
-  call = put_same words (state_at k) 0;
-}
-
-taken_busy : (st : CallState) → is_taken st ≡ true → is_free st ≡ false
-taken_busy Free t = let clash : false ≡ true = t in absurd (cc)
-taken_busy Queued t = refl
-taken_busy Taken t = refl
-
-one_at_most : (t : Bool) → one_if t ≤ 1
-one_at_most true = omega arith
-one_at_most false = omega arith
-
-abbrev hand : ℕ
-hand = taken_edges item_edges + 1
-
-jump_few : (mode : Mode) → edges mode (body mode (InCall (AtOffset 27 hand))) 0 ≤ 100
-jump_few Fred = omega arith
-jump_few Idt = omega arith
 
 module _ (mode : Mode) (image : Image) (built : IsBuilt image) (good : IsImage image) (facts : Facts mode image)
     (left : NatMap ℕ) (s : System) (m : Machine) (h : Stands mode image left s m) (p : ℕ) (hp : p < image.processors)
@@ -255,17 +103,21 @@ module _ (mode : Mode) (image : Image) (built : IsBuilt image) (good : IsImage i
   abbrev taken : CallId → Bool
   taken = has_taken mode image left s m h p hp b o.below o.bodies
 
+  -- it has one that stands among its calls
   has_is : (k : CallId) → 0 < times k b.calls → taken k ≡ true
   has_is k has = lt-ltb 0 (times k b.calls) has
 
+  -- as often as the record says, among its calls and those below it
   placed_once : (k : CallId) → times k b.calls + times k (to_run o.below) ≡ one_if (is_taken (record_of m k).state && ((record_of m k).to == p))
   placed_once k = sym (ap (λ bs. times k (to_run bs)) o.bodies ∙ times_append k b.calls (to_run o.below)) ∙ (h.calls.placed k).list p
 
+  -- so once at most
   once : (k : CallId) → times k b.calls ≤ 1
   once k =
       let one = one_at_most (is_taken (record_of m k).state && ((record_of m k).to == p)) in
       let placed = placed_once k in omega (arith, one, placed)
 
+  -- they are under way
   busy : (k : CallId) → 0 < times k b.calls → is_free (record_of m k).state ≡ false
   busy k has = taken_busy (record_of m k).state (and_left _ ((record_of m k).to == p)
       (is_one (is_taken (record_of m k).state && ((record_of m k).to == p)) (let placed = placed_once k in omega (arith, placed, has))))
@@ -283,9 +135,11 @@ module _ (mode : Mode) (image : Image) (built : IsBuilt image) (good : IsImage i
     abbrev mine : CallId → Bool
     mine j = is_id j k
 
+    -- a call that the context hasn't taken is another one
     away : (j : CallId) → taken j ≡ false → is_id j k ≡ false
     away j off = false_from_ne_true (is_id j k) (λ q. let clash : true ≡ false = sym (has_is k has) ∙ ap taken (sym (same_call j k q)) ∙ off in cc)
 
+    -- so the record is this context's alone
     alone : AreAlone mode image left s m h p hp b o.below o.bodies mine
     alone =
         let t : AreAlone mode image left s m h p hp b o.below o.bodies taken = taken_alone mode image left s m h p hp b o.below o.bodies in record {
@@ -299,9 +153,11 @@ module _ (mode : Mode) (image : Image) (built : IsBuilt image) (good : IsImage i
     abbrev name : Named
     name = RecordWord k.from k.site 0
 
+    -- the word that is written
     state_is : address_of name ≡ state_at k
     state_is = let q : record_address k.from k.site + 0 ≡ record_address k.from k.site = omega arith in q
 
+    -- it is one of the call
     are : AreOfCalls p mine o.below (name ∷ [])
     are =
         let range = has_range mode image built good facts left s m h p hp o body' is k has in
@@ -347,6 +203,7 @@ module _ (mode : Mode) (image : Image) (built : IsBuilt image) (good : IsImage i
       abbrev m' : Machine
       m' = with_context without p b'
 
+      -- those that are left are other calls, which the context has
       among : (j : CallId) → 0 < times j ks → (is_id j k ≡ false) × (0 < times j b.calls)
       among j some =
           let one = ap (times k) calls_are ∙ times_same k ks in
@@ -355,7 +212,7 @@ module _ (mode : Mode) (image : Image) (built : IsBuilt image) (good : IsImage i
           let there : 0 < times k ks = subst (λ y. 0 < times y ks) (same_call j k q) some in omega (arith, there, one, bound)) in
           (off, (let all = ap (times j) calls_are ∙ times_append j (k ∷ []) ks in omega (arith, all, some)))
 
-      -- the next call begins
+      -- the next call begins: its record is what it was
       begins : (js : List CallId) → ((j : CallId) → 0 < times j js → (is_id j k ≡ false) × (0 < times j b.calls)) → (v : ℕ → ℕ) → Locals mode image v b
           → (t : ℕ) → item_at (Some body') t ≡ Some Take
           → BeginsCall mode image words' (at_first_call image without (unknown_flags b) js) js
@@ -374,6 +231,7 @@ module _ (mode : Mode) (image : Image) (built : IsBuilt image) (good : IsImage i
           (held j f.1)))
           (ap (λ (r : CallRecord). is_free r.state) same ∙ busy j f.1)
 
+      -- what the turn makes: of all records this one alone is another
       makes : calls.Makes mode image built good facts left s m h p hp o mine alone words' (name ∷ []) are changes on.fills refl (λ i off e. e) m' b'
       makes = record {
         own = own_is m k (in_state (record_of m k) Free) p b' b o.below o.bodies;
@@ -411,7 +269,7 @@ module _ (mode : Mode) (image : Image) (built : IsBuilt image) (good : IsImage i
     abbrev e : Env
     e = here mode p o.κ o.σ ss o.w extra v f
 
-    -- a turn, which tells that the call has run
+    -- It is a turn, which tells that the call has run. Behind it stands the jump into the code of `take`.
     pub at_next_end : At code (block mode (body mode (InCall BehindNext))) (block mode (body mode (InCall BehindNext))).steps e c s.memory
         → Finishing mode image (origin_of o.κ) e o.w b words → Simulated mode image left s m p
     unfolding eval spelling four_bytes is_return item_step shown_always
@@ -423,10 +281,7 @@ module _ (mode : Mode) (image : Image) (built : IsBuilt image) (good : IsImage i
         let g : Flags = y.flags in
         let long : length c.regs ≡ 16 = y.state.long in
         let hi : item_at (Some body') b.place ≡ Some Finish = ap (λ q. item_at q b.place) (sym is) ∙ means.item in
-        let ruled = finishes.ruled mode image built good facts left s m h p hp o body' is in
-        let legal = finishes.legal mode image built good facts left s m h p hp o body' is in
-        let takes : item_at (Some body') (take_place 0 (body_items body')) ≡ Some Take
-        = (ruled.part b.place legal.place (ruled.finish b.place hi)).1 in
+        let its_take : (t : ℕ) × (item_at (Some body') t ≡ Some Take) = finish_has_take mode image good built facts b.body b.place body' is hi in
         let item : ℕ = item_address mode b.body body' b.place in
         let base : extra 20 ≡ item = means.place ∙ ap (address_of_item mode b.body b.place) is in
         let first : HasFirst words (v 3) b.calls = first_of words (v 3) b.calls means.some means.list in
@@ -483,7 +338,7 @@ module _ (mode : Mode) (image : Image) (built : IsBuilt image) (good : IsImage i
               (locals_but mode image good built facts u.var (without k has) (unknown_flags b) ks locals);
           flags = firsts.flags;
           begins = subst (λ js. BeginsCall mode image changed after js) (sym firsts.calls)
-              (begins k has ks first.are ks (among k has ks first.are) u.var locals (take_place 0 (body_items body')) takes);
+              (begins k has ks first.are ks (among k has ks first.are) u.var locals its_take.0 its_take.1);
         } in
         let now : ℕ = edges mode (body mode (InCall (AtOffset 27 hand))) 0 in
         let bounded = jump_few mode in
@@ -526,8 +381,8 @@ module _ (mode : Mode) (image : Image) (built : IsBuilt image) (good : IsImage i
         ∙ (let q : k.site % 2 ^ 8 ≡ k.site = omega arith in q) in
         let number_is : IsCounted s → record_word c words 0x28 ≡ (record_of m k).number
         = λ counted. word_is 0x28 (omega arith) ∙ call.number ∙ number_kept mode image left s m h counted k in
-        calls.turns mode image built good facts left s m h p hp o (mine k has) (alone k has) changed (name k has ∷ []) (are k has) (changes k has) on.fills refl
-        (λ i off q. q) (λ i. y.state.blocked) cell found Always refl refl refl y.kernel (step.outside mode image built good facts left s m h p hp o act) cpu leads
-        (step.blocked mode image built good facts left s m h p hp) machine entries turns after
+        calls.turns mode image built good facts left s m h p hp o (mine k has) (alone k has) changed (name k has ∷ []) (are k has) (changes k has) on.fills
+        refl (λ i off q. q) (λ i. y.state.blocked) cell found Always refl refl refl y.kernel (step.outside mode image built good facts left s m h p hp o act)
+        cpu leads (step.blocked mode image built good facts left s m h p hp) machine entries turns after
         (kind_kept image (without k has) (unknown_flags b) ks o.below ∙ o.kind) ctx firsts.service made now (omega arith) act'
         (λ counted i. Entry.Ran p (from_is i) (site_is i) (number_is counted i) ∷ [])

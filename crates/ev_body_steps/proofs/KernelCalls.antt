@@ -37,7 +37,7 @@ use Rattle.ev_body_steps.proofs.KickSteps as kicks
 use Rattle.ev_body_steps.proofs.WaitSteps as waits
 use Rattle.ev_body_steps.proofs.ItemCallHead as heads
 use Rattle.ev_body_steps.proofs.CallItemSteps as calls
-use Rattle.ev_body_steps.proofs.CallAgain as again
+use Rattle.ev_body_steps.proofs.ItemCallAgain as again
 use Rattle.ev_body_steps.proofs.ItemCallAnswer as answers
 use Rattle.ev_body_steps.proofs.TakeExchange as exchanges
 use Rattle.ev_body_steps.proofs.TakenSteps as takens
@@ -50,6 +50,11 @@ use Rattle.ev_body_steps.proofs.FinishJump as jumps
 head_steps : (mode : Mode) (address func to : ℕ) → (block mode (body mode (InCall (AtHead address func to)))).steps ≡ 0
 head_steps Fred address func to = refl
 head_steps Idt address func to = refl
+
+-- so does one behind an exchange that failed
+failure_steps : (mode : Mode) (address func to : ℕ) → (block mode (body mode (InCall (BehindFailure address func to)))).steps ≡ 0
+failure_steps Fred address func to = refl
+failure_steps Idt address func to = refl
 
 module _ (mode : Mode) (image : Image) (built : IsBuilt image) (good : IsImage image) (facts : Facts mode image)
     (left : NatMap ℕ) (s : System) (m : Machine) (h : Stands mode image left s m) (p : ℕ) (hp : p < image.processors)
@@ -142,7 +147,9 @@ module _ (mode : Mode) (image : Image) (built : IsBuilt image) (good : IsImage i
         let z = by_place (at_function + 21) (item_edges + 1) offset more q y at enough in
         takens.at_function_jump mode image built good facts left s m h p hp o body' is ss extra v f i unfilled act ss_is z.0 t some list target z.1
     by_hand offset more unfilled at enough (BehindExchange q y r is_first z head equal) =
-        never (AtOffset offset more) (BehindExchange q y r is_first z head equal)
+        let there = subst (λ j. AtEnd (AtOffset j more)) q at in
+        answers.by_exchange_branch mode image built good facts left s m h p hp o body' is unfilled act ss ss_is extra v f more y there r is_first z head.0 head.1
+        equal (subst (λ j. left_at (AtOffset j more) ≤ on.own) q enough)
     by_hand offset more unfilled at enough (BehindFinish q y t i list) =
         let z = by_place 27 (taken_edges item_edges + 1) offset more q y at enough in
         jumps.at_finish_jump mode image built good facts left s m h p hp o body' is unfilled act ss ss_is extra v f z.0 t i list z.1
@@ -165,7 +172,9 @@ module _ (mode : Mode) (image : Image) (built : IsBuilt image) (good : IsImage i
         (subst (λ j. edges mode (body mode (InCall (AtHead address func to))) j ≤ on.own) (head_steps mode address func to) enough)
     by_call_spot (AtLink address func to is_stale) unfilled at means enough = never (AtLink address func to is_stale) means
     by_call_spot (BehindFailure address func to) unfilled at means enough =
-        again.at_failure_end mode image built good facts left s m h p hp o body' is act ss ss_is extra v f address func to at means enough
+        again.by_failure mode image built good facts left s m h p hp o body' is act ss ss_is extra v f address func to
+        (subst (λ j. At code (block mode (body mode (InCall (BehindFailure address func to)))) j e c s.memory) (failure_steps mode address func to) at) means
+        enough
     by_call_spot (BehindCall r is_first) unfilled at means enough =
         answers.at_answer_end mode image built good facts left s m h p hp o body' is (unfilled refl) act r is_first _ ss ss_is extra v f refl at means long
         enough o.ctx.item (today hi) hi

@@ -52,13 +52,14 @@ pub mod WaitSteps
 pub mod CallItemSteps
 pub mod TakenSteps
 pub mod TakenLink
-pub mod CallAgain
+pub mod ItemCallAgain
 pub mod ItemCallAnswer
 pub mod QueueLength
 pub mod TakeQueue
 pub mod TakeHolds
 pub mod TakeExchange
 pub mod FinishSteps
+pub mod FinishRecord
 pub mod FinishStore
 pub mod FinishJump
 pub mod KernelCalls

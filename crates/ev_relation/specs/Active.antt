@@ -403,9 +403,9 @@ module _ (mode : Mode) (image : Image) where
 
   -- what is made by hand: one instruction at a time
   pub data IsByHand (o : Origin) (e : Env) (w : Processor) (b : BodyContext) (words : NatMap ℕ) (offset edges : ℕ) : Type 0 where
-    -- the branch behind the exchange of `call` that put the record into the queue, in whose place the old head is in RAX
+    -- the branch behind the exchange of `call` that put the record into the queue, in whose place the old head, a word, is in RAX
     BehindExchange : offset ≡ behind_exchange → edges ≡ item_edges + 5 → (s : ℕ) (is_first : Bool) → Answering o e w b s (if is_first then 2 else 1) words
-        → (e.var 0 == 0) ≡ is_first → e.flags.status.zero ≡ true → IsByHand o e w b words offset edges
+        → ((e.var 0 == 0) ≡ is_first) × (e.var 0 < M) → e.flags.status.zero ≡ true → IsByHand o e w b words offset edges
     -- the store of a record's new link: RAX is the record, and RCX its old link
     BehindOldLink : (n : ℕ) → offset ≡ at_old_link + 7 → edges ≡ turn_edges item_edges n + 4 → Taking o e w b false false words → InTake e b
         → Turns words (e.var 0) (e.var 14) b.calls (suc n) → e.var 1 ≡ words (e.var 0 + 0x18) → IsByHand o e w b words offset edges
