@@ -2,11 +2,10 @@
 
 ghost use Rattle.std.specs.Prelude.{◌≡◌};
 ghost use Rattle.std.specs.List.{list_all};
-ghost use Rattle.ev_body.specs.WellFormed.{has_no_parts};
 ghost use Rattle.ev_built.specs.Built.{is_built_item, is_built_key};
-ghost use Rattle.ev_built.specs.RunTakes.{body_is_built, is_built};
+ghost use Rattle.ev_built.specs.RunTakes.{body_is_built, is_built, part_is_built};
 
-use ev_body::{Body, Image, Item, Key};
+use ev_body::{Body, Image, Item, Key, Part};
 
 #[tactic(auto, unfolding(crate::specs::Built::is_built_item))]
 fn is_built_item(item: &Item) -> bool
@@ -42,6 +41,11 @@ fn is_built_item(item: &Item) -> bool
             | Item::Send(_, Key::Irq(_))
             | Item::Bp
             | Item::Ret
+            | Item::Call { .. }
+            | Item::Kick(..)
+            | Item::Wait(_)
+            | Item::Take
+            | Item::Finish
     )
 }
 
@@ -65,11 +69,23 @@ fn is_built_key(key: Key) -> bool
     !matches!(key, Key::Nmi)
 }
 
+/// Whether `run` takes each function.
+fn parts_built(parts: &[Part]) -> bool
+    ensures { result ≡ list_all part_is_built parts.now }
+{
+    for part in parts {
+        if !all_built(part.items.as_slice()) {
+            return false;
+        }
+    }
+    true
+}
+
 /// Whether `run` takes the body.
 fn body_is_built(body: &Body) -> bool
     ensures { result ≡ body_is_built body.now }
 {
-    body.parts.len() == 0 && is_built_key(body.key) && all_built(body.items.as_slice())
+    is_built_key(body.key) && all_built(body.items.as_slice()) && parts_built(body.parts.as_slice())
 }
 
 /// Whether `run` takes each body.
@@ -85,8 +101,8 @@ fn all_bodies_built(bodies: &[Body]) -> bool
 }
 
 /// Whether `run` takes the image today, once it is accepted: any processors and tasks, whose user
-/// code and pages are any, and bodies of the keys that `fill` names, of either side, without parts
-/// and of the items that `is_built_item` names. Own.
+/// code and pages are any, and bodies of the keys that `fill` names, of either side, with functions,
+/// of the items that `is_built_item` names. Own.
 pub fn is_built(image: &Image) -> bool
     ensures { result ≡ is_built image.now }
 {

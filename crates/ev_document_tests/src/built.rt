@@ -8,7 +8,7 @@ use std::test::Fail;
 
 #[test]
 fn bodies(rt: HostRuntime) -> Result<(), Fail> {
-    let cases: [(&str, bool); 8] = [
+    let cases: [(&str, bool); 13] = [
         ("body sys user\nlog rdi\nnop\nret\nendbody\nfill\n", true),
         ("body bp both\nret\nendbody\nfill\n", true),
         ("body irq31 both\neoi\nret\nendbody\nfill\n", true),
@@ -23,6 +23,23 @@ fn bodies(rt: HostRuntime) -> Result<(), Fail> {
         ("body sys user\nsend 0 nmi\nret\nendbody\nfill\n", false),
         ("body sys user\nresched\nret\nendbody\nfill\n", true),
         ("body nmi user\nret\nendbody\nfill\n", false),
+        (
+            "body sys user\ncall 0 0 0 r12\nkick 0 r12\nsti\nwait 0\ncli\nret\nendbody\nfill\n",
+            true,
+        ),
+        ("body irqfb both\ntake\neoi\nret\nendbody\nfill\n", true),
+        (
+            "body irqfb both\ntake\neoi\nret\nfunc 0\nlog r9\nfinish\nendbody\nfill\n",
+            true,
+        ),
+        (
+            "body irqfb both\ntake\neoi\nret\nfunc 0\nsend 0 nmi\nfinish\nendbody\nfill\n",
+            false,
+        ),
+        (
+            "body irqfb both\ntake\neoi\nret\nfunc 0\nfinish\nfunc 1\nsend 0 nmi\nfinish\nendbody\nfill\n",
+            false,
+        ),
     ];
     for (bodies, taken) in cases {
         let image = image_of(rt.alloc(), 1, "jmp start\n", bodies)?;

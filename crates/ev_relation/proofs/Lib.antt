@@ -25,7 +25,6 @@ pub mod FilledOnce
 pub mod Counted
 pub mod Depth
 pub mod Items
-pub mod NoCalls
 pub mod UserState
 pub mod UserBody
 pub mod BodyTables
