@@ -69,12 +69,6 @@ under_way mode image words a r Taken busy h = (h.1, h.2)
 -- ---- in an accepted image
 
 module _ (mode : Mode) (image : Image) (good : IsImage image) (built : IsBuilt image) (facts : Facts mode image) where
-  -- where a context goes on
-  pub record Begins (d : BodyContext) : Type 0 where
-    pub context : IsContext mode image d
-    pub canonical : is_canonical (item_place mode image d.body d.place) ≡ true
-    pub range : (0xffffffff82000000 ≤ item_place mode image d.body d.place) × (item_place mode image d.body d.place + 0x100 ≤ 2 ^ 64)
-
   -- a body with a `take`
   module _ (b : BodyContext) (body : Body) (is : slice_get image.bodies b.body ≡ Some body) (t : ℕ) (takes : item_at (Some body) t ≡ Some Take) where
     ruled : IsRuled image body
@@ -87,24 +81,6 @@ module _ (mode : Mode) (image : Image) (good : IsImage image) (built : IsBuilt i
     pub after_take_is : after_take (slice_get image.bodies b.body) ≡ suc t
     after_take_is = ap after_take is ∙ ap suc (ruled.take t takes).0
 
-    begins : (d : BodyContext) (place : ℕ) → d.body ≡ b.body → d.place ≡ place → place < length (body_items body) → Begins d
-    begins d place same at within =
-        let body_is : slice_get image.bodies d.body ≡ Some body = ap (slice_get image.bodies) same ∙ is in
-        let there : item_place mode image d.body d.place ≡ item_address mode d.body body place
-        = ap (address_of_item mode d.body d.place) body_is ∙ ap (item_address mode d.body body) at in record {
-          context = record {
-            item = get_or (body_items body) place Ret;
-            is = ap (λ o. item_at o d.place) body_is ∙ ap (item_at (Some body)) at ∙ slice_get-get_or (body_items body) place Ret within;
-          };
-          canonical = ap is_canonical there ∙ (facts.item_small d.body place body body_is).0;
-          range = subst (λ a. (0xffffffff82000000 ≤ a) × (a + 0x100 ≤ 2 ^ 64)) (sym there) (facts.item_range d.body place body body_is);
-        }
-
-    -- behind it, where there is no call
-    pub behind_take : (m : Machine) → Begins (at_first_call image m b [])
-    unfolding is_ret is_finish
-    behind_take m = begins (at_first_call image m b []) (suc t) refl after_take_is (ruled.goes_on t Take takes refl refl).0
-
     -- the address of a function is that of its first item here
     pub function_is : (func : ℕ) → function_address mode image func ≡ item_place mode image b.body (start_of (slice_get image.bodies b.body) func)
     function_is func =
@@ -113,14 +89,7 @@ module _ (mode : Mode) (image : Image) (good : IsImage image) (built : IsBuilt i
         ∙ ap Some (let z : 0 + b.body ≡ b.body = omega arith in z) in
         ap (λ o. address_in mode image o func) first ∙ rw is refl
 
-    -- the first call begins
-    pub begins_function : (m : Machine) (k : CallId) (ks : List CallId) → knows image m k ≡ true → Begins (at_first_call image m b (k ∷ ks))
-    begins_function m k ks known =
-        let func : ℕ = (record_of m k).func in
-        begins (at_first_call image m b (k ∷ ks)) (function_start body func) refl (ap (λ o. start_of o func) is)
-        (ruled.func func (declared_at image b.body body func is handler known)).0
-
-    -- and the record has its item's address, the argument and the caller, which the context has in its locals
+    -- the first call's record has its item's address, the argument and the caller, which the context has in its locals
     pub begins_call : (v : ℕ → ℕ) (words : NatMap ℕ) (m : Machine) (k : CallId) (ks : List CallId) → Locals mode image v b
         → HoldsCall mode image words k.from k.site (record_of m k) → is_free (record_of m k).state ≡ false
         → BeginsCall mode image words (at_first_call image m b (k ∷ ks)) (k ∷ ks)
