@@ -1,48 +1,40 @@
 -- Steps that write words of calls which are the last context's own: those that it has taken, or the one whose record it fills. What they give: an edge, or a
 -- turn of the abstract machine.
-use Rattle.std.proofs.Common.{◌≡◌, ℕ, ◌+◌, ◌<◌, ◌≤◌, Bool, true, false, not, ◌&&◌, List, ◌∷◌, length, Option, Some, None, refl, sym, ap, ◌∙◌, subst, arith, eq-eqb}
-use Rattle.std.specs.Prelude.{◌==◌, ◌++◌, ◌||◌, if◌then◌else◌, nat_le, nat_lt}
-use Rattle.std.specs.List.{list_any}
+use Rattle.std.proofs.Common.{◌≡◌, ℕ, ◌+◌, ◌<◌, ◌≤◌, Bool, true, false, List, ◌∷◌, Option, Some, None, refl, sym, ◌∙◌, subst, arith, eq-eqb}
+use Rattle.std.specs.Prelude.{◌==◌}
 use Rattle.ev_isa.specs.Word.{NatMap}
 use Rattle.ev_isa.specs.declared.mode.Mode.{Mode}
 use Rattle.ev_body.specs.declared.image.Image.{Image}
 use Rattle.ev_body.specs.WellFormed.{IsImage}
-use Rattle.ev_listing.specs.AddressMap.{nmi_entry, repeat_entry}
 use Rattle.ev_listing.specs.Marks.{Mark}
 use Rattle.ev_state.specs.Processor.{Processor, is_user}
 use Rattle.ev_proc.specs.declared.stepped.Stepped.{Stepped}
-use Rattle.ev_abstract.specs.Boundary.{is_nmi_body}
 use Rattle.ev_abstract.specs.Context.{BodyContext, CallId}
 use Rattle.ev_abstract.specs.declared.entry.Entry.{Entry}
-use Rattle.ev_abstract.specs.Machine.{Machine, processor, CallRecord}
+use Rattle.ev_abstract.specs.Machine.{Machine, processor}
 use Rattle.ev_abstract.specs.Machine as abstract
 use Rattle.ev_abstract.specs.Run.{turn}
 use Rattle.ev_built.specs.Built.{IsBuilt}
 use Rattle.ev_calls.specs.Lists.{QueueIs}
 use Rattle.ev_concrete.specs.ConcreteRun.{System, is_seen, is_return, activations_by}
-use Rattle.ev_concrete.specs.Depth.{is_in_repeat, is_jump}
+use Rattle.ev_concrete.specs.Depth.{is_in_repeat}
 use Rattle.ev_symbolic.specs.Agrees.{Cell, with_words}
 use Rattle.ev_activation.specs.Seat.{kind_of}
 use Rattle.ev_relation.specs.Nmi.{inner_edges}
 use Rattle.ev_relation.specs.Named.{Named, is_task_word, is_slot, is_cell, is_page_bit, is_user_word, have_none, AreOf, UnknownTo, Changes}
 use Rattle.ev_relation.specs.Filling.{Filling, first_fill, rest_fills, is_filled, AreFree}
 use Rattle.ev_relation.specs.Active.{Active}
-use Rattle.ev_relation.specs.Relation.{IsContext, switches_at, body_edges, serves, Chain, HoldsCall, StandsOn, Stands}
+use Rattle.ev_relation.specs.Relation.{IsContext, switches_at, body_edges, Chain, HoldsCall, StandsOn, Stands}
 use Rattle.ev_relation.specs.Step.{IsCounted, Simulated}
 use Rattle.ev_relation.proofs.Facts.{Facts}
 use Rattle.ev_relation.proofs.Maps.{at_same}
 use Rattle.ev_relation.proofs.Domains.{four_tasks}
 use Rattle.ev_relation.proofs.Standing.{went_shows, went_stays}
-use Rattle.ev_relation.proofs.Depth.{goes_on_inside}
 use Rattle.ev_relation.proofs.Stays.{AreKept}
 use Rattle.ev_relation.proofs.CallNames.{is_head_of, records_spared}
 use Rattle.ev_relation.proofs.CallHolders.{AreAlone, beneath_kept, others_kept, queue_kept}
-use Rattle.ev_relation.proofs.After.{AreNames, current_is, mark_is, slot_same, cell_same, page_same, user_same, tasks_same, AreSameWords, apic_again, own_stands, own_becomes, stands_become}
-use Rattle.ev_relation.proofs.Words.{beside_stays, saved_stays}
-use Rattle.ev_relation.proofs.CallKinds.{none_nmi}
-use Rattle.ev_relation.proofs.Chains.{chain_plain}
-use Rattle.ev_relation.proofs.Legality.{turn_legal, turn_bases, turn_calls, turn_few}
-use Rattle.ev_user.specs.Words.{HoldsWords}
+use Rattle.ev_relation.proofs.After.{AreNames, current_is, mark_is, slot_same, cell_same, page_same, user_same, tasks_same, AreSameWords, apic_again, own_becomes, stands_become}
+use Rattle.ev_body_steps.proofs.CallKeeps as keeps
 use Rattle.ev_body_steps.proofs.KernelStep as step
 
 -- the names are words of calls alone, of records those of these calls
@@ -174,73 +166,29 @@ module _ (mode : Mode) (image : Image) (built : IsBuilt image) (good : IsImage i
         → Active mode image p now o.κ o.σ on.frame (switches_at mode image on.switching o.below) (first_fill fs) o.w b' cpu (with_words s.memory words)
         → (IsCounted s → went_shows p s mark cell.ins cpu words None ≡ es) → Simulated mode image left s m p
     turns unblocked cell hc mark hm is hr hu out cpu he hb m' es ht b' kind ctx service y now few act hes =
-        let s' : System = step.Behind mode image built good facts left s m h p hp (s.apics p) cpu words None in
-        let moves = step.moves mode image built good facts left s m h p hp (s.apics p) cpu words None in
-        let x' : abstract.Processor = record x { records = (processor m' p).records; queue = (processor m' p).queue; bodies = b' ∷ o.below } in
-        let serving : (class : ℕ) → list_any (λ (a : BodyContext). serves mode image class a.service) (b' ∷ o.below)
-        ≡ list_any (λ (a : BodyContext). serves mode image class a.service) x.bodies
-        = λ class. ap (λ q. serves mode image class q || list_any (λ (a : BodyContext). serves mode image class a.service) o.below) service
-        ∙ sym (ap (list_any (λ (a : BodyContext). serves mode image class a.service)) o.bodies) in
-        let same : activations_by s p (s.activations p) cpu Stepped.Ran ≡ o.last ∷ o.others
-        = went_stays image.processors s p cpu None cell.ins (step.fetches mode image built good facts left s m h p hp c.rip cell hc).1 hr ∙ o.acts in
-        let chain = chain_behind b' kind ctx now cpu act in
-        let none : list_any (is_nmi_body image) (b' ∷ o.below) ≡ false = none_nmi image (b' ∷ o.below)
-        (chain_plain mode image p now x.running on.returning (x.tasks on.returning) on.frame on.switching fs (b' ∷ o.below) (o.last ∷ o.others) cpu
-        (with_words s.memory words) chain) in
-        let there : StandsOn mode image p (now + inner_edges (s.latches p)) s' x'
-        = own_stands mode image p (left p) now s s' x x' cpu _ words on moves (record {
-          running = on.running;
-          waiting = on.waiting;
-          switching = on.switching;
-          marked = on.marked;
-          returning = on.returning;
-          is_returning = on.is_returning;
-          current = λ e. current_is p o.σ names small narrow s.memory.words words are.allowed.written changes p words_same mode x.running (on.current e);
-          mark = λ e. mark_is p o.σ names small narrow s.memory.words words are.allowed.written changes p words_same ∙ on.mark e;
-          saved = λ i lt d. saved_stays mode p i (x.tasks i) s.memory.words words small (let n = four_tasks image good p hp in omega (arith, n, lt))
-              (beside_stays p o.σ names s.memory.words words small narrow are.allowed.written changes mode i
-              (let n = four_tasks image good p hp in omega (arith, n, lt))
-              (step.beside mode image built good facts left s m h p hp o i d))
-              (on.saved i lt d);
-          tasks = on.tasks;
-          latch = refl;
-          blocked = hb ∙ sym none;
-          apic = apic_again mode image (s.apics p) _ x.pending x.bodies (b' ∷ o.below) (at_same s.apics p p (s.apics p) refl) serving on.apic;
-          slots = λ k lt. slot_same p o.σ names small narrow s.memory.words words are.allowed.written changes are.slots p k small lt ∙ on.slots k lt;
-          fills = fs;
-          free = y.free;
-          records = records_spared p o.σ names small narrow s.memory.words words are.allowed.written changes mine are.of mode image p fs x.records
-              (processor m' p).records small (y.old p) (λ k lt off e. on.records k lt (unfilled k off e)) (λ k lt is e. y.held p k hp lt is (λ d. e));
-          short = few;
-          chain = subst (λ as'. Chain mode image p now x.running on.returning (x.tasks on.returning) on.frame on.switching fs (b' ∷ o.below) as' cpu
-              (with_words s.memory words)) (sym same) chain;
-        }) in
-        step.turn_with mode image built good facts left s m h p hp (step.first mode image built good facts left s m h p hp o) cell hc mark hm is hu (s.apics p)
-        cpu words None (he (s.apics p) (s.latches p)) m' es ht x'
-        (goes_on_inside (is_return (Some cell.ins)) (not (is_user c)) (not (nat_le nmi_entry c.rip && nat_lt c.rip repeat_entry)) (is_jump (Some cell.ins))
-        (is_in_repeat c.rip) (length x.bodies) hr out ∙ ap length o.bodies)
-        now there
-        (stands_become mode image left s s' m m' p (now + inner_edges (s.latches p)) x' o.σ cpu _ words good built.accepted (four_tasks image good) h hp moves
-        narrow names are.allowed changes
+        keeps.turns mode image built good facts left s m h p hp o words names
+        (record {
+          allowed = are.allowed;
+          unknown = are.unknown;
+          tasks = are.tasks;
+          slots = are.slots;
+          cells = are.cells;
+          pages = are.pages;
+          user = are.user;
+        })
+        changes fs unblocked cell hc mark hm is hr hu out cpu he hb m' es ht b' service
         (record {
           own = y.own;
           others = y.others;
-          mail = refl;
-          mail_nmi = refl;
+          same_words = y.same_words;
+          same_pages = y.same_pages;
+          same_cells = y.same_cells;
           queues = y.queues;
-          user = λ a u. user_same p o.σ names small narrow s.memory.words words are.allowed.written changes are.user a u ∙ h.shares.user a u
-              ∙ sym (ap (λ (w : NatMap ℕ). w a) y.same_words);
-          held = subst HoldsWords (sym y.same_words) h.shares.held;
-          pages = λ i l. page_same p o.σ names small narrow s.memory.words words are.allowed.written changes are.pages i l ∙ h.shares.pages i l
-              ∙ sym (ap (λ w. if w i then 1 else 0) y.same_pages);
-          cells = λ k l. cell_same p o.σ names small narrow s.memory.words words are.allowed.written changes are.cells k l ∙ h.shares.cells k l
-              ∙ sym (ap (λ w. w k) y.same_cells);
+          free = y.free;
+          records = records_spared p o.σ names small narrow s.memory.words words are.allowed.written changes mine are.of mode image p fs x.records
+              (processor m' p).records small (y.old p) (λ k lt off e. on.records k lt (unfilled k off e)) (λ k lt is e. y.held p k hp lt is (λ d. e));
+          each = λ q lq e. others_kept mode image left s m h p hp o.b o.below o.bodies o.σ words names narrow good.count.1 are.allowed.written changes mine
+              are.of alone q lq (λ d. differ q e d) (processor m' q).records (y.old q) (λ k lt is off. y.held q k lq lt is (λ d. absurd (differ q e d)));
+          chain = chain_behind b' kind ctx;
         })
-        (λ q lq e. others_kept mode image left s m h p hp o.b o.below o.bodies o.σ words names narrow good.count.1 are.allowed.written changes mine are.of alone
-        q lq (λ d. differ q e d) (processor m' q).records (y.old q) (λ k lt is off. y.held q k lq lt is (λ d. absurd (differ q e d))))
-        (turn_legal image good built.accepted m p hp h.legal (m', es) ht) (turn_bases image m p h.bases (m', es) ht)
-        (step.numbers_behind mode image built good facts left s m h p hp o unblocked m' es ht) (h.told ++ es)
-        (turn_few image good built.accepted m p hp h.legal h.told h.calls s.totals.steps h.few (m', es) ht)
-        (turn_calls image good built.accepted m p hp h.legal h.told h.calls (m', es) ht)
-        (let d = step.domain mode image built good facts left s m h p hp in record { nmi = d.nmi; mail_nmi = d.mail_nmi }) there)
-        hes
+        now few act hes

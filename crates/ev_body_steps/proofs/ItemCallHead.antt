@@ -69,14 +69,14 @@ use Rattle.ev_body_steps.proofs.KernelStep as step
 -- ---- the blocks before and behind the load
 
 -- the registers at both: the record, and the address of the head
-head_regs : Mode → ℕ → List V
+unfoldable pub head_regs : Mode → ℕ → List V
 head_regs mode to = set (set (item_regs (layout_of mode)) 3 (P record_tag 0)) 2 (K (pcpu to + head_offset))
 
-head_rsp : (mode : Mode) (e : Env) (to : ℕ) → get_or (map (eval e) (head_regs mode to)) 4 0 ≡ eval e (top_less (body_bytes (layout_of mode)))
+pub head_rsp : (mode : Mode) (e : Env) (to : ℕ) → get_or (map (eval e) (head_regs mode to)) 4 0 ≡ eval e (top_less (body_bytes (layout_of mode)))
 unfolding head_regs
 head_rsp mode e to = refl
 
-head_long : (mode : Mode) (to : ℕ) → length (head_regs mode to) ≡ 16
+pub head_long : (mode : Mode) (to : ℕ) → length (head_regs mode to) ≡ 16
 unfolding head_regs
 head_long mode to = refl
 
@@ -86,11 +86,11 @@ head_kept mode e to n = record { locals = refl; calls = refl }
 
 module _ (address func to : ℕ) where
   -- what the spots' blocks say at their openings
-  record SaysFilled (mode : Mode) (b : Block) : Type 0 where
-    opens : FillOpens mode b
-    words : b.opening.words ≡ filled_words address func ++ (opening_of mode).words
+  pub record SaysFilled (mode : Mode) (b : Block) : Type 0 where
+    pub opens : FillOpens mode b
+    pub words : b.opening.words ≡ filled_words address func ++ (opening_of mode).words
 
-  head_says : (mode : Mode) → SaysFilled mode (block_of_call (is_fred mode) (layout_of mode) (AtHead address func to))
+  pub head_says : (mode : Mode) → SaysFilled mode (block_of_call (is_fred mode) (layout_of mode) (AtHead address func to))
   head_says Fred = record { opens = record_opens Fred _ _ _ _ _ _; words = refl }
   head_says Idt = record { opens = record_opens Idt _ _ _ _ _ _; words = refl }
 
@@ -103,7 +103,7 @@ module _ (address func to : ℕ) where
   link_falls Idt = (call_edges Idt IdtFrame).link address func to
 
   -- what they know doesn't depend on registers and flags
-  same_known : (mode : Mode) (p : ℕ) (κ : Kind) (σ : Seat) (ss : ℕ) (w : Processor) (extra v : ℕ → ℕ) (f g : Flags) (regs : List ℕ) (n : NatMap ℕ)
+  pub same_known : (mode : Mode) (p : ℕ) (κ : Kind) (σ : Seat) (ss : ℕ) (w : Processor) (extra v : ℕ → ℕ) (f g : Flags) (regs : List ℕ) (n : NatMap ℕ)
       → Known (here mode p κ σ ss w extra v f) (win_of InRecord ∷ known_of mode) n (filled_words address func ++ (opening_of mode).words)
       → Known (here mode p κ σ ss w extra (with_registers regs v) g) (win_of InRecord ∷ known_of mode) n
       (filled_words address func ++ (opening_of mode).words)
@@ -112,7 +112,7 @@ module _ (address func to : ℕ) where
   same_known Idt p κ σ ss w extra v f g regs n h = h
 
 -- of the frame alone
-frame_alone : (mode : Mode) (e : Env) (n : NatMap ℕ) → Known e (win_of InRecord ∷ known_of mode) n (opening_of mode).words
+pub frame_alone : (mode : Mode) (e : Env) (n : NatMap ℕ) → Known e (win_of InRecord ∷ known_of mode) n (opening_of mode).words
     → Known e (known_of mode) n (opening_of mode).words
 frame_alone Fred e n h = h
 frame_alone Idt e n h = h

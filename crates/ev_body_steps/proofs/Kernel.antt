@@ -1,5 +1,5 @@
 -- A step of a processor on which a body stands: an interrupt, an instruction of the kernel's code, an item, or the return.
-use Rattle.std.proofs.Common.{◌≡◌, ℕ, zero, suc, ◌+◌, ◌-◌, ◌*◌, ◌<◌, ◌≤◌, Bool, true, false, not, ◌&&◌, List, [], ◌∷◌, length, Some, refl, sym, ap, ◌∙◌, subst, arith, ◌||◌, Option, None}
+use Rattle.std.proofs.Common.{◌≡◌, ℕ, suc, ◌+◌, ◌-◌, ◌*◌, ◌<◌, ◌≤◌, Bool, true, false, not, ◌&&◌, List, [], ◌∷◌, length, Some, refl, sym, ap, ◌∙◌, subst, arith, ◌||◌, Option, None}
 use Rattle.std.specs.Prelude.{ℤ, pos, ◌==◌, if◌then◌else◌, slice_get, nat_le, is_some}
 use Rattle.std.proofs.lemmas.Bool.{eqb-true, ne_eqb, leb-true, leb-false}
 use Rattle.std.specs.List.{list_any}
@@ -10,8 +10,7 @@ use Rattle.ev_isa.specs.declared.instruction.Ins.TheVariants.{Jmp}
 use Rattle.ev_isa.specs.declared.mode.Mode.{Mode}
 use Rattle.ev_isa.specs.declared.mode.Mode.TheVariants.{Idt, Fred}
 use Rattle.ev_effect.specs.Task.{Task}
-use Rattle.ev_body.specs.declared.item.Item.{Item}
-use Rattle.ev_body.specs.declared.item.Item.TheVariants.{Call, Wait, Ret}
+use Rattle.ev_body.specs.declared.item.Item.TheVariants.{Ret}
 use Rattle.ev_body.specs.declared.body.Body.{Body}
 use Rattle.ev_body.specs.declared.image.Image.{Image}
 use Rattle.ev_body.specs.WellFormed.{IsImage}
@@ -29,14 +28,14 @@ use Rattle.ev_abstract.specs.Run.{item_at}
 use Rattle.ev_listing.specs.Marks.{Always}
 use Rattle.ev_concrete.specs.ConcreteRun.{System, Activation, without_last, activations_by, is_return}
 use Rattle.ev_concrete.specs.Depth.{bodies_on, begins_body}
-use Rattle.ev_built.specs.Built.{IsBuilt, is_built_item}
+use Rattle.ev_built.specs.Built.{IsBuilt}
 use Rattle.ev_symbolic.specs.State.{SS, Block}
 use Rattle.ev_symbolic.specs.Value.{V, FVar}
 use Rattle.ev_symbolic.specs.Names.{item_tag, key, says_ring}
 use Rattle.ev_symbolic.specs.Join.{env_after}
 use Rattle.ev_symbolic.specs.Agrees.{Env, Cell, Code, eval, FactsHold, Open, Fits, Agrees, At}
 use Rattle.ev_symbolic.specs.Machine.{Fetches}
-use Rattle.ev_symbolic.proofs.Blocks.{at_end, unsome}
+use Rattle.ev_symbolic.proofs.Blocks.{at_end}
 use Rattle.ev_blocks.specs.Shapes.{Origin, UserCode, KernelCode, ring, FredFrame, IdtFrame}
 use Rattle.ev_blocks.specs.Fred.{FromUser, FromKernel, FredToKernel, FredToTask, FredToNext, fred_block, way_values, kernel_values}
 use Rattle.ev_blocks.specs.Fred as fred
@@ -63,7 +62,7 @@ use Rattle.ev_paths.specs.IdtEnds.{idt_end}
 use Rattle.ev_paths.specs.Ends.{Enters}
 use Rattle.ev_relation.specs.Domain.{IsInDomain}
 use Rattle.ev_relation.specs.Filling.{Filling, first_fill, rest_fills}
-use Rattle.ev_relation.specs.Active.{fills_record, HoldsCalls, item_place, number_of, numbers_of, site_of, IsByHand, BehindComparison, AtQuiet, here, IsKernelSs, Saved, SavedBody, AtLoad, AtStart, FlagsAre, HasPlace, InSpot, Matches, OverTask, OverBody, Active}
+use Rattle.ev_relation.specs.Active.{fills_record, HoldsCalls, item_place, number_of, numbers_of, here, IsKernelSs, Saved, SavedBody, AtLoad, AtStart, FlagsAre, HasPlace, InSpot, Matches, OverTask, OverBody, Active}
 use Rattle.ev_relation.specs.Relation.{IsContext, switches_at, body_edges, Chain, StandsOn, Stands, serves}
 use Rattle.ev_relation.specs.Step.{Simulated}
 use Rattle.ev_relation.proofs.Facts.{Facts}
@@ -77,7 +76,6 @@ use Rattle.ev_body_steps.proofs.Return.{Exits, fred_mark, idt_mark, fred_exits, 
 use Rattle.ev_relation.proofs.BodyTables.{table_place, table_reads}
 use Rattle.ev_relation.proofs.Depth.{body_at, ends_a_body}
 use Rattle.ev_relation.proofs.Items.{which}
-use Rattle.ev_relation.proofs.NoCalls.{never_in_call}
 use Rattle.ev_body_steps.proofs.ItemWords.{word_of}
 use Rattle.ev_body_steps.proofs.ItemInside.{number_steps}
 use Rattle.ev_body_steps.proofs.ItemMsr.{numbers_steps}
@@ -94,11 +92,7 @@ use Rattle.ev_body_steps.proofs.KickSteps as kicks
 use Rattle.ev_body_steps.proofs.BodyInterrupt as arrivals
 use Rattle.ev_body_steps.proofs.SwitchStep as switching
 use Rattle.ev_body_steps.proofs.CallFills as fillings
-use Rattle.ev_body_steps.proofs.TakenSteps as takens
-use Rattle.ev_body_steps.proofs.FinishSteps as finishes
-use Rattle.ev_body_steps.proofs.WaitSteps as waits
-use Rattle.ev_body_steps.proofs.ItemCallFill as callings
-use Rattle.ev_blocks.specs.Calls.{AtRecord, BehindWait, BehindTake, AtTurn, BehindTurn, AtTaken, AtFinish, AtOffset}
+use Rattle.ev_body_steps.proofs.KernelCalls as calls
 
 -- ---- from the entry of a vector to the code in common
 
@@ -412,7 +406,6 @@ module _ (mode : Mode) (image : Image) (built : IsBuilt image) (good : IsImage i
           → InSpot mode image (origin_of κ) spot (env ss extra v f) w b (first_fill on.fills) s.memory.words → length c.regs ≡ 16 → edges mode
           (body mode spot) k ≤ on.own
           → item_at (Some body') b.place ≡ Some ctx.item → Result
-      unfolding is_built_item site_of
       at_body act AtTable unfilled k ss ss_is extra v f n at means long enough hi =
           at_table (unfilled refl) act ss ss_is extra v f (subst (λ j. At code (block mode (body mode AtTable)) j (env ss extra v f) c s.memory)
           (n ∙ (at_the_table mode).steps) at)
@@ -452,63 +445,10 @@ module _ (mode : Mode) (image : Image) (built : IsBuilt image) (good : IsImage i
           (subst (λ j. edges mode (body mode BehindSti) j ≤ on.own) last enough) in
           items.by_item mode image built good facts left s m h p hp o body' is (unfilled refl) z.act ss ss_is z.extra v f z.at z.means z.place long z.enough
           ctx.item (which image built good b.body body' is b.place ctx.item hi) hi
-      at_body act (InCall (AtRecord site)) unfilled k ss ss_is extra v f n at means long enough hi = by_site ctx.item hi
-          (ap site_of (sym hi) ∙ ap (λ y. site_of (item_at y b.place)) (sym is) ∙ means.2)
-        where
-          by_site : (i : Item) → item_at (Some body') b.place ≡ Some i → site_of (Some i) ≡ Some site → Result
-          by_site (Wait n') hi q = waits.at_wait_record mode image built good facts left s m h p hp o body' is (unfilled refl) act k ss ss_is extra v f
-              site n at means n' hi
-          by_site (Call n' to' func r') hi q =
-              let same : n' ≡ site = unsome _ _ q in
-              callings.by_load mode image built good facts left s m h p hp o body' is site to' func r' (hi ∙ ap (λ j. Some (Call j to' func r')) same)
-              (unfilled refl) act ss ss_is extra v f (subst (λ j. At code (block mode (body mode (InCall (AtRecord site)))) j (env ss extra v f) c s.memory) n at)
-              means (subst (λ j. edges mode (body mode (InCall (AtRecord site))) j ≤ on.own) n enough)
-          by_site _ hi q = absurd (cc)
-      at_body act (InCall (BehindWait d)) unfilled k ss ss_is extra v f n at means long enough hi =
-          waits.at_wait_end mode image built good facts left s m h p hp o body' is (unfilled refl) d k ss ss_is extra v f n at means long enough ctx.item
-          (which image built good b.body body' is b.place ctx.item hi) hi
-      at_body act (InCall (BehindTake rest)) unfilled k ss ss_is extra v f n at means long enough hi =
-          takens.at_take_end mode image built good facts left s m h p hp o body' is ss extra v f means.1 (unfilled refl) act ss_is rest
-          (subst (λ j. At code (block mode (body mode (InCall (BehindTake rest)))) j (env ss extra v f) c s.memory) n at) means.0 means.2
-          (subst (λ j. edges mode (body mode (InCall (BehindTake rest))) j ≤ on.own) n enough)
-      at_body act (InCall (AtTurn zero)) unfilled k ss ss_is extra v f n at means long enough hi =
-          takens.at_last_end mode image built good facts left s m h p hp o body' is ss extra v f means.1 (unfilled refl) act ss_is
-          (subst (λ j. At code (block mode (body mode (InCall (AtTurn zero)))) j (env ss extra v f) c s.memory) n at) means.0 means.2
-          (subst (λ j. edges mode (body mode (InCall (AtTurn zero))) j ≤ on.own) n enough)
-      at_body act (InCall (AtTurn (suc rest))) unfilled k ss ss_is extra v f n at means long enough hi =
-          takens.at_turn_end mode image built good facts left s m h p hp o body' is ss extra v f means.1 (unfilled refl) act ss_is rest
-          (subst (λ j. At code (block mode (body mode (InCall (AtTurn (suc rest))))) j (env ss extra v f) c s.memory) n at) means.0 means.2
-          (subst (λ j. edges mode (body mode (InCall (AtTurn (suc rest)))) j ≤ on.own) n enough)
-      at_body act (InCall (BehindTurn rest)) unfilled k ss ss_is extra v f n at means long enough hi =
-          takens.at_turned_end mode image built good facts left s m h p hp o body' is ss extra v f means.1 (unfilled refl) act ss_is rest
-          (subst (λ j. At code (block mode (body mode (InCall (BehindTurn rest)))) j (env ss extra v f) c s.memory) n at) means.0 means.2
-          (subst (λ j. edges mode (body mode (InCall (BehindTurn rest))) j ≤ on.own) n enough)
-      at_body act (InCall (AtTaken true)) unfilled k ss ss_is extra v f n at means long enough hi =
-          takens.at_some_end mode image built good facts left s m h p hp o body' is ss extra v f means.1 (unfilled refl) act ss_is
-          (subst (λ j. At code (block mode (body mode (InCall (AtTaken true)))) j (env ss extra v f) c s.memory) n at) means.0 means.2 means.3
-          (subst (λ j. edges mode (body mode (InCall (AtTaken true))) j ≤ on.own) n enough)
-      at_body act (InCall (AtTaken false)) unfilled k ss ss_is extra v f n at means long enough hi =
-          takens.at_none_end mode image built good facts left s m h p hp o body' is ss extra v f means.1 (unfilled refl) act ss_is
-          (subst (λ j. At code (block mode (body mode (InCall (AtTaken false)))) j (env ss extra v f) c s.memory) n at) means.0 means.3
-          (subst (λ j. edges mode (body mode (InCall (AtTaken false))) j ≤ on.own) n enough) ctx.item
-          (which image built good b.body body' is b.place ctx.item hi) hi
-      at_body act (InCall AtFinish) unfilled k ss ss_is extra v f n at means long enough hi =
-          finishes.at_finish_end mode image built good facts left s m h p hp o body' is (unfilled refl) act ss ss_is extra v f
-          (subst (λ j. At code (block mode (body mode (InCall AtFinish))) j (env ss extra v f) c s.memory) n at) means
-          (subst (λ j. edges mode (body mode (InCall AtFinish)) j ≤ on.own) n enough)
-      at_body act (InCall (AtOffset offset more)) unfilled k ss ss_is extra v f n at means long enough hi = by_hand means
-        where
-          by_hand : IsByHand mode image (origin_of κ) (env ss extra v f) w b s.memory.words offset more → Result
-          by_hand (BehindComparison q y target sends z is_two) =
-              kicks.at_kick_comparison mode image built good facts left s m h p hp o body' is (unfilled refl) act k ss ss_is extra v f offset more q y n at
-              target sends z is_two enough
-          by_hand (AtQuiet q y target z) =
-              kicks.at_kick_quiet mode image built good facts left s m h p hp o body' is (unfilled refl) act k ss ss_is extra v f offset more q y n at target z
-          by_hand _ = absurd (never_in_call image built good b.body body' is mode (origin_of κ) (env ss extra v f) w b refl (first_fill on.fills)
-              s.memory.words (AtOffset offset more) means)
-      at_body act (InCall s') unfilled k ss ss_is extra v f n at means long enough hi = absurd
-          (never_in_call image built good b.body body' is mode (origin_of κ)
-          (env ss extra v f) w b refl (first_fill on.fills) s.memory.words s' means)
+      at_body act (InCall spot) unfilled k ss ss_is extra v f n at means long enough hi =
+          calls.by_call_spot mode image built good facts left s m h p hp o body' is act ss ss_is extra v f long hi spot unfilled
+          (subst (λ j. At code (block mode (body mode (InCall spot))) j (env ss extra v f) c s.memory) n at) means
+          (subst (λ j. edges mode (body mode (InCall spot)) j ≤ on.own) n enough)
       at_body act (AtKick target) unfilled k ss ss_is extra v f n at means long enough hi =
           kicks.at_kick_sends mode image built good facts left s m h p hp o body' is (unfilled refl) act k ss ss_is extra v f target n at means
       at_body act BehindKick unfilled k ss ss_is extra v f n at means long enough hi =

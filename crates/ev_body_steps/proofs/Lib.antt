@@ -39,6 +39,7 @@ pub mod KickGoes
 pub mod KickSends
 pub mod KickSteps
 pub mod FillGoes
+pub mod CallKeeps
 pub mod CallSteps
 pub mod CallTurns
 pub mod ItemCallLoad
@@ -51,7 +52,16 @@ pub mod WaitSteps
 pub mod CallItemSteps
 pub mod TakenSteps
 pub mod TakenLink
+pub mod CallAgain
+pub mod ItemCallAnswer
+pub mod QueueLength
+pub mod TakeQueue
+pub mod TakeHolds
+pub mod TakeExchange
 pub mod FinishSteps
+pub mod FinishStore
+pub mod FinishJump
+pub mod KernelCalls
 pub mod Kernel
 pub mod BodyRaising
 pub mod BodyRaisingFred

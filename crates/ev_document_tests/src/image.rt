@@ -1,7 +1,7 @@
 // A document of each section read whole, cut at each line, and from sources that fail.
 
 use crate::fixtures::{read, source};
-use ev_body::{Item, Key, Side, TaskSpec};
+use ev_body::{Image, Item, Key, Side, TaskSpec};
 use ev_image::{ImageFault, read_image};
 use ev_io::{Cause, Lines};
 use ev_isa::{Cond, Reg};
@@ -71,79 +71,96 @@ fn document(alloc: Global, behind: &[u8]) -> Result<Vec<u8>, Fail> {
     Ok(text)
 }
 
-#[test]
-fn the_start_of_an_image(rt: HostRuntime) -> Result<(), Fail> {
-    let text = document(rt.alloc(), b"")?;
-    let image = read(rt.alloc(), text.as_slice(), &[])?
-        .ok()
-        .ok_or("refused")?;
-    assert!(rt; image.processors == 2 && image.nest == 3);
-    assert_eq!(rt; image.pages.as_slice(), [255].as_slice());
-    assert_eq!(rt; image.cells.as_slice(), [(7, u64::MAX)].as_slice());
+/// What is read of the document.
+fn document_image(alloc: Global) -> Result<Image, Fail> {
+    let text = document(alloc, b"")?;
+    Ok(read(alloc, text.as_slice(), &[])?.ok().ok_or("refused")?)
+}
+
+/// A failure of this text, unless the condition holds.
+fn holds(condition: bool, what: &'static str) -> Result<(), Fail> {
+    Ok(condition.then_some(()).ok_or(what)?)
+}
+
+/// Whether an image begins as the document does.
+fn begins(image: &Image) -> Result<(), Fail> {
+    holds(image.processors == 2 && image.nest == 3, "numbers")?;
+    holds(image.pages.as_slice() == [255].as_slice(), "pages")?;
+    holds(
+        image.cells.as_slice() == [(7, u64::MAX)].as_slice(),
+        "cells",
+    )?;
     let code: [u8; 15] = [
         0x48, 0xb8, 5, 0, 0, 0, 0, 0, 0, 0, 0xe9, 0xfb, 0xff, 0xff, 0xff,
     ];
-    assert_eq!(rt; image.text.as_slice(), code.as_slice());
-    Ok(())
+    holds(image.text.as_slice() == code.as_slice(), "text")
 }
 
 #[test]
-fn tasks_of_an_image(rt: HostRuntime) -> Result<(), Fail> {
-    let text = document(rt.alloc(), b"")?;
-    let image = read(rt.alloc(), text.as_slice(), &[])?
-        .ok()
-        .ok_or("refused")?;
+fn the_start_of_an_image(rt: HostRuntime) -> Result<(), Fail> {
+    let image = document_image(rt.alloc())?;
+    begins(&image)
+}
+
+/// Whether an image has the tasks of the document.
+fn has_tasks(image: &Image) -> Result<(), Fail> {
     let first = image.tasks.get(0).ok_or("no processor")?.as_slice();
     let mut regs = [0; 16];
     regs[3] = 7;
     regs[4] = 0x1000_0ff8;
-    assert_eq!(rt;
-        first,
-        [TaskSpec {
-            start: 0x40_0000,
-            gs: 0,
-            regs
-        }]
-        .as_slice()
-    );
+    let task: [TaskSpec; 1] = [TaskSpec {
+        start: 0x40_0000,
+        gs: 0,
+        regs,
+    }];
+    holds(first == task.as_slice(), "tasks of processor 0")?;
     let second = image.tasks.get(1).ok_or("no processor")?.as_slice();
     let regs = [0; 16];
-    assert_eq!(rt;
-        second,
-        [
-            TaskSpec {
-                start: 0x40_000a,
-                gs: 1,
-                regs
-            },
-            TaskSpec {
-                start: 0x40_0000,
-                gs: 0xffff_ffff,
-                regs
-            },
-        ]
-        .as_slice()
-    );
-    Ok(())
+    let tasks: [TaskSpec; 2] = [
+        TaskSpec {
+            start: 0x40_000a,
+            gs: 1,
+            regs,
+        },
+        TaskSpec {
+            start: 0x40_0000,
+            gs: 0xffff_ffff,
+            regs,
+        },
+    ];
+    holds(second == tasks.as_slice(), "tasks of processor 1")
+}
+
+#[test]
+fn tasks_of_an_image(rt: HostRuntime) -> Result<(), Fail> {
+    let image = document_image(rt.alloc())?;
+    has_tasks(&image)
+}
+
+/// Whether an image has the bodies of the document, with their function.
+fn has_bodies(image: &Image) -> Result<(), Fail> {
+    holds(image.bodies.len() == 9, "number of bodies")?;
+    let calls = image.bodies.get(0).ok_or("no body")?;
+    holds(
+        calls.key == Key::Irq(0xfb) && calls.side == Side::Both,
+        "key and side",
+    )?;
+    let items: [Item; 3] = [Item::Take, Item::Jcc(Cond::Nz, 1), Item::Ret];
+    holds(calls.items.as_slice() == items.as_slice(), "items")?;
+    let part = calls.parts.get(0).ok_or("no function")?;
+    let items: [Item; 3] = [Item::Log(Reg::new(9)), Item::Goto(3), Item::Finish];
+    holds(
+        part.func == 3 && part.items.as_slice() == items.as_slice(),
+        "function",
+    )?;
+    let last = image.bodies.get(8).ok_or("no body")?;
+    holds(last.key == Key::Ac && last.side == Side::User, "last body")
 }
 
 #[test]
 fn bodies_of_an_image(rt: HostRuntime) -> Result<(), Fail> {
-    let text = document(rt.alloc(), b"")?;
-    let image = read(rt.alloc(), text.as_slice(), &[])?
-        .ok()
-        .ok_or("refused")?;
-    assert_eq!(rt; image.bodies.len(), 9);
-    let calls = image.bodies.get(0).ok_or("no body")?;
-    assert!(rt; calls.key == Key::Irq(0xfb) && calls.side == Side::Both);
-    let items: [Item; 3] = [Item::Take, Item::Jcc(Cond::Nz, 1), Item::Ret];
-    assert!(rt; calls.items.as_slice() == items.as_slice());
-    let part = calls.parts.get(0).ok_or("no function")?;
-    let items: [Item; 3] = [Item::Log(Reg::new(9)), Item::Goto(3), Item::Finish];
-    assert!(rt; part.func == 3 && part.items.as_slice() == items.as_slice());
-    let last = image.bodies.get(8).ok_or("no body")?;
-    assert!(rt; last.key == Key::Ac && last.side == Side::User);
-    Ok(())
+    let image = document_image(rt.alloc())?;
+    has_bodies(&image)
 }
 
 // A source fails in mid-stream, behind lines that follow and a chunk that was filled.

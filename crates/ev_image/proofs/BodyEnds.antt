@@ -1,21 +1,21 @@
 -- A body at its end is well-formed, apart from the others, and its functions are new.
-use Rattle.std.proofs.Common.{◌≡◌, ℕ, zero, suc, ◌+◌, ◌≤◌, ◌<◌, Bool, true, false, not, ◌&&◌, List, [], ◌∷◌, ◌++◌, length, map, filter_map, flat_map, Option, Some, None, Result, Ok, Err, refl, sym, ap, ◌∙◌, subst, arith, length-append, zero-add}
-use Rattle.std.specs.Prelude.{◌||◌, ◌==◌, nat_lt, nat_le, is_none}
+use Rattle.std.proofs.Common.{◌≡◌, ℕ, ◌+◌, ◌≤◌, ◌<◌, Bool, true, false, not, List, [], ◌∷◌, ◌++◌, length, map, filter_map, flat_map, Option, Some, None, Result, Ok, refl, sym, ap, ◌∙◌, subst, arith, length-append, zero-add}
+use Rattle.std.specs.Prelude.{◌||◌, ◌==◌, is_none}
 use Rattle.std.specs.List.{list_all}
 use Rattle.std.proofs.lemmas.Bool.{and_parts, and_from}
 use Rattle.std.proofs.lemmas.List.{append-nil}
 use Rattle.std.proofs.lemmas.Grind.{flat_map-append}
-use Rattle.ev_body.specs.Bodies.{key_number, body_items}
-use Rattle.ev_body.specs.WellFormed.{has_operands, is_ret, is_finish, ends_with, are_parts, is_key, is_user_only, is_user_side, has_no_parts, is_body, is_apart, are_apart, are_distinct, functions_of}
+use Rattle.ev_body.specs.Bodies.{key_number}
+use Rattle.ev_body.specs.WellFormed.{has_operands, ends_with, are_parts, is_key, is_user_only, is_user_side, has_no_parts, is_body, is_apart, are_apart, are_distinct, functions_of}
 use Rattle.ev_body.specs.declared.key.Key.{Key}
 use Rattle.ev_body.specs.declared.key.Side.{Side}
 use Rattle.ev_body.specs.declared.body.Part.{Part}
 use Rattle.ev_body.specs.declared.body.Body.{Body}
 use Rattle.ev_io.specs.declared.cause.Cause.{Cause}
 use Rattle.ev_part.specs.declared.body.BodyLines.{BodyLines}
-use Rattle.ev_part.specs.PartItems.{PartView, is_ended, count_items, items_of, next_item, part_leads}
+use Rattle.ev_part.specs.PartItems.{PartView, is_ended, items_of, next_item, part_leads}
 use Rattle.ev_part.specs.BodyParts.{all_parts, function_part, body_with, body_ended}
-use Rattle.ev_image.specs.Head.{function_of, functions_in, is_main, new_body}
+use Rattle.ev_image.specs.Head.{function_of, functions_in, is_main}
 use Rattle.ev_image.proofs.Kept.{ends_as, AllParts, AreNumbered, AreFunctions, BeginsMain, funcs, is_nil, IsBodyRead, AreBodies}
 use Rattle.ev_image.proofs.Lists.{unless_ok, not_false, or_true, at_most, less, all_more}
 use Rattle.ev_image.proofs.Parts.{HasItems, part_items}

@@ -1,27 +1,24 @@
 -- Lines of a body keep what stands of it, and at its end it is a body.
-use Rattle.std.proofs.Common.{◌≡◌, ℕ, zero, suc, ◌+◌, ◌≤◌, ◌<◌, Bool, true, false, not, ◌&&◌, List, [], ◌∷◌, ◌++◌, length, map, filter_map, flat_map, Option, Some, None, Result, Ok, Err, refl, sym, ap, ◌∙◌, subst, arith, length-append, append_assoc}
-use Rattle.std.specs.Prelude.{◌||◌, ◌==◌, nat_lt, is_none}
+use Rattle.std.proofs.Common.{◌≡◌, ℕ, ◌+◌, ◌≤◌, ◌<◌, true, false, not, List, [], ◌∷◌, ◌++◌, length, Option, Some, None, Result, Ok, refl, sym, ap, ◌∙◌, subst, arith, append_assoc}
+use Rattle.std.specs.Prelude.{◌||◌, ◌==◌, nat_lt}
 use Rattle.std.specs.List.{list_all}
-use Rattle.std.proofs.lemmas.Bool.{and_parts, and_from}
 use Rattle.std.proofs.lemmas.List.{append-nil, map-append}
-use Rattle.ev_body.specs.Bodies.{key_number, covers, body_items}
-use Rattle.ev_body.specs.WellFormed.{has_operands, is_ret, is_finish, ends_with, are_parts, is_key, is_user_only, is_user_side, has_no_parts, is_body, is_apart, are_apart, are_distinct, functions_of}
+use Rattle.ev_body.specs.Bodies.{key_number}
+use Rattle.ev_body.specs.WellFormed.{is_key, is_user_only, is_user_side, is_apart, are_distinct, functions_of}
 use Rattle.ev_body.specs.declared.key.Key.{Key}
 use Rattle.ev_body.specs.declared.key.Side.{Side}
-use Rattle.ev_body.specs.declared.item.Item.{Item}
-use Rattle.ev_body.specs.declared.body.Part.{Part}
 use Rattle.ev_body.specs.declared.body.Body.{Body}
 use Rattle.ev_io.specs.declared.cause.Cause.{Cause}
 use Rattle.ev_line.specs.Operands.{among}
 use Rattle.ev_part.specs.declared.line.BodyLine.{BodyLine}
 use Rattle.ev_part.specs.declared.body.BodyLines.{BodyLines}
-use Rattle.ev_part.specs.PartItems.{PartView, is_ended, count_items, item_count, items_of, next_item, part_leads, is_second_here, most_items, part_grown}
-use Rattle.ev_part.specs.BodyParts.{new_part, body_begun, all_parts, body_grown, function_begun, function_part, main_items, body_with, body_ended}
+use Rattle.ev_part.specs.PartItems.{PartView, is_ended, item_count, next_item, is_second_here, most_items, part_grown}
+use Rattle.ev_part.specs.BodyParts.{new_part, body_begun, all_parts, body_grown, function_begun}
 use Rattle.ev_part.proofs.PartLaws.{count_more}
 use Rattle.ev_image.specs.Head.{function_of, functions_in, is_main, new_body}
-use Rattle.ev_image.proofs.Kept.{ends_as, IsLine, IsPartOf, AllParts, AreNumbered, AreFunctions, BeginsMain, funcs, is_nil, IsBodyRead, AreBodies}
-use Rattle.ev_image.proofs.Lists.{unless_ok, made_ok, or_true, not_false, not_less, at_most, less, all_more, all_parts_pass, distinct_more}
-use Rattle.ev_image.proofs.Parts.{HasItems, part_items, part_more}
+use Rattle.ev_image.proofs.Kept.{IsLine, IsPartOf, AllParts, AreNumbered, AreFunctions, BeginsMain, funcs, is_nil, IsBodyRead, AreBodies}
+use Rattle.ev_image.proofs.Lists.{unless_ok, made_ok, or_true, not_less, all_more, distinct_more}
+use Rattle.ev_image.proofs.Parts.{part_more}
 
 -- ---- a part in the place of the last
 

@@ -1,13 +1,11 @@
 -- Each line that follows keeps what stands, so that the line `script` gives an image.
-use Rattle.std.proofs.Common.{◌≡◌, ℕ, ◌+◌, ◌≤◌, ◌<◌, Bool, true, false, not, ◌&&◌, List, [], ◌∷◌, ◌++◌, length, map, Option, Some, None, Result, Ok, Err, refl, sym, ap, ◌∙◌, subst, arith}
+use Rattle.std.proofs.Common.{◌≡◌, ℕ, ◌≤◌, Bool, true, false, not, ◌&&◌, List, [], ◌∷◌, ◌++◌, length, Option, Some, None, Result, Ok, Err, refl, sym, subst, arith}
 use Rattle.std.specs.Prelude.{nat_lt, nat_le}
 use Rattle.std.specs.List.{list_all}
 use Rattle.std.proofs.lemmas.Bool.{and_from}
 use Rattle.ev_body.specs.Bodies.{fill}
 use Rattle.ev_body.specs.KernelImage.{KernelImage}
-use Rattle.ev_body.specs.WellFormed.{IsImage, is_text_place, is_word, is_key, is_user_only, is_user_side, is_apart, functions_of}
-use Rattle.ev_body.specs.declared.key.Key.{Key}
-use Rattle.ev_body.specs.declared.key.Side.{Side}
+use Rattle.ev_body.specs.WellFormed.{IsImage, is_word, is_user_only, is_user_side, is_apart, functions_of}
 use Rattle.ev_body.specs.declared.body.Body.{Body}
 use Rattle.ev_io.specs.declared.cause.Cause.{Cause}
 use Rattle.ev_io.specs.Tokens.{Token}
@@ -16,21 +14,19 @@ use Rattle.ev_line.specs.Operands.{among}
 use Rattle.ev_line.specs.Forms.{read_by}
 use Rattle.ev_text.specs.UserText.{text_grown, text_ended}
 use Rattle.ev_text.specs.declared.text.WholeText.{WholeText}
-use Rattle.ev_part.specs.declared.line.BodyLine.{BodyLine}
 use Rattle.ev_part.specs.declared.body.BodyLines.{BodyLines}
 use Rattle.ev_part.specs.PartItems.{is_ended}
-use Rattle.ev_part.specs.BodyParts.{all_parts, body_begun, body_grown, body_ended, function_begun}
+use Rattle.ev_part.specs.BodyParts.{all_parts, body_grown, body_ended}
 use Rattle.ev_image.specs.declared.head.Head.{Head}
 use Rattle.ev_image.specs.declared.kernel.Start.{Start}
 use Rattle.ev_image.specs.declared.kernel.Kernel.{Kernel}
 use Rattle.ev_image.specs.declared.kernel.TaskLine.{TaskLine}
-use Rattle.ev_image.specs.declared.lines.StartLine.{StartLine}
 use Rattle.ev_image.specs.declared.lines.KernelLine.{KernelLine}
 use Rattle.ev_image.specs.declared.lines.PartEnd.{PartEnd}
 use Rattle.ev_image.specs.Sections.{version_forms, processors_forms, nest_forms, start_forms, end_forms, text_said, task_forms, between_forms, filled_forms, part_said, behind_forms}
 use Rattle.ev_image.specs.Head.{and_then, nothing_given, start_does, no_bodies, text_does, with_last, every_task, of_processor, tasks_by, new_task, with_register, register_given, new_body, each_has_one, image_with, kernel_does, functions_in, part_end_does, is_main, body_follows, head_follows}
 use Rattle.ev_image.specs.Reads.{ReachedBy, Reached}
-use Rattle.ev_image.proofs.Kept.{IsStart, IsWhole, AreTasks, AreBodies, IsKernel, IsBodyRead, AllSmall, IsHead}
+use Rattle.ev_image.proofs.Kept.{IsStart, IsWhole, AreTasks, IsKernel, IsBodyRead, AllSmall, IsHead}
 use Rattle.ev_image.proofs.Lists.{unless_ok, made_ok, then_ok, not_false, not_both, not_at_most, not_less}
 use Rattle.ev_image.proofs.Told.{IsLabelled, ToldKernel, ToldEnd, processors_told, nest_told, start_told, task_told, between_told, filled_told, end_told}
 use Rattle.ev_image.proofs.Starts.{start_begins, start_kept}

@@ -1,20 +1,16 @@
 -- A line of a part that is read has its operands, and an item that ends a part ends a part of its kind.
-use Rattle.std.proofs.Common.{◌≡◌, ℕ, ◌<◌, ◌≤◌, Bool, true, false, ◌&&◌, List, [], ◌∷◌, Option, Some, None, Result, Ok, Err, refl, sym, ap, ◌∙◌, subst}
-use Rattle.std.specs.Prelude.{nat_lt, option_map, codes}
-use Rattle.std.specs.Str.{bytes_eq}
+use Rattle.std.proofs.Common.{◌≡◌, ℕ, Bool, true, false, List, [], ◌∷◌, Option, Some, None, Result, Ok, refl, sym, ◌∙◌, subst}
+use Rattle.std.specs.Prelude.{codes}
 use Rattle.std.proofs.lemmas.Bool.{and_from}
-use Rattle.ev_isa.specs.declared.instruction.AluOp.{AluOp}
-use Rattle.ev_isa.specs.declared.instruction.Cond.{Cond}
 use Rattle.ev_isa.specs.declared.instruction.Cond.TheVariants.{Z, Nz, C, Nc}
-use Rattle.ev_body.specs.WellFormed.{is_text_place, is_body_cond, is_ret, is_finish, has_operands}
+use Rattle.ev_body.specs.WellFormed.{is_body_cond, is_ret, is_finish, has_operands}
 use Rattle.ev_body.specs.declared.item.Item.{Item}
-use Rattle.ev_body.specs.declared.item.Item.TheVariants as Item
 use Rattle.ev_io.specs.declared.cause.Cause.{Cause}
 use Rattle.ev_io.specs.Tokens.{Token}
-use Rattle.ev_asm.specs.Assembly.{Places, place}
-use Rattle.ev_line.specs.Operands.{has_label, then_make, TextLabel}
+use Rattle.ev_asm.specs.Assembly.{Places}
+use Rattle.ev_line.specs.Operands.{then_make}
 use Rattle.ev_line.specs.Forms.{Form, read_by}
-use Rattle.ev_text.specs.Words.{alu_word, named_in, or_then}
+use Rattle.ev_text.specs.Words.{alu_word}
 use Rattle.ev_text.proofs.Gives.{AllGive}
 use Rattle.ev_text.proofs.WordLaws.{named_fits, either_fits, mapped_fits}
 use Rattle.ev_part.specs.declared.line.BodyLine.{BodyLine}
@@ -25,7 +21,7 @@ use Rattle.ev_part.specs.ItemForms.{item_forms, part_forms}
 use Rattle.ev_part.specs.PartItems.{is_end}
 use Rattle.ev_image.specs.LabelLine.{label_name, label_said}
 use Rattle.ev_image.specs.Sections.{part_said}
-use Rattle.ev_image.proofs.Kept.{LieInText, IsItem, IsLine, may_jump, ends_as}
+use Rattle.ev_image.proofs.Kept.{LieInText, IsItem, IsLine, may_jump}
 use Rattle.ev_image.proofs.Lists.{less, made_ok}
 use Rattle.ev_image.proofs.Told.{line_gives}
 

@@ -1,13 +1,10 @@
 -- What is kept of a document, section by section, until its line `script` gives an image.
-use Rattle.std.proofs.Common.{◌≡◌, ℕ, ◌+◌, ◌<◌, ◌≤◌, Bool, true, false, not, ◌&&◌, List, [], ◌∷◌, ◌++◌, length, map, Option, Some, None}
-use Rattle.std.specs.Prelude.{◌||◌, ◌==◌, All, is_none, nat_lt}
+use Rattle.std.proofs.Common.{◌≡◌, ℕ, ◌<◌, ◌≤◌, Bool, true, false, not, ◌&&◌, List, [], ◌∷◌, ◌++◌, length, map, Option, Some, None}
+use Rattle.std.specs.Prelude.{◌||◌, ◌==◌, nat_lt}
 use Rattle.std.specs.List.{list_all}
 use Rattle.ev_isa.specs.declared.instruction.Cond.{Cond}
 use Rattle.ev_body.specs.Bodies.{key_number}
-use Rattle.ev_body.specs.KernelImage.{KernelImage}
 use Rattle.ev_body.specs.WellFormed.{IsImage, is_text_place, is_word, is_task, is_body, is_body_cond, is_key, is_user_only, is_user_side, is_ret, is_finish, has_operands, are_apart, are_distinct, functions_of, is_apart}
-use Rattle.ev_body.specs.declared.key.Key.{Key}
-use Rattle.ev_body.specs.declared.key.Side.{Side}
 use Rattle.ev_body.specs.declared.item.Item.{Item}
 use Rattle.ev_body.specs.declared.body.Body.{Body}
 use Rattle.ev_io.specs.Tokens.{Token}

@@ -1,20 +1,19 @@
 -- The items of a part that is ended and whose jumps lead to its labels.
-use Rattle.std.proofs.Common.{◌≡◌, ℕ, zero, suc, ◌+◌, ◌≤◌, ◌<◌, Bool, true, false, not, ◌&&◌, List, [], ◌∷◌, ◌++◌, length, filter_map, Option, Some, None, refl, sym, ap, ◌∙◌, subst, arith}
-use Rattle.std.specs.Prelude.{◌||◌, ◌==◌, nat_lt, nat_le, if◌then◌else◌}
-use Rattle.std.specs.List.{list_any, list_all}
+use Rattle.std.proofs.Common.{◌≡◌, ℕ, suc, ◌+◌, ◌≤◌, ◌<◌, Bool, true, false, not, ◌&&◌, List, [], ◌∷◌, ◌++◌, length, filter_map, Option, Some, None, refl, ap, ◌∙◌, arith}
+use Rattle.std.specs.Prelude.{◌||◌, if◌then◌else◌}
+use Rattle.std.specs.List.{list_all}
 use Rattle.std.proofs.lemmas.Bool.{and_parts, and_from}
 use Rattle.ev_isa.specs.declared.instruction.Cond.{Cond}
-use Rattle.ev_body.specs.WellFormed.{has_operands, is_ret, is_finish, ends_with, is_body_cond}
+use Rattle.ev_body.specs.WellFormed.{has_operands, is_ret, is_finish, ends_with}
 use Rattle.ev_body.specs.declared.item.Item.{Item}
-use Rattle.ev_body.specs.declared.item.Item.TheVariants as Item
 use Rattle.ev_io.specs.Tokens.{Token}
 use Rattle.ev_asm.specs.Assembly.{Places, is_name, place}
 use Rattle.ev_line.specs.Operands.{has_label}
 use Rattle.ev_part.specs.declared.line.BodyLine.{BodyLine}
 use Rattle.ev_part.specs.declared.line.BodyLine.TheVariants.{Here, Does, Jumps}
-use Rattle.ev_part.specs.PartItems.{PartView, is_end, ends_part, is_ended, count_items, labels_from, labels_of, leads, jump_to, item_at, part_leads, items_of, next_item}
+use Rattle.ev_part.specs.PartItems.{PartView, is_end, ends_part, is_ended, count_items, labels_from, labels_of, leads, jump_to, item_at, part_leads, items_of}
 use Rattle.ev_image.specs.Head.{is_main}
-use Rattle.ev_image.proofs.Kept.{ends_as, IsItem, may_jump, IsLine, AllLines, ends_last, IsPartOf}
+use Rattle.ev_image.proofs.Kept.{ends_as, may_jump, IsLine, AllLines, ends_last, IsPartOf}
 use Rattle.ev_image.proofs.Lists.{less, at_most, not_true}
 
 -- ---- how many items

@@ -1,9 +1,8 @@
 -- A reader behind lines that follow each other up to the line `script`: what comes of the next answer.
-use Rattle.std.proofs.Common.{◌≡◌, ℕ, suc, ◌+◌, ◌≤◌, Bool, true, false, List, [], ◌∷◌, ◌++◌, length, Option, Some, None, Result, Ok, Err, refl, ap, sym, ◌∙◌, length-append, arith}
+use Rattle.std.proofs.Common.{◌≡◌, ℕ, suc, ◌+◌, Bool, true, false, List, [], ◌∷◌, ◌++◌, length, Option, Some, None, Result, Ok, Err, refl, ap, sym, subst, ◌∙◌, length-append, arith}
 use Rattle.ev_body.specs.KernelImage.{KernelImage}
 use Rattle.ev_io.specs.declared.cause.Cause.{Cause}
 use Rattle.ev_io.specs.declared.lines.LineFault.{LineFault}
-use Rattle.ev_io.specs.Lines as byte_lines
 use Rattle.ev_io.specs.Lines.{Reading}
 use Rattle.ev_io.specs.InputLines.{ByteFault, TooLarge, TooLong, NotAscii, lines_of, text_of, line_fault, joined, Next, Says, Ends, Faulty, next_said, Skips}
 use Rattle.ev_io.specs.Tokens.{tokens_of, is_passed_over}
@@ -12,7 +11,8 @@ use Rattle.ev_io.proofs.NextLaws.{over_first, said_first, fault_first}
 use Rattle.ev_io.proofs.StandLaws.{stands_part}
 use Rattle.ev_image.specs.declared.head.Head.{Head}
 use Rattle.ev_image.specs.Head.{head_follows}
-use Rattle.ev_image.specs.Reads.{Opened, image_in, opened, fault_of, ReadsImage, CountsRead}
+use Rattle.ev_image.specs.declared.reading.ImageFault.{ImageFault}
+use Rattle.ev_image.specs.Reads.{Opened, image_in, opened, fault_of, number_of, Follows, ReadsImage, CountsRead}
 
 -- ---- nothing follows the line `script` but lines that are passed over
 
@@ -189,6 +189,47 @@ pub bad_line : (old : Reading) (bytes : List ℕ) (now : Reading) (rest : Option
 bad_line old bytes now rest s new rest' n cause o p k e = at_reader old bytes now rest s o p ∙ ap (opened_on s) k.3
     ∙ ap (opened_line n new.gone (lines_of k.0)) e
 
+-- no line is left to be said, or the next one has a fault
+pub no_number : (old : Reading) (bytes : List ℕ) (now : Reading) (rest : Option (List ℕ)) (s : Head) (new : Reading) (rest' : Option (List ℕ))
+    (answer : Result (Option ℕ) LineFault) (fault : ImageFault) → image_in s ≡ None → (p : Stands head_follows old Head.Image bytes now rest s)
+    → Skips now p.left new rest' answer → Err fault ≡ number_of new.number answer → ReadsImage old bytes new rest' (Err fault)
+no_number old bytes now rest s new rest' (Ok (Some n)) fault o p k e = absurd cc
+no_number old bytes now rest s new rest' (Ok None) fault o p k e =
+    let g : fault ≡ ImageFault.BadLine new.number Cause.NoEnd = cc in
+    subst (λ f. ReadsImage old bytes new rest' (Err f)) (sym g) (no_script old bytes now rest s new o p k)
+no_number old bytes now rest s new rest' (Err x) fault o p k e =
+    let g : fault ≡ fault_of x = cc in
+    subst (λ f. ReadsImage old bytes new rest' (Err f)) (sym g) (faulty old bytes now rest s new rest' x o p k)
+
+-- the line of this number is the next one that is said
+pub said_number : (old : Reading) (bytes : List ℕ) (new : Reading) (rest : Option (List ℕ)) (read n : ℕ) (answer : Result (Option ℕ) LineFault)
+    → Skips old bytes new rest answer → Ok n ≡ number_of read answer → Skips old bytes new rest (Ok (Some n))
+said_number old bytes new rest read n (Ok (Some m)) k e = let g : n ≡ m = cc in subst (λ j. Skips old bytes new rest (Ok (Some j))) (sym g) k
+said_number old bytes new rest read n (Ok None) k e = absurd cc
+said_number old bytes new rest read n (Err x) k e = absurd cc
+
+-- the line of this number doesn't follow, or memory was refused
+pub refused_line : (old : Reading) (bytes : List ℕ) (now : Reading) (rest : Option (List ℕ)) (s : Head) (new : Reading) (rest' : Option (List ℕ))
+    (n : ℕ) (fault : ImageFault) → image_in s ≡ None → (p : Stands head_follows old Head.Image bytes now rest s)
+    → Skips now p.left new rest' (Ok (Some n)) → Follows n (head_follows s (tokens_of new.text)) (Err fault) → ReadsImage old bytes new rest' (Err fault)
+refused_line old bytes now rest s new rest' n ImageFault.NoMemory o p k f = tt
+refused_line old bytes now rest s new rest' n ImageFault.Read o p k f = absurd (let z : ImageFault.Read ≡ ImageFault.BadLine n f.0 = f.1 in cc)
+refused_line old bytes now rest s new rest' n (ImageFault.BadLine m cause) o p k f =
+    subst (λ x. ReadsImage old bytes new rest' (Err x)) (sym f.1) (bad_line old bytes now rest s new rest' n f.0 o p k f.2)
+
+-- where a line was refused, no fault was counted by it
+pub refused_counts : (U : Type 0) (n : ℕ) (said : Result Head Cause) (fault : ImageFault) (a b : ℕ) → Follows n said (Err fault) → b ≡ a
+    → CountsRead {T = U} a b (Err fault)
+refused_counts U n said ImageFault.NoMemory a b f e = e
+refused_counts U n said ImageFault.Read a b f e = absurd (let z : ImageFault.Read ≡ ImageFault.BadLine n f.0 = f.1 in cc)
+refused_counts U n said (ImageFault.BadLine m cause) a b f e = e
+
+-- a fault that was counted in one answer is counted in the next
+pub counts_again : (T U : Type 0) (fault : ImageFault) (a b c : ℕ) → b ≡ a → CountsRead {T = T} b c (Err fault) → CountsRead {T = U} a c (Err fault)
+counts_again T U ImageFault.Read a b c e k = omega (arith, e, k)
+counts_again T U (ImageFault.BadLine n cause) a b c e k = k ∙ e
+counts_again T U ImageFault.NoMemory a b c e k = k ∙ e
+
 -- the line `script`
 pub script_line : (old : Reading) (bytes : List ℕ) (now : Reading) (rest : Option (List ℕ)) (s : Head) (new : Reading) (rest' : Option (List ℕ)) (n : ℕ)
     (image : KernelImage) → image_in s ≡ None → (p : Stands head_follows old Head.Image bytes now rest s) → Skips now p.left new rest' (Ok (Some n))
@@ -199,11 +240,3 @@ script_line old bytes now rest s new rest' n image o p k e = (
   at_reader old bytes now rest s o p ∙ ap (opened_on s) k.3 ∙ ap (opened_line n new.gone (lines_of k.0)) e
       ∙ ap (λ (m : ℕ). Ok (record { image = image; lines = m; bytes = new.gone; behind = lines_of k.0 })) (sym k.2),
 )
-
--- the fault is counted behind lines that were read
-pub read_counts : (U : Type 0) (x : LineFault) (a b c : ℕ) → b ≡ a → byte_lines.CountsRead {T = Option ℕ} b c (Err x)
-    → CountsRead {T = U} a c (Err (fault_of x))
-read_counts U LineFault.ReadFault a b c h k = omega (arith, h, k)
-read_counts U (LineFault.TooLarge n) a b c h k = k ∙ h
-read_counts U (LineFault.TooLong n) a b c h k = k ∙ h
-read_counts U (LineFault.NotAscii n m) a b c h k = k ∙ h

@@ -1,10 +1,9 @@
 -- Lines before the text keep what stands there.
-use Rattle.std.proofs.Common.{◌≡◌, ℕ, ◌+◌, ◌≤◌, ◌<◌, Bool, true, false, ◌&&◌, List, [], ◌∷◌, ◌++◌, map, Result, Ok, Err, refl, sym, ap, ◌∙◌, subst, arith}
+use Rattle.std.proofs.Common.{◌≡◌, ℕ, ◌≤◌, true, false, ◌&&◌, [], ◌∷◌, ◌++◌, Ok, refl, ap, ◌∙◌, subst, arith}
 use Rattle.std.specs.Prelude.{nat_lt}
 use Rattle.std.proofs.lemmas.Bool.{and_from}
 use Rattle.std.proofs.lemmas.List.{map-append}
 use Rattle.ev_body.specs.WellFormed.{is_word, are_distinct}
-use Rattle.ev_io.specs.declared.cause.Cause.{Cause}
 use Rattle.ev_line.specs.Operands.{among}
 use Rattle.ev_image.specs.declared.head.Head.{Head}
 use Rattle.ev_image.specs.declared.kernel.Start.{Start}

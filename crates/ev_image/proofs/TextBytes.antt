@@ -1,21 +1,16 @@
 -- The bytes of a text that is read are bytes: what its statements name are registers, and their numbers are in range.
-use Rattle.std.proofs.Common.{◌≡◌, ℕ, zero, suc, ◌+◌, ◌*◌, ◌/◌, ◌%◌, ◌<◌, ◌≤◌, Bool, true, false, List, [], ◌∷◌, ◌++◌, Option, Some, None, Result, Ok, Err, refl, sym, ap, ◌∙◌, subst, arith}
-use Rattle.std.specs.Prelude.{ℤ, nat_lt, ◌==◌, if◌then◌else◌, codes}
-use Rattle.std.specs.List.{list_all}
+use Rattle.std.proofs.Common.{◌≡◌, ℕ, zero, suc, ◌+◌, ◌*◌, ◌%◌, ◌<◌, ◌≤◌, Bool, true, false, List, [], ◌∷◌, ◌++◌, Option, Some, None, Result, Ok, refl, ◌∙◌, subst, arith}
+use Rattle.std.specs.Prelude.{ℤ, nat_lt, ◌==◌, if◌then◌else◌}
 use Rattle.std.specs.Int.{w32, w64, byte_at, bytes_low_first, cast_unsigned, to_le_bytes}
 use Rattle.std.proofs.lemmas.Bool.{and_from}
 use Rattle.std.proofs.lemmas.List.Folds.{list_all-append}
 use Rattle.ev_isa.specs.declared.instruction.AluOp.{AluOp}
-use Rattle.ev_isa.specs.declared.instruction.AluOp.TheVariants as AluOp
 use Rattle.ev_isa.specs.declared.instruction.Cond.{Cond}
-use Rattle.ev_isa.specs.declared.instruction.Cond.TheVariants as Cond
 use Rattle.ev_isa.specs.declared.instruction.Ins.{Ins}
-use Rattle.ev_isa.specs.declared.instruction.Ins.TheVariants as Ins
 use Rattle.ev_isa.specs.Spelling.{rex, short_rex, modrm, four_bytes, registers, memory, absolute, alu_number, cond_number, spelling}
 use Rattle.ev_io.specs.declared.cause.Cause.{Cause}
 use Rattle.ev_io.specs.Tokens.{Token}
 use Rattle.ev_asm.specs.declared.statement.Stmt.{Stmt}
-use Rattle.ev_asm.specs.declared.statement.Stmt.TheVariants as Stmt
 use Rattle.ev_asm.specs.Assembly.{Places, size, total_size, place, distance, jump, stmt_bytes, code}
 use Rattle.ev_line.specs.Operands.{then_make}
 use Rattle.ev_line.specs.Forms.{Form, read_by}

@@ -4,11 +4,9 @@ use Rattle.std.specs.Prelude.{◌||◌}
 use Rattle.std.specs.List.{list_any}
 use Rattle.std.proofs.lemmas.Bool.{and_from}
 use Rattle.ev_isa.specs.Pages.{text_base}
-use Rattle.ev_body.specs.WellFormed.{is_text_place}
 use Rattle.ev_io.specs.declared.cause.Cause.{Cause}
 use Rattle.ev_io.specs.Tokens.{Token}
 use Rattle.ev_asm.specs.declared.statement.Stmt.{Stmt}
-use Rattle.ev_asm.specs.declared.statement.Stmt.TheVariants as Stmt
 use Rattle.ev_asm.specs.declared.text.Text.{Text}
 use Rattle.ev_asm.specs.declared.fault.AsmFault.{AsmFault}
 use Rattle.ev_asm.specs.Assembly.{Places, is_name, size, total_size, places, place, stmt_bytes, code}
@@ -17,7 +15,7 @@ use Rattle.ev_asm.proofs.Statements.{bytes_size, total_fits, place_bounds}
 use Rattle.ev_line.specs.Operands.{has_label}
 use Rattle.ev_text.specs.UserText.{most_text, text_ended, fault_cause}
 use Rattle.ev_text.specs.declared.text.WholeText.{WholeText}
-use Rattle.ev_image.proofs.Kept.{AllSmall, IsWhole, LieInText}
+use Rattle.ev_image.proofs.Kept.{AllSmall, IsWhole}
 use Rattle.ev_image.proofs.Lists.{at_most}
 use Rattle.ev_image.proofs.TextBytes.{code_bytes}
 

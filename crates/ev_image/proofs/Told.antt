@@ -1,20 +1,17 @@
 -- What the lines of each section say lies in range.
-use Rattle.std.proofs.Common.{◌≡◌, ℕ, ◌<◌, ◌≤◌, Bool, true, false, List, [], ◌∷◌, Option, Some, None, Result, Ok, Err, refl, arith}
-use Rattle.std.specs.Prelude.{◌==◌, codes, nat_lt}
+use Rattle.std.proofs.Common.{◌≡◌, ℕ, ◌<◌, ◌≤◌, Bool, true, false, List, [], ◌∷◌, Option, Some, None, Ok, refl, arith}
+use Rattle.std.specs.Prelude.{◌==◌, codes}
 use Rattle.std.specs.Str.{bytes_eq}
-use Rattle.std.proofs.lemmas.Bool.{and_from, lt-ltb}
-use Rattle.ev_isa.specs.declared.instruction.Cond.{Cond}
 use Rattle.ev_body.specs.Bodies.{key_number}
 use Rattle.ev_body.specs.WellFormed.{is_key, is_word}
 use Rattle.ev_body.specs.declared.key.Key.{Key}
-use Rattle.ev_io.specs.declared.cause.Cause.{Cause}
 use Rattle.ev_io.specs.Tokens.{Token}
 use Rattle.ev_asm.specs.Assembly.{Places, place}
-use Rattle.ev_line.specs.Operands.{Number, Within, Processor, New, NewRegister, TextLabel, AnyKey, AnySide, among, has_label}
+use Rattle.ev_line.specs.Operands.{Within, among, has_label}
 use Rattle.ev_line.specs.Forms.{Form, form, read_by}
 use Rattle.ev_text.specs.Words.{named_in}
 use Rattle.ev_text.proofs.Gives.{AllGive, forms_give}
-use Rattle.ev_image.specs.Sections.{forms_in, version_forms, processors_forms, nest_forms, start_forms, taken_cells, page_forms, cell_forms, new_task_forms, register_forms, body_forms, task_forms, between_forms, filled_forms, function_forms, behind_forms}
+use Rattle.ev_image.specs.Sections.{forms_in, processors_forms, nest_forms, start_forms, taken_cells, page_forms, cell_forms, new_task_forms, register_forms, body_forms, task_forms, between_forms, filled_forms, function_forms, behind_forms}
 use Rattle.ev_image.specs.declared.kernel.Start.{Start}
 use Rattle.ev_image.specs.declared.kernel.Kernel.{Kernel}
 use Rattle.ev_image.specs.declared.kernel.TaskLine.{TaskLine}

@@ -43,6 +43,18 @@ fault_of (LineFault.TooLarge n) = ImageFault.BadLine n Cause.TooLarge
 fault_of (LineFault.TooLong n) = ImageFault.BadLine n Cause.TooLong
 fault_of (LineFault.NotAscii n k) = ImageFault.BadLine n Cause.NotAscii
 
+-- the number of the next line that is said, where so many lines were read, or why there is none
+abbrev pub number_of : (read : ℕ) → Result (Option ℕ) LineFault → Result ℕ ImageFault
+number_of read (Ok (Some n)) = Ok n
+number_of read (Ok None) = Err (ImageFault.BadLine read Cause.NoEnd)
+number_of read (Err fault) = Err (fault_of fault)
+
+-- the answer for the line of a number, by what the line does: what stands behind it, or its cause, unless memory was refused
+abbrev pub Follows : ℕ → Result Head Cause → Result Head ImageFault → Type 0
+Follows n said (Ok head) = said ≡ Ok head
+Follows n said (Err ImageFault.NoMemory) = Unit {0}
+Follows n said (Err fault) = (cause : Cause) × (fault ≡ ImageFault.BadLine n cause) × (said ≡ Err cause)
+
 -- what stands behind lines of these tokens, the last of them first
 abbrev pub ReachedBy : List (List Token) → Head → Type 0
 ReachedBy [] head = head ≡ Head.Image

@@ -1,13 +1,14 @@
 // Reading images.
 
-ghost use Rattle.std.specs.Prelude.{◌≡◌, ◌≤◌, ℕ, List, [], Some, IfOk};
+ghost use Rattle.std.specs.Prelude.{◌≡◌, ◌≤◌, ◌<◌, ℕ, List, [], Option, Some, Result, IfOk};
 ghost use Rattle.ev_body.specs.WellFormed.{IsImage};
 ghost use Rattle.ev_io.specs.Transfer.{Draws};
+ghost use Rattle.ev_io.specs.InputLines.{Skips};
 ghost use Rattle.ev_io.specs.Lines.{coming, drawn};
+ghost use Rattle.ev_io.specs.declared.lines.LineFault.{LineFault};
 ghost use Rattle.ev_io.specs.Tokens.{tokens_of};
-ghost use Rattle.ev_text.specs.UserText.{Comes};
 ghost use Rattle.ev_image.specs.Head.{head_follows};
-ghost use Rattle.ev_image.specs.Reads.{CountsRead, Reached, ReadsImage, fault_of};
+ghost use Rattle.ev_image.specs.Reads.{CountsRead, Follows, Reached, ReadsImage, fault_of, number_of};
 ghost use Rattle.ev_image.specs.declared.head.Head.TheVariants as Head;
 
 use crate::draft::Draft;
@@ -33,11 +34,15 @@ pub enum ImageFault {
     NoMemory,
 }
 
-/// What a line of this text does to what stands: its first six tokens tell it.
-fn line_follows(alloc: Global, head: Head, text: &[u8]) -> Result<Head, Stop>
-    ensures { Comes (head_follows head (tokens_of text.now)) result }
+/// What stands behind the line of this number and text: its first six tokens tell it.
+fn line_follows(alloc: Global, head: Head, number: u32, text: &[u8]) -> Result<Head, ImageFault>
+    ensures { Follows number (head_follows head (tokens_of text.now)) result }
 {
-    follow(alloc, head, tokens_in(text).as_slice())
+    match follow(alloc, head, tokens_in(text).as_slice()) {
+        Ok(next) => Ok(next),
+        Err(Stop::Because(cause)) => Err(ImageFault::BadLine(number, cause)),
+        Err(Stop::NoMemory) => Err(ImageFault::NoMemory),
+    }
 }
 
 /// The fault of a line's bytes, or of the source.
@@ -49,6 +54,28 @@ fn fault_of(fault: LineFault) -> ImageFault
         LineFault::TooLarge(number) => ImageFault::BadLine(number, Cause::TooLarge),
         LineFault::TooLong(number) => ImageFault::BadLine(number, Cause::TooLong),
         LineFault::NotAscii(number, _) => ImageFault::BadLine(number, Cause::NotAscii),
+    }
+}
+
+/// Reads the next line that isn't passed over, and answers its number, or why there is none.
+fn next_number<S: Source>(lines: &mut Lines, src: &mut S) -> Result<u32, ImageFault>
+    ensures said { (answer : Result (Option ℕ) LineFault)
+        × (result ≡ number_of lines.new.number answer) × ((bytes : List ℕ)
+        → coming lines.old.chunk (S.left src.old) ≡ Some bytes
+        → Skips lines.old bytes lines.new (coming lines.new.chunk (S.left src.new)) answer) }
+    ensures grew { IfOk result (λ _. lines.old.gone < lines.new.gone) }
+
+    ensures draws { Draws (drawn lines.old) (drawn lines.new) (S.left src.old) (S.left src.new) }
+    ensures most { drawn lines.new ≤ 8388609 }
+    ensures within { lines.new.gone ≤ 8388608 }
+
+    ensures later { S.faults src.old ≤ S.faults src.new }
+    ensures cause { CountsRead (S.faults src.old) (S.faults src.new) result }
+{
+    match lines.next_said(src) {
+        Ok(Some(number)) => Ok(number),
+        Ok(None) => Err(ImageFault::BadLine(lines.number(), Cause::NoEnd)),
+        Err(fault) => Err(fault_of(fault)),
     }
 }
 
@@ -67,17 +94,17 @@ fn read_draft<S: Source>(alloc: Global, lines: &mut Lines, src: &mut S) -> Resul
 {
     let mut head = Head::Image;
     loop {
-        match lines.next_said(src) {
-            Err(fault) => return Err(fault_of(fault)),
-            Ok(None) => return Err(ImageFault::BadLine(lines.number(), Cause::NoEnd)),
-            Ok(Some(number)) => match line_follows(alloc, head, lines.text()) {
-                Err(Stop::NoMemory) => return Err(ImageFault::NoMemory),
-                Err(Stop::Because(cause)) => return Err(ImageFault::BadLine(number, cause)),
-                Ok(next) => match next.opened() {
-                    Ok(draft) => return Ok(draft),
-                    Err(next) => head = next,
-                },
-            },
+        let number = match next_number(lines, src) {
+            Ok(number) => number,
+            Err(fault) => return Err(fault),
+        };
+        let next = match line_follows(alloc, head, number, lines.text()) {
+            Ok(next) => next,
+            Err(fault) => return Err(fault),
+        };
+        match next.opened() {
+            Ok(draft) => return Ok(draft),
+            Err(next) => head = next,
         }
     }
 }

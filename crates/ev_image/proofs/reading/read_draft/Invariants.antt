@@ -1,4 +1,4 @@
-use Rattle.std.proofs.Common.{◌≡◌, ◌≤◌, ◌-◌, ℕ, List, Some, None}
+use Rattle.std.proofs.Common.{◌≡◌, ◌-◌, ℕ, List, Some, None}
 use Rattle.ev_io.specs.Transfer.{Draws}
 use Rattle.ev_io.specs.Lines.{coming, drawn}
 use Rattle.ev_io.specs.Follow.{Stands}
@@ -7,8 +7,8 @@ use Rattle.ev_image.specs.Head.{head_follows}
 use Rattle.ev_image.specs.Reads.{Reached, image_in}
 use Rattle.ev_image.proofs.reading.read_draft.Given as goal
 
-abbrev pub invariant-loop-fault : goal.invariant-loop-fault
-invariant-loop-fault g l =
+abbrev pub invariant-loop-number : goal.invariant-loop-number
+invariant-loop-number g l =
     let left = g.S.Source.left in
     let faults = g.S.Source.faults in
     record {
@@ -20,5 +20,5 @@ invariant-loop-fault g l =
       count : faults l.src ≡ faults l.fn.src;
     }
 
-abbrev pub decreases-loop-fault : goal.decreases-loop-fault
-decreases-loop-fault g l = 8388608 - l.lines.gone
+abbrev pub decreases-loop-number : goal.decreases-loop-number
+decreases-loop-number g l = 8388608 - l.lines.gone
