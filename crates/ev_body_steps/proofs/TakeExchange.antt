@@ -1,5 +1,5 @@
--- The exchange of `take`, which is visible: of the queue's head and 0. The calls of the queue are the context's behind it, at the function of the first one, and
--- their list is left to be turned round.
+-- The exchange of `take`, of the queue's head and 0, which is visible. The calls of the queue are the context's behind it, at the function of the first one,
+-- and their list is left to be turned round.
 use Rattle.std.proofs.Common.{◌≡◌, ℕ, suc, ◌+◌, ◌-◌, ◌%◌, ◌^◌, ◌<◌, ◌≤◌, true, false, not, List, [], ◌∷◌, get_or, set, map, length, None, Some, refl, sym, ap, ◌∙◌, subst, arith, length-append}
 use Rattle.std.specs.Prelude.{negsuc, is_some, slice_get, ◌||◌, reverse}
 use Rattle.std.proofs.lemmas.List.{get_or-set_same, get_or-set_other, length-set, length-reverse}
@@ -71,7 +71,6 @@ use Rattle.ev_body_steps.proofs.ItemWords.{keeps_known}
 use Rattle.ev_body_steps.proofs.KernelStep as step
 use Rattle.ev_body_steps.proofs.QueueLength.{queue_short}
 use Rattle.ev_body_steps.proofs.TakeHolds.{are, changes, turning, queues, keeps, taken_here}
-use Rattle.ev_body_steps.proofs.TakeHolds as holds
 use Rattle.ev_body_steps.proofs.TakeQueue.{emptied, behind, own_is, own_stays, others_stay, same_words, same_pages, same_cells}
 
 -- ---- the context at its first call
