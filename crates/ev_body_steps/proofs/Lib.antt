@@ -53,6 +53,7 @@ pub mod TakenSteps
 pub mod TakenLink
 pub mod FinishSteps
 pub mod ItemCallAgain
+pub mod ItemCallExchange
 pub mod ItemCallAnswer
 pub mod Kernel
 pub mod BodyRaising
