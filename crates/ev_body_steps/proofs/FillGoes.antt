@@ -85,21 +85,22 @@ module _ (mode : Mode) (image : Image) (built : IsBuilt image) (good : IsImage i
   abbrev env : ℕ → (extra v : ℕ → ℕ) → Flags → Env
   env ss extra v f = here mode p o.κ o.σ ss o.w extra v f
 
-  -- Such a block opens behind an instruction that writes nothing.
-  pub fill_stands : (ss : ℕ) (extra v : ℕ → ℕ) (f : Flags) (offset : ℕ) (g : Flags) → IsAtOffset mode (env ss extra v f) c s.memory offset g → InBodies extra
-      → (s' : BodySpot) → is_fill_spot s' ≡ true → FillOpens mode (block mode (body mode s')) → (extra' v' : ℕ → ℕ) → v 60 ≡ v' 60 → v 61 ≡ v' 61
-      → v 63 ≡ v' 63 → extra' 20 ≡ extra 20 → (site : ℕ) → site < 8 → extra' 22 ≡ record_address p site → (regs : List ℕ) (next onto : ℕ) → length regs ≡ 16
+  -- Such a block opens behind an instruction that writes nothing, and leaves these flags.
+  pub fill_stands_with : (ss : ℕ) (extra v : ℕ → ℕ) (f : Flags) (offset : ℕ) (old : Flags) → IsAtOffset mode (env ss extra v f) c s.memory offset old
+      → InBodies extra → (s' : BodySpot) → is_fill_spot s' ≡ true → FillOpens mode (block mode (body mode s')) → (extra' v' : ℕ → ℕ) → v 60 ≡ v' 60
+      → v 61 ≡ v' 61 → v 63 ≡ v' 63 → extra' 20 ≡ extra 20 → (site : ℕ) → site < 8 → extra' 22 ≡ record_address p site → (regs : List ℕ) (g : Flags)
+      (next onto : ℕ) → length regs ≡ 16
       → get_or regs 4 0 ≡ get_or c.regs 4 0 → next ≡ (extra 20 + onto) % M → (block mode (body mode s')).opening.rip ≡ at_base item_tag onto
       → regs ≡ map (eval (env ss extra' (with_registers regs v') g)) (block mode (body mode s')).opening.regs
       → Known (env ss extra' (with_registers regs v') g) (win_of InRecord ∷ known_of mode) s.memory.words (block mode (body mode s')).opening.words
       → Lines code (env ss extra' (with_registers regs v') g) (block mode (body mode s')).lines
       → At code (block mode (body mode s')) 0 (env ss extra' (with_registers regs v') g) (gone c regs g next) s.memory
-  fill_stands ss extra v f offset g state range s' is y extra' v' other_gs chosen level base site small record_is regs next onto long rsp rip opens registers
-      known lines =
+  fill_stands_with ss extra v f offset old state range s' is y extra' v' other_gs chosen level base site small record_is regs g next onto long rsp rip opens
+      registers known lines =
       let B : Block = block mode (body mode s') in
       let u : Env = env ss extra' (with_registers regs v') g in
       let d : Processor = gone c regs g next in
-      let there : IsAtOffset mode (env ss extra v f) d s.memory onto g = place_behind mode p o.κ o.σ ss o.w extra v f c s.memory offset g state regs g next
+      let there : IsAtOffset mode (env ss extra v f) d s.memory onto g = place_behind mode p o.κ o.σ ss o.w extra v f c s.memory offset old state regs g next
       s.memory.words onto long rsp rip state.words in
       let seat = step.in_seat mode image built good facts left s m h p hp o in
       let fills = fill_in mode s' is in
@@ -111,3 +112,15 @@ module _ (mode : Mode) (image : Image) (built : IsBuilt image) (good : IsImage i
       begins code B u d s.memory fit
       (opens_from mode p o.κ o.σ ss o.w extra v f d s.memory onto g there extra' v' other_gs chosen level B.ground B.opening y.beside base opens y.flags
       registers (subst (λ W. Known u W s.memory.words B.opening.words) (sym y.known) known) windows y.shared)
+
+  -- and leaves the flags
+  pub fill_stands : (ss : ℕ) (extra v : ℕ → ℕ) (f : Flags) (offset : ℕ) (g : Flags) → IsAtOffset mode (env ss extra v f) c s.memory offset g → InBodies extra
+      → (s' : BodySpot) → is_fill_spot s' ≡ true → FillOpens mode (block mode (body mode s')) → (extra' v' : ℕ → ℕ) → v 60 ≡ v' 60 → v 61 ≡ v' 61
+      → v 63 ≡ v' 63 → extra' 20 ≡ extra 20 → (site : ℕ) → site < 8 → extra' 22 ≡ record_address p site → (regs : List ℕ) (next onto : ℕ) → length regs ≡ 16
+      → get_or regs 4 0 ≡ get_or c.regs 4 0 → next ≡ (extra 20 + onto) % M → (block mode (body mode s')).opening.rip ≡ at_base item_tag onto
+      → regs ≡ map (eval (env ss extra' (with_registers regs v') g)) (block mode (body mode s')).opening.regs
+      → Known (env ss extra' (with_registers regs v') g) (win_of InRecord ∷ known_of mode) s.memory.words (block mode (body mode s')).opening.words
+      → Lines code (env ss extra' (with_registers regs v') g) (block mode (body mode s')).lines
+      → At code (block mode (body mode s')) 0 (env ss extra' (with_registers regs v') g) (gone c regs g next) s.memory
+  fill_stands ss extra v f offset g state range s' is y extra' v' other_gs chosen level base site small record_is regs next onto =
+      fill_stands_with ss extra v f offset g state range s' is y extra' v' other_gs chosen level base site small record_is regs g next onto

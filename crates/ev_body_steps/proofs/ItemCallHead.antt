@@ -80,7 +80,7 @@ pub head_long : (mode : Mode) (to : ℕ) → length (head_regs mode to) ≡ 16
 unfolding head_regs
 head_long mode to = refl
 
-head_kept : (mode : Mode) (e : Env) (to n : ℕ) → AreKept e.var (set (map (eval e) (head_regs mode to)) 0 n)
+pub head_kept : (mode : Mode) (e : Env) (to n : ℕ) → AreKept e.var (set (map (eval e) (head_regs mode to)) 0 n)
 unfolding head_regs eval
 head_kept mode e to n = record { locals = refl; calls = refl }
 

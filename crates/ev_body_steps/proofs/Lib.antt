@@ -53,6 +53,8 @@ pub mod CallItemSteps
 pub mod TakenSteps
 pub mod TakenLink
 pub mod CallAgain
+pub mod ItemCallAgain
+pub mod ItemCallExchange
 pub mod ItemCallAnswer
 pub mod QueueLength
 pub mod TakeQueue
