@@ -54,6 +54,8 @@ pub mod TakenLink
 pub mod FinishSteps
 pub mod ItemCallAgain
 pub mod ItemCallExchange
+pub mod CallQueued
+pub mod ItemCallPushed
 pub mod ItemCallAnswer
 pub mod Kernel
 pub mod BodyRaising
