@@ -55,6 +55,8 @@ pub mod TakenLink
 pub mod CallAgain
 pub mod ItemCallAgain
 pub mod ItemCallExchange
+pub mod CallQueued
+pub mod ItemCallPushed
 pub mod ItemCallAnswer
 pub mod QueueLength
 pub mod TakeQueue
