@@ -1,6 +1,6 @@
 -- `call` behind the exchange that put its record into the queue: the branch, an edge to what leaves the answer, and its end, where the next item opens.
-use Rattle.std.proofs.Common.{◌≡◌, ℕ, ◌+◌, ◌-◌, ◌%◌, ◌^◌, ◌<◌, ◌≤◌, Bool, true, false, not, List, [], ◌∷◌, get_or, set, map, length, None, Some, refl, sym, ap, ◌∙◌, subst, arith}
-use Rattle.std.specs.Prelude.{pos, negsuc, slice_get, ◌==◌, if◌then◌else◌}
+use Rattle.std.proofs.Common.{◌≡◌, ℕ, ◌+◌, ◌-◌, ◌%◌, ◌^◌, ◌<◌, ◌≤◌, Bool, true, false, not, List, [], ◌∷◌, get_or, set, length, None, Some, refl, sym, ap, ◌∙◌, subst, arith}
+use Rattle.std.specs.Prelude.{negsuc, slice_get, ◌==◌, if◌then◌else◌}
 use Rattle.std.proofs.lemmas.Bool.{eqb-true, ne_eqb}
 use Rattle.ev_isa.specs.Word.{NatMap, displaced, is_canonical}
 use Rattle.ev_isa.specs.Flags.{Flags, flags_of, holds}
@@ -23,10 +23,10 @@ use Rattle.ev_abstract.specs.Machine.{Machine, processor}
 use Rattle.ev_abstract.specs.Run.{item_at}
 use Rattle.ev_concrete.specs.ConcreteRun.{System, is_return}
 use Rattle.ev_built.specs.Built.{IsBuilt, is_built_item}
-use Rattle.ev_symbolic.specs.Value.{M, V, K, X}
+use Rattle.ev_symbolic.specs.Value.{M}
 use Rattle.ev_symbolic.specs.State.{Block}
 use Rattle.ev_symbolic.specs.Single.{Leads, onward}
-use Rattle.ev_symbolic.specs.Agrees.{Env, Code, Stands as Lines, edge_cell, eval, eval_flags, FactsHold, Agrees, At}
+use Rattle.ev_symbolic.specs.Agrees.{Env, Code, Stands as Lines, eval, eval_flags, FactsHold, Agrees, At}
 use Rattle.ev_symbolic.proofs.Single.{singles}
 use Rattle.ev_symbolic.proofs.Blocks.{at_end}
 use Rattle.ev_blocks.specs.Shapes.{FredFrame, IdtFrame}
@@ -34,7 +34,7 @@ use Rattle.ev_blocks.specs.Calls.{CallSpot, BehindCall, AtOffset, block_of_call,
 use Rattle.ev_blocks.specs.Items.{AtItem, InCall}
 use Rattle.ev_blocks.specs.Blocks.{block, edges, item_edges}
 use Rattle.ev_blocks.proofs.CallFalls.{call_edges}
-use Rattle.ev_paths.specs.CallEnds.{CallComes, item_regs, answered}
+use Rattle.ev_paths.specs.CallEnds.{CallComes, item_regs}
 use Rattle.ev_paths.proofs.Locals.{from_six}
 use Rattle.ev_table.specs.Table.{code_table}
 use Rattle.ev_relation.specs.Filling.{first_fill}
