@@ -205,8 +205,7 @@ module _ (mode : Mode) (image : Image) (built : IsBuilt image) (good : IsImage i
       let fewer = answer_fewer mode r is_first in
       let own = hand_edges mode behind_exchange edges' in
       goes.goes_to mode image built good facts left s m h p hp o ss extra v f behind_exchange place spot refl (Jcc Nz (negsuc 28)) next
-      (ap code rip ∙ cells.again) refl c.regs g long (step.masks_flags mode image built good facts left s m h p hp o g place.state.flags) leads extra v stands
-      (
+      (ap code rip ∙ cells.again) refl c.regs g long (step.masks_flags mode image built good facts left s m h p hp o g place.state.flags) leads extra v stands (
         record {
           range = y.range;
           saved = saved_again mode image (origin_of o.κ) e u o.w (beyond_registers c.regs v) refl refl refl y.saved;

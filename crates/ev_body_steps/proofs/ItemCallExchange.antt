@@ -285,5 +285,9 @@ module _ (mode : Mode) (image : Image) (built : IsBuilt image) (good : IsImage i
       ∙ ap (λ k. n == k) rax ∙ ne_eqb n (v 0) (λ q. other (sym q)))
       refl n g (step.masks_flags mode image built good facts left s m h p hp o y.flags y.state.flags) next behind_exchange
       (let q : next ≡ (extra 20 + 163) % M = omega arith in q) refl leads tt
-      (λ inside place filling. (inside, place, filling,
-      ap (λ k. (difference k n).1.zero) rax ∙ differs (v 0) n small (head_word act ss ss_is extra v f address func to true at means) other)) (omega arith)
+      (λ inside place filling. (
+        inside,
+        place,
+        filling,
+        ap (λ k. (difference k n).1.zero) rax ∙ differs (v 0) n small (head_word act ss ss_is extra v f address func to true at means) other,
+      )) (omega arith)
