@@ -291,4 +291,5 @@ module _ (mode : Mode) (image : Image) (built : IsBuilt image) (good : IsImage i
         goes_filled ss extra v f behind_exchange address func to y (AtHead address func to) refl (head_says address func to mode) refl
         (edge_cell ins next) (ap code here_is ∙ cells.again) refl refl (get_or c.regs 0 0) g
         (step.masks_flags mode image built good facts left s m h p hp o g state.flags) target at_head
-        (target_is ∙ (let q : extra 20 + 140 ≡ (extra 20 + 140) % M = omega arith in q)) refl leads tt (λ inside place filling. (inside, place, filling)) (omega arith)
+        (target_is ∙ (let q : extra 20 + 140 ≡ (extra 20 + 140) % M = omega arith in q)) refl leads tt
+        (λ inside place filling. (inside, place, filling)) (omega arith)

@@ -195,7 +195,8 @@ module _ (mode : Mode) (image : Image) (built : IsBuilt image) (good : IsImage i
       let stack = same_rsp mode p o.κ o.σ ss o.w extra v f c s.memory behind_exchange g place.state extra v refl refl refl in
       let is_block = block_is mode spot in
       let first_is : (get_or c.regs 0 0 == 0) ≡ is_first = ap (λ k. k == 0) rax ∙ first in
-      let stands = goes.call_stands mode image built good facts left s m h p hp o ss extra v f behind_exchange place spot refl (answer_spot mode r is_first lo hi)
+      let stands = goes.call_stands mode image built good facts left s m h p hp o ss extra v f behind_exchange place spot refl
+      (answer_spot mode r is_first lo hi)
       extra v refl refl refl refl c.regs g next at_answer s.memory.words long refl (let q : next ≡ (extra 20 + 169) % M = omega arith in q) refl
       (rax_regs_are mode u c.regs v (old_head is_first) refl long stack (rax_is u (get_or c.regs 0 0) is_first refl first_is)) place.state.words
       (any_known mode p o.κ o.σ ss o.w extra extra v f g c.regs s.memory.words place.state.words)

@@ -68,7 +68,8 @@ use Rattle.ev_body_steps.proofs.ItemCallAgain.{AtFilled, failure_says, goes_fill
 
 module _ (address func to : ℕ) where
   -- what the block says at its opening, whatever became of the head
-  pub stored_says : (mode : Mode) (stale : Bool) → SaysFilled address func to mode (block_of_call (is_fred mode) (layout_of mode) (AtLink address func to stale))
+  pub stored_says : (mode : Mode) (stale : Bool)
+      → SaysFilled address func to mode (block_of_call (is_fred mode) (layout_of mode) (AtLink address func to stale))
   stored_says Fred stale = record { opens = record_opens Fred _ _ _ _ _ _; words = refl }
   stored_says Idt stale = record { opens = record_opens Idt _ _ _ _ _ _; words = refl }
 

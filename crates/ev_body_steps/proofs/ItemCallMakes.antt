@@ -68,7 +68,8 @@ module _ (mode : Mode) (image : Image) (built : IsBuilt image) (good : IsImage i
   part_behind A f keeps q = pick (q == p) refl
     where
       pick : (t : Bool) → (q == p) ≡ t → f (processor m' q) ≡ f (processor behind q)
-      pick true e = ap f (at_same behind.processors p q _ (eqb-true q p e)) ∙ keeps (processor behind p) ∙ ap (λ i. f (processor behind i)) (sym (eqb-true q p e))
+      pick true e = ap f (at_same behind.processors p q _ (eqb-true q p e)) ∙ keeps (processor behind p)
+          ∙ ap (λ i. f (processor behind i)) (sym (eqb-true q p e))
       pick false e = ap f (at_other behind.processors p q _ e)
 
   pub queue_of : (q : ℕ) → (processor m' q).queue ≡ (processor behind q).queue
@@ -80,7 +81,8 @@ module _ (mode : Mode) (image : Image) (built : IsBuilt image) (good : IsImage i
   -- each queue
   pub queues_behind : s.memory.words (record_address p site + 0x18) ≡ s.memory.words (pcpu to + head_offset) → (q : ℕ) → q < image.processors
       → QueueIs (pushed_words mode image built good facts left s m h p hp o to lto site low) q (processor m' q).queue
-  queues_behind link q lq = subst (QueueIs (pushed_words mode image built good facts left s m h p hp o to lto site low) q) (sym (queue_of q)) (pick (q == to) refl)
+  queues_behind link q lq = subst (QueueIs (pushed_words mode image built good facts left s m h p hp o to lto site low) q) (sym (queue_of q))
+      (pick (q == to) refl)
     where
       pick : (t : Bool) → (q == to) ≡ t → QueueIs (pushed_words mode image built good facts left s m h p hp o to lto site low) q (processor behind q).queue
       pick true e = subst (λ i. QueueIs (pushed_words mode image built good facts left s m h p hp o to lto site low) i (processor behind i).queue)
@@ -107,7 +109,8 @@ module _ (mode : Mode) (image : Image) (built : IsBuilt image) (good : IsImage i
           let there : q ≡ p = eqb-true q p e in
           ap (λ i. (processor behind i).records k) there ∙ ap (λ (rs : NatMap CallRecord). rs k) (queued_record m call r)
           ∙ at_other x.records site k r (ne_eqb k site (λ z.
-          let on : is_id (record { from = q; site = k }) call ≡ true = subst (λ i. is_id (record { from = q; site = k }) (record { from = i; site = site }) ≡ true)
+          let on : is_id (record { from = q; site = k }) call ≡ true
+          = subst (λ i. is_id (record { from = q; site = k }) (record { from = i; site = site }) ≡ true)
           there (subst (λ i. is_id (record { from = q; site = k }) (record { from = q; site = i }) ≡ true) z (id_self (record { from = q; site = k }))) in
           let clash : false ≡ true = sym off ∙ on in absurd (cc)))
           ∙ ap (λ i. (processor m i).records k) (sym there)
