@@ -1,11 +1,10 @@
 -- The exchange of `call`: what it finds, and where it fails, which is an edge.
-use Rattle.std.proofs.Common.{◌≡◌, not, Bool, ℕ, zero, suc, ◌+◌, ◌-◌, ◌%◌, ◌^◌, ◌<◌, ◌≤◌, false, true, List, [], ◌∷◌, ◌++◌, get_or, set, map, length, Some, refl, sym, ap, ◌∙◌, subst, arith}
-use Rattle.std.specs.Prelude.{pos, negsuc, slice_get, is_some, if◌then◌else◌, ◌==◌, reverse}
-use Rattle.std.proofs.lemmas.List.{get_or-set_same, get_or-set_other, length-set, set-get_or}
-use Rattle.ev_isa.specs.Word.{NatMap, displaced, numbers_from, is_canonical, wrap, put_at}
-use Rattle.ev_isa.specs.Flags.{Flags, Status, flags_of, holds, difference}
+use Rattle.std.proofs.Common.{◌≡◌, Bool, ℕ, ◌+◌, ◌-◌, ◌%◌, ◌^◌, ◌<◌, ◌≤◌, false, true, List, [], ◌∷◌, ◌++◌, get_or, set, Some, refl, sym, ap, ◌∙◌, subst, arith}
+use Rattle.std.specs.Prelude.{pos, slice_get, if◌then◌else◌, ◌==◌, reverse}
+use Rattle.ev_isa.specs.Word.{NatMap, displaced, wrap, put_at}
+use Rattle.ev_isa.specs.Flags.{Flags, Status, difference}
 use Rattle.ev_isa.specs.Spelling.{spelling, four_bytes}
-use Rattle.ev_isa.specs.declared.instruction.Ins.TheVariants.{Load, Jcc, CmpXchg}
+use Rattle.ev_isa.specs.declared.instruction.Ins.TheVariants.{CmpXchg}
 use Rattle.ev_isa.specs.declared.mode.Mode.{Mode}
 use Rattle.ev_isa.specs.declared.mode.Mode.TheVariants.{Idt, Fred}
 use Rattle.ev_body.specs.declared.item.Item.TheVariants.{Call}
@@ -15,67 +14,52 @@ use Rattle.ev_body.specs.WellFormed.{IsImage}
 use Rattle.ev_listing.specs.AddressMap.{pcpu, head_offset, record_address}
 use Rattle.ev_listing.specs.Expansion.{item_address}
 use Rattle.ev_state.specs.Processor.{Processor, is_user, register}
-use Rattle.ev_state.proofs.FlagLaws.{kept, flags_of-flags_word}
+use Rattle.ev_state.proofs.FlagLaws.{kept}
 use Rattle.ev_mem.specs.Memory.{Memory}
 use Rattle.ev_abstract.specs.Context.{BodyContext, CallId}
 use Rattle.ev_abstract.specs.Machine.{Machine, processor}
 use Rattle.ev_abstract.specs.Machine as abstract
 use Rattle.ev_abstract.specs.Run.{item_at}
-use Rattle.ev_concrete.specs.ConcreteRun.{System, is_return, is_seen}
+use Rattle.ev_concrete.specs.ConcreteRun.{System, is_return}
 use Rattle.ev_built.specs.Built.{IsBuilt}
-use Rattle.ev_symbolic.specs.Value.{M, V, K, P, X, B, OAdd}
+use Rattle.ev_symbolic.specs.Value.{M, X}
 use Rattle.ev_symbolic.specs.State.{Block, Word, SS}
-use Rattle.ev_symbolic.specs.Names.{record_tag, top_less, item_tag}
+use Rattle.ev_symbolic.specs.Names.{record_tag, item_tag}
 use Rattle.ev_symbolic.specs.Single.{IsAt, Leads, onward, in_status, compared_regs, compared_word}
-use Rattle.ev_symbolic.specs.Agrees.{Env, Code, Stands as Lines, edge_cell, eval, eval_flags, addr, Known, Open, Fits, Agrees, IsOpen, At, Cell}
+use Rattle.ev_symbolic.specs.Agrees.{Env, Code, eval, eval_flags, Known, Agrees, IsOpen, At, Cell}
 use Rattle.ev_symbolic.proofs.Single.{singles}
-use Rattle.ev_symbolic.proofs.Blocks.{at_end, begins, joined}
-use Rattle.ev_activation.specs.Seat.{Kind, Seat}
+use Rattle.ev_symbolic.proofs.Blocks.{at_end}
 use Rattle.ev_distances.specs.Form.{win_of, InRecord}
-use Rattle.ev_blocks.specs.Shapes.{FredFrame, IdtFrame, body_bytes}
-use Rattle.ev_blocks.specs.Calls.{CallSpot, AtRecord, BehindWait, BehindBusy, BehindCall, AtTake, BehindTake, AtTurn, BehindTurn, AtTaken, AtFinish, BehindNext, AtOffset, fills_record, AtFill, AtHead, AtLink, at_head, at_link, link_code, filled_words, block_of_call, BehindFailure, behind_exchange, at_answer}
+use Rattle.ev_blocks.specs.Shapes.{FredFrame, IdtFrame}
+use Rattle.ev_blocks.specs.Calls.{AtLink, filled_words, block_of_call, BehindFailure, behind_exchange}
 use Rattle.ev_blocks.specs.Items.{InCall}
 use Rattle.ev_blocks.specs.Blocks.{block, edges}
-use Rattle.ev_blocks.specs.Blocks as blocks
 use Rattle.ev_blocks.proofs.CallFalls.{call_edges}
-use Rattle.ev_paths.specs.CallEnds.{item_regs, filled_values}
 use Rattle.ev_paths.proofs.CallEnds.{call_ends}
-use Rattle.ev_paths.proofs.Locals.{from_six}
 use Rattle.ev_table.specs.Table.{code_table}
 use Rattle.ev_relation.specs.Filling.{first_fill}
-use Rattle.ev_relation.specs.Active.{address_of_item, here, IsKernelSs, InCode, InCallSpot, Active, HasPlace, Filled}
+use Rattle.ev_relation.specs.Active.{address_of_item, here, IsKernelSs, InCallSpot, Active}
 use Rattle.ev_relation.specs.Relation.{StandsOn, Stands, switches_at}
 use Rattle.ev_relation.specs.Step.{Simulated}
 use Rattle.ev_relation.proofs.CallHolders.{first_free}
-use Rattle.ev_relation.proofs.CallKinds.{origin_of, plain_knows}
+use Rattle.ev_relation.proofs.CallKinds.{origin_of}
 use Rattle.ev_relation.proofs.Facts.{Facts}
-use Rattle.ev_relation.proofs.Fills.{fill_fits, fill_opens, is_fill_spot}
 use Rattle.ev_relation.proofs.ModeFacts.{is_fred}
-use Rattle.ev_body_steps.proofs.Bodies.{body, layout_of, means_at, tells_record, saved_beside, nothing_open}
+use Rattle.ev_body_steps.proofs.Bodies.{body, layout_of}
 use Rattle.ev_body_steps.proofs.CallCells.{call_code}
 use Rattle.ev_body_steps.proofs.CallFills.{called_processor}
-use Rattle.ev_body_steps.proofs.CallFirst.{AreKept, in_code}
 use Rattle.ev_body_steps.proofs.CallGoes.{block_is}
-use Rattle.ev_body_steps.proofs.CallPlaces.{IsAtOffset, offset_from, item_regs_are, told_too, same_rsp, IsBeside}
-use Rattle.ev_body_steps.proofs.CallSteps as calls
-use Rattle.ev_body_steps.proofs.CallTurns as alike
-use Rattle.ev_body_steps.proofs.FillGoes.{FillOpens, record_opens, fill_in, fill_stands_with}
+use Rattle.ev_body_steps.proofs.CallPlaces.{offset_from, IsBeside}
+use Rattle.ev_body_steps.proofs.FillGoes.{record_opens}
 use Rattle.ev_body_steps.proofs.ItemAddresses.{area_open}
-use Rattle.ev_body_steps.proofs.ItemCells.{edges_stand}
-use Rattle.ev_body_steps.proofs.ItemState.{with_registers, opening_of, known_of, gone}
-use Rattle.ev_body_steps.proofs.ItemVisible.{goes_onward, goes_with}
+use Rattle.ev_body_steps.proofs.ItemState.{opening_of, known_of, gone}
+use Rattle.ev_body_steps.proofs.ItemVisible.{goes_with}
 use Rattle.ev_body_steps.proofs.KernelStep as step
 use Rattle.std.proofs.lemmas.Bool.{eqb-true, ne_eqb}
-use Rattle.ev_isa.specs.declared.instruction.Ins.{Ins}
-use Rattle.ev_isa.specs.declared.instruction.Cond.TheVariants.{Nz}
 use Rattle.ev_listing.specs.Marks.{IfEqual}
-use Rattle.ev_tables.proofs.Gates.{upper_canonical}
 use Rattle.ev_symbolic.specs.Openings.{at_base, word}
-use Rattle.ev_relation.proofs.Fits.{InBodies}
-use Rattle.ev_body_steps.proofs.ItemCallHead.{head_regs, head_rsp, head_long, head_kept, frame_alone, SaysFilled, head_says, same_known, by_head}
+use Rattle.ev_body_steps.proofs.ItemCallHead.{head_regs, head_rsp, head_long, frame_alone, SaysFilled}
 use Rattle.ev_body_steps.proofs.TakenSteps.{edges_at_end}
-use Rattle.ev_symbolic.specs.Run.{brun}
-use Rattle.ev_calls.specs.Lists.{QueueIs}
 use Rattle.ev_calls.specs.Records.{Linked}
 use Rattle.ev_relation.proofs.Maps.{at_same, at_other}
 use Rattle.ev_body_steps.proofs.ItemCallAgain.{AtFilled, failure_says, goes_filled}
@@ -84,7 +68,8 @@ use Rattle.ev_body_steps.proofs.ItemCallAgain.{AtFilled, failure_says, goes_fill
 
 module _ (address func to : ℕ) where
   -- what the block says at its opening, whatever became of the head
-  pub stored_says : (mode : Mode) (stale : Bool) → SaysFilled address func to mode (block_of_call (is_fred mode) (layout_of mode) (AtLink address func to stale))
+  pub stored_says : (mode : Mode) (stale : Bool)
+      → SaysFilled address func to mode (block_of_call (is_fred mode) (layout_of mode) (AtLink address func to stale))
   stored_says Fred stale = record { opens = record_opens Fred _ _ _ _ _ _; words = refl }
   stored_says Idt stale = record { opens = record_opens Idt _ _ _ _ _ _; words = refl }
 
@@ -301,5 +286,9 @@ module _ (mode : Mode) (image : Image) (built : IsBuilt image) (good : IsImage i
       ∙ ap (λ k. n == k) rax ∙ ne_eqb n (v 0) (λ q. other (sym q)))
       refl n g (step.masks_flags mode image built good facts left s m h p hp o y.flags y.state.flags) next behind_exchange
       (let q : next ≡ (extra 20 + 163) % M = omega arith in q) refl leads tt
-      (λ inside place filling. (inside, place, filling,
-      ap (λ k. (difference k n).1.zero) rax ∙ differs (v 0) n small (head_word act ss ss_is extra v f address func to true at means) other)) (omega arith)
+      (λ inside place filling. (
+        inside,
+        place,
+        filling,
+        ap (λ k. (difference k n).1.zero) rax ∙ differs (v 0) n small (head_word act ss ss_is extra v f address func to true at means) other,
+      )) (omega arith)

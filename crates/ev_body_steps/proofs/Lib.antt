@@ -57,6 +57,7 @@ pub mod ItemCallAgain
 pub mod ItemCallExchange
 pub mod CallQueued
 pub mod ItemCallPushed
+pub mod ItemCallMakes
 pub mod ItemCallAnswer
 pub mod QueueLength
 pub mod TakeQueue
