@@ -58,7 +58,7 @@ use Rattle.ev_body_steps.proofs.KernelStep as step
 use Rattle.std.proofs.lemmas.Bool.{eqb-true, ne_eqb}
 use Rattle.ev_listing.specs.Marks.{IfEqual}
 use Rattle.ev_symbolic.specs.Openings.{at_base, word}
-use Rattle.ev_body_steps.proofs.ItemCallHead.{head_regs, head_rsp, head_long, frame_alone, SaysFilled}
+use Rattle.ev_body_steps.proofs.ItemCallHead.{linked_word, head_regs, head_rsp, head_long, frame_alone, SaysFilled}
 use Rattle.ev_body_steps.proofs.TakenSteps.{edges_at_end}
 use Rattle.ev_calls.specs.Records.{Linked}
 use Rattle.ev_relation.proofs.Maps.{at_same, at_other}
@@ -87,11 +87,6 @@ put_again words a = λ i k. at_each k i
         pick : (t : Bool) → (k == a) ≡ t → put_at words a (words a) k ≡ words k
         pick true e = at_same words a k (words a) (eqb-true k a e) ∙ ap words (sym (eqb-true k a e))
         pick false e = at_other words a k (words a) e
-
--- the address of a list is a word
-linked_word : (words : NatMap ℕ) (a : ℕ) (ks : List CallId) → Linked words a ks → a < 2 ^ 64
-linked_word words a [] h = omega (arith, h)
-linked_word words a (k ∷ ks) h = let from = h.0 in let site = h.1 in let at = h.2 in omega (arith, from, site, at)
 
 -- a comparison of two words that differ says so
 differs : (a n : ℕ) → a < 2 ^ 64 → n < 2 ^ 64 → (a ≡ n → ⊥) → (difference a n).1.zero ≡ false

@@ -59,6 +59,7 @@ pub mod CallQueued
 pub mod ItemCallPushed
 pub mod ItemCallMakes
 pub mod ItemCallAnswer
+pub mod ItemCallTurn
 pub mod QueueLength
 pub mod TakeQueue
 pub mod TakeHolds
