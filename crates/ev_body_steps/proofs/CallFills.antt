@@ -71,9 +71,9 @@ module _ (mode : Mode) (image : Image) where
       → InSpot mode image o s e w b f m → InSpot mode image o s e w b f n
   spot_again o (InCall (AtFill address func to s)) e w b f m n stay heads is h = (code_again mode image m n o e w b stay h.0, h.1, h.2, h.3)
   spot_again o (InCall (AtHead address func to)) e w b f m n stay heads is h = (code_again mode image m n o e w b stay h.0, h.1, h.2)
-  spot_again o (InCall (AtLink address func to true)) e w b f m n stay heads is h = (code_again mode image m n o e w b stay h.0, h.1, h.2, tt)
+  spot_again o (InCall (AtLink address func to true)) e w b f m n stay heads is h = (code_again mode image m n o e w b stay h.0, h.1, h.2, tt, h.4)
   spot_again o (InCall (AtLink address func to false)) e w b f m n stay heads is h =
-      (code_again mode image m n o e w b stay h.0, h.1, h.2, heads to (h.2.fills.site, func, h.2.s, h.2.fills.item) ∙ h.3)
+      (code_again mode image m n o e w b stay h.0, h.1, h.2, heads to (h.2.fills.site, func, h.2.s, h.2.fills.item) ∙ h.3, h.4)
   spot_again o (InCall (BehindFailure address func to)) e w b f m n stay heads is h = (code_again mode image m n o e w b stay h.0, h.1, h.2, h.3)
   spot_again o _ e w b f m n stay heads is h = let clash : false ≡ true = is in absurd (cc)
 

@@ -214,6 +214,62 @@ module _ (mode : Mode) (image : Image) (built : IsBuilt image) (good : IsImage i
         a.regs ∙ ap (map (eval e)) y.regs_are,
       )
 
+  -- a block of an item opens, whose variables are these registers, and those beyond are as they were but for what no item's opening tells
+  abbrev pub SpotOpens : (ss : ℕ) (extra v : ℕ → ℕ) (f : Flags) → Type 0
+  SpotOpens ss extra v f =
+      (s' : BodySpot) → CallOpens mode (block mode (body mode s')) → is_spot mode (body mode s') ≡ true → (extra' v' : ℕ → ℕ) → v 60 ≡ v' 60
+      → v 61 ≡ v' 61 → v 63 ≡ v' 63 → extra' 20 ≡ extra 20 → (regs : List ℕ) (g : Flags) (next onto : ℕ) (words : NatMap ℕ) → length regs ≡ 16
+      → get_or regs 4 0 ≡ get_or c.regs 4 0 → next ≡ (extra 20 + onto) % M → (block mode (body mode s')).opening.rip ≡ at_base item_tag onto
+      → regs ≡ map (eval (env ss extra' (with_registers regs v') g)) (block mode (body mode s')).opening.regs
+      → Known (env ss extra v f) (known_of mode) words (opening_of mode).words
+      → Known (env ss extra' (with_registers regs v') g) (known_of mode) words (opening_of mode).words
+      → FactsHold (env ss extra' (with_registers regs v') g) (block mode (body mode s')).ground.facts
+      → Lines code (env ss extra' (with_registers regs v') g) (block mode (body mode s')).lines
+      → At code (block mode (body mode s')) 0 (env ss extra' (with_registers regs v') g) (gone c regs g next) (with_words s.memory words)
+
+  -- one of call items
+  abbrev pub CallSpotOpens : (ss : ℕ) (extra v : ℕ → ℕ) (f : Flags) → Type 0
+  CallSpotOpens ss extra v f =
+      (s' : CallSpot) → fills_record s' ≡ false → is_spot mode (body mode (InCall s')) ≡ true → (extra' v' : ℕ → ℕ) → v 60 ≡ v' 60
+      → v 61 ≡ v' 61 → v 63 ≡ v' 63 → extra' 20 ≡ extra 20 → (regs : List ℕ) (g : Flags) (next onto : ℕ) (words : NatMap ℕ) → length regs ≡ 16
+      → get_or regs 4 0 ≡ get_or c.regs 4 0 → next ≡ (extra 20 + onto) % M
+      → (block_of_call (is_fred mode) (layout_of mode) s').opening.rip ≡ at_base item_tag onto
+      → regs ≡ map (eval (env ss extra' (with_registers regs v') g)) (block_of_call (is_fred mode) (layout_of mode) s').opening.regs
+      → Known (env ss extra v f) (known_of mode) words (opening_of mode).words
+      → Known (env ss extra' (with_registers regs v') g) (known_of mode) words (opening_of mode).words
+      → FactsHold (env ss extra' (with_registers regs v') g) (block mode (body mode (InCall s'))).ground.facts
+      → Lines code (env ss extra' (with_registers regs v') g) (block mode (body mode (InCall s'))).lines
+      → At code (block mode (body mode (InCall s'))) 0 (env ss extra' (with_registers regs v') g) (gone c regs g next) (with_words s.memory words)
+
+  -- At a place of an item any of them opens, whatever the activation fills.
+  module _ (ss : ℕ) (extra v : ℕ → ℕ) (f : Flags) (offset : ℕ) (old : Flags) (state : IsAtOffset mode (env ss extra v f) c s.memory offset old)
+      (range : InBodies extra) where
+    pub spot_opens : SpotOpens ss extra v f
+    spot_opens s' y over extra' v' other_gs chosen level base regs g next onto words long rsp rip opens registers known known' told lines =
+        let B : Block = block mode (body mode s') in
+        let u : Env = env ss extra' (with_registers regs v') g in
+        let mem : Memory = with_words s.memory words in
+        let d : Processor = gone c regs g next in
+        let there : IsAtOffset mode (env ss extra v f) d mem onto g = place_behind mode p o.κ o.σ ss o.w extra v f c s.memory offset old state regs g next
+        words onto long rsp rip known in
+        let seat = step.in_seat mode image built good facts left s m h p hp o in
+        let windows : Open u B.ground.known mem.regions
+        = opens_at mode image p o.σ seat hp good.count.1 o.κ ss o.w extra' (with_registers regs v') g (body mode s') over mem h.regions_are in
+        let fit : Fits code u B = fits_with mode image p o.σ seat hp good.count.1 o.κ ss o.w extra' (with_registers regs v') g facts (body mode s') over
+        (step.fred_is mode image built good facts left s m h p hp o)
+        (subst (λ n. (0xffffffff82000000 ≤ n) × (n + 0x100 ≤ M)) (sym base) range) told lines in
+        begins code B u d mem fit
+        (opens_from mode p o.κ o.σ ss o.w extra v f d mem onto g there extra' v' other_gs chosen level B.ground B.opening y.beside base opens y.flags registers
+        (subst (λ W. Known u W words B.opening.words) (sym y.known) (subst (λ ws. Known u (known_of mode) words ws) (sym y.words) known'))
+        windows y.shared)
+
+    pub call_spot_opens : CallSpotOpens ss extra v f
+    call_spot_opens s' off over extra' v' other_gs chosen level base regs g next onto words long rsp rip opens registers known known' told lines =
+        let same = block_is mode s' in
+        spot_opens (InCall s') (subst (CallOpens mode) (sym same) (call_opens mode s' off)) over extra' v' other_gs chosen level base regs g next onto words
+        long rsp rip (ap (λ (q : Block). q.opening.rip) same ∙ opens)
+        (registers ∙ ap (λ (q : Block). map (eval (env ss extra' (with_registers regs v') g)) q.opening.regs) (sym same)) known known' told lines
+
   module _ (ss : ℕ) (extra v : ℕ → ℕ) (f : Flags) (offset : ℕ) (a : AtPlace ss extra v f offset) where
     -- its address doesn't wrap
     pub rip_is : c.rip ≡ extra 20 + offset
@@ -227,50 +283,12 @@ module _ (mode : Mode) (image : Image) (built : IsBuilt image) (good : IsImage i
       ends = ap (λ y. y + length (spelling i)) rip_is ∙ sym e;
     }
 
-    -- where a block of an item opens, whose variables are these registers, and those beyond are as they were but for what no item's opening tells
-    pub spot_stands : (s' : BodySpot) → CallOpens mode (block mode (body mode s')) → is_spot mode (body mode s') ≡ true → (extra' v' : ℕ → ℕ) → v 60 ≡ v' 60
-        → v 61 ≡ v' 61 → v 63 ≡ v' 63 → extra' 20 ≡ extra 20 → (regs : List ℕ) (g : Flags) (next onto : ℕ) (words : NatMap ℕ) → length regs ≡ 16
-        → get_or regs 4 0 ≡ get_or c.regs 4 0 → next ≡ (extra 20 + onto) % M → (block mode (body mode s')).opening.rip ≡ at_base item_tag onto
-        → regs ≡ map (eval (env ss extra' (with_registers regs v') g)) (block mode (body mode s')).opening.regs
-        → Known (env ss extra v f) (known_of mode) words (opening_of mode).words
-        → Known (env ss extra' (with_registers regs v') g) (known_of mode) words (opening_of mode).words
-        → FactsHold (env ss extra' (with_registers regs v') g) (block mode (body mode s')).ground.facts
-        → Lines code (env ss extra' (with_registers regs v') g) (block mode (body mode s')).lines
-        → At code (block mode (body mode s')) 0 (env ss extra' (with_registers regs v') g) (gone c regs g next) (with_words s.memory words)
-    spot_stands s' y over extra' v' other_gs chosen level base regs g next onto words long rsp rip opens registers known known' told lines =
-        let B : Block = block mode (body mode s') in
-        let u : Env = env ss extra' (with_registers regs v') g in
-        let mem : Memory = with_words s.memory words in
-        let d : Processor = gone c regs g next in
-        let there : IsAtOffset mode (env ss extra v f) d mem onto g = place_behind mode p o.κ o.σ ss o.w extra v f c s.memory offset a.flags a.state regs g next
-        words onto long rsp rip known in
-        let seat = step.in_seat mode image built good facts left s m h p hp o in
-        let windows : Open u B.ground.known mem.regions
-        = opens_at mode image p o.σ seat hp good.count.1 o.κ ss o.w extra' (with_registers regs v') g (body mode s') over mem h.regions_are in
-        let fit : Fits code u B = fits_with mode image p o.σ seat hp good.count.1 o.κ ss o.w extra' (with_registers regs v') g facts (body mode s') over
-        (step.fred_is mode image built good facts left s m h p hp o)
-        (subst (λ n. (0xffffffff82000000 ≤ n) × (n + 0x100 ≤ M)) (sym base) a.range) told lines in
-        begins code B u d mem fit
-        (opens_from mode p o.κ o.σ ss o.w extra v f d mem onto g there extra' v' other_gs chosen level B.ground B.opening y.beside base opens y.flags registers
-        (subst (λ W. Known u W words B.opening.words) (sym y.known) (subst (λ ws. Known u (known_of mode) words ws) (sym y.words) known'))
-        windows y.shared)
+    -- so they do where it fills none
+    pub spot_stands : SpotOpens ss extra v f
+    spot_stands = spot_opens ss extra v f offset a.flags a.state a.range
 
-    -- one of call items
-    pub call_stands : (s' : CallSpot) → fills_record s' ≡ false → is_spot mode (body mode (InCall s')) ≡ true → (extra' v' : ℕ → ℕ) → v 60 ≡ v' 60
-        → v 61 ≡ v' 61 → v 63 ≡ v' 63 → extra' 20 ≡ extra 20 → (regs : List ℕ) (g : Flags) (next onto : ℕ) (words : NatMap ℕ) → length regs ≡ 16
-        → get_or regs 4 0 ≡ get_or c.regs 4 0 → next ≡ (extra 20 + onto) % M
-        → (block_of_call (is_fred mode) (layout_of mode) s').opening.rip ≡ at_base item_tag onto
-        → regs ≡ map (eval (env ss extra' (with_registers regs v') g)) (block_of_call (is_fred mode) (layout_of mode) s').opening.regs
-        → Known (env ss extra v f) (known_of mode) words (opening_of mode).words
-        → Known (env ss extra' (with_registers regs v') g) (known_of mode) words (opening_of mode).words
-        → FactsHold (env ss extra' (with_registers regs v') g) (block mode (body mode (InCall s'))).ground.facts
-        → Lines code (env ss extra' (with_registers regs v') g) (block mode (body mode (InCall s'))).lines
-        → At code (block mode (body mode (InCall s'))) 0 (env ss extra' (with_registers regs v') g) (gone c regs g next) (with_words s.memory words)
-    call_stands s' off over extra' v' other_gs chosen level base regs g next onto words long rsp rip opens registers known known' told lines =
-        let same = block_is mode s' in
-        spot_stands (InCall s') (subst (CallOpens mode) (sym same) (call_opens mode s' off)) over extra' v' other_gs chosen level base regs g next onto words
-        long rsp rip (ap (λ (q : Block). q.opening.rip) same ∙ opens)
-        (registers ∙ ap (λ (q : Block). map (eval (env ss extra' (with_registers regs v') g)) q.opening.regs) (sym same)) known known' told lines
+    pub call_stands : CallSpotOpens ss extra v f
+    call_stands = call_spot_opens ss extra v f offset a.flags a.state a.range
 
     -- An edge by an instruction that writes nothing, to the opening of a block of an item, which a jump finds elsewhere than behind it.
     pub goes_to_spot : (s' : BodySpot) → fills s' ≡ false → (i : Ins) (next onto : ℕ) → code c.rip ≡ Some (edge_cell i next) → is_return (Some i) ≡ false

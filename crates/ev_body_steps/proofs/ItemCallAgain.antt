@@ -1,11 +1,11 @@
 -- `call` with its record filled: an edge to a place where it is filled still; and the jump behind an exchange that failed, back to the load of the head.
-use Rattle.std.proofs.Common.{◌≡◌, not, Bool, ℕ, zero, suc, ◌+◌, ◌-◌, ◌%◌, ◌^◌, ◌<◌, ◌≤◌, false, true, List, [], ◌∷◌, ◌++◌, get_or, set, map, length, Some, refl, sym, ap, ◌∙◌, subst, arith}
-use Rattle.std.specs.Prelude.{pos, negsuc, slice_get, is_some, if◌then◌else◌, ◌==◌}
-use Rattle.std.proofs.lemmas.List.{get_or-set_same, get_or-set_other, length-set, set-get_or}
-use Rattle.ev_isa.specs.Word.{NatMap, displaced, numbers_from, is_canonical, wrap, put_at}
-use Rattle.ev_isa.specs.Flags.{Flags, Status, flags_of, holds, difference}
+use Rattle.std.proofs.Common.{◌≡◌, not, ℕ, ◌+◌, ◌-◌, ◌%◌, ◌^◌, ◌<◌, ◌≤◌, false, true, List, [], ◌∷◌, ◌++◌, get_or, set, map, length, Some, refl, sym, ap, ◌∙◌, subst, arith}
+use Rattle.std.specs.Prelude.{negsuc, slice_get, is_some, if◌then◌else◌}
+use Rattle.std.proofs.lemmas.List.{get_or-set_other, length-set, set-get_or}
+use Rattle.ev_isa.specs.Word.{NatMap, displaced, is_canonical}
+use Rattle.ev_isa.specs.Flags.{Flags, flags_of, holds}
 use Rattle.ev_isa.specs.Spelling.{spelling, four_bytes}
-use Rattle.ev_isa.specs.declared.instruction.Ins.TheVariants.{Load, Jcc, CmpXchg}
+use Rattle.ev_isa.specs.declared.instruction.Ins.TheVariants.{Jcc}
 use Rattle.ev_isa.specs.declared.mode.Mode.{Mode}
 use Rattle.ev_isa.specs.declared.mode.Mode.TheVariants.{Idt, Fred}
 use Rattle.ev_body.specs.declared.item.Item.TheVariants.{Call}
@@ -14,7 +14,7 @@ use Rattle.ev_body.specs.declared.image.Image.{Image}
 use Rattle.ev_body.specs.WellFormed.{IsImage}
 use Rattle.ev_listing.specs.AddressMap.{pcpu, head_offset, record_address}
 use Rattle.ev_listing.specs.Expansion.{item_address}
-use Rattle.ev_state.specs.Processor.{Processor, is_user, register}
+use Rattle.ev_state.specs.Processor.{Processor, is_user}
 use Rattle.ev_state.proofs.FlagLaws.{kept, flags_of-flags_word}
 use Rattle.ev_mem.specs.Memory.{Memory}
 use Rattle.ev_abstract.specs.Context.{BodyContext}
@@ -23,24 +23,21 @@ use Rattle.ev_abstract.specs.Machine as abstract
 use Rattle.ev_abstract.specs.Run.{item_at}
 use Rattle.ev_concrete.specs.ConcreteRun.{System, is_return, is_seen}
 use Rattle.ev_built.specs.Built.{IsBuilt}
-use Rattle.ev_symbolic.specs.Value.{M, V, K, P, X, B, OAdd}
+use Rattle.ev_symbolic.specs.Value.{M, K, P}
 use Rattle.ev_symbolic.specs.State.{Block, Word}
 use Rattle.ev_symbolic.specs.Names.{record_tag, top_less, item_tag}
 use Rattle.ev_symbolic.specs.Single.{IsAt, Leads, onward}
-use Rattle.ev_symbolic.specs.Agrees.{Env, Code, Stands as Lines, edge_cell, eval, eval_flags, addr, Known, Open, Fits, Agrees, IsOpen, At, Cell}
+use Rattle.ev_symbolic.specs.Agrees.{Env, Code, Stands as Lines, edge_cell, eval, eval_flags, Known, Agrees, At, Cell}
 use Rattle.ev_symbolic.proofs.Single.{singles}
-use Rattle.ev_symbolic.proofs.Blocks.{at_end, begins, joined}
-use Rattle.ev_activation.specs.Seat.{Kind, Seat}
+use Rattle.ev_symbolic.proofs.Blocks.{at_end}
 use Rattle.ev_distances.specs.Form.{win_of, InRecord}
 use Rattle.ev_blocks.specs.Shapes.{FredFrame, IdtFrame, body_bytes}
-use Rattle.ev_blocks.specs.Calls.{CallSpot, AtRecord, BehindWait, BehindBusy, BehindCall, AtTake, BehindTake, AtTurn, BehindTurn, AtTaken, AtFinish, BehindNext, AtOffset, fills_record, AtFill, AtHead, AtLink, at_head, at_link, link_code, filled_words, block_of_call, BehindFailure, behind_exchange, at_answer}
+use Rattle.ev_blocks.specs.Calls.{CallSpot, AtRecord, BehindWait, BehindBusy, BehindCall, AtTake, BehindTake, AtTurn, BehindTurn, AtTaken, AtFinish, BehindNext, AtOffset, fills_record, AtFill, AtHead, AtLink, at_head, filled_words, block_of_call, BehindFailure, behind_exchange, at_answer}
 use Rattle.ev_blocks.specs.Items.{InCall}
 use Rattle.ev_blocks.specs.Blocks.{block, edges}
 use Rattle.ev_blocks.specs.Blocks as blocks
 use Rattle.ev_blocks.proofs.CallFalls.{call_edges}
-use Rattle.ev_paths.specs.CallEnds.{item_regs, filled_values}
-use Rattle.ev_paths.proofs.CallEnds.{call_ends}
-use Rattle.ev_paths.proofs.Locals.{from_six}
+use Rattle.ev_paths.specs.CallEnds.{item_regs}
 use Rattle.ev_table.specs.Table.{code_table}
 use Rattle.ev_relation.specs.Filling.{first_fill}
 use Rattle.ev_relation.specs.Active.{address_of_item, here, IsKernelSs, InCode, InCallSpot, Active, HasPlace, Filled}
@@ -49,30 +46,24 @@ use Rattle.ev_relation.specs.Step.{Simulated}
 use Rattle.ev_relation.proofs.CallHolders.{first_free}
 use Rattle.ev_relation.proofs.CallKinds.{origin_of, plain_knows}
 use Rattle.ev_relation.proofs.Facts.{Facts}
-use Rattle.ev_relation.proofs.Fills.{fill_fits, fill_opens, is_fill_spot}
+use Rattle.ev_relation.proofs.Fills.{is_fill_spot}
 use Rattle.ev_relation.proofs.ModeFacts.{is_fred}
-use Rattle.ev_body_steps.proofs.Bodies.{body, layout_of, means_at, tells_record, saved_beside, nothing_open}
+use Rattle.ev_body_steps.proofs.Bodies.{body, layout_of, means_at}
 use Rattle.ev_body_steps.proofs.CallCells.{call_code}
-use Rattle.ev_body_steps.proofs.CallFills.{called_processor}
 use Rattle.ev_body_steps.proofs.CallFirst.{AreKept, in_code}
 use Rattle.ev_body_steps.proofs.CallGoes.{block_is}
 use Rattle.ev_body_steps.proofs.CallPlaces.{IsAtOffset, offset_from, item_regs_are, told_too, same_rsp}
 use Rattle.ev_body_steps.proofs.CallSteps as calls
 use Rattle.ev_body_steps.proofs.CallTurns as alike
-use Rattle.ev_body_steps.proofs.FillGoes.{FillOpens, record_opens, fill_in, fill_stands_with}
-use Rattle.ev_body_steps.proofs.ItemAddresses.{area_open}
-use Rattle.ev_body_steps.proofs.ItemCells.{edges_stand}
+use Rattle.ev_body_steps.proofs.FillGoes.{FillOpens, record_opens, fill_stands_with}
 use Rattle.ev_body_steps.proofs.ItemState.{with_registers, opening_of, known_of, gone}
 use Rattle.ev_body_steps.proofs.ItemVisible.{goes_onward}
 use Rattle.ev_body_steps.proofs.KernelStep as step
-use Rattle.std.proofs.lemmas.Bool.{eqb-true, ne_eqb}
 use Rattle.ev_isa.specs.declared.instruction.Ins.{Ins}
 use Rattle.ev_isa.specs.declared.instruction.Cond.TheVariants.{Nz}
-use Rattle.ev_listing.specs.Marks.{IfEqual}
 use Rattle.ev_tables.proofs.Gates.{upper_canonical}
 use Rattle.ev_symbolic.specs.Openings.{at_base}
-use Rattle.ev_relation.proofs.Fits.{InBodies}
-use Rattle.ev_body_steps.proofs.ItemCallHead.{head_regs, head_rsp, head_long, head_kept, frame_alone, SaysFilled, head_says, same_known, by_head}
+use Rattle.ev_body_steps.proofs.ItemCallHead.{head_regs, head_rsp, head_long, head_kept, frame_alone, SaysFilled, head_says, same_known}
 use Rattle.ev_body_steps.proofs.TakenSteps.{edges_at_end}
 
 -- ---- the block behind an exchange that failed
@@ -300,4 +291,5 @@ module _ (mode : Mode) (image : Image) (built : IsBuilt image) (good : IsImage i
         goes_filled ss extra v f behind_exchange address func to y (AtHead address func to) refl (head_says address func to mode) refl
         (edge_cell ins next) (ap code here_is ∙ cells.again) refl refl (get_or c.regs 0 0) g
         (step.masks_flags mode image built good facts left s m h p hp o g state.flags) target at_head
-        (target_is ∙ (let q : extra 20 + 140 ≡ (extra 20 + 140) % M = omega arith in q)) refl leads tt (λ inside place filling. (inside, place, filling)) (omega arith)
+        (target_is ∙ (let q : extra 20 + 140 ≡ (extra 20 + 140) % M = omega arith in q)) refl leads tt
+        (λ inside place filling. (inside, place, filling)) (omega arith)

@@ -1,6 +1,6 @@
 -- `call` behind the exchange that put its record into the queue: the branch, an edge to what leaves the answer, and its end, where the next item opens.
-use Rattle.std.proofs.Common.{◌≡◌, ℕ, ◌+◌, ◌-◌, ◌%◌, ◌^◌, ◌<◌, ◌≤◌, Bool, true, false, not, List, [], ◌∷◌, get_or, set, map, length, None, Some, refl, sym, ap, ◌∙◌, subst, arith}
-use Rattle.std.specs.Prelude.{pos, negsuc, slice_get, ◌==◌, if◌then◌else◌}
+use Rattle.std.proofs.Common.{◌≡◌, ℕ, ◌+◌, ◌-◌, ◌%◌, ◌^◌, ◌<◌, ◌≤◌, Bool, true, false, not, List, [], ◌∷◌, get_or, set, length, None, Some, refl, sym, ap, ◌∙◌, subst, arith}
+use Rattle.std.specs.Prelude.{negsuc, slice_get, ◌==◌, if◌then◌else◌}
 use Rattle.std.proofs.lemmas.Bool.{eqb-true, ne_eqb}
 use Rattle.ev_isa.specs.Word.{NatMap, displaced, is_canonical}
 use Rattle.ev_isa.specs.Flags.{Flags, flags_of, holds}
@@ -23,10 +23,10 @@ use Rattle.ev_abstract.specs.Machine.{Machine, processor}
 use Rattle.ev_abstract.specs.Run.{item_at}
 use Rattle.ev_concrete.specs.ConcreteRun.{System, is_return}
 use Rattle.ev_built.specs.Built.{IsBuilt, is_built_item}
-use Rattle.ev_symbolic.specs.Value.{M, V, K, X}
+use Rattle.ev_symbolic.specs.Value.{M}
 use Rattle.ev_symbolic.specs.State.{Block}
 use Rattle.ev_symbolic.specs.Single.{Leads, onward}
-use Rattle.ev_symbolic.specs.Agrees.{Env, Code, Stands as Lines, edge_cell, eval, eval_flags, FactsHold, Agrees, At}
+use Rattle.ev_symbolic.specs.Agrees.{Env, Code, Stands as Lines, eval, eval_flags, FactsHold, Agrees, At}
 use Rattle.ev_symbolic.proofs.Single.{singles}
 use Rattle.ev_symbolic.proofs.Blocks.{at_end}
 use Rattle.ev_blocks.specs.Shapes.{FredFrame, IdtFrame}
@@ -34,7 +34,7 @@ use Rattle.ev_blocks.specs.Calls.{CallSpot, BehindCall, AtOffset, block_of_call,
 use Rattle.ev_blocks.specs.Items.{AtItem, InCall}
 use Rattle.ev_blocks.specs.Blocks.{block, edges, item_edges}
 use Rattle.ev_blocks.proofs.CallFalls.{call_edges}
-use Rattle.ev_paths.specs.CallEnds.{CallComes, item_regs, answered}
+use Rattle.ev_paths.specs.CallEnds.{CallComes, item_regs}
 use Rattle.ev_paths.proofs.Locals.{from_six}
 use Rattle.ev_table.specs.Table.{code_table}
 use Rattle.ev_relation.specs.Filling.{first_fill}
@@ -195,7 +195,8 @@ module _ (mode : Mode) (image : Image) (built : IsBuilt image) (good : IsImage i
       let stack = same_rsp mode p o.κ o.σ ss o.w extra v f c s.memory behind_exchange g place.state extra v refl refl refl in
       let is_block = block_is mode spot in
       let first_is : (get_or c.regs 0 0 == 0) ≡ is_first = ap (λ k. k == 0) rax ∙ first in
-      let stands = goes.call_stands mode image built good facts left s m h p hp o ss extra v f behind_exchange place spot refl (answer_spot mode r is_first lo hi)
+      let stands = goes.call_stands mode image built good facts left s m h p hp o ss extra v f behind_exchange place spot refl
+      (answer_spot mode r is_first lo hi)
       extra v refl refl refl refl c.regs g next at_answer s.memory.words long refl (let q : next ≡ (extra 20 + 169) % M = omega arith in q) refl
       (rax_regs_are mode u c.regs v (old_head is_first) refl long stack (rax_is u (get_or c.regs 0 0) is_first refl first_is)) place.state.words
       (any_known mode p o.κ o.σ ss o.w extra extra v f g c.regs s.memory.words place.state.words)
@@ -205,8 +206,7 @@ module _ (mode : Mode) (image : Image) (built : IsBuilt image) (good : IsImage i
       let fewer = answer_fewer mode r is_first in
       let own = hand_edges mode behind_exchange edges' in
       goes.goes_to mode image built good facts left s m h p hp o ss extra v f behind_exchange place spot refl (Jcc Nz (negsuc 28)) next
-      (ap code rip ∙ cells.again) refl c.regs g long (step.masks_flags mode image built good facts left s m h p hp o g place.state.flags) leads extra v stands
-      (
+      (ap code rip ∙ cells.again) refl c.regs g long (step.masks_flags mode image built good facts left s m h p hp o g place.state.flags) leads extra v stands (
         record {
           range = y.range;
           saved = saved_again mode image (origin_of o.κ) e u o.w (beyond_registers c.regs v) refl refl refl y.saved;

@@ -1,6 +1,6 @@
 -- `call` at the load of the head of its target's queue: an edge, behind which RAX is the head until another processor changes it.
 use Rattle.std.proofs.Common.{◌≡◌, ℕ, zero, suc, ◌+◌, ◌-◌, ◌%◌, ◌^◌, ◌<◌, ◌≤◌, false, true, List, [], ◌∷◌, ◌++◌, get_or, set, map, length, Some, refl, sym, ap, ◌∙◌, subst, arith}
-use Rattle.std.specs.Prelude.{pos, slice_get, is_some}
+use Rattle.std.specs.Prelude.{pos, slice_get, is_some, reverse}
 use Rattle.std.proofs.lemmas.List.{get_or-set_same, get_or-set_other, length-set}
 use Rattle.ev_isa.specs.Word.{NatMap, displaced, numbers_from}
 use Rattle.ev_isa.specs.Flags.{Flags}
@@ -17,12 +17,13 @@ use Rattle.ev_listing.specs.Expansion.{item_address}
 use Rattle.ev_state.specs.Processor.{Processor, is_user, register}
 use Rattle.ev_state.proofs.FlagLaws.{kept}
 use Rattle.ev_mem.specs.Memory.{Memory}
-use Rattle.ev_abstract.specs.Context.{BodyContext}
+use Rattle.ev_abstract.specs.Context.{BodyContext, CallId}
 use Rattle.ev_abstract.specs.Machine.{Machine, processor}
 use Rattle.ev_abstract.specs.Machine as abstract
 use Rattle.ev_abstract.specs.Run.{item_at}
 use Rattle.ev_concrete.specs.ConcreteRun.{System, is_return}
 use Rattle.ev_built.specs.Built.{IsBuilt}
+use Rattle.ev_calls.specs.Records.{Linked}
 use Rattle.ev_symbolic.specs.Value.{M, V, K, P, X, B, OAdd}
 use Rattle.ev_symbolic.specs.State.{Block, Word}
 use Rattle.ev_symbolic.specs.Names.{record_tag, top_less}
@@ -83,6 +84,11 @@ head_long mode to = refl
 pub head_kept : (mode : Mode) (e : Env) (to n : ℕ) → AreKept e.var (set (map (eval e) (head_regs mode to)) 0 n)
 unfolding head_regs eval
 head_kept mode e to n = record { locals = refl; calls = refl }
+
+-- the address of a list is a word
+pub linked_word : (words : NatMap ℕ) (a : ℕ) (ks : List CallId) → Linked words a ks → a < 2 ^ 64
+linked_word words a [] h = omega (arith, h)
+linked_word words a (k ∷ ks) h = let from = h.0 in let site = h.1 in let at = h.2 in omega (arith, from, site, at)
 
 module _ (address func to : ℕ) where
   -- what the spots' blocks say at their openings
@@ -291,6 +297,8 @@ module _ (mode : Mode) (image : Image) (built : IsBuilt image) (good : IsImage i
             argument = filled.argument;
           },
           sym (get_or-set_same c.regs 0 n 0 (omega arith)),
+          subst (λ k. k < M) (sym (get_or-set_same c.regs 0 n 0 (omega arith)))
+              (linked_word s.memory.words n (reverse (processor m to).queue) (h.shares.queues to lto)),
         );
       })
 

@@ -53,7 +53,12 @@ pub mod CallItemSteps
 pub mod TakenSteps
 pub mod TakenLink
 pub mod ItemCallAgain
+pub mod ItemCallExchange
+pub mod CallQueued
+pub mod ItemCallPushed
+pub mod ItemCallMakes
 pub mod ItemCallAnswer
+pub mod ItemCallTurn
 pub mod QueueLength
 pub mod TakeQueue
 pub mod TakeHolds

@@ -230,7 +230,7 @@ module _ (mode : Mode) (image : Image) (m n : NatMap ℕ) (o : Origin) (e : Env)
   call_spot_again (BehindBusy s) f h = answering_again s 0 h
   call_spot_again (AtFill address func to s) f h = (code_again h.0, h.1, h.2, h.3)
   call_spot_again (AtHead address func to) f h = (code_again h.0, h.1, h.2)
-  call_spot_again (AtLink address func to is_stale) f h = (code_again h.0, h.1, h.2, tt)
+  call_spot_again (AtLink address func to is_stale) f h = (code_again h.0, h.1, h.2, tt, h.4)
   call_spot_again (BehindFailure address func to) f h = (code_again h.0, h.1, h.2, h.3)
   call_spot_again (BehindCall s is_first) f h = (answering_again s _ h.0, h.1)
   call_spot_again AtTake f h = (code_again h.0, h.1, h.2, h.3)

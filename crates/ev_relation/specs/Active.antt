@@ -339,7 +339,7 @@ module _ (mode : Mode) (image : Image) where
     pub number : e.var 25 ≡ suc fills.number % M
     pub argument : e.var 26 ≡ local b s
 
-  -- whether RAX is the head of the target's queue still
+  -- whether RAX, a head that was read, is the target's still
   abbrev pub IsHead : Bool → ℕ → ℕ → NatMap ℕ → Type 0
   IsHead true to a words = Unit {0}
   IsHead false to a words = words (pcpu to + head_offset) ≡ a
@@ -440,6 +440,7 @@ module _ (mode : Mode) (image : Image) where
   InCallSpot o (AtHead address func to) e w b f words = InCode o e w b words × HasPlace e b × Filled e b f address func to
   InCallSpot o (AtLink address func to is_stale) e w b f words =
       InCode o e w b words × HasPlace e b × Filled e b f address func to × IsHead is_stale to (e.var 0) words
+      × (e.var 0 < M)
   InCallSpot o (BehindFailure address func to) e w b f words =
       InCode o e w b words × HasPlace e b × Filled e b f address func to × (e.flags.status.zero ≡ false)
   InCallSpot o (BehindCall s is_first) e w b f words = Answering o e w b s (if is_first then 2 else 1) words × ((e.var 0 == 0) ≡ is_first)
