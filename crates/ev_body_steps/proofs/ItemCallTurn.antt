@@ -2,7 +2,7 @@
 -- answer.
 use Rattle.std.proofs.Common.{◌≡◌, ℕ, suc, ◌+◌, ◌-◌, ◌*◌, ◌/◌, ◌%◌, ◌^◌, ◌<◌, ◌≤◌, Bool, true, false, List, [], ◌∷◌, ◌++◌, get_or, set, map, length, Option, None, Some, refl, sym, ap, ◌∙◌, subst, arith, eq-eqb}
 use Rattle.std.specs.Prelude.{pos, slice_get, is_some, if◌then◌else◌, ◌==◌, reverse, nat_lt, ◌&&◌}
-use Rattle.std.proofs.lemmas.Bool.{ne_eqb, ltb-true, not-false}
+use Rattle.std.proofs.lemmas.Bool.{eqb-true, ne_eqb, ltb-true, not-false}
 use Rattle.std.proofs.lemmas.List.{length-reverse}
 use Rattle.ev_isa.specs.Word.{NatMap, wrap, put_at}
 use Rattle.ev_isa.specs.Flags.{Flags, Status, difference}
@@ -76,6 +76,7 @@ use Rattle.ev_body_steps.proofs.ItemState.{with_registers, opening_of, known_of,
 use Rattle.ev_body_steps.proofs.ItemVisible.{goes_with, legal_context}
 use Rattle.ev_body_steps.proofs.ItemWords.{keeps_known}
 use Rattle.ev_body_steps.proofs.KernelStep as step
+use Rattle.ev_body_steps.proofs.TakenSteps.{edges_at_end}
 
 -- the answer is told by the old head, which is 0 where the queue is empty
 answer_told : (words : NatMap ℕ) (a : ℕ) (queue : List CallId) → Linked words a (reverse queue) → queue_answer queue ≡ answer_of (a == 0)
@@ -418,3 +419,22 @@ module _ (mode : Mode) (image : Image) (built : IsBuilt image) (good : IsImage i
         (step.outside mode image built good facts left s m h p hp o act) cpu leads (step.blocked mode image built good facts left s m h p hp)
         m' entries turned b' o.kind ctx refl makes now (hand_few mode) act'
         (λ counted i. Entry.Call p (site_is i) (number_is counted i) (owner_is i) (func_is i) (arg_is i) ∷ [])
+
+  -- Where the link's block ends: a turn where the target's head is the one that was read, and else an edge.
+  pub at_link_end : (act : Stood on.own b c s.memory) (ss : ℕ) → IsKernelSs mode ss → (extra v : ℕ → ℕ) (f : Flags) (address func to : ℕ) (stale : Bool)
+      → At code (block mode (body mode (InCall (AtLink address func to stale)))) (block mode (body mode (InCall (AtLink address func to stale)))).steps
+      (env ss extra v f) c s.memory
+      → InCallSpot mode image (origin_of o.κ) (AtLink address func to stale) (env ss extra v f) o.w b (first_fill on.fills) s.memory.words
+      → edges_at_end mode (AtLink address func to stale) ≤ on.own → Simulated mode image left s m p
+  at_link_end act ss ss_is extra v f address func to stale at means enough = by_head (v 0 == s.memory.words (pcpu to + head_offset)) refl stale at means enough
+    where
+      by_head : (t : Bool) → (v 0 == s.memory.words (pcpu to + head_offset)) ≡ t → (stale : Bool)
+          → At code (block mode (body mode (InCall (AtLink address func to stale)))) (block mode (body mode (InCall (AtLink address func to stale)))).steps
+          (env ss extra v f) c s.memory
+          → InCallSpot mode image (origin_of o.κ) (AtLink address func to stale) (env ss extra v f) o.w b (first_fill on.fills) s.memory.words
+          → edges_at_end mode (AtLink address func to stale) ≤ on.own → Simulated mode image left s m p
+      by_head true q stale at means enough = by_succeeding act ss ss_is extra v f address func to stale at means
+          (eqb-true (v 0) (s.memory.words (pcpu to + head_offset)) q)
+      by_head false q true at means enough = exchange.by_failing mode image built good facts left s m h p hp o body' is act ss ss_is extra v f address func to
+          at means means.4 (λ z. let clash : false ≡ true = sym q ∙ eq-eqb (v 0) _ z in absurd (cc)) enough
+      by_head false q false at means enough = let clash : false ≡ true = sym q ∙ eq-eqb (v 0) _ (sym means.3) in absurd (cc)

@@ -30,7 +30,6 @@ use Rattle.ev_relation.specs.Step.{Simulated}
 use Rattle.ev_relation.proofs.CallKinds.{origin_of}
 use Rattle.ev_relation.proofs.Facts.{Facts}
 use Rattle.ev_relation.proofs.Items.{which}
-use Rattle.ev_relation.proofs.NoCalls.{never_in_call}
 use Rattle.ev_body_steps.proofs.Bodies.{body}
 use Rattle.ev_body_steps.proofs.KernelStep as step
 use Rattle.ev_body_steps.proofs.KickSteps as kicks
@@ -39,6 +38,7 @@ use Rattle.ev_body_steps.proofs.ItemCallHead as heads
 use Rattle.ev_body_steps.proofs.CallItemSteps as calls
 use Rattle.ev_body_steps.proofs.ItemCallAgain as again
 use Rattle.ev_body_steps.proofs.ItemCallAnswer as answers
+use Rattle.ev_body_steps.proofs.ItemCallTurn as pushes
 use Rattle.ev_body_steps.proofs.TakeExchange as exchanges
 use Rattle.ev_body_steps.proofs.TakenSteps as takens
 use Rattle.ev_body_steps.proofs.TakenLink as links
@@ -99,11 +99,6 @@ module _ (mode : Mode) (image : Image) (built : IsBuilt image) (good : IsImage i
 
     abbrev Unfilled : CallSpot → Type 0
     Unfilled spot = blocks.fills_record spot ≡ false → first_fill on.fills ≡ None
-
-    -- what no image of today reaches
-    never : (spot : CallSpot) → Means spot → Result
-    never spot means = absurd (never_in_call image built good b.body body' is mode (origin_of o.κ) e o.w b refl (first_fill on.fills) s.memory.words spot
-        means)
 
     -- at the load of the record's state, of `wait` and of `call`
     by_record : (site : ℕ) → first_fill on.fills ≡ None → AtEnd (AtRecord site) → Means (AtRecord site) → left_at (AtRecord site) ≤ on.own → (i : Item)
@@ -170,7 +165,8 @@ module _ (mode : Mode) (image : Image) (built : IsBuilt image) (good : IsImage i
         heads.by_head mode image built good facts left s m h p hp o body' is act ss ss_is extra v f address func to
         (subst (λ j. At code (block mode (body mode (InCall (AtHead address func to)))) j e c s.memory) (head_steps mode address func to) at) means
         (subst (λ j. edges mode (body mode (InCall (AtHead address func to))) j ≤ on.own) (head_steps mode address func to) enough)
-    by_call_spot (AtLink address func to is_stale) unfilled at means enough = never (AtLink address func to is_stale) means
+    by_call_spot (AtLink address func to is_stale) unfilled at means enough =
+        pushes.at_link_end mode image built good facts left s m h p hp o body' is act ss ss_is extra v f address func to is_stale at means enough
     by_call_spot (BehindFailure address func to) unfilled at means enough =
         again.by_failure mode image built good facts left s m h p hp o body' is act ss ss_is extra v f address func to
         (subst (λ j. At code (block mode (body mode (InCall (BehindFailure address func to)))) j e c s.memory) (failure_steps mode address func to) at) means
