@@ -1,32 +1,31 @@
 -- Where the calls that a body has taken begin: the function's address in a call's record is that of the item at which the abstract machine puts the context.
-use Rattle.std.proofs.Common.{◌≡◌, ℕ, zero, suc, ◌+◌, ◌<◌, ◌≤◌, ◌^◌, Bool, true, false, not, ◌&&◌, ◌||◌, List, [], ◌∷◌, length, Some, refl, sym, ap, ◌∙◌, subst, arith}
+use Rattle.std.proofs.Common.{◌≡◌, ℕ, zero, suc, ◌+◌, Bool, true, false, not, ◌&&◌, ◌||◌, List, [], ◌∷◌, Some, refl, sym, ap, ◌∙◌, arith}
 use Rattle.std.specs.Prelude.{slice_get, get_or, set, ◌==◌, if◌then◌else◌}
 use Rattle.std.specs.List.{list_all}
 use Rattle.std.proofs.lemmas.Bool.{and_parts, and_from, eqb-true, eq-eqb, false_from_ne_true}
-use Rattle.std.proofs.lemmas.Option.{slice_get-get_or, slice_get_within}
-use Rattle.ev_isa.specs.Word.{NatMap, is_canonical}
+use Rattle.std.proofs.lemmas.Option.{slice_get_within}
+use Rattle.ev_isa.specs.Word.{NatMap}
 use Rattle.ev_isa.specs.declared.mode.Mode.{Mode}
-use Rattle.ev_body.specs.declared.item.Item.TheVariants.{Take, Finish, Ret}
+use Rattle.ev_body.specs.declared.item.Item.TheVariants.{Take, Finish}
 use Rattle.ev_body.specs.declared.key.Side.TheVariants.{User}
 use Rattle.ev_body.specs.declared.body.Body.{Body}
 use Rattle.ev_body.specs.declared.image.Image.{Image}
-use Rattle.ev_body.specs.Bodies.{key_number, covers, body_items, first_body, function_start}
-use Rattle.ev_body.specs.WellFormed.{IsImage, is_apart, are_apart, is_ret, is_finish}
+use Rattle.ev_body.specs.Bodies.{key_number, covers, body_items, first_body}
+use Rattle.ev_body.specs.WellFormed.{IsImage, is_apart, are_apart}
 use Rattle.ev_abstract.specs.Context.{CallId, BodyContext}
 use Rattle.ev_abstract.specs.Machine.{CallState, Free, Queued, Taken, CallRecord, Machine}
 use Rattle.ev_abstract.specs.CrossCall.{record_of, take_place, after_take, start_of, at_first_call}
 use Rattle.ev_abstract.specs.Rules.{is_call_handler}
 use Rattle.ev_abstract.specs.Run.{item_at}
 use Rattle.ev_built.specs.Built.{IsBuilt}
-use Rattle.ev_law.specs.Legal.{knows, runs_calls}
-use Rattle.ev_law.proofs.Items.{declared_at}
+use Rattle.ev_law.specs.Legal.{runs_calls}
 use Rattle.ev_law.proofs.Lists.{all_at}
 use Rattle.ev_law.proofs.Ruled.{IsRuled, body_ruled, handler_serves_users}
 use Rattle.ev_call_law.specs.Calls.{is_free}
 use Rattle.ev_listing.specs.AddressMap.{record_address}
-use Rattle.ev_listing.specs.Expansion.{item_address, address_in, function_address}
-use Rattle.ev_relation.specs.Active.{item_place, address_of_item, Locals, LocalsBut, BeginsCall}
-use Rattle.ev_relation.specs.Relation.{IsContext, CallIs, HoldsCall}
+use Rattle.ev_listing.specs.Expansion.{address_in, function_address}
+use Rattle.ev_relation.specs.Active.{item_place, Locals, LocalsBut, BeginsCall}
+use Rattle.ev_relation.specs.Relation.{CallIs, HoldsCall}
 use Rattle.ev_relation.proofs.Facts.{Facts}
 
 -- ---- the body that takes calls

@@ -1,5 +1,5 @@
 -- The exchange of `call`: what it finds, and where it fails, which is an edge.
-use Rattle.std.proofs.Common.{◌≡◌, Bool, ℕ, ◌+◌, ◌-◌, ◌%◌, ◌^◌, ◌<◌, ◌≤◌, false, true, List, [], ◌∷◌, ◌++◌, get_or, set, Some, refl, sym, ap, ◌∙◌, subst, arith}
+use Rattle.std.proofs.Common.{◌≡◌, Bool, ℕ, ◌+◌, ◌-◌, ◌%◌, ◌^◌, ◌<◌, ◌≤◌, false, true, List, ◌∷◌, ◌++◌, get_or, set, Some, refl, sym, ap, ◌∙◌, subst, arith}
 use Rattle.std.specs.Prelude.{pos, slice_get, if◌then◌else◌, ◌==◌, reverse}
 use Rattle.ev_isa.specs.Word.{NatMap, displaced, wrap, put_at}
 use Rattle.ev_isa.specs.Flags.{Flags, Status, difference}
@@ -16,7 +16,7 @@ use Rattle.ev_listing.specs.Expansion.{item_address}
 use Rattle.ev_state.specs.Processor.{Processor, is_user, register}
 use Rattle.ev_state.proofs.FlagLaws.{kept}
 use Rattle.ev_mem.specs.Memory.{Memory}
-use Rattle.ev_abstract.specs.Context.{BodyContext, CallId}
+use Rattle.ev_abstract.specs.Context.{BodyContext}
 use Rattle.ev_abstract.specs.Machine.{Machine, processor}
 use Rattle.ev_abstract.specs.Machine as abstract
 use Rattle.ev_abstract.specs.Run.{item_at}
@@ -60,7 +60,6 @@ use Rattle.ev_listing.specs.Marks.{IfEqual}
 use Rattle.ev_symbolic.specs.Openings.{at_base, word}
 use Rattle.ev_body_steps.proofs.ItemCallHead.{linked_word, head_regs, head_rsp, head_long, frame_alone, SaysFilled}
 use Rattle.ev_body_steps.proofs.TakenSteps.{edges_at_end}
-use Rattle.ev_calls.specs.Records.{Linked}
 use Rattle.ev_relation.proofs.Maps.{at_same, at_other}
 use Rattle.ev_body_steps.proofs.ItemCallAgain.{AtFilled, failure_says, goes_filled}
 

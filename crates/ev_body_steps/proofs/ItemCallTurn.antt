@@ -1,12 +1,11 @@
 -- The exchange of `call` where it succeeds, which is visible: the record is the last one of the target's queue, nobody fills it, and the context has its
 -- answer.
-use Rattle.std.proofs.Common.{◌≡◌, ℕ, suc, ◌+◌, ◌-◌, ◌*◌, ◌/◌, ◌%◌, ◌^◌, ◌<◌, ◌≤◌, Bool, true, false, List, [], ◌∷◌, ◌++◌, get_or, set, map, length, Option, None, Some, refl, sym, ap, ◌∙◌, subst, arith, eq-eqb}
-use Rattle.std.specs.Prelude.{pos, slice_get, is_some, if◌then◌else◌, ◌==◌, reverse, nat_lt, ◌&&◌}
+use Rattle.std.proofs.Common.{◌≡◌, ℕ, suc, ◌+◌, ◌-◌, ◌/◌, ◌%◌, ◌^◌, ◌<◌, ◌≤◌, Bool, true, false, List, [], ◌∷◌, get_or, set, map, length, Option, None, Some, refl, sym, ap, ◌∙◌, subst, arith, eq-eqb}
+use Rattle.std.specs.Prelude.{pos, slice_get, if◌then◌else◌, ◌==◌, reverse, nat_lt, ◌&&◌}
 use Rattle.std.proofs.lemmas.Bool.{eqb-true, ne_eqb, ltb-true, not-false}
 use Rattle.std.proofs.lemmas.List.{length-reverse}
 use Rattle.ev_isa.specs.Word.{NatMap, wrap, put_at}
-use Rattle.ev_isa.specs.Flags.{Flags, Status, difference}
-use Rattle.ev_isa.specs.Spelling.{spelling, four_bytes}
+use Rattle.ev_isa.specs.Flags.{Flags, difference}
 use Rattle.ev_isa.specs.declared.instruction.Ins.{Ins}
 use Rattle.ev_isa.specs.declared.instruction.Ins.TheVariants.{CmpXchg}
 use Rattle.ev_isa.specs.declared.mode.Mode.{Mode}
@@ -24,7 +23,7 @@ use Rattle.ev_state.specs.Processor.{Processor, register}
 use Rattle.ev_mem.specs.Memory.{Memory}
 use Rattle.ev_abstract.specs.declared.entry.Entry.{Entry}
 use Rattle.ev_abstract.specs.Context.{BodyContext, CallId, local, with_local, onward}
-use Rattle.ev_abstract.specs.CrossCall.{record_of, new_record, queue_answer, queued}
+use Rattle.ev_abstract.specs.CrossCall.{new_record, queue_answer, queued}
 use Rattle.ev_abstract.specs.ItemMeaning.{item_step, called, with_context, unknown_flags}
 use Rattle.ev_abstract.specs.Machine.{CallRecord, CallState, Free, Machine, processor}
 use Rattle.ev_abstract.specs.Machine as abstract
@@ -33,23 +32,22 @@ use Rattle.ev_abstract.specs.Run.{item_at, turn}
 use Rattle.ev_concrete.specs.ConcreteRun.{System, is_return}
 use Rattle.ev_concrete.specs.Shown.{record_word, record_site, queue_owner}
 use Rattle.ev_built.specs.Built.{IsBuilt}
-use Rattle.ev_calls.specs.Lists.{QueueIs}
 use Rattle.ev_calls.specs.Records.{Linked}
 use Rattle.ev_calls.proofs.Lists.{empty_at_zero}
 use Rattle.ev_call_law.specs.Calls.{is_id}
 use Rattle.ev_call_law.proofs.Counts.{same_call, equal_sym}
 use Rattle.ev_symbolic.specs.Value.{M}
 use Rattle.ev_symbolic.specs.Single.{Leads, onward as next_of, in_status}
-use Rattle.ev_symbolic.specs.Agrees.{Env, Code, Cell, Known, eval, At, with_words}
-use Rattle.ev_symbolic.proofs.Values.{and_left, and_right}
+use Rattle.ev_symbolic.specs.Agrees.{Env, Code, Known, eval, At, with_words}
+use Rattle.ev_symbolic.proofs.Values.{and_right}
 use Rattle.ev_blocks.specs.Calls.{AtLink, AtOffset, behind_exchange}
 use Rattle.ev_blocks.specs.Items.{InCall}
 use Rattle.ev_blocks.specs.Blocks.{block, edges, item_edges}
 use Rattle.ev_blocks.specs.Blocks as blocks
 use Rattle.ev_table.specs.Table.{code_table}
-use Rattle.ev_relation.specs.Filling.{Filling, IsFree, first_fill, rest_fills, is_filled, AreFree}
+use Rattle.ev_relation.specs.Filling.{Filling, IsFree, first_fill, rest_fills, AreFree}
 use Rattle.ev_relation.specs.Named.{Named, Head}
-use Rattle.ev_relation.specs.Active.{address_of_item, here, IsKernelSs, HoldsCalls, InCallSpot, Answering, IsByHand, BehindExchange, Active}
+use Rattle.ev_relation.specs.Active.{address_of_item, here, IsKernelSs, HoldsCalls, InCallSpot, Answering, BehindExchange, Active}
 use Rattle.ev_relation.specs.Relation.{IsContext, HoldsCall, StandsOn, Stands, switches_at}
 use Rattle.ev_relation.specs.Step.{IsCounted, Simulated}
 use Rattle.ev_relation.proofs.CallHolders.{AreAlone, first_free, is_of}
