@@ -12,7 +12,7 @@ use Rattle.ev_io.proofs.StandLaws.{stands_part}
 use Rattle.ev_image.specs.declared.head.Head.{Head}
 use Rattle.ev_image.specs.Head.{head_follows}
 use Rattle.ev_image.specs.declared.reading.ImageFault.{ImageFault}
-use Rattle.ev_image.specs.Reads.{Opened, image_in, opened, fault_of, number_of, Follows, ReadsImage, CountsRead}
+use Rattle.ev_image.specs.Reads.{Opened, image_in, opened, fault_of, Follows, AnswersLine, ReadsImage, CountsRead}
 
 -- ---- nothing follows the line `script` but lines that are passed over
 
@@ -189,25 +189,6 @@ pub bad_line : (old : Reading) (bytes : List ℕ) (now : Reading) (rest : Option
 bad_line old bytes now rest s new rest' n cause o p k e = at_reader old bytes now rest s o p ∙ ap (opened_on s) k.3
     ∙ ap (opened_line n new.gone (lines_of k.0)) e
 
--- no line is left to be said, or the next one has a fault
-pub no_number : (old : Reading) (bytes : List ℕ) (now : Reading) (rest : Option (List ℕ)) (s : Head) (new : Reading) (rest' : Option (List ℕ))
-    (answer : Result (Option ℕ) LineFault) (fault : ImageFault) → image_in s ≡ None → (p : Stands head_follows old Head.Image bytes now rest s)
-    → Skips now p.left new rest' answer → Err fault ≡ number_of new.number answer → ReadsImage old bytes new rest' (Err fault)
-no_number old bytes now rest s new rest' (Ok (Some n)) fault o p k e = absurd cc
-no_number old bytes now rest s new rest' (Ok None) fault o p k e =
-    let g : fault ≡ ImageFault.BadLine new.number Cause.NoEnd = cc in
-    subst (λ f. ReadsImage old bytes new rest' (Err f)) (sym g) (no_script old bytes now rest s new o p k)
-no_number old bytes now rest s new rest' (Err x) fault o p k e =
-    let g : fault ≡ fault_of x = cc in
-    subst (λ f. ReadsImage old bytes new rest' (Err f)) (sym g) (faulty old bytes now rest s new rest' x o p k)
-
--- the line of this number is the next one that is said
-pub said_number : (old : Reading) (bytes : List ℕ) (new : Reading) (rest : Option (List ℕ)) (read n : ℕ) (answer : Result (Option ℕ) LineFault)
-    → Skips old bytes new rest answer → Ok n ≡ number_of read answer → Skips old bytes new rest (Ok (Some n))
-said_number old bytes new rest read n (Ok (Some m)) k e = let g : n ≡ m = cc in subst (λ j. Skips old bytes new rest (Ok (Some j))) (sym g) k
-said_number old bytes new rest read n (Ok None) k e = absurd cc
-said_number old bytes new rest read n (Err x) k e = absurd cc
-
 -- the line of this number doesn't follow, or memory was refused
 pub refused_line : (old : Reading) (bytes : List ℕ) (now : Reading) (rest : Option (List ℕ)) (s : Head) (new : Reading) (rest' : Option (List ℕ))
     (n : ℕ) (fault : ImageFault) → image_in s ≡ None → (p : Stands head_follows old Head.Image bytes now rest s)
@@ -216,6 +197,30 @@ refused_line old bytes now rest s new rest' n ImageFault.NoMemory o p k f = tt
 refused_line old bytes now rest s new rest' n ImageFault.Read o p k f = absurd (let z : ImageFault.Read ≡ ImageFault.BadLine n f.0 = f.1 in cc)
 refused_line old bytes now rest s new rest' n (ImageFault.BadLine m cause) o p k f =
     subst (λ x. ReadsImage old bytes new rest' (Err x)) (sym f.1) (bad_line old bytes now rest s new rest' n f.0 o p k f.2)
+
+-- the next line is refused, or there is none
+pub refused : (old : Reading) (bytes : List ℕ) (now : Reading) (rest : Option (List ℕ)) (s : Head) (new : Reading) (rest' : Option (List ℕ))
+    (answer : Result (Option ℕ) LineFault) (fault : ImageFault) → image_in s ≡ None → (p : Stands head_follows old Head.Image bytes now rest s)
+    → Skips now p.left new rest' answer → AnswersLine s new answer (Err fault) → ReadsImage old bytes new rest' (Err fault)
+refused old bytes now rest s new rest' (Ok (Some n)) fault o p k f = refused_line old bytes now rest s new rest' n fault o p k f
+refused old bytes now rest s new rest' (Ok None) fault o p k f =
+    let g : fault ≡ ImageFault.BadLine new.number Cause.NoEnd = cc in
+    subst (λ x. ReadsImage old bytes new rest' (Err x)) (sym g) (no_script old bytes now rest s new o p k)
+refused old bytes now rest s new rest' (Err x) fault o p k f =
+    let g : fault ≡ fault_of x = cc in
+    subst (λ y. ReadsImage old bytes new rest' (Err y)) (sym g) (faulty old bytes now rest s new rest' x o p k)
+
+-- the next line follows what stands
+pub followed : (s : Head) (new : Reading) (answer : Result (Option ℕ) LineFault) (next : Head) → AnswersLine s new answer (Ok next)
+    → (n : ℕ) × (answer ≡ Ok (Some n)) × (head_follows s (tokens_of new.text) ≡ Ok next)
+followed s new (Ok (Some n)) next f = (n, refl, f)
+followed s new (Ok None) next f = absurd cc
+followed s new (Err x) next f = absurd cc
+
+-- and stands so behind lines that were said before
+pub skips_to : (old : Reading) (bytes : List ℕ) (new : Reading) (rest : Option (List ℕ)) (n : ℕ) (answer : Result (Option ℕ) LineFault)
+    → Skips old bytes new rest answer → answer ≡ Ok (Some n) → Skips old bytes new rest (Ok (Some n))
+skips_to old bytes new rest n answer k e = subst (Skips old bytes new rest) e k
 
 -- where a line was refused, no fault was counted by it
 pub refused_counts : (U : Type 0) (n : ℕ) (said : Result Head Cause) (fault : ImageFault) (a b : ℕ) → Follows n said (Err fault) → b ≡ a

@@ -5,7 +5,7 @@ use Rattle.ev_io.specs.declared.cause.Cause.{Cause}
 use Rattle.ev_io.specs.declared.lines.LineFault.{LineFault}
 use Rattle.ev_io.specs.Lines.{Reading}
 use Rattle.ev_io.specs.Transfer.{Rose}
-use Rattle.ev_io.specs.Tokens.{Token}
+use Rattle.ev_io.specs.Tokens.{Token, tokens_of}
 use Rattle.ev_io.specs.InputLines.{lines_of}
 use Rattle.ev_io.specs.Follow.{line_follows, FollowsPart}
 use Rattle.ev_image.specs.declared.head.Head.{Head}
@@ -43,17 +43,17 @@ fault_of (LineFault.TooLarge n) = ImageFault.BadLine n Cause.TooLarge
 fault_of (LineFault.TooLong n) = ImageFault.BadLine n Cause.TooLong
 fault_of (LineFault.NotAscii n k) = ImageFault.BadLine n Cause.NotAscii
 
--- the number of the next line that is said, where so many lines were read, or why there is none
-abbrev pub number_of : (read : ℕ) → Result (Option ℕ) LineFault → Result ℕ ImageFault
-number_of read (Ok (Some n)) = Ok n
-number_of read (Ok None) = Err (ImageFault.BadLine read Cause.NoEnd)
-number_of read (Err fault) = Err (fault_of fault)
-
 -- the answer for the line of a number, by what the line does: what stands behind it, or its cause, unless memory was refused
 abbrev pub Follows : ℕ → Result Head Cause → Result Head ImageFault → Type 0
 Follows n said (Ok head) = said ≡ Ok head
 Follows n said (Err ImageFault.NoMemory) = Unit {0}
 Follows n said (Err fault) = (cause : Cause) × (fault ≡ ImageFault.BadLine n cause) × (said ≡ Err cause)
+
+-- the answer for the next line that is said, which a reader gave, where it stands so behind it
+abbrev pub AnswersLine : Head → Reading → Result (Option ℕ) LineFault → Result Head ImageFault → Type 0
+AnswersLine head now (Ok (Some n)) result = Follows n (head_follows head (tokens_of now.text)) result
+AnswersLine head now (Ok None) result = result ≡ Err (ImageFault.BadLine now.number Cause.NoEnd)
+AnswersLine head now (Err fault) result = result ≡ Err (fault_of fault)
 
 -- what stands behind lines of these tokens, the last of them first
 abbrev pub ReachedBy : List (List Token) → Head → Type 0

@@ -8,7 +8,7 @@ ghost use Rattle.ev_io.specs.Lines.{coming, drawn};
 ghost use Rattle.ev_io.specs.declared.lines.LineFault.{LineFault};
 ghost use Rattle.ev_io.specs.Tokens.{tokens_of};
 ghost use Rattle.ev_image.specs.Head.{head_follows};
-ghost use Rattle.ev_image.specs.Reads.{CountsRead, Follows, Reached, ReadsImage, fault_of, number_of};
+ghost use Rattle.ev_image.specs.Reads.{AnswersLine, CountsRead, Follows, Reached, ReadsImage, fault_of};
 ghost use Rattle.ev_image.specs.declared.head.Head.TheVariants as Head;
 
 use crate::draft::Draft;
@@ -57,10 +57,15 @@ fn fault_of(fault: LineFault) -> ImageFault
     }
 }
 
-/// Reads the next line that isn't passed over, and answers its number, or why there is none.
-fn next_number<S: Source>(lines: &mut Lines, src: &mut S) -> Result<u32, ImageFault>
+/// Reads the next line that isn't passed over, and answers what stands behind it, or why nothing does.
+fn next_head<S: Source>(
+    alloc: Global,
+    head: Head,
+    lines: &mut Lines,
+    src: &mut S,
+) -> Result<Head, ImageFault>
     ensures said { (answer : Result (Option ℕ) LineFault)
-        × (result ≡ number_of lines.new.number answer) × ((bytes : List ℕ)
+        × AnswersLine head lines.new answer result × ((bytes : List ℕ)
         → coming lines.old.chunk (S.left src.old) ≡ Some bytes
         → Skips lines.old bytes lines.new (coming lines.new.chunk (S.left src.new)) answer) }
     ensures grew { IfOk result (λ _. lines.old.gone < lines.new.gone) }
@@ -73,9 +78,15 @@ fn next_number<S: Source>(lines: &mut Lines, src: &mut S) -> Result<u32, ImageFa
     ensures cause { CountsRead (S.faults src.old) (S.faults src.new) result }
 {
     match lines.next_said(src) {
-        Ok(Some(number)) => Ok(number),
-        Ok(None) => Err(ImageFault::BadLine(lines.number(), Cause::NoEnd)),
-        Err(fault) => Err(fault_of(fault)),
+        Ok(Some(number)) => line_follows(alloc, head, number, lines.text()),
+        Ok(None) => {
+            drop(head);
+            Err(ImageFault::BadLine(lines.number(), Cause::NoEnd))
+        }
+        Err(fault) => {
+            drop(head);
+            Err(fault_of(fault))
+        }
     }
 }
 
@@ -94,17 +105,12 @@ fn read_draft<S: Source>(alloc: Global, lines: &mut Lines, src: &mut S) -> Resul
 {
     let mut head = Head::Image;
     loop {
-        let number = match next_number(lines, src) {
-            Ok(number) => number,
+        match next_head(alloc, head, lines, src) {
+            Ok(next) => match next.opened() {
+                Ok(draft) => return Ok(draft),
+                Err(next) => head = next,
+            },
             Err(fault) => return Err(fault),
-        };
-        let next = match line_follows(alloc, head, number, lines.text()) {
-            Ok(next) => next,
-            Err(fault) => return Err(fault),
-        };
-        match next.opened() {
-            Ok(draft) => return Ok(draft),
-            Err(next) => head = next,
         }
     }
 }

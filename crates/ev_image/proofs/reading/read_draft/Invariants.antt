@@ -7,8 +7,8 @@ use Rattle.ev_image.specs.Head.{head_follows}
 use Rattle.ev_image.specs.Reads.{Reached, image_in}
 use Rattle.ev_image.proofs.reading.read_draft.Given as goal
 
-abbrev pub invariant-loop-number : goal.invariant-loop-number
-invariant-loop-number g l =
+abbrev pub invariant-loop-next : goal.invariant-loop-next
+invariant-loop-next g l =
     let left = g.S.Source.left in
     let faults = g.S.Source.faults in
     record {
@@ -20,5 +20,5 @@ invariant-loop-number g l =
       count : faults l.src ≡ faults l.fn.src;
     }
 
-abbrev pub decreases-loop-number : goal.decreases-loop-number
-decreases-loop-number g l = 8388608 - l.lines.gone
+abbrev pub decreases-loop-next : goal.decreases-loop-next
+decreases-loop-next g l = 8388608 - l.lines.gone
