@@ -143,8 +143,8 @@ module _ (mode : Mode) (image : Image) (built : IsBuilt image) (good : IsImage i
         takens.at_function_jump mode image built good facts left s m h p hp o body' is ss extra v f i unfilled act ss_is z.0 t some list target z.1
     by_hand offset more unfilled at enough (BehindExchange q y r is_first z head equal) =
         let there = subst (λ j. AtEnd (AtOffset j more)) q at in
-        answers.by_exchange_branch mode image built good facts left s m h p hp o body' is unfilled act ss ss_is extra v f more y there r is_first z head.0 head.1
-        equal (subst (λ j. left_at (AtOffset j more) ≤ on.own) q enough)
+        answers.by_exchange_branch mode image built good facts left s m h p hp o body' is unfilled act ss ss_is extra v f more y there r is_first z head.0
+        head.1 equal (subst (λ j. left_at (AtOffset j more) ≤ on.own) q enough)
     by_hand offset more unfilled at enough (BehindFinish q y t i list) =
         let z = by_place 27 (taken_edges item_edges + 1) offset more q y at enough in
         jumps.at_finish_jump mode image built good facts left s m h p hp o body' is unfilled act ss ss_is extra v f z.0 t i list z.1

@@ -523,8 +523,8 @@ module _ (mode : Mode) (image : Image) (built : IsBuilt image) (good : IsImage i
             (step.fits mode image built good facts left s m h p hp o body' is (body mode AtItem) way.over ss extra' (with_registers c.regs v) g refl tt
             (way.told u)) agrees in
             let locals : Locals mode image v b = subst (λ r. LocalsBut mode image (not r || true) (not r || true) v b) some t.locals in
-            goes.goes_to_spot mode image built good facts left s m h p hp o ss extra v f (at_function + 21) y AtItem refl ins next there found refl c.regs g long
-            (step.masks_flags mode image built good facts left s m h p hp o g y.state.flags) leads extra' v opened (
+            goes.goes_to_spot mode image built good facts left s m h p hp o ss extra v f (at_function + 21) y AtItem refl ins next there found refl c.regs g
+            long (step.masks_flags mode image built good facts left s m h p hp o g y.state.flags) leads extra' v opened (
               record {
                 saved = saved_again mode image (origin_of o.κ) e u o.w (beyond_registers c.regs v) refl refl refl t.saved;
                 locals = subst (λ xs. Locals mode image (with_registers xs v) b) (sym z.1) locals;

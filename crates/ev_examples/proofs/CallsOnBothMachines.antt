@@ -225,7 +225,8 @@ calls_are_kept mode image sites script = kept_along mode image sites (marks_of m
 
 unfoldable pub keeping : Unit {0}
 unfolding comparing showing call_handler calling offset_in first_take fills_at is_filled_by is_filled both_lists in_take in_other list_at list_of_last call_seen
-    whole_record_seen item_from locals_seen filled_seen in_call begins_seen has_calls in_function in_item variables_seen places_on kept_in_turn kept_along calls_are_kept
+    whole_record_seen item_from locals_seen filled_seen in_call begins_seen has_calls in_function in_item variables_seen places_on kept_in_turn
+    kept_along calls_are_kept
 keeping = tt
 
 -- ---- calls that cross
